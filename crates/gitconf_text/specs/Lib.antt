@@ -1,0 +1,9 @@
+pub mod Bytes
+pub mod Text
+pub mod Unit
+pub mod Value
+pub mod Header
+pub mod Part
+pub mod Document
+pub mod Token
+pub mod Stuck

@@ -1,0 +1,2 @@
+//! The texts of git-config files.
+#![tactic(auto)]
