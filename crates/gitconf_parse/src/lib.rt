@@ -1,0 +1,5 @@
+//! The parser of git-config files: from bytes to events.
+#![tactic(auto)]
+
+pub mod event;
+mod reading;
