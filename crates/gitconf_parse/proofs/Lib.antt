@@ -1,2 +1,4 @@
 pub mod Runs
 pub mod Skips
+pub mod ValueAgain
+pub mod ValueTakes

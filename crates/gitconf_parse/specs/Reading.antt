@@ -70,7 +70,7 @@ value_from first events joined from kept quoted n zero (b ∷ rest) = elim (clas
     | NothingBehind ↦ if quoted then Err (record { at = first; expected = expected.Value })
         else Ok (events ++ kinds.ValueNotDone (span from n) ∷ [] ++ kinds.ValueDone (span (n + 1) (n + 1)) ∷ [], n + 1)
     | LineFeedBehind ↦ value_from first (events ++ kinds.ValueNotDone (span from n) ∷ [] ++ kinds.Newline (span (n + 1) (n + 1 + 1)) ∷ []) true (n + 1 + 1) (n + 1 + 1) quoted (n + 1) 1 rest
-    | CrLfBehind ↦ value_from first (events ++ kinds.ValueNotDone (span from n) ∷ [] ++ kinds.Newline (span (n + 1) (n + 1 + 1 + 1)) ∷ []) true (n + 1 + 1 + 1) (n + 1 + 1 + 1) quoted (n + 1) 2 rest
+    | CrLfBehind ↦ value_from first (events ++ kinds.ValueNotDone (span from n) ∷ [] ++ kinds.Newline (span (n + 1) (n + 1 + 2)) ∷ []) true (n + 1 + 2) (n + 1 + 2) quoted (n + 1) 2 rest
     | EscapeBehind ↦ value_from first events joined from (n + 1 + 1) quoted (n + 1) 1 rest
     | OtherBehind ↦ Err (record { at = first; expected = expected.Value })
   ]
