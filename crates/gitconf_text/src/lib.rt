@@ -1,0 +1,7 @@
+//! The text layer of git's configuration files.
+#![tactic(auto)]
+
+pub mod memory;
+pub mod parse;
+
+pub use memory::NoMemory;
