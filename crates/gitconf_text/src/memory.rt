@@ -37,3 +37,28 @@ pub(crate) enum Cause {
     Refused,
     Memory,
 }
+
+impl Cause {
+    ghost use Rattle.std.specs.Prelude.{◌≡◌, codes};
+    ghost use Rattle.gitconf_text.specs.NameErrors.{number_of, text_of};
+
+    /// The number to show, where the refusal's own is `own`.
+    pub(crate) fn number(self, own: u8) -> u8
+        ensures { result ≡ number_of own self }
+    {
+        match self {
+            Cause::Refused => own,
+            Cause::Memory => 27,
+        }
+    }
+
+    /// The text to show, where the refusal's own is `own`.
+    pub(crate) fn text(self, own: &str) -> &str
+        ensures { result.now ≡ text_of own.now self }
+    {
+        match self {
+            Cause::Refused => own,
+            Cause::Memory => "out of memory",
+        }
+    }
+}

@@ -1,5 +1,10 @@
-//! Sections: their names, and the names of their values.
+//! Sections: the names of sections and of their values, and headers that are made.
 
 mod bytes;
+pub mod header;
+mod name_errors;
+mod names;
+pub mod unvalidated;
 
-pub use bytes::{as_text, feed, into_text, is_name, is_value_name, is_same_name, name_order};
+pub use name_errors::{NameError, ValueNameError};
+pub use names::Name;

@@ -37,21 +37,16 @@ impl Error {
     pub fn number(&self) -> u8
         ensures { result ≡ self.now }
     {
-        match self.cause {
-            Cause::Refused => 3,
-            Cause::Memory => 27,
-        }
+        self.cause.number(3)
     }
 }
 
 impl fmt::Display for Error {
     fn fmt<W: fmt::Write>(&self, f: &mut fmt::Formatter<W>) -> fmt::Result {
-        f.write_str(match self.cause {
-            Cause::Refused => {
-                "configuration data exceeds the supported span size of 4294967295 bytes"
-            }
-            Cause::Memory => "out of memory",
-        })
+        f.write_str(
+            self.cause
+                .text("configuration data exceeds the supported span size of 4294967295 bytes"),
+        )
     }
 }
 

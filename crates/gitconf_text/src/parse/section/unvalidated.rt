@@ -1,0 +1,1 @@
+//! Keys that no test has seen.
