@@ -1,6 +1,6 @@
 -- Names of sections and of values, and the headers that are made of them.
 -- A name is spelled with letters, digits and dashes, and two spellings that differ in case alone are one name.
-use Rattle.std.specs.Prelude.{◌≡◌, ℕ, Bool, true, false, not, ◌==◌, ◌&&◌, ◌||◌, List, [], ◌∷◌, Result, Ok, Err, IsTrue, flat_map}
+use Rattle.std.specs.Prelude.{◌≡◌, ℕ, Bool, true, false, not, ◌==◌, ◌&&◌, ◌||◌, List, [], ◌∷◌, Option, Some, None, Result, Ok, Err, IsTrue, flat_map}
 use Rattle.std.specs.Char.{is_ascii_alphabetic}
 use Rattle.std.specs.List.{list_all}
 use Rattle.std.specs.declared.cmp.Ordering.{Ordering}
@@ -31,6 +31,11 @@ is_value_name_or_empty (b ∷ bs) = is_value_name (b ∷ bs)
 -- a subsection in a header that is made: neither LF nor NUL
 abbrev pub is_valid_subsection : List ℕ → Bool
 is_valid_subsection bytes = list_all (λ b. not (b == 10 || b == 0)) bytes
+
+-- the same, where there is a subsection
+abbrev pub is_valid_or_none : Option (List ℕ) → Bool
+is_valid_or_none None = true
+is_valid_or_none (Some bytes) = is_valid_subsection bytes
 
 -- the same name: equal bytes without case
 abbrev pub is_same_name : List ℕ → List ℕ → Bool

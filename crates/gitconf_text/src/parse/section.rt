@@ -7,4 +7,4 @@ mod names;
 pub mod unvalidated;
 
 pub use name_errors::{NameError, ValueNameError};
-pub use names::Name;
+pub use names::{Name, ValueName};
