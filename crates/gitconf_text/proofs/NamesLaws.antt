@@ -1,10 +1,8 @@
 -- A name's bytes are ASCII, and so they are text.
 use Rattle.std.proofs.Common.{◌≡◌, ℕ, ◌<◌, true, refl, List, [], ◌∷◌, arith}
-use Rattle.std.specs.List.{All, AllPass}
 use Rattle.std.specs.Prelude.{Result, Ok, Err, MatchResult, IsOk}
 use Rattle.std.specs.Str.{IsUtf8}
 use Rattle.std.proofs.lemmas.Bool.Decides.{nat_tests}
-use Rattle.std.proofs.lemmas.List.Sums.{AllPass-from_list_all}
 use Rattle.std.proofs.lemmas.Str.{IsUtf8-from_ascii}
 use Rattle.std.proofs.lemmas.Str.Ascii.{IsAscii-nil, IsAscii-cons}
 use Rattle.std.specs.Cmp.{first_so, second_so}

@@ -1,6 +1,5 @@
 -- What the refusals of a made header are.
-use Rattle.std.specs.Prelude.{ℕ, ◌&&◌, Bool, true, List, Option, Some, None, Result, Ok, Err, if◌then◌else◌}
-use Rattle.gitconf_text.specs.Names.{is_made_name, is_valid_subsection}
+use Rattle.std.specs.Prelude.{ℕ}
 use Rattle.gitconf_text.specs.declared.parse.section.header.Error.{Error}
 use Rattle.gitconf_text.specs.declared.parse.section.header.Error.TheVariants.{InvalidName, InvalidSubSection, Span, Memory}
 

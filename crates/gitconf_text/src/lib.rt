@@ -1,6 +1,7 @@
 //! The text layer of git's configuration files.
 #![tactic(auto)]
 
+pub mod laws;
 pub mod memory;
 pub mod parse;
 

@@ -42,10 +42,17 @@ impl Error {
 }
 
 impl fmt::Display for Error {
+    ghost use Rattle.std.specs.Prelude.{Some, codes};
+    ghost use Rattle.gitconf_text.specs.NameErrors.{text_of, cause_of};
+
+    ghost output = { λ e. Some (text_of
+        (codes "configuration data exceeds the supported span size of 4294967295 bytes") (cause_of e)) };
+
     fn fmt<W: fmt::Write>(&self, f: &mut fmt::Formatter<W>) -> fmt::Result {
         f.write_str(
-            self.cause
-                .text("configuration data exceeds the supported span size of 4294967295 bytes"),
+            self.cause.text(
+                "configuration data exceeds the supported span size of 4294967295 bytes",
+            ),
         )
     }
 }

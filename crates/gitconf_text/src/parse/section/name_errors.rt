@@ -42,11 +42,13 @@ impl NameError {
 }
 
 impl fmt::Display for NameError {
+    ghost use Rattle.std.specs.Prelude.{Some, codes};
+    ghost use Rattle.gitconf_text.specs.NameErrors.{text_of, cause_of};
+
+    ghost output = { λ e. Some (text_of (codes "Valid names consist of alphanumeric characters or dashes.") (cause_of e)) };
+
     fn fmt<W: fmt::Write>(&self, f: &mut fmt::Formatter<W>) -> fmt::Result {
-        f.write_str(
-            self.cause
-                .text("Valid names consist of alphanumeric characters or dashes."),
-        )
+        f.write_str(self.cause.text("Valid names consist of alphanumeric characters or dashes."))
     }
 }
 
@@ -108,10 +110,19 @@ impl ValueNameError {
 }
 
 impl fmt::Display for ValueNameError {
+    ghost use Rattle.std.specs.Prelude.{Some, codes};
+    ghost use Rattle.gitconf_text.specs.NameErrors.{text_of, cause_of};
+
+    ghost output = { λ e. Some (text_of
+        (codes "Valid value names consist of alphanumeric characters or dashes, starting with an alphabetic character.")
+        (cause_of e)) };
+
     fn fmt<W: fmt::Write>(&self, f: &mut fmt::Formatter<W>) -> fmt::Result {
-        f.write_str(self.cause.text(
-            "Valid value names consist of alphanumeric characters or dashes, starting with an alphabetic character.",
-        ))
+        f.write_str(
+            self.cause.text(
+                "Valid value names consist of alphanumeric characters or dashes, starting with an alphabetic character.",
+            ),
+        )
     }
 }
 
