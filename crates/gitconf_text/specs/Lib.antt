@@ -1,6 +1,6 @@
 pub mod Bytes
+pub mod Cause
 pub mod HeaderErrors
-pub mod NameErrors
 pub mod Names
 pub mod SectionKeyRefs
 pub mod SectionKeys

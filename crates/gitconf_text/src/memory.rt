@@ -40,7 +40,7 @@ pub(crate) enum Cause {
 
 impl Cause {
     ghost use Rattle.std.specs.Prelude.{◌≡◌, codes};
-    ghost use Rattle.gitconf_text.specs.NameErrors.{number_of, text_of};
+    ghost use Rattle.gitconf_text.specs.Cause.{number_of, text_of};
 
     /// The number to show, where the refusal's own is `own`.
     pub(crate) fn number(self, own: u8) -> u8

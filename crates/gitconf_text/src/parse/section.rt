@@ -1,6 +1,6 @@
 //! Sections: the names of sections and of their values, and headers that are made.
 
-mod bytes;
+pub mod bytes;
 pub mod header;
 mod name_errors;
 mod names;

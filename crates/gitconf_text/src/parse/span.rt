@@ -14,7 +14,7 @@ pub struct Error {
 
 impl Model for Error {
     ghost use Rattle.std.specs.Prelude.{ℕ};
-    ghost use Rattle.gitconf_text.specs.NameErrors.{number_of, cause_of};
+    ghost use Rattle.gitconf_text.specs.Cause.{number_of, cause_of};
 
     ghost Value = { ℕ };
 
@@ -43,7 +43,7 @@ impl Error {
 
 impl fmt::Display for Error {
     ghost use Rattle.std.specs.Prelude.{Some, codes};
-    ghost use Rattle.gitconf_text.specs.NameErrors.{text_of, cause_of};
+    ghost use Rattle.gitconf_text.specs.Cause.{text_of, cause_of};
 
     ghost output = { λ e. Some (text_of
         (codes "configuration data exceeds the supported span size of 4294967295 bytes") (cause_of e)) };

@@ -1,4 +1,6 @@
 //! The tests and comparisons of names, on their bytes.
+//!
+//! They are for the crates above this one, whose calls take names that are not checked yet. None takes memory.
 ghost use Rattle.std.specs.Prelude.{◌≡◌, IsTrue, fold as fold_from, string_bytes};
 ghost use Rattle.gitconf_text.specs.Names as spec;
 
@@ -14,14 +16,14 @@ pub fn is_made_name(bytes: &[u8]) -> bool
         .all(|b| b.is_ascii_alphanumeric() || *b == b'-')
 }
 
-/// The name of a section.
+/// The name of a section: one or more letters, digits and dashes.
 pub fn is_name(bytes: &[u8]) -> bool
     ensures { result ≡ spec.is_name bytes.now }
 {
     !bytes.is_empty() && is_made_name(bytes)
 }
 
-/// The name of a value.
+/// The name of a value: a letter, and then letters, digits and dashes.
 pub fn is_value_name(bytes: &[u8]) -> bool
     ensures { result ≡ spec.is_value_name bytes.now }
 {
@@ -32,7 +34,7 @@ pub fn is_value_name(bytes: &[u8]) -> bool
 }
 
 /// The bytes of a name, as text.
-pub fn as_text(bytes: &[u8]) -> &str
+pub(super) fn as_text(bytes: &[u8]) -> &str
     requires { IsTrue (spec.is_made_name bytes.now) }
     ensures { result.now ≡ bytes.now }
 {
@@ -40,21 +42,21 @@ pub fn as_text(bytes: &[u8]) -> &str
 }
 
 /// The bytes of a name, as text of its own.
-pub fn into_text(bytes: Vec<u8>) -> String
+pub(super) fn into_text(bytes: Vec<u8>) -> String
     requires { IsTrue (spec.is_made_name bytes.items) }
     ensures { string_bytes result ≡ bytes.items }
 {
     String::from_utf8(bytes).unwrap()
 }
 
-/// Equality without case.
+/// Equality without ASCII case.
 pub fn is_same_name(a: &[u8], b: &[u8]) -> bool
     ensures { result ≡ spec.is_same_name a.now b.now }
 {
     a.eq_ignore_ascii_case(b)
 }
 
-/// The order without case.
+/// The order without ASCII case.
 pub fn name_order(a: &[u8], b: &[u8]) -> Ordering
     ensures { result ≡ spec.name_order a.now b.now }
 {
@@ -76,7 +78,7 @@ pub fn name_order(a: &[u8], b: &[u8]) -> Ordering
     }
 }
 
-/// Feeds a hasher the bytes without case.
+/// Feeds a hasher the bytes without ASCII case, one at a time.
 pub fn feed<H: Hasher>(name: &[u8], state: &mut H)
     ensures { state.new ≡ fold_from H.write state.old (spec.name_writes name.now) }
 {

@@ -5,7 +5,7 @@ ghost use Rattle.gitconf_text.specs.Names as spec;
 use super::bytes::is_made_name;
 use crate::memory::NoMemory;
 use crate::parse::span;
-use std::alloc::AllocError;
+use std::alloc::{AllocError, AllocFailed};
 use thiserror::Error;
 
 /// How a header is refused that is to be made.
@@ -71,6 +71,16 @@ impl From<AllocError> for Error {
     }
 }
 
+impl<T: Drop> From<AllocFailed<T>> for Error {
+    ghost use Rattle.gitconf_text.specs.declared.parse.section.header.Error.TheVariants.{Memory};
+
+    ghost from_gives = { λ _ e. e ≡ Memory };
+
+    fn from(_e: AllocFailed<T>) -> Error {
+        Error::Memory
+    }
+}
+
 /// Whether `name` may be a subsection of a header that is made: it holds neither LF nor NUL.
 ///
 /// It reads `name` once.
@@ -81,6 +91,8 @@ pub fn is_valid_subsection(name: &[u8]) -> bool
 }
 
 /// Tests the parts of a header that is to be made. The name may be empty.
+///
+/// It is for the crates above this one. It reads both parts once, and takes no memory.
 ///
 /// # Errors
 ///

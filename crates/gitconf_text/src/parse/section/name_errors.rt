@@ -14,7 +14,7 @@ pub struct NameError {
 
 impl Model for NameError {
     ghost use Rattle.std.specs.Prelude.{ℕ};
-    ghost use Rattle.gitconf_text.specs.NameErrors.{number_of, cause_of};
+    ghost use Rattle.gitconf_text.specs.Cause.{number_of, cause_of};
 
     ghost Value = { ℕ };
 
@@ -43,7 +43,7 @@ impl NameError {
 
 impl fmt::Display for NameError {
     ghost use Rattle.std.specs.Prelude.{Some, codes};
-    ghost use Rattle.gitconf_text.specs.NameErrors.{text_of, cause_of};
+    ghost use Rattle.gitconf_text.specs.Cause.{text_of, cause_of};
 
     ghost output = { λ e. Some (text_of (codes "Valid names consist of alphanumeric characters or dashes.") (cause_of e)) };
 
@@ -82,7 +82,7 @@ pub struct ValueNameError {
 
 impl Model for ValueNameError {
     ghost use Rattle.std.specs.Prelude.{ℕ};
-    ghost use Rattle.gitconf_text.specs.NameErrors.{number_of, cause_of};
+    ghost use Rattle.gitconf_text.specs.Cause.{number_of, cause_of};
 
     ghost Value = { ℕ };
 
@@ -111,7 +111,7 @@ impl ValueNameError {
 
 impl fmt::Display for ValueNameError {
     ghost use Rattle.std.specs.Prelude.{Some, codes};
-    ghost use Rattle.gitconf_text.specs.NameErrors.{text_of, cause_of};
+    ghost use Rattle.gitconf_text.specs.Cause.{text_of, cause_of};
 
     ghost output = { λ e. Some (text_of
         (codes "Valid value names consist of alphanumeric characters or dashes, starting with an alphabetic character.")

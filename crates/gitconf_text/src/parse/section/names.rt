@@ -19,7 +19,8 @@ use std::marker::Model;
 
 /// The name of a section, like `remote`: letters, digits and dashes.
 ///
-/// It keeps its spelling, and is compared, ordered and hashed without ASCII case.
+/// It keeps its spelling, and is compared, ordered and hashed without ASCII case. `try_from` makes one of a `String`
+/// or a `BString`, whose memory it keeps; its only refusal is number 6, of bytes that are no such name.
 #[derive(Debug, Drop)]
 pub struct Name {
     text: String,
@@ -37,7 +38,7 @@ impl Model for Name {
 }
 
 impl Name {
-    /// A copy of the bytes, where they are a name.
+    /// A copy of the bytes, where they are such a name.
     ///
     /// # Errors
     ///
@@ -177,7 +178,8 @@ impl Hash for Name {
 
 /// The name of a value, like `path` in `include.path`: a letter, and then letters, digits and dashes.
 ///
-/// It keeps its spelling, and is compared, ordered and hashed without ASCII case.
+/// It keeps its spelling, and is compared, ordered and hashed without ASCII case. `try_from` makes one of a `String`
+/// or a `BString`, whose memory it keeps; its only refusal is number 6, of bytes that are no such name.
 #[derive(Debug, Drop)]
 pub struct ValueName {
     text: String,
@@ -195,7 +197,7 @@ impl Model for ValueName {
 }
 
 impl ValueName {
-    /// A copy of the bytes, where they are a name.
+    /// A copy of the bytes, where they are such a name.
     ///
     /// # Errors
     ///
