@@ -100,9 +100,10 @@ pub fn is_valid_subsection(name: &[u8]) -> bool
 /// is a subsection that `is_valid_subsection` refuses.
 pub fn validate(name: &[u8], subsection: Option<&[u8]>) -> Result<(), Error>
     ensures name { IsErrOf result Error.InvalidName ↔ (spec.is_made_name name.now ≡ false) }
-    ensures subsection { IsErrOf result Error.InvalidSubSection
-        ↔ ((spec.is_made_name name.now ≡ true) × (spec.is_valid_or_none (option_copied subsection.entry) ≡ false)) }
-    ensures ok { IsOk result ↔ ((spec.is_made_name name.now ≡ true) × (spec.is_valid_or_none (option_copied subsection.entry) ≡ true)) }
+    ensures subsection { IsErrOf result Error.InvalidSubSection ↔ ((spec.is_made_name name.now ≡ true)
+        × (spec.is_valid_or_none (option_copied subsection.entry) ≡ false)) }
+    ensures ok { IsOk result ↔ ((spec.is_made_name name.now ≡ true)
+        × (spec.is_valid_or_none (option_copied subsection.entry) ≡ true)) }
 {
     if !is_made_name(name) {
         return Err(Error::InvalidName);

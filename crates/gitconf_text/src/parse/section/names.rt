@@ -96,7 +96,8 @@ impl Name {
 impl TryFrom<String> for Name {
     type Error = NameError;
 
-    ghost try_from_gives = { λ text result. spec.IsConverted (spec.is_name (string_bytes text)) (string_bytes text) result };
+    ghost try_from_gives = { λ text result.
+        spec.IsConverted (spec.is_name (string_bytes text)) (string_bytes text) result };
 
     fn try_from(text: String) -> Result<Name, NameError> {
         if !bytes::is_name(text.as_bytes()) {
@@ -109,7 +110,8 @@ impl TryFrom<String> for Name {
 impl TryFrom<BString> for Name {
     type Error = NameError;
 
-    ghost try_from_gives = { λ bytes result. spec.IsConverted (spec.is_name (bstring_bytes bytes)) (bstring_bytes bytes) result };
+    ghost try_from_gives = { λ bytes result.
+        spec.IsConverted (spec.is_name (bstring_bytes bytes)) (bstring_bytes bytes) result };
 
     fn try_from(bytes: BString) -> Result<Name, NameError> {
         if !bytes::is_name(bytes.as_bytes()) {
@@ -145,7 +147,8 @@ impl Eq for Name {
 impl PartialOrd for Name {
     ghost partial_cmp = { as_partial_cmp spec.name_order };
 
-    ghost laws = { partial_order_from_own_ties (Prim.search (comparing, rules)) (Prim.search (comparing, rules)) };
+    ghost laws = { partial_order_from_own_ties (Prim.search (comparing, rules))
+        (Prim.search (comparing, rules)) };
 
     fn partial_cmp(&self, other: &Name) -> Option<Ordering> {
         Some(self.cmp(other))
@@ -255,7 +258,8 @@ impl ValueName {
 impl TryFrom<String> for ValueName {
     type Error = ValueNameError;
 
-    ghost try_from_gives = { λ text result. spec.IsConverted (spec.is_value_name (string_bytes text)) (string_bytes text) result };
+    ghost try_from_gives = { λ text result.
+        spec.IsConverted (spec.is_value_name (string_bytes text)) (string_bytes text) result };
 
     fn try_from(text: String) -> Result<ValueName, ValueNameError> {
         if !bytes::is_value_name(text.as_bytes()) {
@@ -268,7 +272,8 @@ impl TryFrom<String> for ValueName {
 impl TryFrom<BString> for ValueName {
     type Error = ValueNameError;
 
-    ghost try_from_gives = { λ bytes result. spec.IsConverted (spec.is_value_name (bstring_bytes bytes)) (bstring_bytes bytes) result };
+    ghost try_from_gives = { λ bytes result.
+        spec.IsConverted (spec.is_value_name (bstring_bytes bytes)) (bstring_bytes bytes) result };
 
     fn try_from(bytes: BString) -> Result<ValueName, ValueNameError> {
         if !bytes::is_value_name(bytes.as_bytes()) {
@@ -304,7 +309,8 @@ impl Eq for ValueName {
 impl PartialOrd for ValueName {
     ghost partial_cmp = { as_partial_cmp spec.name_order };
 
-    ghost laws = { partial_order_from_own_ties (Prim.search (comparing, rules)) (Prim.search (comparing, rules)) };
+    ghost laws = { partial_order_from_own_ties (Prim.search (comparing, rules))
+        (Prim.search (comparing, rules)) };
 
     fn partial_cmp(&self, other: &ValueName) -> Option<Ordering> {
         Some(self.cmp(other))
