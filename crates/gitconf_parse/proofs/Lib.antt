@@ -2,3 +2,4 @@ pub mod Runs
 pub mod Skips
 pub mod ValueAgain
 pub mod ValueTakes
+pub mod RunLaws

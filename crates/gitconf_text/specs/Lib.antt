@@ -7,3 +7,8 @@ pub mod Part
 pub mod Document
 pub mod Token
 pub mod Stuck
+pub mod Cause
+pub mod HeaderErrors
+pub mod Names
+pub mod SectionKeyRefs
+pub mod SectionKeys

@@ -1,2 +1,8 @@
-//! The texts of git-config files.
+//! The text layer of git's configuration files.
 #![tactic(auto)]
+
+pub mod laws;
+pub mod memory;
+pub mod parse;
+
+pub use memory::NoMemory;

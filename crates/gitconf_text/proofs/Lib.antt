@@ -1,0 +1,2 @@
+pub mod NamesLaws
+pub mod SectionKeysLaws
