@@ -1,2 +1,4 @@
 pub mod NamesLaws
 pub mod SectionKeysLaws
+pub mod Rows
+pub mod RefusedRows

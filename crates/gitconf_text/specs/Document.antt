@@ -1,9 +1,9 @@
 -- Documents, and the text of one.
-use Rattle.std.specs.Prelude.{◌≡◌, ℕ, nat_eq, List, [], ◌∷◌, drop, Option, Some, None, if◌then◌else◌}
+use Rattle.std.specs.Prelude.{◌≡◌, ℕ, nat_eq, List, [], ◌∷◌, drop, Option, if◌then◌else◌}
 use Rattle.std.specs.Option.{option_map}
 use Rattle.std.specs.List.{starts_with}
 use Rattle.gitconf_text.specs.Value.{raw_of}
-use Rattle.gitconf_text.specs.Header.{Header, name_of, subsection_of}
+use Rattle.gitconf_text.specs.Header.{name_of, subsection_of}
 use Rattle.gitconf_text.specs.Part.{Assigned, Entry, Item, BlanksItem, LineEndsItem, CommentItem, EntryItem, Part, ItemPart, HeaderPart, spelled, AreFit}
 
 -- a value name as spelled, and the raw text of its value, if it has one
@@ -36,7 +36,8 @@ abbrev pub with_part : Part → Document → Document
 with_part (ItemPart i) d = with_item i d
 with_part (HeaderPart h) d = record {
   front = [];
-  sections = (record { name = name_of h; subsection = subsection_of h; entries = d.front }) ∷ d.sections }
+  sections = (record { name = name_of h; subsection = subsection_of h; entries = d.front }) ∷ d.sections;
+}
 
 -- the document of these parts
 abbrev pub gathered : List Part → Document

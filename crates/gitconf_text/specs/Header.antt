@@ -3,7 +3,7 @@
 use Rattle.std.specs.Prelude.{◌≡◌, ◌<◌, ℕ, Bool, true, false, not, List, [], ◌∷◌, ◌++◌, ◌==◌, length, flat_map, Option, Some, None}
 use Rattle.std.specs.List.{list_all}
 use Rattle.gitconf_text.specs.Bytes.{is_blank, is_name_byte, is_header_byte, fold}
-use Rattle.gitconf_text.specs.Unit.{Class, LineFeed, Quote, Mark, Backslash, White, Other, class_of, TextUnit, Escape, OpenEscape, Plain, units_of}
+use Rattle.gitconf_text.specs.Unit.{LineFeed, Quote, class_of, TextUnit, Escape, OpenEscape, Plain, units_of}
 
 -- `[name]`; `[name.subsection]`; `[name "spelling"]` with blanks before the quote
 pub data Header : Type 0 where

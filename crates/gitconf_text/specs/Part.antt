@@ -1,12 +1,12 @@
 -- The parts of a text: items (runs of blanks, runs of line ends, comments, entries) and headers.
 -- A part stands where it does only before what may follow it, so runs are as long as they can be.
 use Rattle.std.specs.Prelude.{◌≡◌, ◌<◌, ℕ, Bool, true, false, not, List, [], ◌∷◌, ◌++◌, ◌==◌, ◌&&◌, ◌||◌, length, flat_map, Option, Some, None}
-use Rattle.std.specs.Char.{is_ascii_alphabetic}
 use Rattle.std.specs.List.{list_all}
 use Rattle.gitconf_text.specs.Bytes.{is_blank, is_name_byte}
 use Rattle.gitconf_text.specs.Text.{begins, ends, begins_line_end, are_line_ends}
 use Rattle.gitconf_text.specs.Unit.{is_mark}
 use Rattle.gitconf_text.specs.Value.{Value, spelled_value, FitsValue}
+use Rattle.gitconf_text.specs.Names.{is_value_name}
 use Rattle.gitconf_text.specs.Header.{Header, spelled_header, FitsHeader}
 
 -- what stands behind `=`
@@ -46,10 +46,6 @@ spelled_part (HeaderPart h) = spelled_header h
 
 abbrev pub spelled : List Part → List ℕ
 spelled parts = flat_map spelled_part parts
-
--- a letter, and then name bytes
-abbrev pub is_value_name : List ℕ → Bool
-is_value_name name = begins is_ascii_alphabetic name && list_all is_name_byte name
 
 -- A comment ends with the input, before CR and LF, or before LF where its own last byte is no CR.
 abbrev pub ends_comment : (text rest : List ℕ) → Bool

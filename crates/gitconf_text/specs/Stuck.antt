@@ -4,7 +4,8 @@ use Rattle.std.specs.List.{list_all, list_any}
 use Rattle.gitconf_text.specs.Bytes.{is_blank}
 use Rattle.gitconf_text.specs.Text.{begins}
 use Rattle.gitconf_text.specs.Value.{Value, spelled_value, FitsValue}
-use Rattle.gitconf_text.specs.Part.{Part, ItemPart, HeaderPart, spelled_part, spelled, is_value_name, FitsPart, AreFit}
+use Rattle.gitconf_text.specs.Names.{is_value_name}
+use Rattle.gitconf_text.specs.Part.{Part, ItemPart, HeaderPart, spelled_part, spelled, FitsPart, AreFit}
 use Rattle.gitconf_text.specs.Document.{unmarked}
 
 -- a key, blanks, `=` and blanks, before rest

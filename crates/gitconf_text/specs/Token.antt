@@ -1,8 +1,8 @@
 -- Tokens: the events of a text, each with its bytes.
 use Rattle.std.specs.Prelude.{ℕ, List, [], ◌∷◌, ◌++◌, flat_map, Option, Some, None}
-use Rattle.gitconf_text.specs.Value.{Piece, Value}
+use Rattle.gitconf_text.specs.Value.{Piece}
 use Rattle.gitconf_text.specs.Header.{Header, spelled_header}
-use Rattle.gitconf_text.specs.Part.{Assigned, Entry, Item, BlanksItem, LineEndsItem, CommentItem, EntryItem, Part, ItemPart, HeaderPart}
+use Rattle.gitconf_text.specs.Part.{Assigned, Item, BlanksItem, LineEndsItem, CommentItem, EntryItem, Part, ItemPart, HeaderPart}
 
 -- a header keeps its form and spelling; an unfinished piece is told without its backslash
 pub data Token : Type 0 where

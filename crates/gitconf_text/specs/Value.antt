@@ -1,10 +1,10 @@
 -- Values: what stands behind `=`, its raw text, its meaning, and how a meaning is written.
 -- Source: the git-config manual page, and gix-config; that an open quote before a last backslash is refused is this project's own rule.
 use Rattle.std.specs.Prelude.{◌≡◌, ◌⊎◌, ℕ, Bool, true, false, not, List, [], ◌∷◌, ◌++◌, ◌==◌, ◌&&◌, ◌||◌, if◌then◌else◌, flat_map}
-use Rattle.std.specs.List.{list_all, list_any}
+use Rattle.std.specs.List.{list_any}
 use Rattle.gitconf_text.specs.Bytes.{is_blank, is_whitespace}
 use Rattle.gitconf_text.specs.Text.{begins, ends, is_line_end}
-use Rattle.gitconf_text.specs.Unit.{Class, LineFeed, Quote, Mark, Backslash, White, Other, class_of, is_white, is_mark, TextUnit, Escape, OpenEscape, Plain, units_of}
+use Rattle.gitconf_text.specs.Unit.{LineFeed, Quote, Mark, White, class_of, is_white, is_mark, TextUnit, Escape, OpenEscape, Plain, units_of}
 
 -- a piece of a value that goes on: its bytes, and the line end behind its backslash
 pub record Piece : Type 0 where
@@ -39,19 +39,21 @@ are_paired quoted [] = not quoted
 are_paired quoted (Escape b ∷ units) = is_value_escape b && are_paired quoted units
 are_paired quoted (OpenEscape ∷ units) = false
 are_paired quoted (Plain b ∷ units) = elim (class_of b) [
-    Quote ↦ are_paired (not quoted) units
+  | Quote ↦ are_paired (not quoted) units
   | Mark ↦ quoted && are_paired quoted units
   | LineFeed ↦ false
-  | _ ↦ are_paired quoted units ]
+  | _ ↦ are_paired quoted units
+]
 
 -- white space, and then LF, a comment or the end
 abbrev pub may_follow_value : List ℕ → Bool
 may_follow_value [] = true
 may_follow_value (b ∷ rest) = elim (class_of b) [
-    White ↦ may_follow_value rest
+  | White ↦ may_follow_value rest
   | LineFeed ↦ true
   | Mark ↦ true
-  | _ ↦ false ]
+  | _ ↦ false
+]
 
 -- Each piece but the last ends with a backslash and a line end, and the last not with white space;
 -- or the input ends with a backslash, and the last piece is empty.
