@@ -3,3 +3,8 @@ pub mod Skips
 pub mod ValueAgain
 pub mod ValueTakes
 pub mod RunLaws
+pub mod ByteLaws
+pub mod At
+pub mod SpellingAgain
+pub mod HeaderAgain
+pub mod HeaderTakes
