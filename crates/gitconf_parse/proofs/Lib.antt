@@ -8,3 +8,4 @@ pub mod At
 pub mod SpellingAgain
 pub mod HeaderAgain
 pub mod HeaderTakes
+pub mod PartAgain
