@@ -9,3 +9,4 @@ pub mod SpellingAgain
 pub mod HeaderAgain
 pub mod HeaderTakes
 pub mod PartAgain
+pub mod PartTakes

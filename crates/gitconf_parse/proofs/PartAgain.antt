@@ -94,7 +94,7 @@ entry_again e b name rest input events n name_is names stands blanks fits = rw (
     there = behind_front input e.blanks (spelled_assigned e.assigned ++ rest) (n + length e.name) between
 
 -- how a text with a letter in front opens
-letter_opens : (b : ℕ) (rest : List ℕ) → is_ascii_alphabetic b ≡ true → opening_of (b ∷ rest) ≡ OpensEntry
+pub letter_opens : (b : ℕ) (rest : List ℕ) → is_ascii_alphabetic b ≡ true → opening_of (b ∷ rest) ≡ OpensEntry
 letter_opens b rest h = rw (letter_no_blank b h, letter_no_line_end b rest h, letter_no_mark b h, letter_no_bracket b h, h) refl
 
 mark_opens : (b : ℕ) (rest : List ℕ) → is_mark b ≡ true → opening_of (b ∷ rest) ≡ OpensComment
