@@ -10,3 +10,4 @@ pub mod HeaderAgain
 pub mod HeaderTakes
 pub mod PartAgain
 pub mod PartTakes
+pub mod TextTakes

@@ -1,0 +1,113 @@
+-- A whole text: its parts are read to their events, and what is refused is stuck.
+use Rattle.std.proofs.Common.{◌≡◌, ◌≢◌, ℕ, zero, suc, ◌+◌, ◌-◌, ◌<◌, ◌≤◌, Bool, true, false, List, [], ◌∷◌, ◌++◌, length, drop, get_or, Result, Ok, Err, refl, ap, sym, subst, ◌∙◌, arith, append_assoc, append-nil, length-append, inl, inr}
+use Rattle.std.specs.Prelude.{◌⊎◌, ◌==◌}
+use Rattle.std.proofs.lemmas.List.{length-drop}
+use Rattle.std.specs.List.{flat_map, list_all}
+use Rattle.std.specs.Char.{is_ascii_alphabetic}
+use Rattle.std.proofs.Common.{Option, Some, None}
+use Rattle.gitconf_text.specs.Bytes.{is_blank, is_name_byte}
+use Rattle.gitconf_text.specs.Text.{begins_line_end, are_line_ends}
+use Rattle.gitconf_text.specs.Unit.{is_mark}
+use Rattle.gitconf_text.specs.Names.{is_value_name}
+use Rattle.gitconf_text.specs.Value.{Piece}
+use Rattle.gitconf_text.specs.Header.{Header, PlainHeader, DottedHeader, QuotedHeader, spelled_header}
+use Rattle.gitconf_text.specs.Part.{Assigned, Entry, spelled_assigned, Item, BlanksItem, LineEndsItem, CommentItem, EntryItem, Part, ItemPart, HeaderPart, spelled_item, spelled_part, spelled, FitsItem, FitsPart, AreFit}
+use Rattle.gitconf_text.specs.Stuck.{NoPart}
+use Rattle.gitconf_parse.specs.declared.event.Event.{Event}
+use Rattle.gitconf_parse.specs.declared.reading.Fault.{Fault}
+use Rattle.gitconf_parse.specs.declared.reading.Expected.{Expected}
+use Rattle.gitconf_parse.specs.declared.reading.Expected.TheVariants as expected
+use Rattle.gitconf_parse.specs.Reading.{part_at, wanted_behind, text_from}
+use Rattle.gitconf_parse.proofs.At.{behind_front, byte_at}
+use Rattle.gitconf_parse.proofs.Skips.{text_from-part, text_from-fault}
+use Rattle.gitconf_parse.proofs.ValueAgain.{apart, both_true, value_after}
+use Rattle.gitconf_parse.proofs.HeaderAgain.{header_spans}
+use Rattle.gitconf_parse.proofs.PartAgain.{after_assigned, after_part, part_again}
+use Rattle.gitconf_parse.proofs.PartTakes.{PartShape, part_takes, ValueFaultShape, part_fault}
+
+abbrev pub after_parts : List Event → (n : ℕ) → List Part → List Event
+after_parts events n [] = events
+after_parts events n (p ∷ parts) = after_parts (after_part events n p).0 (n + length (spelled_part p)) parts
+
+-- what is looked for behind a part, where `wanted` was before it
+abbrev pub wanted_part : Expected → Part → Expected
+wanted_part wanted (ItemPart i) = wanted
+wanted_part wanted (HeaderPart h) = expected.Name
+
+abbrev pub wanted_after : Expected → List Part → Expected
+wanted_after wanted [] = wanted
+wanted_after wanted (p ∷ parts) = wanted_after (wanted_part wanted p) parts
+
+-- the offset behind a value
+value_end_is : (pieces : List Piece) (last : List ℕ) (events : List Event) (joined : Bool) (n : ℕ)
+    → (value_after events joined n pieces last).1 ≡ n + length (flat_map (λ (p : Piece). p.text ++ 92 ∷ p.line_end) pieces ++ last)
+value_end_is [] last events joined n = refl
+value_end_is (p ∷ pieces) last events joined n =
+    value_end_is pieces last _ true (n + length p.text + 1 + length p.line_end)
+    ∙ simp length-append (omega arith)
+
+assigned_end : (a : Option Assigned) (events : List Event) (n : ℕ) → (after_assigned events n a).1 ≡ n + length (spelled_assigned a)
+assigned_end None events n = omega arith
+assigned_end (Some a) events n = value_end_is a.value.pieces a.value.last _ false (n + 1 + length a.blanks) ∙ simp length-append (omega arith)
+
+header_end : (h : Header) (n : ℕ) → (header_spans n h).1 ≡ n + length (spelled_header h)
+header_end (PlainHeader name) n = simp length-append (omega arith)
+header_end (DottedHeader name subsection) n = simp length-append (omega arith)
+header_end (QuotedHeader name blanks spelling) n = simp length-append (omega arith)
+
+-- the offset behind a part
+part_end : (p : Part) (events : List Event) (n : ℕ) → (after_part events n p).1 ≡ n + length (spelled_part p)
+part_end (ItemPart (BlanksItem run)) events n = refl
+part_end (ItemPart (LineEndsItem run)) events n = refl
+part_end (ItemPart (CommentItem tag text)) events n = omega arith
+part_end (ItemPart (EntryItem e)) events n = assigned_end e.assigned _ (n + length e.name + length e.blanks) ∙ simp length-append (omega arith)
+part_end (HeaderPart h) events n = header_end h n
+
+-- a part has a first byte, and only a header's is a bracket
+abbrev pub First : Part → Type 0
+First p = (b : ℕ) × (more : List ℕ) × (spelled_part p ≡ b ∷ more) × ((wanted : Expected) → wanted_behind b wanted ≡ wanted_part wanted p)
+
+name_first : (e : Entry) (name : List ℕ) → e.name ≡ name → is_value_name name ≡ true → First (ItemPart (EntryItem e))
+name_first e [] is good = absurd (cc)
+name_first e (b ∷ name) is good = (b, name ++ (e.blanks ++ spelled_assigned e.assigned), rw is refl,
+    λ wanted. rw (apart is_ascii_alphabetic 91 b refl (both_true (is_ascii_alphabetic b) (list_all is_name_byte name) good).0) refl)
+
+part_first : (p : Part) (rest : List ℕ) → FitsPart p rest → First p
+part_first (ItemPart (BlanksItem [])) rest fits = absurd (omega (arith, fits.0))
+part_first (ItemPart (BlanksItem (b ∷ run))) rest fits = (b, run, refl, λ wanted. rw (apart is_blank 91 b refl (both_true (is_blank b) (list_all is_blank run) fits.1).0) refl)
+part_first (ItemPart (LineEndsItem [])) rest fits = absurd (omega (arith, fits.0))
+part_first (ItemPart (LineEndsItem (b ∷ run))) rest fits = (b, run, refl, λ wanted. rw (line_end_first b run (both_true (begins_line_end (b ∷ run)) (are_line_ends run) fits.1).0) refl)
+  where
+    line_end_first : (b : ℕ) (run : List ℕ) → begins_line_end (b ∷ run) ≡ true → (b == 91) ≡ false
+    line_end_first b run h = apart (λ b. begins_line_end (b ∷ run)) 91 b refl h
+part_first (ItemPart (CommentItem tag text)) rest fits = (tag, text, refl, λ wanted. rw (apart is_mark 91 tag refl fits.0) refl)
+part_first (ItemPart (EntryItem e)) rest fits = name_first e e.name refl fits.0
+part_first (HeaderPart (PlainHeader name)) rest fits = (91, name ++ 93 ∷ [], refl, λ wanted. refl)
+part_first (HeaderPart (DottedHeader name subsection)) rest fits = (91, _, refl, λ wanted. refl)
+part_first (HeaderPart (QuotedHeader name blanks spelling)) rest fits = (91, _, refl, λ wanted. refl)
+
+-- where a byte stands, the input goes on
+stands_within : (input : List ℕ) (n b : ℕ) (rest : List ℕ) → drop n input ≡ b ∷ rest → n < length input
+stands_within input n b rest stands = let long : length input - n ≡ length (b ∷ rest) = sym (length-drop n input) ∙ ap length stands in omega arith
+
+-- parts are read one behind the other
+pub text_again : (parts : List Part) (rest input : List ℕ) (n : ℕ) (wanted : Expected) (events : List Event) → drop n input ≡ spelled parts ++ rest → AreFit parts rest
+    → text_from input wanted events n 0 (drop n input) ≡ text_from input (wanted_after wanted parts) (after_parts events n parts) (n + length (spelled parts)) 0 (drop (n + length (spelled parts)) input)
+text_again [] rest input n wanted events stands fits = let e : n ≡ n + 0 = omega arith in ap (λ m. text_from input wanted events m 0 (drop m input)) e
+text_again (p ∷ parts) rest input n wanted events stands fits =
+    let here : drop n input ≡ spelled_part p ++ (spelled parts ++ rest) = simp append_assoc at stands in
+    let first = part_first p (spelled parts ++ rest) fits.0 in
+    let byte : drop n input ≡ first.0 ∷ (first.1 ++ (spelled parts ++ rest)) = here ∙ ap (λ t. t ++ (spelled parts ++ rest)) first.2 in
+    let within : n < length input = stands_within input n first.0 _ byte in
+    let end : (after_part events n p).1 ≡ n + length (spelled_part p) = part_end p events n in
+    let some : 0 < length (spelled_part p) = rw first.2 (omega arith) in
+    let ahead : n < (after_part events n p).1 = omega (arith, end, some) in
+    let step = text_from-part input wanted events n (after_part events n p).0 (after_part events n p).1 within ahead (part_again p (spelled parts ++ rest) input n wanted events here fits.0) in
+    let behind : drop (n + length (spelled_part p)) input ≡ spelled parts ++ rest = behind_front input (spelled_part p) (spelled parts ++ rest) n here in
+    let next : wanted_behind (get_or input n 0) wanted ≡ wanted_part wanted p = ap (λ b. wanted_behind b wanted) (byte_at input first.0 _ n byte) ∙ first.3 wanted in
+    let long : n + length (spelled_part p) + length (spelled parts) ≡ n + length (spelled (p ∷ parts)) = simp length-append (omega arith) in
+    step
+    ∙ ap (λ w. text_from input w (after_part events n p).0 (after_part events n p).1 0 (drop (after_part events n p).1 input)) next
+    ∙ ap (λ m. text_from input (wanted_part wanted p) (after_part events n p).0 m 0 (drop m input)) end
+    ∙ text_again parts rest input (n + length (spelled_part p)) (wanted_part wanted p) (after_part events n p).0 behind fits.1
+    ∙ ap (λ m. text_from input (wanted_after (wanted_part wanted p) parts) (after_parts (after_part events n p).0 (n + length (spelled_part p)) parts) m 0 (drop m input)) long

@@ -1,0 +1,35 @@
+-- What the parser's events stand for, in the buffer that their spans are offsets of.
+use Rattle.std.specs.Prelude.{ℕ, List, ◌==◌, Option, Some, None, take, drop, if◌then◌else◌}
+use Rattle.gitconf_text.specs.Text.{begins}
+use Rattle.gitconf_text.specs.Header as grammar
+use Rattle.gitconf_text.specs.Token.{Token, CommentToken, HeaderToken, NameToken, ValueToken, NewlineToken, ValueNotDoneToken, ValueDoneToken, WhitespaceToken, SeparatorToken}
+use Rattle.gitconf_parse.specs.declared.event.Span.{Span}
+use Rattle.gitconf_parse.specs.declared.event.Header.{Header}
+use Rattle.gitconf_parse.specs.declared.event.Event.{Event}
+use Rattle.gitconf_parse.specs.declared.event.Event.TheVariants as kinds
+
+-- the bytes that a span names
+abbrev pub bytes_of : (buffer : List ℕ) → Span → List ℕ
+bytes_of buffer s = take s.len (drop s.start buffer)
+
+-- a header is plain without a separator, dotted where that is a dot, and else quoted
+abbrev pub header_form : (buffer name : List ℕ) → (separator subsection : Option Span) → grammar.Header
+header_form buffer name None subsection = grammar.PlainHeader name
+header_form buffer name (Some separator) None = grammar.PlainHeader name
+header_form buffer name (Some separator) (Some subsection) =
+    if begins (λ b. b == 46) (bytes_of buffer separator) then grammar.DottedHeader name (bytes_of buffer subsection)
+    else grammar.QuotedHeader name (bytes_of buffer separator) (bytes_of buffer subsection)
+
+abbrev pub header_of : (buffer : List ℕ) → Header → grammar.Header
+header_of buffer h = header_form buffer (bytes_of buffer h.name) h.separator h.subsection
+
+abbrev pub token_of : (buffer : List ℕ) → Event → Token
+token_of buffer (kinds.Comment tag text) = CommentToken tag (bytes_of buffer text)
+token_of buffer (kinds.SectionHeader h) = HeaderToken (header_of buffer h)
+token_of buffer (kinds.SectionValueName s) = NameToken (bytes_of buffer s)
+token_of buffer (kinds.Value s) = ValueToken (bytes_of buffer s)
+token_of buffer (kinds.Newline s) = NewlineToken (bytes_of buffer s)
+token_of buffer (kinds.ValueNotDone s) = ValueNotDoneToken (bytes_of buffer s)
+token_of buffer (kinds.ValueDone s) = ValueDoneToken (bytes_of buffer s)
+token_of buffer (kinds.Whitespace s) = WhitespaceToken (bytes_of buffer s)
+token_of buffer kinds.KeyValueSeparator = SeparatorToken
