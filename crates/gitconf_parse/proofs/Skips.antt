@@ -19,6 +19,11 @@ text_from-skip input wanted events n (suc k) (b ∷ rest) =
     let e : n + 1 + k ≡ n + suc k = omega arith in
     text_from-skip input wanted events (n + 1) k rest ∙ ap (λ m. text_from input wanted events m 0 (drop k rest)) e
 
+-- where no byte is left, all is read
+pub text_from-end : (input : List ℕ) (wanted : Expected) (events : List Event) (n : ℕ) → text_from input wanted events n 0 [] ≡ Ok events
+unfolding text_from
+text_from-end input wanted events n = refl
+
 -- behind a part the text goes on at its end
 pub text_from-part : (input : List ℕ) (wanted : Expected) (events : List Event) (n : ℕ) (more : List Event) (end : ℕ)
     → n < length input → n < end → part_at input n wanted events ≡ Ok (more, end)

@@ -17,9 +17,9 @@ use Rattle.gitconf_parse.specs.declared.event.Event.{Event}
 use Rattle.gitconf_parse.specs.declared.reading.Fault.{Fault}
 use Rattle.gitconf_parse.specs.declared.reading.Expected.{Expected}
 use Rattle.gitconf_parse.specs.declared.reading.Expected.TheVariants as expected
-use Rattle.gitconf_parse.specs.Reading.{part_at, wanted_behind, text_from}
+use Rattle.gitconf_parse.specs.Reading.{Read, part_at, wanted_behind, text_from}
 use Rattle.gitconf_parse.proofs.At.{behind_front, byte_at}
-use Rattle.gitconf_parse.proofs.Skips.{text_from-part, text_from-fault}
+use Rattle.gitconf_parse.proofs.Skips.{text_from-end, text_from-part, text_from-fault}
 use Rattle.gitconf_parse.proofs.ValueAgain.{apart, both_true, value_after}
 use Rattle.gitconf_parse.proofs.HeaderAgain.{header_spans}
 use Rattle.gitconf_parse.proofs.PartAgain.{after_assigned, after_part, part_again}
@@ -111,3 +111,78 @@ text_again (p ∷ parts) rest input n wanted events stands fits =
     ∙ ap (λ m. text_from input (wanted_part wanted p) (after_part events n p).0 m 0 (drop m input)) end
     ∙ text_again parts rest input (n + length (spelled_part p)) (wanted_part wanted p) (after_part events n p).0 behind fits.1
     ∙ ap (λ m. text_from input (wanted_after (wanted_part wanted p) parts) (after_parts (after_part events n p).0 (n + length (spelled_part p)) parts) m 0 (drop m input)) long
+
+-- why the text can't be read on from the offset m
+abbrev pub IsFaultAt : (input : List ℕ) → (m : ℕ) → Expected → Fault → Type 0
+IsFaultAt input m wanted f = ((record { at = m; expected = wanted } ≡ f) × NoPart (drop m input)) ⊎ ValueFaultShape input m f
+
+-- how a text ends: with its last part, or where it is refused
+pub record Outcome (input : List ℕ) (n : ℕ) (wanted : Expected) (events : List Event) (read : Result (List Event) Fault) : Type 0 where
+  pub parts : List Part
+  pub rest : List ℕ
+  pub whole : drop n input ≡ spelled parts ++ rest
+  pub fits : AreFit parts rest
+  pub end : ((rest ≡ []) × (read ≡ Ok (after_parts events n parts)))
+      ⊎ ((f : Fault) × (read ≡ Err f) × (0 < length rest) × IsFaultAt input (n + length (spelled parts)) (wanted_after wanted parts) f)
+
+nothing_left : (input : List ℕ) (n : ℕ) (wanted : Expected) (events : List Event) → drop n input ≡ [] → Outcome input n wanted events (text_from input wanted events n 0 (drop n input))
+nothing_left input n wanted events e = record {
+  parts = []; rest = []; whole = e; fits = tt;
+  end = inl (refl, ap (λ t. text_from input wanted events n 0 t) e ∙ text_from-end input wanted events n);
+}
+
+-- a part in front of what follows it
+grow : (input : List ℕ) (n : ℕ) (wanted : Expected) (events : List Event) (p : Part) (rest : List ℕ) (read later : Result (List Event) Fault)
+    → drop n input ≡ spelled_part p ++ rest → FitsPart p rest → drop (n + length (spelled_part p)) input ≡ rest → read ≡ later
+    → Outcome input (n + length (spelled_part p)) (wanted_part wanted p) (after_part events n p).0 later → Outcome input n wanted events read
+grow input n wanted events p rest read later stands fits behind same o = record {
+  parts = p ∷ o.parts; rest = o.rest;
+  whole = stands ∙ ap (λ t. spelled_part p ++ t) next ∙ (simp append_assoc);
+  fits = (subst (λ t. FitsPart p t) next fits, o.fits);
+  end = elim o.end [
+    | inl e ↦ inl (e.0, same ∙ e.1)
+    | inr e ↦ inr (e.0, same ∙ e.1, e.2, subst (λ m. IsFaultAt input m (wanted_after (wanted_part wanted p) o.parts) e.0) long e.3)
+  ];
+}
+  where
+    next : rest ≡ spelled o.parts ++ o.rest
+    next = sym behind ∙ o.whole
+    long : n + length (spelled_part p) + length (spelled o.parts) ≡ n + length (spelled (p ∷ o.parts))
+    long = simp length-append (omega arith)
+
+-- one part is read, and then what follows it
+one_again : (p : Part) (rest input : List ℕ) (n : ℕ) (wanted : Expected) (events : List Event) → drop n input ≡ spelled_part p ++ rest → FitsPart p rest
+    → text_from input wanted events n 0 (drop n input)
+    ≡ text_from input (wanted_part wanted p) (after_part events n p).0 (n + length (spelled_part p)) 0 (drop (n + length (spelled_part p)) input)
+one_again p rest input n wanted events stands fits =
+    text_again (p ∷ []) rest input n wanted events (stands ∙ simp append-nil) (fits, tt)
+    ∙ ap (λ t. text_from input (wanted_part wanted p) (after_part events n p).0 (n + length t) 0 (drop (n + length t) input)) (append-nil (spelled_part p))
+
+-- Every text is read to an outcome; fuel: a bound on the bytes that are left.
+pub text_takes : (fuel : ℕ) (input : List ℕ) (n : ℕ) (wanted : Expected) (events : List Event) → length input - n ≤ fuel
+    → Outcome input n wanted events (text_from input wanted events n 0 (drop n input))
+text_takes zero input n wanted events bound = go (drop n input) refl
+  where
+    go : (text : List ℕ) → drop n input ≡ text → Outcome input n wanted events (text_from input wanted events n 0 (drop n input))
+    go [] e = nothing_left input n wanted events e
+    go (b ∷ rest) e = absurd (let within = stands_within input n b rest e in omega arith)
+text_takes (suc fuel) input n wanted events bound = go (drop n input) refl (λ m w ev less. text_takes fuel input m w ev less)
+  where
+    Later : Type 0
+    Later = (m : ℕ) (w : Expected) (ev : List Event) → length input - m ≤ fuel → Outcome input m w ev (text_from input w ev m 0 (drop m input))
+    read : (b : ℕ) (rest : List ℕ) → drop n input ≡ b ∷ rest → n < length input → (r : Read) → part_at input n wanted events ≡ r → Later
+        → Outcome input n wanted events (text_from input wanted events n 0 (drop n input))
+    read b rest e within (Err f) r later = record {
+      parts = []; rest = b ∷ rest; whole = e; fits = tt;
+      end = inr (f, text_from-fault input wanted events n f within r, omega arith, subst (λ m. IsFaultAt input m wanted f) (let z : n ≡ n + 0 = omega arith in z) (part_fault input n wanted events f r));
+    }
+    read b rest e within (Ok x) r later =
+        let s = part_takes input n wanted events x.0 x.1 r in
+        let first = part_first s.part s.rest s.fits in
+        let some : 0 < length (spelled_part s.part) = rw first.2 (omega arith) in
+        grow input n wanted events s.part s.rest _ _ s.whole s.fits (behind_front input (spelled_part s.part) s.rest n s.whole)
+        (one_again s.part s.rest input n wanted events s.whole s.fits)
+        (later (n + length (spelled_part s.part)) (wanted_part wanted s.part) (after_part events n s.part).0 (omega (arith, some, within, bound)))
+    go : (text : List ℕ) → drop n input ≡ text → Later → Outcome input n wanted events (text_from input wanted events n 0 (drop n input))
+    go [] e later = nothing_left input n wanted events e
+    go (b ∷ rest) e later = read b rest e (stands_within input n b rest e) (part_at input n wanted events) refl later
