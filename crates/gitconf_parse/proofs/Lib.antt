@@ -11,3 +11,4 @@ pub mod HeaderTakes
 pub mod PartAgain
 pub mod PartTakes
 pub mod TextTakes
+pub mod TokensLaws
