@@ -12,3 +12,4 @@ pub mod PartAgain
 pub mod PartTakes
 pub mod TextTakes
 pub mod TokensLaws
+pub mod OneDocument
