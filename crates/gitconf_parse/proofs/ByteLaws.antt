@@ -1,12 +1,12 @@
 -- Classes of bytes exclude each other.
-use Rattle.std.proofs.Common.{◌≡◌, ℕ, Bool, true, false, List, ◌∷◌, refl, arith, cond}
-use Rattle.std.specs.Prelude.{◌&&◌, ◌||◌, ◌==◌}
-use Rattle.std.specs.Char.{is_ascii_alphabetic, is_ascii_alphanumeric}
+use Rattle.std.proofs.Common.{◌≡◌, ℕ, Bool, true, false, List, ◌∷◌, refl, arith}
+use Rattle.std.specs.Prelude.{◌==◌}
+use Rattle.std.specs.Char.{is_ascii_alphabetic}
 use Rattle.std.proofs.lemmas.Bool.Decides.{nat_tests}
 use Rattle.gitconf_text.specs.Bytes.{is_blank, is_whitespace, is_name_byte, is_header_byte}
-use Rattle.gitconf_text.specs.Text.{begins, begins_line_end}
-use Rattle.gitconf_text.specs.Unit.{Class, LineFeed, Quote, Mark, Backslash, White, Other, class_of, is_mark}
-use Rattle.gitconf_parse.proofs.ValueAgain.{apart, unchosen}
+use Rattle.gitconf_text.specs.Text.{begins_line_end}
+use Rattle.gitconf_text.specs.Unit.{Other, class_of, is_mark}
+use Rattle.gitconf_parse.proofs.ValueAgain.{apart}
 
 -- a test that contradicts one that holds
 pub refuted : (a : Bool) → (a ≡ true → ⊥) → a ≡ false
@@ -24,8 +24,14 @@ letter_no_whitespace b h white = grind (arith, nat_tests)
 
 pub letter_no_mark : (b : ℕ) → is_ascii_alphabetic b ≡ true → is_mark b ≡ false
 letter_no_mark b h =
-    let e : class_of b ≡ Other = rw (apart is_ascii_alphabetic 10 b refl h, apart is_ascii_alphabetic 34 b refl h, apart is_ascii_alphabetic 59 b refl h,
-        apart is_ascii_alphabetic 35 b refl h, apart is_ascii_alphabetic 92 b refl h, refuted (is_whitespace b) (letter_no_whitespace b h)) refl in
+    let e : class_of b ≡ Other = rw (
+      apart is_ascii_alphabetic 10 b refl h,
+      apart is_ascii_alphabetic 34 b refl h,
+      apart is_ascii_alphabetic 59 b refl h,
+      apart is_ascii_alphabetic 35 b refl h,
+      apart is_ascii_alphabetic 92 b refl h,
+      refuted (is_whitespace b) (letter_no_whitespace b h),
+    ) refl in
     rw (e, is_mark) refl
 
 pub letter_no_bracket : (b : ℕ) → is_ascii_alphabetic b ≡ true → (b == 91) ≡ false
@@ -63,6 +69,7 @@ letter_name_byte b h = go (is_name_byte b) refl
   where
     clash : (b : ℕ) → is_ascii_alphabetic b ≡ true → is_name_byte b ≡ false → ⊥
     clash b h e = grind (arith, nat_tests)
+
     go : (t : Bool) → is_name_byte b ≡ t → is_name_byte b ≡ true
     go true e = e
     go false e = absurd (clash b h e)

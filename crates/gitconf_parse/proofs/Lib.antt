@@ -13,3 +13,5 @@ pub mod PartTakes
 pub mod TextTakes
 pub mod TokensLaws
 pub mod OneDocument
+pub mod Fitting
+pub mod Whole

@@ -1,15 +1,13 @@
 -- A text has at most one document: the same text gives the same events, these the same tokens, and the tokens the document.
-use Rattle.std.proofs.Common.{◌≡◌, ℕ, ◌+◌, Bool, true, false, List, [], ◌∷◌, ◌++◌, length, drop, map, Option, Some, None, Result, Ok, Err, refl, ap, sym, ◌∙◌, arith, append_assoc, append-nil}
-use Rattle.std.specs.Prelude.{◌==◌, if◌then◌else◌}
+use Rattle.std.proofs.Common.{◌≡◌, ℕ, ◌+◌, Bool, true, false, List, [], ◌∷◌, ◌++◌, length, drop, map, Option, Some, None, Ok, refl, ap, sym, ◌∙◌, append_assoc, append-nil}
+use Rattle.std.specs.Prelude.{if◌then◌else◌}
 use Rattle.std.specs.List.{flat_map}
 use Rattle.std.specs.Option.{option_map}
 use Rattle.gitconf_text.specs.Value.{Piece, raw_of}
-use Rattle.gitconf_text.specs.Header.{Header, name_of, subsection_of}
-use Rattle.gitconf_text.specs.Part.{Assigned, Entry, Item, BlanksItem, LineEndsItem, CommentItem, EntryItem, Part, ItemPart, HeaderPart, spelled, AreFit}
+use Rattle.gitconf_text.specs.Header.{name_of, subsection_of}
+use Rattle.gitconf_text.specs.Part.{Assigned, BlanksItem, LineEndsItem, CommentItem, EntryItem, Part, ItemPart, HeaderPart, spelled, AreFit}
 use Rattle.gitconf_text.specs.Token.{Token, CommentToken, HeaderToken, NameToken, ValueToken, NewlineToken, ValueNotDoneToken, ValueDoneToken, WhitespaceToken, SeparatorToken, filled, piece_tokens, value_tokens, assigned_tokens, part_tokens, tokens_of}
-use Rattle.gitconf_text.specs.Document.{Document, DocumentEntry, DocumentSection, with_item, with_part, gathered}
-use Rattle.gitconf_parse.specs.declared.event.Event.{Event}
-use Rattle.gitconf_parse.specs.declared.reading.Expected.{Expected}
+use Rattle.gitconf_text.specs.Document.{Document, with_part, gathered}
 use Rattle.gitconf_parse.specs.declared.reading.Expected.TheVariants as expected
 use Rattle.gitconf_parse.specs.Reading.{text_from}
 use Rattle.gitconf_parse.specs.Events.{token_of}

@@ -1,6 +1,6 @@
 -- A part that fits is read to its events, up to what follows it.
-use Rattle.std.proofs.Common.{◌≡◌, ℕ, ◌+◌, ◌<◌, Bool, true, false, List, [], ◌∷◌, ◌++◌, length, drop, get_or, Option, Some, None, Result, Ok, Err, refl, ap, sym, ◌∙◌, arith, append_assoc}
-use Rattle.std.specs.Prelude.{◌&&◌, ◌==◌}
+use Rattle.std.proofs.Common.{◌≡◌, ℕ, ◌+◌, true, false, List, [], ◌∷◌, ◌++◌, length, drop, Option, Some, None, Ok, refl, ap, sym, ◌∙◌, arith, append_assoc}
+use Rattle.std.specs.Prelude.{◌==◌}
 use Rattle.std.specs.List.{list_all}
 use Rattle.std.specs.Char.{is_ascii_alphabetic}
 use Rattle.gitconf_text.specs.Bytes.{is_blank, is_name_byte}
@@ -8,16 +8,15 @@ use Rattle.gitconf_text.specs.Text.{begins, begins_line_end, are_line_ends}
 use Rattle.gitconf_text.specs.Value.{Value, spelled_value, are_paired, FitsValue}
 use Rattle.gitconf_text.specs.Unit.{is_mark}
 use Rattle.gitconf_text.specs.Header.{Header, PlainHeader, DottedHeader, QuotedHeader, spelled_header}
-use Rattle.gitconf_text.specs.Names.{is_value_name}
 use Rattle.gitconf_text.specs.Part.{Assigned, Entry, Item, BlanksItem, LineEndsItem, CommentItem, EntryItem, Part, ItemPart, HeaderPart, spelled_assigned, spelled_item, spelled_part, FitsAssigned, FitsItem, FitsPart}
 use Rattle.gitconf_parse.specs.declared.event.Event.{Event}
 use Rattle.gitconf_parse.specs.declared.event.Event.TheVariants as kinds
 use Rattle.gitconf_parse.specs.declared.reading.Expected.{Expected}
-use Rattle.gitconf_parse.specs.Reading.{Read, span, end_of_run, with_blanks, value_from, value_at, assigned_at, entry_at, header_at, opening_of, OpensBlanks, OpensLineEnds, OpensComment, OpensHeader, OpensEntry, part_at}
-use Rattle.gitconf_parse.proofs.RunLaws.{run_again, all_places, begins_stops, line_end_more, line_ends_places, line_end_stops, is_comment_text, comment_places}
+use Rattle.gitconf_parse.specs.Reading.{span, end_of_run, with_blanks, value_at, assigned_at, entry_at, opening_of, OpensBlanks, OpensLineEnds, OpensComment, OpensHeader, OpensEntry, part_at}
+use Rattle.gitconf_parse.proofs.RunLaws.{run_again, line_end_more, line_ends_places, line_end_stops, is_comment_text, comment_places}
 use Rattle.gitconf_parse.proofs.ByteLaws.{letter_no_blank, letter_no_line_end, letter_no_mark, letter_no_bracket, mark_no_blank, mark_no_line_end, line_end_no_blank, blank_no_name_byte}
 use Rattle.gitconf_parse.proofs.At.{behind_front, behind_byte, byte_at}
-use Rattle.gitconf_parse.proofs.ValueAgain.{both_true, value_after, pieces_text, pieces_text-is, pieces_units, pieces_units-is, pieces_again}
+use Rattle.gitconf_parse.proofs.ValueAgain.{both_true, value_after, pieces_text-is, pieces_units-is, pieces_again}
 use Rattle.gitconf_parse.proofs.HeaderAgain.{run_at, header_spans, header_again}
 
 -- the events of what is assigned at the offset n, behind those so far, and the offset behind it
@@ -57,8 +56,10 @@ assigned_again (Some a) blanks rest input events n stands fits = rw (ap (begins 
   where
     behind : drop (n + 1) input ≡ a.blanks ++ (spelled_value a.value ++ rest)
     behind = behind_byte input 61 _ n stands ∙ append_assoc a.blanks (spelled_value a.value) rest
+
     ends : end_of_run (begins is_blank) (n + 1) (drop (n + 1) input) ≡ n + 1 + length a.blanks
     ends = run_at is_blank input a.blanks (spelled_value a.value ++ rest) (n + 1) behind fits.0 (FitsValue.front fits.1)
+
     here : drop (n + 1 + length a.blanks) input ≡ spelled_value a.value ++ rest
     here = behind_front input a.blanks (spelled_value a.value ++ rest) (n + 1) behind
 
@@ -80,16 +81,22 @@ entry_again e b name rest input events n name_is names stands blanks fits = rw (
   where
     behind : List ℕ
     behind = e.blanks ++ (spelled_assigned e.assigned ++ rest)
+
     here : drop (n + 1) input ≡ name ++ behind
     here = behind_byte input b (name ++ behind) n (stands ∙ ap (λ t. t ++ behind) name_is)
+
     long : n + 1 + length name ≡ n + length e.name
     long = rw name_is (omega arith)
+
     name_end : end_of_run (begins is_name_byte) (n + 1) (drop (n + 1) input) ≡ n + length e.name
     name_end = run_at is_name_byte input name behind (n + 1) here names (name_stops e.blanks rest e.assigned blanks fits) ∙ long
+
     between : drop (n + length e.name) input ≡ behind
     between = behind_front input e.name behind n stands
+
     blanks_end : end_of_run (begins is_blank) (n + length e.name) (drop (n + length e.name) input) ≡ n + length e.name + length e.blanks
     blanks_end = run_at is_blank input e.blanks (spelled_assigned e.assigned ++ rest) (n + length e.name) between blanks (blanks_stop e.blanks rest e.assigned fits)
+
     there : drop (n + length e.name + length e.blanks) input ≡ spelled_assigned e.assigned ++ rest
     there = behind_front input e.blanks (spelled_assigned e.assigned ++ rest) (n + length e.name) between
 
@@ -113,25 +120,27 @@ item_again (BlanksItem []) rest input n wanted events stands fits = absurd (omeg
 item_again (BlanksItem (b ∷ run)) rest input n wanted events stands fits =
     let all = both_true (is_blank b) (list_all is_blank run) fits.1 in
     let end : end_of_run (begins is_blank) (n + 1) (drop (n + 1) input) ≡ n + length (b ∷ run)
-        = run_at is_blank input run rest (n + 1) (behind_byte input b (run ++ rest) n stands) all.1 fits.2 ∙ (omega arith) in
+    = run_at is_blank input run rest (n + 1) (behind_byte input b (run ++ rest) n stands) all.1 fits.2 ∙ (omega arith) in
     rw (ap opening_of stands ∙ blank_opens b (run ++ rest) all.0, part_at, end) refl
 item_again (LineEndsItem []) rest input n wanted events stands fits = absurd (omega (arith, fits.0))
 item_again (LineEndsItem (b ∷ run)) rest input n wanted events stands fits =
     let all = both_true (begins_line_end (b ∷ run)) (are_line_ends run) fits.1 in
     let end : end_of_run begins_line_end (n + 1) (drop (n + 1) input) ≡ n + length (b ∷ run)
-        = rw (behind_byte input b (run ++ rest) n stands) (run_again begins_line_end run rest (n + 1) (line_ends_places run rest all.1) (line_end_stops rest fits.2) ∙ (omega arith)) in
+    = rw (behind_byte input b (run ++ rest) n stands) (run_again begins_line_end run rest (n + 1) (line_ends_places run rest all.1) (line_end_stops rest fits.2) ∙ (omega arith)) in
     rw (ap opening_of stands ∙ line_end_opens b (run ++ rest) (line_end_more b run rest all.0), part_at, end) refl
 item_again (CommentItem tag text) rest input n wanted events stands fits =
     let places = comment_places text rest fits.1 fits.2 in
     let end : end_of_run is_comment_text (n + 1) (drop (n + 1) input) ≡ n + 1 + length text
-        = rw (behind_byte input tag (text ++ rest) n stands) (run_again is_comment_text text rest (n + 1) places.0 places.1) in
+    = rw (behind_byte input tag (text ++ rest) n stands) (run_again is_comment_text text rest (n + 1) places.0 places.1) in
     rw (ap opening_of stands ∙ mark_opens tag (text ++ rest) fits.0, part_at, end, byte_at input tag (text ++ rest) n stands) refl
 item_again (EntryItem e) rest input n wanted events stands fits = go e.name refl
   where
     behind : List ℕ
     behind = e.blanks ++ (spelled_assigned e.assigned ++ rest)
+
     whole : drop n input ≡ e.name ++ behind
     whole = simp append_assoc at stands
+
     go : (name : List ℕ) → e.name ≡ name → part_at input n wanted events ≡ Ok (after_entry events n e)
     go [] is = absurd (let x = rw is at fits.0 in cc)
     go (b ∷ name) is =

@@ -1,15 +1,15 @@
 -- What is read as a part is one, and where none is read none stands.
-use Rattle.std.proofs.Common.{◌≡◌, ℕ, zero, suc, ◌+◌, ◌<◌, ◌≤◌, Bool, true, false, List, [], ◌∷◌, ◌++◌, length, drop, Option, Some, None, Result, Ok, Err, refl, ap, sym, subst, ◌∙◌, arith, append_assoc, length-append, inl, inr}
-use Rattle.std.specs.Prelude.{◌&&◌, ◌||◌, ◌==◌, ◌⊎◌, if◌then◌else◌}
+use Rattle.std.proofs.Common.{◌≡◌, ℕ, zero, suc, ◌+◌, Bool, true, false, List, [], ◌∷◌, ◌++◌, length, drop, Option, Some, None, Ok, Err, refl, ap, sym, subst, ◌∙◌, arith, append_assoc, length-append, inl, inr}
+use Rattle.std.specs.Prelude.{◌==◌, ◌⊎◌, if◌then◌else◌}
 use Rattle.std.specs.List.{list_all}
 use Rattle.std.specs.Char.{is_ascii_alphabetic}
 use Rattle.std.proofs.lemmas.Bool.{eqb-true}
 use Rattle.gitconf_text.specs.Bytes.{is_blank, is_name_byte}
-use Rattle.gitconf_text.specs.Text.{begins, begins_line_end, are_line_ends}
+use Rattle.gitconf_text.specs.Text.{begins, begins_line_end}
 use Rattle.gitconf_text.specs.Unit.{Class, LineFeed, Quote, Mark, Backslash, White, Other, class_of, is_mark}
-use Rattle.gitconf_text.specs.Value.{Value, spelled_value, are_paired, FitsValue}
+use Rattle.gitconf_text.specs.Value.{Value, spelled_value, are_paired}
 use Rattle.gitconf_text.specs.Names.{is_value_name}
-use Rattle.gitconf_text.specs.Part.{Assigned, Entry, Item, BlanksItem, LineEndsItem, CommentItem, EntryItem, Part, ItemPart, HeaderPart, spelled_assigned, spelled_item, spelled_part, FitsAssigned, FitsItem, FitsPart}
+use Rattle.gitconf_text.specs.Part.{Assigned, BlanksItem, LineEndsItem, CommentItem, EntryItem, Part, ItemPart, HeaderPart, spelled_assigned, spelled_part, FitsAssigned, FitsPart}
 use Rattle.gitconf_text.specs.Stuck.{IsAssignment, spelled_assignment, NoValue, NoPart}
 use Rattle.gitconf_parse.specs.declared.event.Event.{Event}
 use Rattle.gitconf_parse.specs.declared.event.Event.TheVariants as kinds
@@ -17,13 +17,12 @@ use Rattle.gitconf_parse.specs.declared.event.Header.{Header as Spans}
 use Rattle.gitconf_parse.specs.declared.reading.Fault.{Fault}
 use Rattle.gitconf_parse.specs.declared.reading.Expected.{Expected}
 use Rattle.gitconf_parse.specs.declared.reading.Expected.TheVariants as expected
-use Rattle.gitconf_parse.specs.Reading.{Read, end_of_run, with_blanks, Opening, OpensBlanks, OpensLineEnds, OpensComment, OpensHeader, OpensEntry, OpensNothing, opening_of, value_from, value_at, value_end, Behind, NothingBehind, LineFeedBehind, CrLfBehind, EscapeBehind, OtherBehind, behind, assigned_at, entry_at, header_at, part_at}
-use Rattle.gitconf_parse.proofs.RunLaws.{Run, run_takes, places_all, stops_begins, line_end_within, places_line_ends, stops_line_end, is_comment_text, places_comment, places_ended}
-use Rattle.gitconf_parse.proofs.ByteLaws.{blank_no_name_byte}
+use Rattle.gitconf_parse.specs.Reading.{end_of_run, with_blanks, Opening, OpensBlanks, OpensLineEnds, OpensComment, OpensHeader, OpensEntry, OpensNothing, opening_of, value_from, value_at, value_end, Behind, NothingBehind, LineFeedBehind, CrLfBehind, EscapeBehind, OtherBehind, behind, assigned_at, entry_at, header_at, part_at}
+use Rattle.gitconf_parse.proofs.RunLaws.{Run, run_takes, places_all, stops_begins, places_line_ends, stops_line_end, is_comment_text, places_comment, places_ended}
 use Rattle.gitconf_parse.proofs.At.{behind_front, behind_byte}
 use Rattle.gitconf_parse.proofs.ValueAgain.{both_true, pieces_text-is, pieces_units-is}
 use Rattle.gitconf_parse.proofs.ValueTakes.{ValueShape, value_takes}
-use Rattle.gitconf_parse.proofs.HeaderTakes.{begins_byte, HeaderShape, header_takes}
+use Rattle.gitconf_parse.proofs.HeaderTakes.{begins_byte, header_takes}
 use Rattle.gitconf_parse.proofs.PartAgain.{value_again, part_again, letter_opens}
 
 -- a text that begins with a part
@@ -49,15 +48,19 @@ opening_is (b ∷ rest) = blank (is_blank b) refl
     letter : (t : Bool) → is_ascii_alphabetic b ≡ t → IsOpening (if t then OpensEntry else OpensNothing) (b ∷ rest)
     letter true e = (b, rest, refl, e)
     letter false e = tt
+
     bracket : (t : Bool) → (b == 91) ≡ t → IsOpening (if t then OpensHeader else if is_ascii_alphabetic b then OpensEntry else OpensNothing) (b ∷ rest)
     bracket true e = (rest, ap (λ x. x ∷ rest) (eqb-true b 91 e))
     bracket false e = letter (is_ascii_alphabetic b) refl
+
     mark : (t : Bool) → is_mark b ≡ t → IsOpening (if t then OpensComment else if b == 91 then OpensHeader else if is_ascii_alphabetic b then OpensEntry else OpensNothing) (b ∷ rest)
     mark true e = (b, rest, refl, e)
     mark false e = bracket (b == 91) refl
+
     line_end : (t : Bool) → begins_line_end (b ∷ rest) ≡ t → IsOpening (if t then OpensLineEnds else if is_mark b then OpensComment else if b == 91 then OpensHeader else if is_ascii_alphabetic b then OpensEntry else OpensNothing) (b ∷ rest)
     line_end true e = (b, rest, refl, e)
     line_end false e = mark (is_mark b) refl
+
     blank : (t : Bool) → is_blank b ≡ t → IsOpening (if t then OpensBlanks else if begins_line_end (b ∷ rest) then OpensLineEnds else if is_mark b then OpensComment else if b == 91 then OpensHeader else if is_ascii_alphabetic b then OpensEntry else OpensNothing) (b ∷ rest)
     blank true e = (b, rest, refl, e)
     blank false e = line_end (begins_line_end (b ∷ rest)) refl
@@ -75,13 +78,17 @@ value_shape blanks between text all unblank s =
     let v : Value = record { pieces = s.pieces; last = s.last } in
     let same : spelled_value v ++ s.rest ≡ text = pieces_text-is s.pieces s.last s.rest ∙ sym s.whole in
     record {
-      assigned = Some (record { blanks = between; value = v }); rest = s.rest;
+      assigned = Some (record { blanks = between; value = v });
+      rest = s.rest;
       whole = rw (← same) (simp append_assoc);
-      fits = (all, record {
-        front = ap (begins is_blank) same ∙ unblank;
-        units = ap (are_paired false) (pieces_units-is s.pieces s.last) ∙ s.paired;
-        end = s.ended;
-      });
+      fits = (
+        all,
+        record {
+          front = ap (begins is_blank) same ∙ unblank;
+          units = ap (are_paired false) (pieces_units-is s.pieces s.last) ∙ s.paired;
+          end = s.ended;
+        },
+      );
     }
 
 pub assigned_takes : (blanks input : List ℕ) (events more : List Event) (n end : ℕ) → begins is_name_byte (blanks ++ drop n input) ≡ false → begins is_blank (drop n input) ≡ false
@@ -99,6 +106,7 @@ assigned_takes blanks input events more n end no_name no_blank read = go (begins
       where
         E : ℕ
         E = end_of_run (begins is_blank) (n + 1) (drop (n + 1) input)
+
         valued : (rest : List ℕ) → drop n input ≡ 61 ∷ rest → drop (n + 1) input ≡ rest → (r : Run (begins is_blank) (n + 1) (drop (n + 1) input))
             → value_at E (with_blanks (events ++ kinds.KeyValueSeparator ∷ []) (n + 1) E) (drop E input) ≡ Ok (more, end) → AssignedShape blanks (drop n input)
         valued rest stands here r read =
@@ -106,7 +114,7 @@ assigned_takes blanks input events more n end no_name no_blank read = go (begins
             let whole : 61 ∷ (r.front ++ r.rest) ≡ drop n input = ap (λ t. 61 ∷ t) (sym r.whole ∙ here) ∙ sym stands in
             let shape : ValueShape false (drop E input) = value_takes (drop E input) E _ false E E false E 0 more end read (omega arith) in
             subst (λ t. AssignedShape blanks t) whole (value_shape blanks r.front r.rest (places_all is_blank r.front r.rest r.places) (stops_begins is_blank r.rest r.stops)
-                (subst (λ t. ValueShape false t) there shape))
+            (subst (λ t. ValueShape false t) there shape))
 
 -- the end of a run that stands at the offset n
 pub run_rest : (test : List ℕ → Bool) (input : List ℕ) (n : ℕ) (r : Run test n (drop n input)) → drop (end_of_run test n (drop n input)) input ≡ r.rest
@@ -145,7 +153,8 @@ name_takes input n b rest stands letter =
         let names : list_all is_name_byte r.front ≡ true = places_all is_name_byte r.front r.rest r.places in
         let whole2 : drop (name_end input n) input ≡ s.front ++ drop (blanks_end input n) input = s.whole ∙ ap (λ t. s.front ++ t) (sym left) in
         record {
-          name = b ∷ r.front; blanks = s.front;
+          name = b ∷ r.front;
+          blanks = s.front;
           whole = stands ∙ ap (λ t. b ∷ t) (sym here ∙ r.whole ∙ ap (λ t. r.front ++ t) (sym there ∙ whole2));
           end = (let a = r.end in let c = s.end in let l : length (b ∷ r.front) ≡ length r.front + 1 = omega arith in omega (arith, a, c, l));
           name_is = rw (letter, names) refl;
@@ -160,7 +169,8 @@ unfolding entry_at
 entry_takes input n events more end s read =
     let a = assigned_takes s.blanks input _ more (blanks_end input n) end s.no_name s.no_blank read in
     record {
-      part = ItemPart (EntryItem (record { name = s.name; blanks = s.blanks; assigned = a.assigned })); rest = a.rest;
+      part = ItemPart (EntryItem (record { name = s.name; blanks = s.blanks; assigned = a.assigned }));
+      rest = a.rest;
       whole = s.whole ∙ ap (λ t. s.name ++ (s.blanks ++ t)) a.whole ∙ (simp append_assoc);
       fits = (s.name_is, s.blanks_are, a.fits);
     }
@@ -175,31 +185,38 @@ part_takes input n wanted events more end read = go (opening_of (drop n input)) 
     headed rest stands e (Some found) h =
         let s = header_takes input rest n found stands h in
         record { part = HeaderPart s.header; rest = s.rest; whole = stands ∙ s.whole; fits = s.fits }
+
     blank : (b : ℕ) (rest : List ℕ) → drop n input ≡ b ∷ rest → is_blank b ≡ true → PartShape (drop n input)
     blank b rest stands h =
         let r = run_takes (begins is_blank) 0 rest in
         record {
-          part = ItemPart (BlanksItem (b ∷ r.front)); rest = r.rest;
+          part = ItemPart (BlanksItem (b ∷ r.front));
+          rest = r.rest;
           whole = stands ∙ ap (λ t. b ∷ t) r.whole;
           fits = (omega arith, rw h (places_all is_blank r.front r.rest r.places), stops_begins is_blank r.rest r.stops);
         }
+
     line_end : (b : ℕ) (rest : List ℕ) → drop n input ≡ b ∷ rest → begins_line_end (b ∷ rest) ≡ true → PartShape (drop n input)
     line_end b rest stands h =
         let r = run_takes begins_line_end 0 rest in
         let h2 = subst (λ t. begins_line_end (b ∷ t) ≡ true) r.whole h in
         record {
-          part = ItemPart (LineEndsItem (b ∷ r.front)); rest = r.rest;
+          part = ItemPart (LineEndsItem (b ∷ r.front));
+          rest = r.rest;
           whole = stands ∙ ap (λ t. b ∷ t) r.whole;
           fits = (omega arith, places_line_ends (b ∷ r.front) r.rest (h2, r.places) r.stops, stops_line_end r.rest r.stops);
         }
+
     comment : (b : ℕ) (rest : List ℕ) → drop n input ≡ b ∷ rest → is_mark b ≡ true → PartShape (drop n input)
     comment b rest stands h =
         let r = run_takes is_comment_text 0 rest in
         record {
-          part = ItemPart (CommentItem b r.front); rest = r.rest;
+          part = ItemPart (CommentItem b r.front);
+          rest = r.rest;
           whole = stands ∙ ap (λ t. b ∷ t) r.whole;
           fits = (h, places_comment r.front r.rest r.places, places_ended r.front r.rest r.places r.stops);
         }
+
     go : (k : Opening) → opening_of (drop n input) ≡ k → IsOpening k (drop n input) → PartShape (drop n input)
     go OpensBlanks e is = blank is.0 is.1 is.2 is.3
     go OpensLineEnds e is = line_end is.0 is.1 is.2 is.3
@@ -224,18 +241,22 @@ value_fault_is (b ∷ text) first events joined from kept quoted n zero f read =
     Later : Type 0
     Later = (events : List Event) (joined : Bool) (from kept : ℕ) (quoted : Bool) (n skip : ℕ)
         → value_from first events joined from kept quoted n skip text ≡ Err f → record { at = first; expected = expected.Value } ≡ f
+
     mark : (q : Bool) → quoted ≡ q → class_of b ≡ Mark → Later → record { at = first; expected = expected.Value } ≡ f
     mark true eq e later = later _ _ _ _ _ _ 0 (rw eq at (rw (e, value_from) at read))
     mark false eq e later = end_fault first events joined from kept false f (rw eq at (rw (e, value_from) at read))
+
     nothing : (q : Bool) → quoted ≡ q → class_of b ≡ Backslash → behind text ≡ NothingBehind → record { at = first; expected = expected.Value } ≡ f
     nothing true eq e h = let x = rw eq at (rw h at (rw (e, value_from) at read)) in cc
     nothing false eq e h = absurd (let x = rw eq at (rw h at (rw (e, value_from) at read)) in cc)
+
     slash : (k : Behind) → behind text ≡ k → class_of b ≡ Backslash → Later → record { at = first; expected = expected.Value } ≡ f
     slash NothingBehind h e later = nothing quoted refl e h
     slash LineFeedBehind h e later = later _ _ _ _ _ _ 1 (rw h at (rw (e, value_from) at read))
     slash CrLfBehind h e later = later _ _ _ _ _ _ 2 (rw h at (rw (e, value_from) at read))
     slash EscapeBehind h e later = later _ _ _ _ _ _ 1 (rw h at (rw (e, value_from) at read))
     slash OtherBehind h e later = let x = rw h at (rw (e, value_from) at read) in cc
+
     go : (c : Class) → class_of b ≡ c → Later → record { at = first; expected = expected.Value } ≡ f
     go LineFeed e later = end_fault first events joined from kept quoted f (rw (e, value_from) at read)
     go Quote e later = later _ _ _ _ _ _ 0 (rw (e, value_from) at read)
@@ -275,6 +296,7 @@ assigned_fault name blanks input events start n f named all whole n_is read = go
       where
         E : ℕ
         E = end_of_run (begins is_blank) (n + 1) (drop (n + 1) input)
+
         told : (rest : List ℕ) → drop n input ≡ 61 ∷ rest → drop (n + 1) input ≡ rest → (r : Run (begins is_blank) (n + 1) (drop (n + 1) input))
             → value_at E (with_blanks (events ++ kinds.KeyValueSeparator ∷ []) (n + 1) E) (drop E input) ≡ Err f → ValueFaultShape input start f
         told rest stands here r read =
@@ -282,7 +304,9 @@ assigned_fault name blanks input events start n f named all whole n_is read = go
             let there : drop E input ≡ r.rest = run_rest (begins is_blank) input (n + 1) r in
             let between : 61 ∷ (r.front ++ drop E input) ≡ drop n input = ap (λ t. 61 ∷ t) (ap (λ t. r.front ++ t) there ∙ sym r.whole ∙ here) ∙ sym stands in
             subst (λ f. ValueFaultShape input start f) is (record {
-              name = name; blanks = blanks; between = r.front;
+              name = name;
+              blanks = blanks;
+              between = r.front;
               assignment = record { name_is = named; blanks_are = all; behind_are = places_all is_blank r.front r.rest r.places };
               whole = whole ∙ ap (λ t. name ++ (blanks ++ t)) (sym between) ∙ (simp append_assoc);
               at_is = (let end = r.end in simp length-append (omega (arith, end, n_is)));
@@ -310,11 +334,14 @@ part_fault input n wanted events f read = go (opening_of (drop n input)) refl (o
   where
     no_part : (p : Part) (behind : List ℕ) → drop n input ≡ spelled_part p ++ behind → FitsPart p behind → ⊥
     no_part p behind whole fits = let x = part_again p behind input n wanted events whole fits in cc
+
     none : (k : Opening) → opening_of (drop n input) ≡ k → (k ≡ OpensEntry → ⊥) → NoPart (drop n input)
     none k e other = record { part = no_part; assignment = no_entry (drop n input) k e other }
+
     headed : opening_of (drop n input) ≡ OpensHeader → (o : Option (Spans × ℕ)) → header_at input n ≡ o → ((record { at = n; expected = wanted } ≡ f) × NoPart (drop n input)) ⊎ ValueFaultShape input n f
     headed e None h = inl ((let x = rw h at (rw (e, part_at) at read) in cc), none OpensHeader e (λ k. cc))
     headed e (Some found) h = absurd (let x = rw h at (rw (e, part_at) at read) in cc)
+
     go : (k : Opening) → opening_of (drop n input) ≡ k → IsOpening k (drop n input) → ((record { at = n; expected = wanted } ≡ f) × NoPart (drop n input)) ⊎ ValueFaultShape input n f
     go OpensBlanks e is = absurd (let x = rw (e, part_at) at read in cc)
     go OpensLineEnds e is = absurd (let x = rw (e, part_at) at read in cc)

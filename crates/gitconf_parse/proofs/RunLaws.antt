@@ -1,7 +1,7 @@
 -- Runs: where one ends, told by what it consists of.
-use Rattle.std.proofs.Common.{◌≡◌, ℕ, zero, suc, ◌+◌, ◌≤◌, Bool, true, false, not, List, [], ◌∷◌, ◌++◌, length, drop, refl, ap, sym, subst, ◌∙◌, arith}
+use Rattle.std.proofs.Common.{◌≡◌, ℕ, ◌+◌, Bool, true, false, not, List, [], ◌∷◌, ◌++◌, length, refl, ap, sym, subst, ◌∙◌, arith}
 use Rattle.std.specs.Prelude.{◌&&◌, ◌||◌, ◌==◌}
-use Rattle.std.specs.List.{fold, list_all}
+use Rattle.std.specs.List.{list_all}
 use Rattle.std.proofs.lemmas.Bool.{eqb-true}
 use Rattle.gitconf_text.specs.Text.{begins, ends, begins_line_end, are_line_ends}
 use Rattle.gitconf_text.specs.Part.{ends_comment}
@@ -41,7 +41,9 @@ run_takes test n (b ∷ text) = go (test (b ∷ text)) refl (run_takes test (n +
     go : (t : Bool) → test (b ∷ text) ≡ t → Run test (n + 1) text → Run test n (b ∷ text)
     go false e later = record { front = []; rest = b ∷ text; whole = refl; places = tt; stops = e; end = rw (e, end_of_run) (let e : n ≡ n + 0 = omega arith in e) }
     go true e later = record {
-      front = b ∷ later.front; rest = later.rest; whole = ap (λ t. b ∷ t) later.whole;
+      front = b ∷ later.front;
+      rest = later.rest;
+      whole = ap (λ t. b ∷ t) later.whole;
       places = (subst (λ t. test (b ∷ t) ≡ true) later.whole e, later.places);
       stops = later.stops;
       end = rw (e, end_of_run) (later.end ∙ (omega arith));

@@ -1,5 +1,5 @@
 -- The parts one behind the other: bytes that were read already are skipped.
-use Rattle.std.proofs.Common.{◌≡◌, ◌≢◌, ℕ, zero, suc, ◌+◌, ◌-◌, ◌<◌, ◌≤◌, List, [], ◌∷◌, length, drop, get_or, Result, Ok, Err, refl, ap, sym, ◌∙◌, arith, add-zero}
+use Rattle.std.proofs.Common.{◌≡◌, ℕ, zero, suc, ◌+◌, ◌-◌, ◌<◌, List, [], ◌∷◌, length, drop, get_or, Result, Ok, Err, refl, ap, sym, ◌∙◌, arith, add-zero}
 use Rattle.std.proofs.lemmas.List.{drop-drop}
 use Rattle.gitconf_parse.specs.declared.event.Event.{Event}
 use Rattle.gitconf_parse.specs.declared.reading.Expected.{Expected}
@@ -33,9 +33,9 @@ text_from-part input wanted events n more end within ahead read =
     let next = wanted_behind (get_or input n 0) wanted in
     let e : n + 1 + (end - (n + 1)) ≡ end = omega arith in
     rw (cut_at input n within, read, text_from) (
-        text_from-skip input next more (n + 1) (end - (n + 1)) (drop (n + 1) input)
-        ∙ ap (λ t. text_from input next more (n + 1 + (end - (n + 1))) 0 t) (drop-drop (end - (n + 1)) (n + 1) input)
-        ∙ ap (λ m. text_from input next more m 0 (drop m input)) e)
+    text_from-skip input next more (n + 1) (end - (n + 1)) (drop (n + 1) input)
+    ∙ ap (λ t. text_from input next more (n + 1 + (end - (n + 1))) 0 t) (drop-drop (end - (n + 1)) (n + 1) input)
+    ∙ ap (λ m. text_from input next more m 0 (drop m input)) e)
 
 -- where a part is refused, so is the text
 pub text_from-fault : (input : List ℕ) (wanted : Expected) (events : List Event) (n : ℕ) (f : Fault)

@@ -1,12 +1,11 @@
 -- A quoted subsection is read to its quote, and what is read so is one.
-use Rattle.std.proofs.Common.{◌≡◌, ◌≤◌, ℕ, zero, suc, ◌+◌, Bool, true, false, not, List, [], ◌∷◌, ◌++◌, length, drop, Option, Some, None, refl, ap, sym, subst, ◌∙◌, arith}
-use Rattle.std.specs.Prelude.{◌&&◌, ◌||◌, ◌==◌}
+use Rattle.std.proofs.Common.{◌≡◌, ◌≤◌, ℕ, zero, suc, ◌+◌, Bool, true, false, not, List, [], ◌∷◌, ◌++◌, length, drop, Some, refl, ap, subst, arith}
+use Rattle.std.specs.Prelude.{◌||◌, ◌==◌}
 use Rattle.std.proofs.Common.{cond}
 use Rattle.std.proofs.lemmas.Bool.{eqb-true}
 use Rattle.gitconf_text.specs.Bytes.{is_whitespace}
 use Rattle.std.specs.List.{list_all}
-use Rattle.gitconf_text.specs.Text.{begins}
-use Rattle.gitconf_text.specs.Unit.{Class, LineFeed, Quote, Mark, Backslash, White, Other, class_of, TextUnit, Escape, OpenEscape, Plain, units_of, units_behind}
+use Rattle.gitconf_text.specs.Unit.{Class, LineFeed, Quote, Mark, Backslash, White, Other, class_of, Plain, units_of, units_behind}
 use Rattle.gitconf_text.specs.Header.{is_subsection_unit, is_spelling}
 use Rattle.gitconf_parse.specs.Reading.{spelling_from, escapes_in_subsection}
 use Rattle.gitconf_parse.proofs.ValueAgain.{both_true, unchosen, skip_of}
@@ -17,9 +16,11 @@ quote_is b h = go (b == 34) refl
   where
     a : cond (b == 34) Quote (cond (b == 59 || b == 35) Mark (cond (b == 92) Backslash (cond (is_whitespace b) White Other))) ≡ Quote
     a = (unchosen (b == 10) LineFeed _ Quote (λ e. absurd (cc)) h).1
+
     white : (t : Bool) → cond t White Other ≡ Quote → ⊥
     white true k = cc
     white false k = cc
+
     go : (t : Bool) → (b == 34) ≡ t → b ≡ 34
     go true e = eqb-true b 34 e
     go false e =
@@ -43,8 +44,10 @@ spelling_again false (b ∷ text) rest n end at h = go (class_of b) refl (λ esc
     Later : Type 0
     Later = (escaped : Bool) → n + 1 + length text ≡ end → list_all is_subsection_unit (units_behind escaped text) ≡ true
         → spelling_from (n + 1) (skip_of escaped) (text ++ 34 ∷ rest) ≡ Some end
+
     off : n + 1 + length text ≡ end
     off = omega arith
+
     go : (c : Class) → class_of b ≡ c → Later → spelling_from n 0 ((b ∷ text) ++ 34 ∷ rest) ≡ Some end
     go LineFeed e later = absurd (let x = rw (e, units_behind) at h in let y = rw (e, is_subsection_unit) at x in cc)
     go Quote e later = absurd (let x = rw (e, units_behind) at h in let y = rw (e, is_subsection_unit) at x in cc)
@@ -64,7 +67,9 @@ pub record SpellingShape (text : List ℕ) : Type 0 where
 
 front_byte : (b : ℕ) (text : List ℕ) → ((t : List ℕ) → units_of (b ∷ t) ≡ Plain b ∷ units_of t) → is_subsection_unit (Plain b) ≡ true → SpellingShape text → SpellingShape (b ∷ text)
 front_byte b text cut good s = record {
-  spelling = b ∷ s.spelling; rest = s.rest; whole = ap (λ t. b ∷ t) s.whole;
+  spelling = b ∷ s.spelling;
+  rest = s.rest;
+  whole = ap (λ t. b ∷ t) s.whole;
   fits = rw (cut s.spelling) (rw good s.fits);
 }
 
@@ -80,6 +85,7 @@ spelling_takes (b ∷ text) n zero end read within = go (class_of b) refl (λ sk
   where
     Later : Type 0
     Later = (skip : ℕ) → spelling_from (n + 1) skip text ≡ Some end → skip ≤ length text → SpellingShape (drop skip text)
+
     escape : (t : Bool) → escapes_in_subsection text ≡ t → class_of b ≡ Backslash → Later → SpellingShape (b ∷ text)
     escape false k e later = absurd (let x = rw k at (rw (e, spelling_from) at read) in cc)
     escape true k e later =
@@ -90,8 +96,12 @@ spelling_takes (b ∷ text) n zero end read within = go (class_of b) refl (λ sk
         let text_is : text ≡ c ∷ is.1 = is.2 in
         let same : 92 ∷ c ∷ is.1 ≡ b ∷ text = cc in
         subst (λ t. SpellingShape t) same (record {
-            spelling = 92 ∷ c ∷ s.spelling; rest = s.rest; whole = ap (λ t. 92 ∷ c ∷ t) s.whole; fits = rw is.3 s.fits;
+          spelling = 92 ∷ c ∷ s.spelling;
+          rest = s.rest;
+          whole = ap (λ t. 92 ∷ c ∷ t) s.whole;
+          fits = rw is.3 s.fits;
         })
+
     go : (c : Class) → class_of b ≡ c → Later → SpellingShape (b ∷ text)
     go LineFeed e later = absurd (let x = rw (e, spelling_from) at read in cc)
     go Quote e later = record { spelling = []; rest = text; whole = ap (λ x. x ∷ text) (quote_is b e); fits = refl }

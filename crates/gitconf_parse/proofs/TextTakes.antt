@@ -1,5 +1,5 @@
 -- A whole text: its parts are read to their events, and what is refused is stuck.
-use Rattle.std.proofs.Common.{◌≡◌, ◌≢◌, ℕ, zero, suc, ◌+◌, ◌-◌, ◌<◌, ◌≤◌, Bool, true, false, List, [], ◌∷◌, ◌++◌, length, drop, get_or, Result, Ok, Err, refl, ap, sym, subst, ◌∙◌, arith, append_assoc, append-nil, length-append, inl, inr}
+use Rattle.std.proofs.Common.{◌≡◌, ℕ, zero, suc, ◌+◌, ◌-◌, ◌<◌, ◌≤◌, Bool, true, false, List, [], ◌∷◌, ◌++◌, length, drop, get_or, Result, Ok, Err, refl, ap, sym, subst, ◌∙◌, arith, append_assoc, append-nil, length-append, inl, inr}
 use Rattle.std.specs.Prelude.{◌⊎◌, ◌==◌}
 use Rattle.std.proofs.lemmas.List.{length-drop}
 use Rattle.std.specs.List.{flat_map, list_all}
@@ -11,7 +11,7 @@ use Rattle.gitconf_text.specs.Unit.{is_mark}
 use Rattle.gitconf_text.specs.Names.{is_value_name}
 use Rattle.gitconf_text.specs.Value.{Piece}
 use Rattle.gitconf_text.specs.Header.{Header, PlainHeader, DottedHeader, QuotedHeader, spelled_header}
-use Rattle.gitconf_text.specs.Part.{Assigned, Entry, spelled_assigned, Item, BlanksItem, LineEndsItem, CommentItem, EntryItem, Part, ItemPart, HeaderPart, spelled_item, spelled_part, spelled, FitsItem, FitsPart, AreFit}
+use Rattle.gitconf_text.specs.Part.{Assigned, Entry, spelled_assigned, BlanksItem, LineEndsItem, CommentItem, EntryItem, Part, ItemPart, HeaderPart, spelled_part, spelled, FitsPart, AreFit}
 use Rattle.gitconf_text.specs.Stuck.{NoPart}
 use Rattle.gitconf_parse.specs.declared.event.Event.{Event}
 use Rattle.gitconf_parse.specs.declared.reading.Fault.{Fault}
@@ -23,7 +23,7 @@ use Rattle.gitconf_parse.proofs.Skips.{text_from-end, text_from-part, text_from-
 use Rattle.gitconf_parse.proofs.ValueAgain.{apart, both_true, value_after}
 use Rattle.gitconf_parse.proofs.HeaderAgain.{header_spans}
 use Rattle.gitconf_parse.proofs.PartAgain.{after_assigned, after_part, part_again}
-use Rattle.gitconf_parse.proofs.PartTakes.{PartShape, part_takes, ValueFaultShape, part_fault}
+use Rattle.gitconf_parse.proofs.PartTakes.{part_takes, ValueFaultShape, part_fault}
 
 abbrev pub after_parts : List Event → (n : ℕ) → List Part → List Event
 after_parts events n [] = events
@@ -69,8 +69,12 @@ First p = (b : ℕ) × (more : List ℕ) × (spelled_part p ≡ b ∷ more) × (
 
 name_first : (e : Entry) (name : List ℕ) → e.name ≡ name → is_value_name name ≡ true → First (ItemPart (EntryItem e))
 name_first e [] is good = absurd (cc)
-name_first e (b ∷ name) is good = (b, name ++ (e.blanks ++ spelled_assigned e.assigned), rw is refl,
-    λ wanted. rw (apart is_ascii_alphabetic 91 b refl (both_true (is_ascii_alphabetic b) (list_all is_name_byte name) good).0) refl)
+name_first e (b ∷ name) is good = (
+  b,
+  name ++ (e.blanks ++ spelled_assigned e.assigned),
+  rw is refl,
+  λ wanted. rw (apart is_ascii_alphabetic 91 b refl (both_true (is_ascii_alphabetic b) (list_all is_name_byte name) good).0) refl,
+)
 
 part_first : (p : Part) (rest : List ℕ) → FitsPart p rest → First p
 part_first (ItemPart (BlanksItem [])) rest fits = absurd (omega (arith, fits.0))
@@ -127,7 +131,10 @@ pub record Outcome (input : List ℕ) (n : ℕ) (wanted : Expected) (events : Li
 
 nothing_left : (input : List ℕ) (n : ℕ) (wanted : Expected) (events : List Event) → drop n input ≡ [] → Outcome input n wanted events (text_from input wanted events n 0 (drop n input))
 nothing_left input n wanted events e = record {
-  parts = []; rest = []; whole = e; fits = tt;
+  parts = [];
+  rest = [];
+  whole = e;
+  fits = tt;
   end = inl (refl, ap (λ t. text_from input wanted events n 0 t) e ∙ text_from-end input wanted events n);
 }
 
@@ -136,7 +143,8 @@ grow : (input : List ℕ) (n : ℕ) (wanted : Expected) (events : List Event) (p
     → drop n input ≡ spelled_part p ++ rest → FitsPart p rest → drop (n + length (spelled_part p)) input ≡ rest → read ≡ later
     → Outcome input (n + length (spelled_part p)) (wanted_part wanted p) (after_part events n p).0 later → Outcome input n wanted events read
 grow input n wanted events p rest read later stands fits behind same o = record {
-  parts = p ∷ o.parts; rest = o.rest;
+  parts = p ∷ o.parts;
+  rest = o.rest;
   whole = stands ∙ ap (λ t. spelled_part p ++ t) next ∙ (simp append_assoc);
   fits = (subst (λ t. FitsPart p t) next fits, o.fits);
   end = elim o.end [
@@ -147,6 +155,7 @@ grow input n wanted events p rest read later stands fits behind same o = record 
   where
     next : rest ≡ spelled o.parts ++ o.rest
     next = sym behind ∙ o.whole
+
     long : n + length (spelled_part p) + length (spelled o.parts) ≡ n + length (spelled (p ∷ o.parts))
     long = simp length-append (omega arith)
 
@@ -170,10 +179,14 @@ text_takes (suc fuel) input n wanted events bound = go (drop n input) refl (λ m
   where
     Later : Type 0
     Later = (m : ℕ) (w : Expected) (ev : List Event) → length input - m ≤ fuel → Outcome input m w ev (text_from input w ev m 0 (drop m input))
+
     read : (b : ℕ) (rest : List ℕ) → drop n input ≡ b ∷ rest → n < length input → (r : Read) → part_at input n wanted events ≡ r → Later
         → Outcome input n wanted events (text_from input wanted events n 0 (drop n input))
     read b rest e within (Err f) r later = record {
-      parts = []; rest = b ∷ rest; whole = e; fits = tt;
+      parts = [];
+      rest = b ∷ rest;
+      whole = e;
+      fits = tt;
       end = inr (f, text_from-fault input wanted events n f within r, omega arith, subst (λ m. IsFaultAt input m wanted f) (let z : n ≡ n + 0 = omega arith in z) (part_fault input n wanted events f r));
     }
     read b rest e within (Ok x) r later =
@@ -183,6 +196,7 @@ text_takes (suc fuel) input n wanted events bound = go (drop n input) refl (λ m
         grow input n wanted events s.part s.rest _ _ s.whole s.fits (behind_front input (spelled_part s.part) s.rest n s.whole)
         (one_again s.part s.rest input n wanted events s.whole s.fits)
         (later (n + length (spelled_part s.part)) (wanted_part wanted s.part) (after_part events n s.part).0 (omega (arith, some, within, bound)))
+
     go : (text : List ℕ) → drop n input ≡ text → Later → Outcome input n wanted events (text_from input wanted events n 0 (drop n input))
     go [] e later = nothing_left input n wanted events e
     go (b ∷ rest) e later = read b rest e (stands_within input n b rest e) (part_at input n wanted events) refl later

@@ -1,14 +1,13 @@
 -- The events of parts stand for the tokens of these parts.
-use Rattle.std.proofs.Common.{◌≡◌, ℕ, ◌+◌, ◌-◌, ◌<◌, Bool, true, false, List, [], ◌∷◌, ◌++◌, length, take, drop, map, Option, Some, None, refl, ap, sym, ◌∙◌, arith, append_assoc, append-nil, length-append}
-use Rattle.std.specs.Prelude.{◌==◌, if◌then◌else◌, nat_lt}
+use Rattle.std.proofs.Common.{◌≡◌, ℕ, ◌+◌, ◌-◌, Bool, true, false, List, [], ◌∷◌, ◌++◌, length, drop, map, Option, Some, None, refl, ap, sym, ◌∙◌, arith, append_assoc, append-nil}
+use Rattle.std.specs.Prelude.{◌==◌, if◌then◌else◌}
 use Rattle.std.specs.List.{flat_map, list_all}
 use Rattle.std.proofs.lemmas.List.{take_at, map-append}
 use Rattle.std.proofs.lemmas.Bool.{lt-ltb, le-ltb}
 use Rattle.gitconf_text.specs.Bytes.{is_blank}
-use Rattle.gitconf_text.specs.Text.{begins}
-use Rattle.gitconf_text.specs.Value.{Piece, Value, spelled_value, FitsValue}
+use Rattle.gitconf_text.specs.Value.{Piece, spelled_value}
 use Rattle.gitconf_text.specs.Header as grammar
-use Rattle.gitconf_text.specs.Part.{Assigned, Entry, Item, BlanksItem, LineEndsItem, CommentItem, EntryItem, Part, ItemPart, HeaderPart, spelled_assigned, spelled_part, spelled, FitsPart, AreFit}
+use Rattle.gitconf_text.specs.Part.{Assigned, Entry, BlanksItem, LineEndsItem, CommentItem, EntryItem, Part, ItemPart, HeaderPart, spelled_assigned, spelled_part, spelled, FitsPart, AreFit}
 use Rattle.gitconf_text.specs.Token.{Token, CommentToken, HeaderToken, NameToken, ValueToken, NewlineToken, ValueNotDoneToken, ValueDoneToken, WhitespaceToken, SeparatorToken, filled, piece_tokens, value_tokens, assigned_tokens, part_tokens, tokens_of}
 use Rattle.gitconf_parse.specs.declared.event.Event.{Event}
 use Rattle.gitconf_parse.specs.declared.event.Event.TheVariants as kinds
@@ -67,7 +66,7 @@ value_events_tokens (p ∷ pieces) last rest input events joined n stands =
     let there : drop (m + 1) input ≡ p.line_end ++ pieces_text pieces last rest = behind_byte input 92 _ m here in
     let begun = events ++ kinds.ValueNotDone (span n m) ∷ [] in
     let first : map (token_of input) begun ≡ map (token_of input) events ++ ValueNotDoneToken p.text ∷ []
-        = map-append (token_of input) events _ ∙ ap (λ t. map (token_of input) events ++ ValueNotDoneToken t ∷ []) (bytes_span input p.text _ n m stands refl) in
+    = map-append (token_of input) events _ ∙ ap (λ t. map (token_of input) events ++ ValueNotDoneToken t ∷ []) (bytes_span input p.text _ n m stands refl) in
     value_events_tokens pieces last rest input (newline_after begun (m + 1) p.line_end) true (m + 1 + length p.line_end) (behind_front input p.line_end _ (m + 1) there)
     ∙ ap (λ t. t ++ tail_tokens true pieces last) (newline_tokens input p.line_end _ begun (m + 1) there ∙ ap (λ t. t ++ filled NewlineToken p.line_end) first)
     ∙ simp append_assoc
@@ -93,7 +92,7 @@ entry_events_tokens e rest input events n stands =
     let there : drop (m + length e.blanks) input ≡ spelled_assigned e.assigned ++ rest = behind_front input e.blanks _ m here in
     let begun = events ++ kinds.SectionValueName (span n m) ∷ [] in
     let first : map (token_of input) begun ≡ map (token_of input) events ++ NameToken e.name ∷ []
-        = map-append (token_of input) events _ ∙ ap (λ t. map (token_of input) events ++ NameToken t ∷ []) (bytes_span input e.name _ n m stands refl) in
+    = map-append (token_of input) events _ ∙ ap (λ t. map (token_of input) events ++ NameToken t ∷ []) (bytes_span input e.name _ n m stands refl) in
     assigned_events_tokens e.assigned rest input (with_blanks begun m (m + length e.blanks)) (m + length e.blanks) there
     ∙ ap (λ t. t ++ assigned_tokens e.assigned) (blanks_tokens input e.blanks _ begun m _ here refl ∙ ap (λ t. t ++ filled WhitespaceToken e.blanks) first)
     ∙ simp append_assoc
@@ -106,8 +105,11 @@ header_spans-of (grammar.DottedHeader name subsection) rest input n stands fits 
     let here : drop (n + 1) input ≡ name ++ (46 ∷ (subsection ++ 93 ∷ rest)) = behind_byte input 91 _ n (simp append_assoc at stands) in
     let dot : drop (n + 1 + length name) input ≡ 46 ∷ (subsection ++ 93 ∷ rest) = behind_front input name _ (n + 1) here in
     let last : drop (n + 1 + length name + 1) input ≡ subsection ++ 93 ∷ rest = behind_byte input 46 _ (n + 1 + length name) dot in
-    rw (bytes_span input (46 ∷ []) _ (n + 1 + length name) (n + 1 + length name + 1) dot refl, bytes_span input name _ (n + 1) _ here refl,
-        bytes_span input subsection _ (n + 1 + length name + 1) _ last refl) refl
+    rw (
+      bytes_span input (46 ∷ []) _ (n + 1 + length name) (n + 1 + length name + 1) dot refl,
+      bytes_span input name _ (n + 1) _ here refl,
+      bytes_span input subsection _ (n + 1 + length name + 1) _ last refl,
+    ) refl
 header_spans-of (grammar.QuotedHeader name [] spelling) rest input n stands fits = absurd (omega (arith, fits.1))
 header_spans-of (grammar.QuotedHeader name (b ∷ blanks) spelling) rest input n stands fits =
     let here : drop (n + 1) input ≡ name ++ ((b ∷ blanks) ++ (34 ∷ (spelling ++ (34 ∷ 93 ∷ rest)))) = behind_byte input 91 _ n (simp append_assoc at stands) in
@@ -115,8 +117,12 @@ header_spans-of (grammar.QuotedHeader name (b ∷ blanks) spelling) rest input n
     let quote : drop (n + 1 + length name + length (b ∷ blanks)) input ≡ 34 ∷ (spelling ++ (34 ∷ 93 ∷ rest)) = behind_front input (b ∷ blanks) _ (n + 1 + length name) between in
     let last : drop (n + 1 + length name + length (b ∷ blanks) + 1) input ≡ spelling ++ (34 ∷ 93 ∷ rest) = behind_byte input 34 _ (n + 1 + length name + length (b ∷ blanks)) quote in
     let no_dot : (b == 46) ≡ false = apart is_blank 46 b refl (both_true (is_blank b) (list_all is_blank blanks) fits.2).0 in
-    rw (bytes_span input (b ∷ blanks) _ (n + 1 + length name) _ between refl, no_dot, bytes_span input name _ (n + 1) _ here refl,
-        bytes_span input spelling _ (n + 1 + length name + length (b ∷ blanks) + 1) _ last refl) refl
+    rw (
+      bytes_span input (b ∷ blanks) _ (n + 1 + length name) _ between refl,
+      no_dot,
+      bytes_span input name _ (n + 1) _ here refl,
+      bytes_span input spelling _ (n + 1 + length name + length (b ∷ blanks) + 1) _ last refl,
+    ) refl
 
 part_events_tokens : (p : Part) (rest input : List ℕ) (events : List Event) (n : ℕ) → drop n input ≡ spelled_part p ++ rest → FitsPart p rest
     → map (token_of input) (after_part events n p).0 ≡ map (token_of input) events ++ part_tokens p

@@ -1,12 +1,12 @@
 -- A value that fits is read to its pieces.
-use Rattle.std.proofs.Common.{◌≡◌, ℕ, zero, suc, ◌+◌, ◌-◌, Bool, true, false, not, List, [], ◌∷◌, ◌++◌, length, refl, ap, sym, ◌∙◌, arith, cond, append-nil, append_assoc, add-zero, inl, inr, Ok}
+use Rattle.std.proofs.Common.{◌≡◌, ℕ, ◌+◌, Bool, true, false, not, List, [], ◌∷◌, ◌++◌, length, refl, ap, sym, ◌∙◌, arith, cond, append-nil, append_assoc, add-zero, inl, inr, Ok}
 use Rattle.std.specs.Prelude.{◌&&◌, ◌==◌, ◌⊎◌, if◌then◌else◌}
 use Rattle.std.specs.List.{fold, flat_map}
 use Rattle.std.specs.Prelude.{◌||◌}
 use Rattle.gitconf_text.specs.Bytes.{is_whitespace}
 use Rattle.std.proofs.lemmas.Bool.{eqb-true}
 use Rattle.std.proofs.lemmas.Bool.Decides.{nat_tests}
-use Rattle.gitconf_text.specs.Unit.{Class, LineFeed, Quote, Mark, Backslash, White, Other, class_of, TextUnit, Escape, OpenEscape, Plain, units_behind, units_of, is_white}
+use Rattle.gitconf_text.specs.Unit.{Class, LineFeed, Quote, Mark, Backslash, White, Other, class_of, TextUnit, units_behind, units_of, is_white}
 use Rattle.gitconf_text.specs.Value.{is_value_escape, are_paired, may_follow_value, Piece, IsEnded}
 use Rattle.gitconf_text.specs.Text.{is_line_end}
 use Rattle.gitconf_parse.specs.declared.event.Event.{Event}
@@ -113,6 +113,7 @@ piece_again false (b ∷ text) rest first events joined from kept quoted n more 
   where
     off : n + 1 + length text ≡ end
     off = omega arith
+
     go : (c : Class) → class_of b ≡ c
         → ((escaped : Bool) (kept : ℕ) (quoted : Bool) → PieceAgain escaped text rest first events joined from kept quoted (n + 1) more k end answer)
         → value_from first events joined from kept quoted n 0 ((b ∷ text) ++ rest) ≡ answer
@@ -210,6 +211,7 @@ pieces_again [] last rest first events joined n quoted paired ended =
   where
     whole : kept_behind n n last ≡ n + length last
     whole = kept_behind-whole last false n n ended.0 (λ _. refl)
+
     go : (now : Bool) → are_paired now [] ≡ true
         → value_from first events joined n (kept_behind n n last) now (n + length last) 0 rest ≡ Ok (value_after events joined n [] last)
     go true closed = absurd (let e = closed in cc)
@@ -221,12 +223,15 @@ pieces_again (p ∷ pieces) last rest first events joined n quoted paired ended 
   where
     m : ℕ
     m = n + length p.text
+
     Later : Type 0
     Later = (events : List Event) (n : ℕ) (quoted : Bool) → are_paired quoted (pieces_units pieces last) ≡ true → IsEnded pieces last rest
         → value_from first events true n n quoted n 0 (pieces_text pieces last rest) ≡ Ok (value_after events true n pieces last)
+
     Goal : Bool → Type 0
     Goal now = value_from first events joined n (kept_behind n n p.text) now (n + length p.text) 0 (92 ∷ (p.line_end ++ pieces_text pieces last rest))
         ≡ Ok (value_after events joined n (p ∷ pieces) last)
+
     line : (now : Bool) → are_paired now (pieces_units pieces last) ≡ true → IsEnded pieces last rest → (p.line_end ≡ 10 ∷ []) ⊎ (p.line_end ≡ 13 ∷ 10 ∷ []) → Later → Goal now
     line now closed ended (inl e) later = rw e (later _ _ now closed ended)
     line now closed ended (inr e) later =
@@ -234,6 +239,7 @@ pieces_again (p ∷ pieces) last rest first events joined n quoted paired ended 
         let f = n + length p.text + 1 + 2 in
         let more = events ++ kinds.ValueNotDone (span n (n + length p.text)) ∷ [] ++ kinds.Newline (span (n + length p.text + 1) f) ∷ [] in
         rw e (ap (λ k. value_from first more true f f now k 0 (pieces_text pieces last rest)) off ∙ later more f now closed ended)
+
     go : (now : Bool) → are_paired now (pieces_units pieces last) ≡ true → IsEnded (p ∷ pieces) last rest → Later → Goal now
     go now closed (inl e) later = line now closed e.1 (line_end_is p.line_end e.0) later
     go true closed (inr e) later = absurd (let h = rw (e.1, e.2) at closed in cc)

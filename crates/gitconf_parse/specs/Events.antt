@@ -1,5 +1,5 @@
 -- What the parser's events stand for, in the buffer that their spans are offsets of.
-use Rattle.std.specs.Prelude.{ℕ, List, ◌==◌, Option, Some, None, take, drop, if◌then◌else◌}
+use Rattle.std.specs.Prelude.{ℕ, ◌+◌, ◌≤◌, List, ◌==◌, Option, Some, None, take, drop, if◌then◌else◌}
 use Rattle.gitconf_text.specs.Text.{begins}
 use Rattle.gitconf_text.specs.Header as grammar
 use Rattle.gitconf_text.specs.Token.{Token, CommentToken, HeaderToken, NameToken, ValueToken, NewlineToken, ValueNotDoneToken, ValueDoneToken, WhitespaceToken, SeparatorToken}
@@ -33,3 +33,28 @@ token_of buffer (kinds.ValueNotDone s) = ValueNotDoneToken (bytes_of buffer s)
 token_of buffer (kinds.ValueDone s) = ValueDoneToken (bytes_of buffer s)
 token_of buffer (kinds.Whitespace s) = WhitespaceToken (bytes_of buffer s)
 token_of buffer kinds.KeyValueSeparator = SeparatorToken
+
+-- the span ends within a buffer of this many bytes
+abbrev pub SpanFits : (limit : ℕ) → Span → Type 0
+SpanFits limit s = s.start + s.len ≤ limit
+
+abbrev pub OptionFits : (limit : ℕ) → Option Span → Type 0
+OptionFits limit None = Unit {0}
+OptionFits limit (Some s) = SpanFits limit s
+
+pub record HeaderFits (limit : ℕ) (h : Header) : Type 0 where
+  pub name : SpanFits limit h.name
+  pub separator : OptionFits limit h.separator
+  pub subsection : OptionFits limit h.subsection
+
+-- all spans of the event end within the buffer
+abbrev pub EventFits : (limit : ℕ) → Event → Type 0
+EventFits limit (kinds.Comment tag text) = SpanFits limit text
+EventFits limit (kinds.SectionHeader h) = HeaderFits limit h
+EventFits limit (kinds.SectionValueName s) = SpanFits limit s
+EventFits limit (kinds.Value s) = SpanFits limit s
+EventFits limit (kinds.Newline s) = SpanFits limit s
+EventFits limit (kinds.ValueNotDone s) = SpanFits limit s
+EventFits limit (kinds.ValueDone s) = SpanFits limit s
+EventFits limit (kinds.Whitespace s) = SpanFits limit s
+EventFits limit kinds.KeyValueSeparator = Unit {0}

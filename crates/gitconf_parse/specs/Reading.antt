@@ -1,7 +1,7 @@
 -- The functional reader, which proofs alone see: the parser's steps over the bytes that are left, with absolute offsets and the
 -- parser's own records. The grammar knows nothing of it.
-use Rattle.std.specs.Prelude.{◌≡◌, ℕ, zero, suc, ◌+◌, ◌-◌, Bool, true, false, not, List, [], ◌∷◌, ◌++◌, ◌==◌, ◌&&◌, ◌||◌, if◌then◌else◌, Result, Ok, Err, nat_lt, drop, slice_index, Option, Some, None}
-use Rattle.gitconf_text.specs.Unit.{Class, LineFeed, Quote, Mark, Backslash, White, Other, class_of, is_mark}
+use Rattle.std.specs.Prelude.{◌≡◌, ℕ, zero, suc, ◌+◌, ◌-◌, Bool, true, false, not, List, [], ◌∷◌, ◌++◌, ◌==◌, ◌&&◌, if◌then◌else◌, Result, Ok, Err, nat_lt, drop, slice_index, Option, Some, None}
+use Rattle.gitconf_text.specs.Unit.{LineFeed, Quote, Mark, Backslash, White, Other, class_of, is_mark}
 use Rattle.gitconf_text.specs.Value.{is_value_escape}
 use Rattle.gitconf_text.specs.Text.{begins, begins_line_end}
 use Rattle.gitconf_text.specs.Bytes.{is_blank, is_name_byte, is_header_byte}
