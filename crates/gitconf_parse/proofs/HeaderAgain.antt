@@ -29,16 +29,16 @@ all_header_bytes (b ∷ name) h = let p = both_true (is_name_byte b) (list_all i
 abbrev pub header_spans : (n : ℕ) → grammar.Header → Header × ℕ
 header_spans n (grammar.PlainHeader name) =
     let end = n + 1 + length name in
-    (record { name = span (n + 1) end; separator = None; subsection = None }, end + 1)
+    (record { name = span (n + 1) end; separator = None; subsection = None; decoded = None }, end + 1)
 header_spans n (grammar.DottedHeader name subsection) =
     let dot = n + 1 + length name in
     let end = dot + 1 + length subsection in
-    (record { name = span (n + 1) dot; separator = Some (span dot (dot + 1)); subsection = Some (span (dot + 1) end) }, end + 1)
+    (record { name = span (n + 1) dot; separator = Some (span dot (dot + 1)); subsection = Some (span (dot + 1) end); decoded = None }, end + 1)
 header_spans n (grammar.QuotedHeader name blanks spelling) =
     let end = n + 1 + length name in
     let quote = end + length blanks in
     let last = quote + 1 + length spelling in
-    (record { name = span (n + 1) end; separator = Some (span end quote); subsection = Some (span (quote + 1) last) }, last + 1 + 1)
+    (record { name = span (n + 1) end; separator = Some (span end quote); subsection = Some (span (quote + 1) last); decoded = None }, last + 1 + 1)
 
 -- a run of blanks begins with none of the bytes that a name has, and with no bracket
 pub begins_other : (p : ℕ → Bool) (blanks rest : List ℕ) → ((b : ℕ) → is_blank b ≡ true → p b ≡ false) → 0 < length blanks → list_all is_blank blanks ≡ true → begins p (blanks ++ rest) ≡ false
@@ -53,6 +53,7 @@ quoted_again : (blanks spelling rest input : List ℕ) (from end : ℕ) → drop
         name = span from end;
         separator = Some (span end (end + length blanks));
         subsection = Some (span (end + length blanks + 1) (end + length blanks + 1 + length spelling));
+        decoded = None;
       },
       end + length blanks + 1 + length spelling + 1 + 1,
     )

@@ -141,8 +141,8 @@ spelling_from n zero (b ∷ rest) = elim (class_of b) [
 abbrev pub unquoted_header : (input : List ℕ) → (from n : ℕ) → Option (Header × ℕ)
 unquoted_header input from n =
     let dot = run_end_at input runs.NameBytes from in
-    if nat_lt dot n then Some (record { name = span from dot; separator = Some (span dot (dot + 1)); subsection = Some (span (dot + 1) n) }, n + 1)
-    else if nat_lt from n then Some (record { name = span from n; separator = None; subsection = None }, n + 1)
+    if nat_lt dot n then Some (record { name = span from dot; separator = Some (span dot (dot + 1)); subsection = Some (span (dot + 1) n); decoded = None }, n + 1)
+    else if nat_lt from n then Some (record { name = span from n; separator = None; subsection = None; decoded = None }, n + 1)
     else None
 
 -- the header with quotes whose name ends at the offset n, where blanks may stand
@@ -153,7 +153,7 @@ quoted_header input from n =
     then elim (spelling_from (blanks_end + 1) 0 (drop (blanks_end + 1) input)) [
       | None ↦ None
       | Some end ↦ if begins (λ b. b == 93) (drop (end + 1) input)
-          then Some (record { name = span from n; separator = Some (span n blanks_end); subsection = Some (span (blanks_end + 1) end) }, end + 1 + 1)
+          then Some (record { name = span from n; separator = Some (span n blanks_end); subsection = Some (span (blanks_end + 1) end); decoded = None }, end + 1 + 1)
           else None
     ]
     else None

@@ -25,6 +25,15 @@ impl Span {
     }
 }
 
+/// Where the decoded copy of a subsection stands, in a buffer of such copies.
+#[derive(Clone, Copy, Debug)]
+pub struct Copied {
+    /// The offset of its first byte.
+    pub start: usize,
+    /// Its length in bytes.
+    pub len: usize,
+}
+
 /// A header as its text has it.
 #[derive(Clone, Copy, Debug)]
 pub struct Header {
@@ -33,6 +42,8 @@ pub struct Header {
     pub separator: Option<Span>,
     /// What stands behind the dot or between the quotes, as spelled.
     pub subsection: Option<Span>,
+    /// The decoded subsection, where it isn't what is spelled.
+    pub decoded: Option<Copied>,
 }
 
 /// A token of a text.

@@ -21,6 +21,7 @@ fn unquoted(input: &[u8], from: usize, end: usize) -> Option<(Header, usize)>
             name: Span::between(from, dot),
             separator: Some(Span::between(dot, dot + 1)),
             subsection: Some(Span::between(dot + 1, end)),
+            decoded: None,
         };
         Some((header, end + 1))
     } else if from < end {
@@ -28,6 +29,7 @@ fn unquoted(input: &[u8], from: usize, end: usize) -> Option<(Header, usize)>
             name: Span::between(from, end),
             separator: None,
             subsection: None,
+            decoded: None,
         };
         Some((header, end + 1))
     } else {
@@ -81,6 +83,7 @@ fn quoted(input: &[u8], from: usize, end: usize) -> Option<(Header, usize)>
         name: Span::between(from, end),
         separator: Some(Span::between(end, blanks_end)),
         subsection: Some(Span::between(blanks_end + 1, quote)),
+        decoded: None,
     };
     Some((header, quote + 2))
 }
