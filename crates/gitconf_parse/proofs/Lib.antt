@@ -3,3 +3,4 @@ pub mod Skips
 pub mod ValueAgain
 pub mod ValueTakes
 pub mod RunLaws
+pub mod SinkLaws

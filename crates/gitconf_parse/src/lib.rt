@@ -3,3 +3,4 @@
 
 pub mod event;
 mod reading;
+pub mod sink;
