@@ -1,17 +1,18 @@
 -- What a writer tells: the bytes that it took, and how often it failed. One that tells nothing is told by `None`.
-use Rattle.std.specs.Prelude.{◌≡◌, ℕ, ◌+◌, List, ◌++◌, Option, Some, None, Result, Ok, Err}
+use Rattle.std.specs.Prelude.{◌≡◌, ℕ, ◌+◌, Bool, true, false, ◌&&◌, nat_eq, List, ◌++◌, Option, Some, None, Result, Ok, Err}
+use Rattle.std.specs.List.{starts_with}
 
 -- the bytes that were told, and text behind them
 abbrev pub with_text : (text : List ℕ) → Option (List ℕ) → Option (List ℕ)
 with_text text None = None
 with_text text (Some told) = Some (told ++ text)
 
--- what is told grew by a beginning of text
-pub record IsBegun (text : List ℕ) (old new : Option (List ℕ)) : Type 0 where
-  pub front : List ℕ
-  pub rest : List ℕ
-  pub whole : text ≡ front ++ rest
-  pub told : new ≡ with_text front old
+-- what is told grew by a beginning of text: `new` goes on where `old` ends, and goes not past text
+unfoldable pub is_begun : (text : List ℕ) → (old new : Option (List ℕ)) → Bool
+is_begun text None None = true
+is_begun text None (Some now) = false
+is_begun text (Some told) None = false
+is_begun text (Some told) (Some now) = starts_with nat_eq now told && starts_with nat_eq (told ++ text) now
 
 -- one failure more
 abbrev pub CountsOne : (old new : Option ℕ) → Type 0
@@ -22,7 +23,7 @@ CountsOne None n = Unit {0}
 -- the outcome of writing text: what is told grew by it, or, behind a fault, by a beginning of it
 abbrev pub Writes : {T E : Type 0} → Result T E → (text : List ℕ) → (old new : Option (List ℕ)) → Type 0
 Writes (Ok done) text old new = new ≡ with_text text old
-Writes (Err fault) text old new = IsBegun text old new
+Writes (Err fault) text old new = is_begun text old new ≡ true
 
 -- no failure more, or, behind a fault, one
 abbrev pub Counts : {T E : Type 0} → Result T E → (old new : Option ℕ) → Type 0

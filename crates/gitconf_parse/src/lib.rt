@@ -2,5 +2,6 @@
 #![tactic(auto)]
 
 pub mod event;
+pub mod event_ref;
 mod reading;
 pub mod sink;

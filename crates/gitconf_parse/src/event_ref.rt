@@ -1,0 +1,168 @@
+//! Tokens that borrow their bytes.
+ghost use Rattle.std.specs.Prelude.{◌≡◌, option_copied};
+ghost use Rattle.gitconf_parse.specs.Sink.{Writes, Counts};
+ghost use Rattle.gitconf_parse.specs.EventRef.{ShownHeader, shown, lossy_text, written, escaped_byte, escaped_subsection, written_subsection};
+
+use crate::sink::{Sink, SinkFault, write_all};
+
+/// A token of a text, with its bytes.
+#[derive(Clone, Copy, Debug, PartialEq, Eq, PartialOrd, Ord, Hash)]
+pub enum EventRef<'a> {
+    /// A comment: `;` or `#`, and the text behind it.
+    Comment {
+        tag: u8,
+        text: &'a [u8],
+    },
+    /// A section's header.
+    SectionHeader {
+        /// The section's name, as spelled.
+        name: &'a [u8],
+        /// What stands between name and subsection: a dot, or blanks.
+        separator: Option<&'a [u8]>,
+        /// The subsection, without quotes and backslashes.
+        subsection_name: Option<&'a [u8]>,
+    },
+    /// The name of a value.
+    SectionValueName(&'a [u8]),
+    /// A value that stands on one line, with its quotes and backslashes.
+    Value(&'a [u8]),
+    /// One or more line ends.
+    Newline(&'a [u8]),
+    /// A piece of a value, without the backslash behind it.
+    ValueNotDone(&'a [u8]),
+    /// The last piece of a value of several.
+    ValueDone(&'a [u8]),
+    /// Spaces and tabs.
+    Whitespace(&'a [u8]),
+    /// The `=` between a name and its value.
+    KeyValueSeparator,
+}
+
+impl<'a> EventRef<'a> {
+    /// The one text that stands for the token: a header's name, a comment without its tag, `=`, and else the bytes.
+    pub fn to_bstr_lossy(&self) -> &'a [u8]
+        ensures { result.now ≡ lossy_text (shown self.now) }
+    {
+        match *self {
+            EventRef::Comment { tag: _, text } => text,
+            EventRef::SectionHeader {
+                name,
+                separator: _,
+                subsection_name: _,
+            } => name,
+            EventRef::SectionValueName(bytes)
+            | EventRef::Value(bytes)
+            | EventRef::Newline(bytes)
+            | EventRef::ValueNotDone(bytes)
+            | EventRef::ValueDone(bytes)
+            | EventRef::Whitespace(bytes) => bytes,
+            EventRef::KeyValueSeparator => b"=",
+        }
+    }
+
+    /// Writes the token as it stands in a text.
+    ///
+    /// Behind an unfinished piece of a value stands its backslash. A header's subsection is written with its separator:
+    /// behind a dot as it is, and else in quotes, with `"` and `\` each behind a backslash.
+    ///
+    /// It takes no memory of its own.
+    ///
+    /// # Errors
+    ///
+    /// A write failed, or took nothing. It is not tried again, and a beginning of the token was written.
+    #[tactic(auto, using(crate::proofs::SinkLaws::in_turn))]
+    pub fn write_to<W: Sink>(&self, out: &mut W) -> Result<(), SinkFault>
+        ensures written { Writes result (written (shown self.now)) (W.told out.old) (W.told out.new) }
+        ensures counted { Counts result (W.faults out.old) (W.faults out.new) }
+    {
+        match *self {
+            EventRef::Comment { tag, text } => {
+                write_all(out, &[tag])?;
+                write_all(out, text)
+            }
+            EventRef::SectionHeader {
+                name,
+                separator,
+                subsection_name,
+            } => write_header(out, name, separator, subsection_name),
+            EventRef::ValueNotDone(bytes) => {
+                write_all(out, bytes)?;
+                write_all(out, b"\\")
+            }
+            EventRef::SectionValueName(bytes)
+            | EventRef::Value(bytes)
+            | EventRef::Newline(bytes)
+            | EventRef::ValueDone(bytes)
+            | EventRef::Whitespace(bytes) => write_all(out, bytes),
+            EventRef::KeyValueSeparator => write_all(out, b"="),
+        }
+    }
+}
+
+/// Writes a header in its brackets.
+#[tactic(auto, using(crate::proofs::SinkLaws::in_turn))]
+fn write_header<W: Sink>(
+    out: &mut W,
+    name: &[u8],
+    separator: Option<&[u8]>,
+    subsection: Option<&[u8]>,
+) -> Result<(), SinkFault>
+    ensures written { Writes result (written (ShownHeader name.now (option_copied separator.entry) (option_copied subsection.entry)))
+        (W.told out.old) (W.told out.new) }
+    ensures counted { Counts result (W.faults out.old) (W.faults out.new) }
+{
+    write_all(out, b"[")?;
+    write_all(out, name)?;
+    if let (Some(separator), Some(subsection)) = (separator, subsection) {
+        write_subsection(out, separator, subsection)?;
+    }
+    write_all(out, b"]")
+}
+
+/// Writes a subsection behind its separator: behind a dot as it is, and else in quotes.
+#[tactic(auto, using(crate::proofs::SinkLaws::in_turn))]
+fn write_subsection<W: Sink>(
+    out: &mut W,
+    separator: &[u8],
+    subsection: &[u8],
+) -> Result<(), SinkFault>
+    ensures written { Writes result (written_subsection separator.now subsection.now) (W.told out.old) (W.told out.new) }
+    ensures counted { Counts result (W.faults out.old) (W.faults out.new) }
+{
+    write_all(out, separator)?;
+    if separator == b".".as_slice() {
+        return write_all(out, subsection);
+    }
+    write_all(out, b"\"")?;
+    write_escaped_subsection(out, subsection)?;
+    write_all(out, b"\"")
+}
+
+/// Writes a subsection as it is spelled in quotes: `"` and `\` each behind a backslash.
+///
+/// It takes no memory of its own, and reads the subsection once.
+///
+/// # Errors
+///
+/// A write failed, or took nothing. It is not tried again, and a beginning of the spelling was written.
+#[tactic(auto, using(crate::proofs::SinkLaws::in_loops))]
+pub fn write_escaped_subsection<W: Sink>(out: &mut W, subsection: &[u8]) -> Result<(), SinkFault>
+    ensures written { Writes result (escaped_subsection subsection.now) (W.told out.old) (W.told out.new) }
+    ensures counted { Counts result (W.faults out.old) (W.faults out.new) }
+{
+    for b in subsection {
+        write_escaped_byte(out, *b)?;
+    }
+    Ok(())
+}
+
+fn write_escaped_byte<W: Sink>(out: &mut W, b: u8) -> Result<(), SinkFault>
+    ensures written { Writes result (escaped_byte b) (W.told out.old) (W.told out.new) }
+    ensures counted { Counts result (W.faults out.old) (W.faults out.new) }
+{
+    if b == b'"' || b == b'\\' {
+        write_all(out, &[b'\\', b])
+    } else {
+        write_all(out, &[b])
+    }
+}
