@@ -4,3 +4,4 @@ pub mod ValueAgain
 pub mod ValueTakes
 pub mod RunLaws
 pub mod SinkLaws
+pub mod Subsections

@@ -1,5 +1,5 @@
 -- Tokens as they are shown to callers, and the text that each is written as.
-use Rattle.std.specs.Prelude.{ℕ, List, [], ◌∷◌, ◌++◌, ◌==◌, ◌||◌, Option, Some, None, option_copied, codes, flat_map, if◌then◌else◌}
+use Rattle.std.specs.Prelude.{ℕ, Bool, List, [], ◌∷◌, ◌++◌, ◌==◌, ◌||◌, Option, Some, None, option_copied, codes, flat_map, if◌then◌else◌}
 use Rattle.std.specs.Str.{bytes_eq}
 use Rattle.gitconf_parse.specs.declared.event_ref.EventRef.{EventRef}
 use Rattle.gitconf_parse.specs.declared.event_ref.EventRef.TheVariants as kinds
@@ -40,9 +40,13 @@ lossy_text (ShownLast bytes) = bytes
 lossy_text (ShownBlanks bytes) = bytes
 lossy_text ShownSeparator = codes "="
 
+-- a quote or a backslash
+abbrev pub needs_backslash : ℕ → Bool
+needs_backslash b = b == 34 || b == 92
+
 -- a byte of a subsection in quotes: a quote and a backslash stand behind a backslash
 abbrev pub escaped_byte : ℕ → List ℕ
-escaped_byte b = if b == 34 || b == 92 then 92 ∷ b ∷ [] else b ∷ []
+escaped_byte b = if needs_backslash b then 92 ∷ b ∷ [] else b ∷ []
 
 -- a subsection as it is spelled in quotes
 abbrev pub escaped_subsection : List ℕ → List ℕ

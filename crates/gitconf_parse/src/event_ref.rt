@@ -1,9 +1,14 @@
 //! Tokens that borrow their bytes.
-ghost use Rattle.std.specs.Prelude.{◌≡◌, option_copied};
+ghost use Rattle.std.specs.Prelude.{◌≡◌, ◌<◌, ◌^◌, length, option_copied, IfOk};
+ghost use Rattle.bstr.specs.Owned.{bstring_bytes};
+ghost use Rattle.gitconf_parse.specs.EventRef as spec;
 ghost use Rattle.gitconf_parse.specs.Sink.{Writes, Counts};
 ghost use Rattle.gitconf_parse.specs.EventRef.{ShownHeader, shown, lossy_text, written, escaped_byte, escaped_subsection, written_subsection};
 
 use crate::sink::{Sink, SinkFault, write_all};
+use bstr::BString;
+use gitconf_text::NoMemory;
+use std::alloc::Global;
 
 /// A token of a text, with its bytes.
 #[derive(Clone, Copy, Debug, PartialEq, Eq, PartialOrd, Ord, Hash)]
@@ -97,6 +102,80 @@ impl<'a> EventRef<'a> {
             EventRef::KeyValueSeparator => write_all(out, b"="),
         }
     }
+
+    /// The token as it stands in a text, as `write_to` writes it.
+    ///
+    /// It reserves memory once.
+    ///
+    /// # Errors
+    ///
+    /// The reservation was refused.
+    pub fn to_bstring(&self, alloc: Global) -> Result<BString, NoMemory>
+        ensures { IfOk result (λ text. bstring_bytes text ≡ written (shown self.now)) }
+    {
+        let mut text = Vec::with_capacity(alloc, self.written_len())?;
+        match self.write_to(&mut text) {
+            Ok(()) => Ok(BString::new(text)),
+            Err(_) => Err(NoMemory),
+        }
+    }
+
+    /// How many bytes `write_to` writes; the greatest number where they are more.
+    #[tactic(auto, using(crate::proofs::Subsections::lengths))]
+    fn written_len(&self) -> usize
+        ensures { let len = length (written (shown self.now)) in len < 2 ^ 64 → result ≡ len }
+    {
+        match *self {
+            EventRef::Comment { tag: _, text } => text.len().saturating_add(1),
+            EventRef::SectionHeader {
+                name,
+                separator,
+                subsection_name,
+            } => header_len(name, separator, subsection_name),
+            EventRef::ValueNotDone(bytes) => bytes.len().saturating_add(1),
+            EventRef::SectionValueName(bytes)
+            | EventRef::Value(bytes)
+            | EventRef::Newline(bytes)
+            | EventRef::ValueDone(bytes)
+            | EventRef::Whitespace(bytes) => bytes.len(),
+            EventRef::KeyValueSeparator => 1,
+        }
+    }
+}
+
+/// How many bytes `write_header` writes; the greatest number where they are more.
+#[tactic(auto, using(crate::proofs::Subsections::lengths))]
+fn header_len(name: &[u8], separator: Option<&[u8]>, subsection: Option<&[u8]>) -> usize
+    ensures { let len = length (written (ShownHeader name.now (option_copied separator.entry) (option_copied subsection.entry))) in
+        len < 2 ^ 64 → result ≡ len }
+{
+    let brackets_and_name = name.len().saturating_add(2);
+    match (separator, subsection) {
+        (Some(separator), Some(subsection)) => {
+            brackets_and_name.saturating_add(subsection_len(separator, subsection))
+        }
+        _ => brackets_and_name,
+    }
+}
+
+/// How many bytes `write_subsection` writes; the greatest number where they are more.
+#[tactic(auto, using(crate::proofs::Subsections::lengths))]
+fn subsection_len(separator: &[u8], subsection: &[u8]) -> usize
+    ensures { let len = length (written_subsection separator.now subsection.now) in len < 2 ^ 64 → result ≡ len }
+{
+    let bytes = separator.len().saturating_add(subsection.len());
+    if separator == b".".as_slice() {
+        return bytes;
+    }
+    let backslashes = subsection.iter().filter(|b| needs_backslash(**b)).count();
+    bytes.saturating_add(2).saturating_add(backslashes)
+}
+
+/// Whether the byte stands behind a backslash in a quoted subsection.
+fn needs_backslash(b: u8) -> bool
+    ensures { result ≡ spec.needs_backslash b }
+{
+    b == b'"' || b == b'\\'
 }
 
 /// Writes a header in its brackets.
@@ -160,7 +239,7 @@ fn write_escaped_byte<W: Sink>(out: &mut W, b: u8) -> Result<(), SinkFault>
     ensures written { Writes result (escaped_byte b) (W.told out.old) (W.told out.new) }
     ensures counted { Counts result (W.faults out.old) (W.faults out.new) }
 {
-    if b == b'"' || b == b'\\' {
+    if needs_backslash(b) {
         write_all(out, &[b'\\', b])
     } else {
         write_all(out, &[b])

@@ -3,5 +3,6 @@
 
 pub mod event;
 pub mod event_ref;
+pub mod laws;
 mod reading;
 pub mod sink;
