@@ -1,3 +1,5 @@
 pub mod Reading
 pub mod Sink
 pub mod EventRef
+pub mod ParseError
+pub mod ParseCause
