@@ -6,9 +6,11 @@ ghost use Rattle.gitconf_parse.specs.Sink.{Writes, Counts};
 ghost use Rattle.gitconf_parse.specs.EventRef.{ShownHeader, shown, lossy_text, written, escaped_byte, escaped_subsection, written_subsection};
 
 use crate::sink::{Sink, SinkFault, write_all};
-use bstr::BString;
+use bstr::{BStr, BString, ByteSlice};
 use gitconf_text::NoMemory;
 use std::alloc::Global;
+use std::fmt;
+use std::fmt::Write;
 
 /// A token of a text, with its bytes.
 #[derive(Clone, Copy, Debug, PartialEq, Eq, PartialOrd, Ord, Hash)]
@@ -141,6 +143,73 @@ impl<'a> EventRef<'a> {
             EventRef::KeyValueSeparator => 1,
         }
     }
+}
+
+/// The text of `write_to`, with U+FFFD for what is no character.
+///
+/// A comment's tag and its text, and a header's name, separator and subsection, are read as texts of their own.
+impl fmt::Display for EventRef<'_> {
+    fn fmt<W: fmt::Write>(&self, f: &mut fmt::Formatter<W>) -> fmt::Result {
+        match *self {
+            EventRef::Comment { tag, text } => {
+                show(&[tag], f)?;
+                show(text, f)
+            }
+            EventRef::SectionHeader {
+                name,
+                separator,
+                subsection_name,
+            } => show_header(name, separator, subsection_name, f),
+            EventRef::ValueNotDone(bytes) => {
+                show(bytes, f)?;
+                f.write_char('\\')
+            }
+            EventRef::SectionValueName(bytes)
+            | EventRef::Value(bytes)
+            | EventRef::Newline(bytes)
+            | EventRef::ValueDone(bytes)
+            | EventRef::Whitespace(bytes) => show(bytes, f),
+            EventRef::KeyValueSeparator => f.write_char('='),
+        }
+    }
+}
+
+fn show<W: fmt::Write>(bytes: &[u8], f: &mut fmt::Formatter<W>) -> fmt::Result {
+    let text = BStr::new(bytes);
+    write!(f, "{text}")
+}
+
+fn show_header<W: fmt::Write>(
+    name: &[u8],
+    separator: Option<&[u8]>,
+    subsection: Option<&[u8]>,
+    f: &mut fmt::Formatter<W>,
+) -> fmt::Result {
+    f.write_char('[')?;
+    show(name, f)?;
+    if let (Some(separator), Some(subsection)) = (separator, subsection) {
+        show_subsection(separator, subsection, f)?;
+    }
+    f.write_char(']')
+}
+
+fn show_subsection<W: fmt::Write>(
+    separator: &[u8],
+    subsection: &[u8],
+    f: &mut fmt::Formatter<W>,
+) -> fmt::Result {
+    show(separator, f)?;
+    if separator == b".".as_slice() {
+        return show(subsection, f);
+    }
+    f.write_char('"')?;
+    for ch in subsection.chars() {
+        if ch == '"' || ch == '\\' {
+            f.write_char('\\')?;
+        }
+        f.write_char(ch)?;
+    }
+    f.write_char('"')
 }
 
 /// How many bytes `write_header` writes; the greatest number where they are more.

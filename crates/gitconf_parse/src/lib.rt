@@ -7,3 +7,5 @@ pub mod event_ref;
 pub mod laws;
 mod reading;
 pub mod sink;
+#[cfg(test)]
+mod tests;
