@@ -15,3 +15,5 @@ pub mod TokensLaws
 pub mod OneDocument
 pub mod Fitting
 pub mod Whole
+pub mod SinkLaws
+pub mod Subsections

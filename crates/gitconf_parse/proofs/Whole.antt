@@ -15,20 +15,21 @@ use Rattle.gitconf_parse.specs.declared.reading.ReadError.TheVariants as errors
 use Rattle.gitconf_parse.specs.declared.reading.Expected.TheVariants as expected
 use Rattle.gitconf_parse.specs.Reading.{text_from, GivesAll}
 use Rattle.gitconf_parse.specs.Events.{token_of, EventFits}
-use Rattle.gitconf_parse.specs.Parsing.{kind_text, IsRead, IsFault, IsReading, NoFault}
+use Rattle.gitconf_parse.specs.ParseError.{kind_of}
+use Rattle.gitconf_parse.specs.Parsing.{IsRead, IsFault, IsReading, NoFault}
 use Rattle.gitconf_parse.proofs.At.{behind_front}
 use Rattle.gitconf_parse.proofs.TextTakes.{wanted_after, after_parts, IsFaultAt, Outcome, text_takes}
 use Rattle.gitconf_parse.proofs.TokensLaws.{parts_events_tokens}
 use Rattle.gitconf_parse.proofs.OneDocument.{all_again}
 use Rattle.gitconf_parse.proofs.Fitting.{parts_events_fit}
 
-wanted_name : (parts : List Part) → kind_text (wanted_after expected.Name parts) ≡ codes "name"
+wanted_name : (parts : List Part) → kind_of (wanted_after expected.Name parts) ≡ codes "name"
 wanted_name [] = refl
 wanted_name (ItemPart i ∷ parts) = wanted_name parts
 wanted_name (HeaderPart h ∷ parts) = wanted_name parts
 
 -- what is looked for is told by whether a header came before
-wanted_kind : (parts : List Part) → kind_text (wanted_after expected.SectionHeader parts) ≡ kind_behind parts
+wanted_kind : (parts : List Part) → kind_of (wanted_after expected.SectionHeader parts) ≡ kind_behind parts
 wanted_kind [] = refl
 wanted_kind (ItemPart i ∷ parts) = wanted_kind parts
 wanted_kind (HeaderPart h ∷ parts) = wanted_name parts
@@ -87,7 +88,7 @@ stuck input start parts rest f no_line inside mark whole fits some (inr s) =
         fit = subst (λ t. AreFit parts t) here fits;
         unblank = s.unblank;
         nothing = s.nothing;
-        kind_is = ap kind_text s.kind_is;
+        kind_is = ap kind_of s.kind_is;
         line_is = line_at input (spelled parts ++ key) (drop f.at input) start f.at no_line inside all at_is;
       });
     }

@@ -1,5 +1,5 @@
 -- What the parser promises of a text.
-use Rattle.std.specs.Prelude.{◌≡◌, ℕ, ◌≤◌, List, length, take, drop, map, codes, Result, Ok, Err}
+use Rattle.std.specs.Prelude.{◌≡◌, ℕ, ◌≤◌, List, length, take, drop, map, Result, Ok, Err}
 use Rattle.std.specs.List.{AllByRecursion}
 use Rattle.gitconf_text.specs.Part.{Part}
 use Rattle.gitconf_text.specs.Document.{IsText}
@@ -7,17 +7,10 @@ use Rattle.gitconf_text.specs.Token.{tokens_of}
 use Rattle.gitconf_text.specs.Stuck.{line_behind, IsStuck}
 use Rattle.gitconf_parse.specs.declared.event.Event.{Event}
 use Rattle.gitconf_parse.specs.declared.reading.Fault.{Fault}
-use Rattle.gitconf_parse.specs.declared.reading.Expected.{Expected}
-use Rattle.gitconf_parse.specs.declared.reading.Expected.TheVariants as expected
 use Rattle.gitconf_parse.specs.declared.reading.ReadError.{ReadError}
 use Rattle.gitconf_parse.specs.declared.reading.ReadError.TheVariants as errors
+use Rattle.gitconf_parse.specs.ParseError.{kind_of}
 use Rattle.gitconf_parse.specs.Events.{token_of, EventFits}
-
--- the kind of a refusal, as it is told
-abbrev pub kind_text : Expected → List ℕ
-kind_text expected.SectionHeader = codes "section header"
-kind_text expected.Name = codes "name"
-kind_text expected.Value = codes "value"
 
 -- the input has a document, and the events are its tokens
 pub record IsRead (input : List ℕ) (events : List Event) : Type 0 where
@@ -29,7 +22,7 @@ pub record IsRead (input : List ℕ) (events : List Event) : Type 0 where
 -- the input can't be read on where the fault is told
 pub record IsFault (input : List ℕ) (f : Fault) : Type 0 where
   pub inside : f.at ≤ length input
-  pub stuck : IsStuck input (line_behind (take f.at input)) (drop f.at input) (kind_text f.expected)
+  pub stuck : IsStuck input (line_behind (take f.at input)) (drop f.at input) (kind_of f.expected)
 
 abbrev pub IsReading : (input : List ℕ) → (events : List Event) → Result (Unit {0}) ReadError → Type 0
 IsReading input events (Ok done) = IsRead input events
