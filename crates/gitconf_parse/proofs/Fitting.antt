@@ -1,5 +1,5 @@
 -- The spans of a text's events end within it.
-use Rattle.std.proofs.Common.{ℕ, ◌+◌, ◌≤◌, Bool, true, false, List, [], ◌∷◌, ◌++◌, length, Option, Some, None, arith, length-append}
+use Rattle.std.proofs.Common.{refl, ℕ, ◌+◌, ◌≤◌, Bool, true, false, List, [], ◌∷◌, ◌++◌, length, Option, Some, None, arith, length-append}
 use Rattle.std.specs.Prelude.{if◌then◌else◌, nat_lt}
 use Rattle.std.specs.List.{AllByRecursion, flat_map}
 use Rattle.gitconf_text.specs.Value.{Piece, spelled_value}
@@ -67,13 +67,13 @@ entry_fits limit e events n all within =
 header_fits : (limit : ℕ) (h : grammar.Header) (n : ℕ) → n + length (grammar.spelled_header h) ≤ limit → HeaderFits limit (header_spans n h).0
 header_fits limit (grammar.PlainHeader name) n within =
     let w = simp length-append at within in
-    record { name = omega (arith, w); separator = tt; subsection = tt }
+    record { name = omega (arith, w); separator = tt; subsection = tt; both = refl }
 header_fits limit (grammar.DottedHeader name subsection) n within =
     let w = simp length-append at within in
-    record { name = omega (arith, w); separator = omega (arith, w); subsection = omega (arith, w) }
+    record { name = omega (arith, w); separator = omega (arith, w); subsection = omega (arith, w); both = refl }
 header_fits limit (grammar.QuotedHeader name blanks spelling) n within =
     let w = simp length-append at within in
-    record { name = omega (arith, w); separator = omega (arith, w); subsection = omega (arith, w) }
+    record { name = omega (arith, w); separator = omega (arith, w); subsection = omega (arith, w); both = refl }
 
 part_events_fit : (limit : ℕ) (p : Part) (events : List Event) (n : ℕ) → AllFit limit events → n + length (spelled_part p) ≤ limit → AllFit limit (after_part events n p).0
 part_events_fit limit (ItemPart (BlanksItem run)) events n all within = push_fits limit events _ all (span_fits limit n _ (omega arith) within)

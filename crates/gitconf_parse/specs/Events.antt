@@ -1,6 +1,6 @@
 -- What the parser's events stand for, in the buffer that their spans are offsets of.
-use Rattle.std.specs.Prelude.{ℕ, ◌+◌, ◌≤◌, List, ◌==◌, Option, Some, None, take, drop, if◌then◌else◌}
-use Rattle.gitconf_text.specs.Text.{begins}
+use Rattle.std.specs.Prelude.{ℕ, ◌+◌, ◌≤◌, List, [], ◌∷◌, Option, Some, None, is_some, ◌≡◌, take, drop, if◌then◌else◌}
+use Rattle.std.specs.Str.{bytes_eq}
 use Rattle.gitconf_text.specs.Header as grammar
 use Rattle.gitconf_text.specs.Token.{Token, CommentToken, HeaderToken, NameToken, ValueToken, NewlineToken, ValueNotDoneToken, ValueDoneToken, WhitespaceToken, SeparatorToken}
 use Rattle.gitconf_parse.specs.declared.event.Span.{Span}
@@ -12,12 +12,12 @@ use Rattle.gitconf_parse.specs.declared.event.Event.TheVariants as kinds
 abbrev pub bytes_of : (buffer : List ℕ) → Span → List ℕ
 bytes_of buffer s = take s.len (drop s.start buffer)
 
--- a header is plain without a separator, dotted where that is a dot, and else quoted
+-- a header is plain without a separator, dotted where that is a dot alone, and else quoted
 abbrev pub header_form : (buffer name : List ℕ) → (separator subsection : Option Span) → grammar.Header
 header_form buffer name None subsection = grammar.PlainHeader name
 header_form buffer name (Some separator) None = grammar.PlainHeader name
 header_form buffer name (Some separator) (Some subsection) =
-    if begins (λ b. b == 46) (bytes_of buffer separator) then grammar.DottedHeader name (bytes_of buffer subsection)
+    if bytes_eq (bytes_of buffer separator) (46 ∷ []) then grammar.DottedHeader name (bytes_of buffer subsection)
     else grammar.QuotedHeader name (bytes_of buffer separator) (bytes_of buffer subsection)
 
 abbrev pub header_of : (buffer : List ℕ) → Header → grammar.Header
@@ -46,6 +46,7 @@ pub record HeaderFits (limit : ℕ) (h : Header) : Type 0 where
   pub name : SpanFits limit h.name
   pub separator : OptionFits limit h.separator
   pub subsection : OptionFits limit h.subsection
+  pub both : is_some h.separator ≡ is_some h.subsection
 
 -- all spans of the event end within the buffer
 abbrev pub EventFits : (limit : ℕ) → Event → Type 0

@@ -5,3 +5,4 @@ pub mod Sink
 pub mod EventRef
 pub mod ParseError
 pub mod ParseCause
+pub mod ShownEvents

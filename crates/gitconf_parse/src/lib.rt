@@ -4,6 +4,7 @@
 pub mod error;
 pub mod event;
 pub mod event_ref;
+pub mod events;
 pub mod laws;
 mod reading;
 pub mod sink;

@@ -1,0 +1,4 @@
+//! The events of a whole text, in a buffer of their own.
+
+mod decode;
+mod lend;
