@@ -17,3 +17,5 @@ pub mod Fitting
 pub mod Whole
 pub mod SinkLaws
 pub mod Subsections
+pub mod Copies
+pub mod Shown

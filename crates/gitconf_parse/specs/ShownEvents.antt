@@ -1,5 +1,5 @@
 -- What is shown of events: their tokens, with a subsection decoded.
-use Rattle.std.specs.Prelude.{◌≡◌, ℕ, ◌+◌, ◌≤◌, Bool, true, false, not, List, [], ◌∷◌, ◌==◌, ◌||◌, Option, Some, None, take, drop, map}
+use Rattle.std.specs.Prelude.{◌≡◌, ℕ, ◌+◌, ◌≤◌, Bool, true, false, not, List, [], ◌∷◌, ◌==◌, ◌||◌, ◌++◌, length, Option, Some, None, take, drop, map}
 use Rattle.std.specs.Option.{option_map}
 use Rattle.gitconf_text.specs.Header.{Header, PlainHeader, DottedHeader, QuotedHeader, name_of, subsection_of}
 use Rattle.gitconf_text.specs.Token.{Token, CommentToken, HeaderToken, NameToken, ValueToken, NewlineToken, ValueNotDoneToken, ValueDoneToken, WhitespaceToken, SeparatorToken}
@@ -8,7 +8,7 @@ use Rattle.gitconf_parse.specs.declared.event.Header.{Header as Spans}
 use Rattle.gitconf_parse.specs.declared.event.Event.{Event}
 use Rattle.gitconf_parse.specs.declared.event.Event.TheVariants as kinds
 use Rattle.gitconf_parse.specs.EventRef.{Shown, ShownComment, ShownHeader, ShownValueName, ShownValue, ShownNewline, ShownUnfinished, ShownLast, ShownBlanks, ShownSeparator}
-use Rattle.gitconf_parse.specs.Events.{bytes_of}
+use Rattle.gitconf_parse.specs.Events.{bytes_of, token_of, EventFits}
 
 -- the dot, or the blanks before the quote
 abbrev pub separator_of : Header → Option (List ℕ)
@@ -61,3 +61,13 @@ CopyFits limit (Some c) = c.start + c.len ≤ limit
 abbrev pub EventCopyFits : (limit : ℕ) → Event → Type 0
 EventCopyFits limit (kinds.SectionHeader h) = CopyFits limit h.decoded
 EventCopyFits limit _ = Unit {0}
+
+-- the event is shown as its token is, and its spans and its copy stand within their buffers
+pub record IsShown (buffer copies : List ℕ) (e : Event) : Type 0 where
+  pub fits : EventFits (length buffer) e
+  pub copy_fits : EventCopyFits (length copies) e
+  pub shown : shown_event buffer copies e ≡ shown_token (token_of buffer e)
+
+-- the new list is the old one and more
+abbrev pub IsExtended : (old new : List ℕ) → Type 0
+IsExtended old new = (more : List ℕ) × (new ≡ old ++ more)
