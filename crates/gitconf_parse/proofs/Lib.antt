@@ -19,3 +19,4 @@ pub mod SinkLaws
 pub mod Subsections
 pub mod Copies
 pub mod Shown
+pub mod Kept

@@ -1,5 +1,6 @@
 -- Events that are shown as their tokens are: more copies change nothing, and a list of them is edited in place.
-use Rattle.std.proofs.Common.{◌≡◌, ℕ, zero, suc, ◌+◌, ◌-◌, ◌<◌, ◌≤◌, List, [], ◌∷◌, ◌++◌, length, map, take, drop, get_or, Option, Some, None, refl, ap, subst, sym, ◌∙◌, arith, length-append}
+use Rattle.std.specs.Prelude.{if◌then◌else◌}
+use Rattle.std.proofs.Common.{Bool, true, false, append-nil, ◌≡◌, ℕ, zero, suc, ◌+◌, ◌-◌, ◌<◌, ◌≤◌, List, [], ◌∷◌, ◌++◌, length, map, take, drop, get_or, Option, Some, None, refl, ap, subst, sym, ◌∙◌, arith, length-append}
 use Rattle.std.proofs.Math.ListN.{set}
 use Rattle.std.specs.List.{AllByRecursion}
 use Rattle.std.specs.Option.{option_map}
@@ -49,7 +50,9 @@ shown_event_more buffer copies more kinds.KeyValueSeparator fits = refl
 
 is_shown_more : (buffer copies more : List ℕ) (e : Event) → IsShown buffer copies e → IsShown buffer (copies ++ more) e
 is_shown_more buffer copies more e s = record {
-  fits = s.fits; copy_fits = event_fits_more copies more e s.copy_fits; shown = shown_event_more buffer copies more e s.copy_fits ∙ s.shown;
+  fits = s.fits;
+  copy_fits = event_fits_more copies more e s.copy_fits;
+  shown = shown_event_more buffer copies more e s.copy_fits ∙ s.shown;
 }
 
 -- adding copies leaves what is shown
@@ -74,3 +77,12 @@ pub map-set_same : {A B : Type 0} (f : A → B) (xs : List A) (i : ℕ) (x d : A
 map-set_same f [] i x d within same = refl
 map-set_same f (y ∷ xs) zero x d within same = ap (λ z. z ∷ map f xs) same
 map-set_same f (y ∷ xs) (suc i) x d within same = ap (λ zs. f y ∷ zs) (map-set_same f xs i x d (omega arith) same)
+
+pub all_push_if : {A : Type 0} (P : A → Type 0) (xs : List A) (x : A) (keep : Bool) → AllByRecursion P xs → P x → AllByRecursion P (xs ++ (if keep then x ∷ [] else []))
+all_push_if P xs x true all h = all_push P xs x all h
+all_push_if P xs x false all h = subst (AllByRecursion P) (sym (append-nil xs)) all
+
+pub all_at : {A : Type 0} (P : A → Type 0) (xs : List A) (i : ℕ) (d : A) → AllByRecursion P xs → i < length xs → P (get_or xs i d)
+all_at P [] i d all within = absurd (omega (arith, within))
+all_at P (x ∷ xs) zero d all within = all.0
+all_at P (x ∷ xs) (suc i) d all within = all_at P xs i d all.1 (omega arith)

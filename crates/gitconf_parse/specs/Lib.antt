@@ -6,3 +6,4 @@ pub mod EventRef
 pub mod ParseError
 pub mod ParseCause
 pub mod ShownEvents
+pub mod EventList

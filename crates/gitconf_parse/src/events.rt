@@ -1,4 +1,5 @@
 //! The events of a whole text, in a buffer of their own.
 
 mod decode;
+mod filter;
 mod lend;
