@@ -2,3 +2,4 @@ pub mod NamesLaws
 pub mod SectionKeysLaws
 pub mod Rows
 pub mod RefusedRows
+pub mod ValuesPlain

@@ -12,3 +12,4 @@ pub mod HeaderErrors
 pub mod Names
 pub mod SectionKeyRefs
 pub mod SectionKeys
+pub mod Stripped

@@ -1,0 +1,5 @@
+//! Values: their meaning, and how a meaning is written.
+
+mod decoding;
+
+pub use decoding::normalize;
