@@ -3,3 +3,4 @@ pub mod SectionKeysLaws
 pub mod Rows
 pub mod RefusedRows
 pub mod ValuesPlain
+pub mod ValuesEscaped

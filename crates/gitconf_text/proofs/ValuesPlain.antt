@@ -14,7 +14,7 @@ abbrev pub meaning : (escaped : Bool) → List ℕ → List ℕ
 meaning escaped text = flat_map unit_meaning (units_behind escaped text)
 
 -- a byte that is neither a quote nor a backslash is a unit, and stands for itself
-other_byte : (b : ℕ) (rest : List ℕ) → (b == 34) ≡ false → (b == 92) ≡ false
+pub other_byte : (b : ℕ) (rest : List ℕ) → (b == 34) ≡ false → (b == 92) ≡ false
     → (units_behind false (b ∷ rest) ≡ Plain b ∷ units_behind false rest) × (unit_meaning (Plain b) ≡ b ∷ [])
 other_byte b rest no_quote no_slash = go (b == 10) (b == 59 || b == 35) (is_whitespace b) refl refl refl
   where
