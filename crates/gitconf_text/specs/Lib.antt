@@ -13,3 +13,4 @@ pub mod Names
 pub mod SectionKeyRefs
 pub mod SectionKeys
 pub mod Stripped
+pub mod ValueErrors

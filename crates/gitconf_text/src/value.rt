@@ -2,6 +2,8 @@
 
 mod decoding;
 mod escaping;
+mod refusal;
 
 pub use decoding::normalize;
 pub use escaping::{append_escaped, escape};
+pub use refusal::Error;
