@@ -4,3 +4,4 @@ pub mod Rows
 pub mod RefusedRows
 pub mod ValuesPlain
 pub mod ValuesEscaped
+pub mod ValuesRows

@@ -1,12 +1,12 @@
 -- A meaning as it is written: it reads back, and it is one value.
-use Rattle.std.proofs.Common.{◌≡◌, ◌⊎◌, ℕ, Bool, true, false, not, List, [], ◌∷◌, ◌++◌, refl, ap, sym, ◌∙◌, append-nil, inl, inr}
+use Rattle.std.proofs.Common.{◌≡◌, ◌⊎◌, ℕ, Bool, true, false, List, [], ◌∷◌, ◌++◌, refl, ap, sym, ◌∙◌, append-nil, inl, inr}
 use Rattle.std.specs.Prelude.{◌&&◌, ◌||◌, ◌==◌, flat_map}
 use Rattle.std.specs.List.{fold, list_any}
 use Rattle.std.proofs.lemmas.Bool.{eqb-true, and_parts, or_parts, or_cases, or_from}
 use Rattle.gitconf_text.specs.Bytes.{is_blank, is_whitespace}
 use Rattle.gitconf_text.specs.Text.{begins, ends, begins_line_end}
-use Rattle.gitconf_text.specs.Unit.{Class, LineFeed, Quote, Mark, Backslash, White, Other, class_of, is_white, is_mark, TextUnit, Escape, Plain, units_behind, units_of}
-use Rattle.gitconf_text.specs.Value.{Value, IsValue, FitsValue, are_paired, may_follow_value, plain, unit_meaning, escaped_byte, needs_quotes, escaped}
+use Rattle.gitconf_text.specs.Unit.{is_white, is_mark, TextUnit, Plain, units_behind, units_of}
+use Rattle.gitconf_text.specs.Value.{IsValue, FitsValue, are_paired, may_follow_value, plain, escaped_byte, needs_quotes, escaped}
 use Rattle.gitconf_text.proofs.ValuesPlain.{meaning, meaning_of_other, other_byte}
 
 -- a byte that is written as it is
@@ -76,9 +76,11 @@ pairs_written (b ∷ bytes) rest quoted marked = go (written b) (pairs_written b
     any_behind : (x y : Bool) → y ≡ true → (x || y) ≡ true
     any_behind true y h = refl
     any_behind false y h = h
+
     any_here : (x y : Bool) → x ≡ true → (x || y) ≡ true
     any_here true y h = refl
     any_here false y h = absurd (cc)
+
     go : Written b → are_paired quoted (units_behind false (flat_map escaped_byte bytes ++ rest)) ≡ are_paired quoted (units_behind false rest)
         → are_paired quoted (units_behind false (flat_map escaped_byte (b ∷ bytes) ++ rest)) ≡ are_paired quoted (units_behind false rest)
     go (LineFeedWritten e) later = rw e later
@@ -98,7 +100,7 @@ units_fit bytes = go (needs_quotes bytes) refl
     go false e =
         let none : list_any is_mark bytes ≡ false = (or_parts (begins is_whitespace bytes || ends is_whitespace bytes) (list_any is_mark bytes) e).1 in
         rw e (ap (λ t. are_paired false (units_of t)) (sym (append-nil (flat_map escaped_byte bytes)))
-            ∙ pairs_written bytes [] false (λ some. sym none ∙ some))
+        ∙ pairs_written bytes [] false (λ some. sym none ∙ some))
 
 -- a byte that fails a test isn't one that passes it
 differs : (test : ℕ → Bool) (k b : ℕ) → test k ≡ true → test b ≡ false → (b == k) ≡ false

@@ -1,11 +1,11 @@
 -- The meaning of a raw text, byte by byte, and without its enclosing quotes.
 use Rattle.std.proofs.Common.{◌≡◌, ℕ, zero, suc, ◌+◌, ◌-◌, ◌≤◌, Bool, true, false, not, List, [], ◌∷◌, ◌++◌, length, take, drop, refl, ap, sym, subst, ◌∙◌, arith, cond, length-append, append_assoc, get_or}
-use Rattle.std.specs.Prelude.{◌&&◌, ◌||◌, ◌==◌, nat_le, flat_map, slice_range}
+use Rattle.std.specs.Prelude.{◌&&◌, ◌||◌, ◌==◌, nat_le, flat_map}
 use Rattle.std.specs.List.{fold, list_any}
 use Rattle.std.proofs.lemmas.Bool.{eqb-true, and_parts, or_parts, not-true, cond-true, cond-false}
 use Rattle.gitconf_text.specs.Bytes.{is_whitespace}
-use Rattle.gitconf_text.specs.Text.{begins, ends}
-use Rattle.gitconf_text.specs.Unit.{Class, LineFeed, Quote, Mark, Backslash, White, Other, class_of, TextUnit, Escape, OpenEscape, Plain, units_behind}
+use Rattle.gitconf_text.specs.Text.{ends}
+use Rattle.gitconf_text.specs.Unit.{Plain, units_behind}
 use Rattle.gitconf_text.specs.Value.{escape_meaning, unit_meaning, plain}
 use Rattle.gitconf_text.specs.Stripped.{inner, is_enclosed, stripped_times, stripped, is_coded}
 
@@ -49,6 +49,7 @@ last_quote (b ∷ text) false before so dark = go (b == 34) (b == 92) refl refl 
     Later : Bool → Type 0
     Later escaped = (before : Bool) → (escaped ≡ true → before ≡ true) → fold (λ (_ : Bool) b. b == 92) before text ≡ false
         → meaning escaped (text ++ 34 ∷ []) ≡ meaning escaped text
+
     go : (q s : Bool) → (b == 34) ≡ q → (b == 92) ≡ s → Later true → Later false → meaning false (b ∷ text ++ 34 ∷ []) ≡ meaning false (b ∷ text)
     go q true e f escaped later =
         meaning_of_backslash b (text ++ 34 ∷ []) f ∙ escaped (b == 92) (λ _. f) dark ∙ sym (meaning_of_backslash b text f)

@@ -28,8 +28,8 @@ fn ends_white(bytes: &[u8]) -> bool
     }
 }
 
-#[tactic(auto, using(crate::proofs::ValuesEscaped::mark_is))]
 /// Whether the byte begins a comment.
+#[tactic(auto, using(crate::proofs::ValuesEscaped::mark_is))]
 fn is_mark(b: u8) -> bool
     ensures { result ≡ unit.is_mark b }
 {

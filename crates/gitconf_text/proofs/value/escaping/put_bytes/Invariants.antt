@@ -1,4 +1,4 @@
-use Rattle.std.proofs.Common.{◌≡◌, ◌+◌, ◌++◌, ◌≤◌, drop, length}
+use Rattle.std.proofs.Common.{◌≡◌, ◌+◌, ◌++◌, drop, length}
 use Rattle.std.specs.Prelude.{flat_map, vec_len, vec_capacity}
 use Rattle.gitconf_text.specs.Value.{escaped_byte}
 use Rattle.gitconf_text.proofs.value.escaping.put_bytes.Given as goal
