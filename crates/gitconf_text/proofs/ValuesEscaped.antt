@@ -1,5 +1,5 @@
 -- A meaning as it is written: it reads back, and it is one value.
-use Rattle.std.proofs.Common.{◌≡◌, ◌⊎◌, ℕ, Bool, true, false, List, [], ◌∷◌, ◌++◌, refl, ap, sym, ◌∙◌, append-nil, inl, inr}
+use Rattle.std.proofs.Common.{◌≡◌, ◌⊎◌, ℕ, Bool, true, false, List, [], ◌∷◌, ◌++◌, refl, ap, sym, ◌∙◌, append-nil, length-append, length, ◌+◌, cond, arith, inl, inr}
 use Rattle.std.specs.Prelude.{◌&&◌, ◌||◌, ◌==◌, flat_map}
 use Rattle.std.specs.List.{fold, list_any}
 use Rattle.std.proofs.lemmas.Bool.{eqb-true, and_parts, or_parts, or_cases, or_from}
@@ -214,3 +214,13 @@ mark_is b = go (b == 10) (b == 34) (b == 59 || b == 35) (b == 92) (is_whitespace
     go false false false true w e f g h k = rw (e, f, g, h, is_mark) refl
     go false false false false true e f g h k = rw (e, f, g, h, k, is_mark) refl
     go false false false false false e f g h k = rw (e, f, g, h, k, is_mark) refl
+
+-- quotes round the whole are two bytes more
+pub length-escaped : (bytes : List ℕ) → length (escaped bytes) ≡ length (flat_map escaped_byte bytes) + cond (needs_quotes bytes) 2 0
+length-escaped bytes = go (needs_quotes bytes) refl
+  where
+    go : (t : Bool) → needs_quotes bytes ≡ t → length (escaped bytes) ≡ length (flat_map escaped_byte bytes) + cond (needs_quotes bytes) 2 0
+    go true e = rw (e, length-append) (omega arith)
+    go false e = rw e (omega arith)
+
+pub ruleset escaping = (length-escaped)

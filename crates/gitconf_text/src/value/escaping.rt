@@ -1,5 +1,5 @@
 //! From a meaning to a value as a file spells it.
-ghost use Rattle.std.specs.Prelude.{◌≡◌, ◌+◌, ◌*◌, ◌≤◌, [], ◌∷◌, ◌++◌, length, vec_len, vec_capacity, flat_map, IfOk, OnOk, OnErr};
+ghost use Rattle.std.specs.Prelude.{◌≡◌, ◌+◌, ◌*◌, ◌≤◌, ◌<◌, [], ◌∷◌, ◌++◌, length, vec_len, vec_capacity, flat_map, IfOk, OnOk, OnErr};
 ghost use Rattle.gitconf_text.specs.Bytes.{is_whitespace};
 ghost use Rattle.gitconf_text.specs.Text as text;
 ghost use Rattle.gitconf_text.specs.Unit as unit;
@@ -116,10 +116,12 @@ fn put_bytes(out: &mut Vec<u8>, bytes: &[u8])
 ///
 /// # Errors
 ///
-/// Only where memory is wanting; then `out` is as before.
+/// Only where memory is wanting: `out` had no room, and is as before.
+#[tactic(auto, using(crate::proofs::ValuesEscaped::escaping))]
 pub fn append_escaped(out: &mut Vec<u8>, bytes: &[u8]) -> Result<(), NoMemory>
     ensures ok { OnOk result (out.new.items ≡ out.old.items ++ spec.escaped bytes.now) }
     ensures err { OnErr result (out.new.items ≡ out.old.items) }
+    ensures full { OnErr result (vec_capacity out.old < vec_len out.old + length (spec.escaped bytes.now)) }
 {
     let spelling = spelling_of(bytes);
     if !spelling.quoted {
