@@ -1,5 +1,5 @@
 -- A meaning as it is written: it reads back, and it is one value.
-use Rattle.std.proofs.Common.{◌≡◌, ◌⊎◌, ℕ, Bool, true, false, List, [], ◌∷◌, ◌++◌, refl, ap, sym, ◌∙◌, append-nil, length-append, length, ◌+◌, cond, arith, inl, inr}
+use Rattle.std.proofs.Common.{◌≡◌, ◌⊎◌, ℕ, Bool, true, false, List, [], ◌∷◌, ◌++◌, refl, ap, sym, ◌∙◌, append-nil, length-append, length, ◌+◌, ◌<◌, cond, arith, inl, inr}
 use Rattle.std.specs.Prelude.{◌&&◌, ◌||◌, ◌==◌, flat_map}
 use Rattle.std.specs.List.{fold, list_any}
 use Rattle.std.proofs.lemmas.Bool.{eqb-true, and_parts, or_parts, or_cases, or_from}
@@ -223,4 +223,9 @@ length-escaped bytes = go (needs_quotes bytes) refl
     go true e = rw (e, length-append) (omega arith)
     go false e = rw e (omega arith)
 
-pub ruleset escaping = (length-escaped)
+-- nothing is written as nothing
+pub some_escaped : (bytes : List ℕ) → 0 < length (escaped bytes) → 0 < length bytes
+some_escaped [] some = absurd (omega arith)
+some_escaped (b ∷ bytes) some = omega arith
+
+pub ruleset escaping = (length-escaped, some_escaped)

@@ -125,6 +125,20 @@ more_rounds (suc n) (suc m) text few several = go (is_enclosed text) refl (more_
     go true e later = let size = length-inner text e in rw e (later (omega arith) (omega arith))
     go false e later = rw e refl
 
+bare_times : (n : ℕ) (text : List ℕ) → length text ≤ n → is_enclosed (stripped_times n text) ≡ false
+bare_times zero [] few = refl
+bare_times zero (b ∷ text) few = absurd (omega arith)
+bare_times (suc n) text few = go (is_enclosed text) refl (bare_times n (inner text))
+  where
+    go : (t : Bool) → is_enclosed text ≡ t → (length (inner text) ≤ n → is_enclosed (stripped_times n (inner text)) ≡ false)
+        → is_enclosed (cond (is_enclosed text) (stripped_times n (inner text)) text) ≡ false
+    go true e later = let size = length-inner text e in ap is_enclosed (cond-true (is_enclosed text) (stripped_times n (inner text)) text e) ∙ later (omega arith)
+    go false e later = ap is_enclosed (cond-false (is_enclosed text) (stripped_times n (inner text)) text e) ∙ e
+
+-- No enclosing quotes are left.
+pub stripped_bare : (text : List ℕ) → is_enclosed (stripped text) ≡ false
+stripped_bare text = bare_times (length text) text (omega arith)
+
 stripped_once : (n : ℕ) (text : List ℕ) → length text ≤ n → is_enclosed text ≡ true → stripped_times n (inner text) ≡ stripped_times n text
 stripped_once zero text within enclosed = let size = length-inner text enclosed in absurd (omega arith)
 stripped_once (suc n) text within enclosed =

@@ -25,6 +25,6 @@ stripped text = stripped_times (length text) text
 abbrev pub is_coded : ℕ → Bool
 is_coded b = b == 34 || b == 92
 
--- behind that a quote or a backslash is left; where none is, what is left is the meaning
+-- stripping leaves a quote or a backslash; where it leaves none, what is left is the meaning
 abbrev pub needs_decoding : List ℕ → Bool
 needs_decoding raw = list_any is_coded (stripped raw)

@@ -145,9 +145,11 @@ pub fn append_escaped(out: &mut Vec<u8>, bytes: &[u8]) -> Result<(), NoMemory>
 ///
 /// # Errors
 ///
-/// Only where memory is wanting.
+/// Only where memory is wanting, and never where there are no bytes.
+#[tactic(auto, using(crate::proofs::ValuesEscaped::escaping))]
 pub fn escape(alloc: Global, bytes: &[u8]) -> Result<Vec<u8>, NoMemory>
-    ensures { IfOk result (λ it. it.items ≡ spec.escaped bytes.now) }
+    ensures ok { IfOk result (λ it. it.items ≡ spec.escaped bytes.now) }
+    ensures err { OnErr result (0 < length bytes.now) }
 {
     let mut out = Vec::new(alloc);
     append_escaped(&mut out, bytes)?;
