@@ -12,3 +12,5 @@ pub mod HeaderErrors
 pub mod Names
 pub mod SectionKeyRefs
 pub mod SectionKeys
+pub mod Stripped
+pub mod ValueErrors

@@ -4,5 +4,6 @@
 pub mod laws;
 pub mod memory;
 pub mod parse;
+pub mod value;
 
 pub use memory::NoMemory;
