@@ -5,3 +5,4 @@ pub mod ValueTakes
 pub mod RunLaws
 pub mod SinkLaws
 pub mod Subsections
+pub mod EscapedRuns
