@@ -20,3 +20,4 @@ pub mod Subsections
 pub mod Copies
 pub mod Shown
 pub mod Kept
+pub mod EscapedRuns

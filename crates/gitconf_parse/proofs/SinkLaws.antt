@@ -2,13 +2,13 @@
 use Rattle.std.proofs.Common.{◌≡◌, ℕ, suc, ◌+◌, ◌<◌, ◌≤◌, Bool, true, false, List, [], ◌∷◌, ◌++◌, Option, Some, None, Result, Ok, Err, length, take, drop, get_or, refl, ap, sym, subst, ◌∙◌, append_assoc}
 use Rattle.std.specs.Prelude.{nat_eq, flat_map, IsErr}
 use Rattle.std.specs.List.{starts_with}
+use Rattle.std.specs.Cmp.{first_so, second_so}
 use Rattle.std.proofs.lemmas.Bool.Decides.{Decides-eqb}
 use Rattle.std.proofs.lemmas.Slice.Eq.{starts_is}
 use Rattle.std.proofs.lemmas.List.{take-append-drop, take_all, take_rest, append-nil, append_cancel_left}
 use Rattle.std.proofs.lemmas.Grind.{flat_map-append}
 use Rattle.std.proofs.Math.Seq.{take-add, drop-cons}
 use Rattle.gitconf_parse.specs.Sink.{with_text, is_begun, Writes}
-use Rattle.gitconf_parse.proofs.ValueAgain.{both_true}
 
 -- one text, and then another, is both
 pub with_text-with_text : (b a : List ℕ) (told : Option (List ℕ)) → with_text b (with_text a told) ≡ with_text (a ++ b) told
@@ -53,9 +53,8 @@ Begun-is_begun text None None begun = record { front = []; rest = text; whole = 
 Begun-is_begun text None (Some now) begun = absurd (cc)
 Begun-is_begun text (Some told) None begun = absurd (cc)
 Begun-is_begun text (Some told) (Some now) begun =
-    let both = both_true _ _ begun in
-    let goes_on : now ≡ told ++ drop (length told) now = (starts_is Decides-eqb now told _ refl).0 both.0 in
-    let within : told ++ text ≡ now ++ drop (length now) (told ++ text) = (starts_is Decides-eqb (told ++ text) now _ refl).0 both.1 in
+    let goes_on : now ≡ told ++ drop (length told) now = (starts_is Decides-eqb now told _ refl).0 (first_so _ _ begun) in
+    let within : told ++ text ≡ now ++ drop (length now) (told ++ text) = (starts_is Decides-eqb (told ++ text) now _ refl).0 (second_so _ (starts_with nat_eq (told ++ text) now) begun) in
     record {
       front = drop (length told) now;
       rest = drop (length now) (told ++ text);
@@ -115,6 +114,11 @@ pub Writes-fault : {T E : Type 0} (r : Result T E) (text : List ℕ) (old new : 
 Writes-fault (Ok done) text old new fault holds = absurd (cc)
 Writes-fault (Err fault) text old new is_fault holds = holds
 
+-- behind a whole text, what an answer says of the next one
+pub Writes-behind : {T E : Type 0} (r : Result T E) (a b : List ℕ) (old mid new : Option (List ℕ)) → mid ≡ with_text a old → Writes r b mid new → Writes r (a ++ b) old new
+Writes-behind (Ok done) a b old mid new written holds = holds ∙ ap (with_text b) written ∙ with_text-with_text b a old
+Writes-behind (Err fault) a b old mid new written holds = begun_behind a b old new (subst (λ m. is_begun b m new ≡ true) written holds)
+
 -- a fault in the turn of the element i of a list
 pub Writes-among : {A T E : Type 0} (f : A → List ℕ) (xs : List A) (i : ℕ) (d : A) (r : Result T E) (old mid new : Option (List ℕ))
     → i < length xs → mid ≡ with_text (flat_map f (take i xs)) old → IsErr r → is_begun (f (get_or xs i d)) mid new ≡ true → Writes r (flat_map f xs) old new
@@ -126,6 +130,3 @@ pub ruleset in_parts = (with_text-take, with_text-whole, with_text-empty, begun_
 
 -- texts, one behind the other
 pub ruleset in_turn = (with_text-with_text, append_assoc, begun_behind, begun_before, begun_behind_byte, begun_before_byte)
-
--- a text for each element of a list
-pub ruleset in_loops = (with_text-with_text, append_assoc)

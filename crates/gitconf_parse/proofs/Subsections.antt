@@ -3,7 +3,6 @@ use Rattle.std.proofs.Common.{◌≡◌, ℕ, suc, ◌+◌, Bool, cond, true, fa
 use Rattle.std.specs.Prelude.{◌==◌, ◌||◌, count_by}
 use Rattle.std.specs.List.{list_all}
 use Rattle.gitconf_text.specs.Bytes.{is_whitespace}
-use Rattle.std.proofs.lemmas.Bool.{eqb-true}
 use Rattle.std.proofs.lemmas.List.Sums.{sum_by-cons}
 use Rattle.gitconf_text.specs.Unit.{TextUnit, Escape, Plain, Class, Mark, White, Other, class_of, units_behind, units_of}
 use Rattle.gitconf_text.specs.Header.{is_subsection_unit, is_spelling, subsection_byte, unquoted}

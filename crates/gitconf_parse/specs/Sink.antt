@@ -1,5 +1,5 @@
 -- What a writer tells: the bytes that it took, and how often it failed. One that tells nothing is told by `None`.
-use Rattle.std.specs.Prelude.{◌≡◌, ℕ, ◌+◌, Bool, true, false, ◌&&◌, nat_eq, List, ◌++◌, Option, Some, None, Result, Ok, Err}
+use Rattle.std.specs.Prelude.{◌≡◌, ℕ, ◌+◌, Bool, true, false, ◌&&◌, nat_eq, List, ◌++◌, Option, Some, None, Result, Ok, Err, ◌==◌, if◌then◌else◌}
 use Rattle.std.specs.List.{starts_with}
 
 -- the bytes that were told, and text behind them
@@ -29,3 +29,7 @@ Writes (Err fault) text old new = is_begun text old new ≡ true
 abbrev pub Counts : {T E : Type 0} → Result T E → (old new : Option ℕ) → Type 0
 Counts (Ok done) old new = new ≡ old
 Counts (Err fault) old new = CountsOne old new
+
+-- a count that is kept in 64 bits tells nothing at its end
+abbrev pub told_count : (count : ℕ) → Option ℕ
+told_count count = if count == 18446744073709551615 then None else Some count

@@ -3,7 +3,7 @@ ghost use Rattle.std.specs.Prelude.{◌≡◌, ◌<◌, ◌^◌, length, option_
 ghost use Rattle.bstr.specs.Owned.{bstring_bytes};
 ghost use Rattle.gitconf_parse.specs.EventRef as spec;
 ghost use Rattle.gitconf_parse.specs.Sink.{Writes, Counts};
-ghost use Rattle.gitconf_parse.specs.EventRef.{ShownHeader, shown, lossy_text, written, escaped_byte, escaped_subsection, written_subsection};
+ghost use Rattle.gitconf_parse.specs.EventRef.{ShownHeader, shown, lossy_text, written, escaped_subsection, written_subsection};
 
 use crate::sink::{Sink, SinkFault, write_all};
 use bstr::{BStr, BString, ByteSlice};
@@ -293,24 +293,18 @@ fn write_subsection<W: Sink>(
 /// # Errors
 ///
 /// A write failed, or took nothing. It is not tried again, and a beginning of the spelling was written.
-#[tactic(auto, using(crate::proofs::SinkLaws::in_loops))]
 pub fn write_escaped_subsection<W: Sink>(out: &mut W, subsection: &[u8]) -> Result<(), SinkFault>
     ensures written { Writes result (escaped_subsection subsection.now) (W.told out.old) (W.told out.new) }
     ensures counted { Counts result (W.faults out.old) (W.faults out.new) }
 {
-    for b in subsection {
-        write_escaped_byte(out, *b)?;
+    // What stands before is written.
+    let mut done = 0;
+    for (i, b) in subsection.iter().enumerate() {
+        if needs_backslash(*b) {
+            write_all(out, &subsection[done..i])?;
+            write_all(out, &[b'\\', *b])?;
+            done = i + 1;
+        }
     }
-    Ok(())
-}
-
-fn write_escaped_byte<W: Sink>(out: &mut W, b: u8) -> Result<(), SinkFault>
-    ensures written { Writes result (escaped_byte b) (W.told out.old) (W.told out.new) }
-    ensures counted { Counts result (W.faults out.old) (W.faults out.new) }
-{
-    if needs_backslash(b) {
-        write_all(out, &[b'\\', b])
-    } else {
-        write_all(out, &[b])
-    }
+    write_all(out, &subsection[done..])
 }

@@ -2,7 +2,7 @@
 
 use crate::error::{Error, Expected};
 use crate::event_ref::EventRef;
-use crate::sink::{SinkFault, write_all};
+use crate::sink::{Sink, SinkFault, write_all};
 use std::test::Fail;
 
 #[test]
@@ -190,5 +190,62 @@ fn a_failed_writer_is_told(rt: HostRuntime) -> Result<(), Fail> {
     let mut out = Vec::new(rt.alloc());
     assert_eq!(rt; write_all(&mut out, b"ab"), Ok(()));
     assert!(rt; out.as_slice() == b"ab".as_slice());
+    Ok(())
+}
+
+/// A writer that takes a few bytes at a time, fails once it is full, and counts.
+#[derive(Drop)]
+struct Narrow {
+    taken: Vec<u8>,
+    width: usize,
+    room: usize,
+    failures: u64,
+}
+
+impl Sink for Narrow {
+    ghost use Rattle.std.specs.Prelude.{Some};
+    ghost use Rattle.gitconf_parse.specs.Sink.{told_count};
+
+    ghost told = { λ s. Some s.taken.items };
+
+    ghost faults = { λ s. told_count s.failures };
+
+    fn write(&mut self, text: &[u8]) -> Result<usize, SinkFault> {
+        let part = &text[..text.len().min(self.width)];
+        if (part.is_empty() && !text.is_empty())
+            || self.room < part.len()
+            || self.taken.extend_from_slice(part).is_err()
+        {
+            self.failures = self.failures.saturating_add(1);
+            return Err(SinkFault);
+        }
+        self.room -= part.len();
+        Ok(part.len())
+    }
+}
+
+/// Texts that are written in parts, into enough room and into too little.
+#[test]
+fn texts_are_written_in_parts(rt: HostRuntime) -> Result<(), Fail> {
+    let token = header(b"name", Some(b" "), Some(b"q\"uo"));
+    let mut wide = Narrow {
+        taken: Vec::new(rt.alloc()),
+        width: 3,
+        room: 14,
+        failures: 0,
+    };
+    assert_eq!(rt; token.write_to(&mut wide), Ok(()));
+    assert!(rt; wide.taken.as_slice() == b"[name \"q\\\"uo\"]".as_slice());
+    assert_eq!(rt; wide.failures, 0);
+
+    let mut full = Narrow {
+        taken: Vec::new(rt.alloc()),
+        width: 3,
+        room: 9,
+        failures: 0,
+    };
+    assert_eq!(rt; token.write_to(&mut full), Err(SinkFault));
+    assert!(rt; full.taken.as_slice() == b"[name \"q".as_slice());
+    assert_eq!(rt; full.failures, 1);
     Ok(())
 }
