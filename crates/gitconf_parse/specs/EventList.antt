@@ -44,6 +44,20 @@ pub record IsParsed (p : Shown → Bool) (input : List ℕ) (list : EventList) :
   pub entries : list.keeps_entries ≡ list_all (keeps_entry_token p) (tokens_of parts)
   pub used : list.used ≡ length input
 
+-- the input has a document, and the list has all its tokens
+pub record IsWhole (input : List ℕ) (list : EventList) : Type 0 where
+  pub parts : List Part
+  pub text : IsText input parts
+  pub tokens : list.tokens ≡ tokens_of parts
+  pub entries : list.keeps_entries ≡ true
+  pub used : list.used ≡ length input
+
+-- the list has the tokens that the filter keeps of another
+pub record IsFiltered (p : Shown → Bool) (all list : EventList) : Type 0 where
+  pub tokens : list.tokens ≡ filter (keeps_token p) all.tokens
+  pub entries : list.keeps_entries ≡ list_all (keeps_entry_token p) all.tokens
+  pub used : list.used ≡ all.used
+
 -- the same of events in a buffer
 pub record IsKept (p : Shown → Bool) (buffer : List ℕ) (all kept : List Event) (entries : Bool) : Type 0 where
   pub tokens : map (token_of buffer) kept ≡ filter (keeps_token p) (map (token_of buffer) all)

@@ -7,3 +7,4 @@ pub mod ParseError
 pub mod ParseCause
 pub mod ShownEvents
 pub mod EventList
+pub mod EventResult

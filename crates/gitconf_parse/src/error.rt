@@ -6,6 +6,7 @@ ghost use Rattle.gitconf_parse.specs.ParseError.{kind_of, unexpected_token, too_
 
 pub use crate::reading::Expected;
 use bstr::BStr;
+use gitconf_text::NoMemory;
 use std::alloc::{AllocError, AllocFailed};
 use std::fmt::Write;
 use std::marker::Model;
@@ -195,6 +196,14 @@ fn write_remaining<W: fmt::Write>(remaining: &[u8], f: &mut fmt::Formatter<W>) -
 }
 
 impl std::error::Error for Error {}
+
+impl From<NoMemory> for Error {
+    ghost from_gives = { λ _ e. e ≡ want_of_memory };
+
+    fn from(_e: NoMemory) -> Error {
+        Error::memory()
+    }
+}
 
 impl From<AllocError> for Error {
     ghost from_gives = { λ _ e. e ≡ want_of_memory };
