@@ -20,4 +20,6 @@ pub mod Subsections
 pub mod Copies
 pub mod Shown
 pub mod Kept
+pub mod Filtering
+pub mod Cuts
 pub mod EscapedRuns

@@ -1,6 +1,6 @@
 -- Events that are shown as their tokens are: more copies change nothing, and a list of them is edited in place.
 use Rattle.std.specs.Prelude.{if◌then◌else◌}
-use Rattle.std.proofs.Common.{Bool, true, false, append-nil, ◌≡◌, ℕ, zero, suc, ◌+◌, ◌-◌, ◌<◌, ◌≤◌, List, [], ◌∷◌, ◌++◌, length, map, take, drop, get_or, Option, Some, None, refl, ap, subst, sym, ◌∙◌, arith, length-append}
+use Rattle.std.proofs.Common.{Bool, true, false, append-nil, ◌≡◌, ℕ, zero, suc, ◌+◌, ◌<◌, ◌≤◌, List, [], ◌∷◌, ◌++◌, length, map, take, drop, get_or, Option, Some, None, refl, ap, subst, sym, ◌∙◌, arith, length-append}
 use Rattle.std.proofs.Math.ListN.{set}
 use Rattle.std.specs.List.{AllByRecursion}
 use Rattle.std.specs.Option.{option_map}
@@ -9,8 +9,10 @@ use Rattle.gitconf_parse.specs.declared.event.Copied.{Copied}
 use Rattle.gitconf_parse.specs.declared.event.Event.{Event}
 use Rattle.gitconf_parse.specs.declared.event.Event.TheVariants as kinds
 use Rattle.gitconf_parse.specs.EventRef.{ShownHeader}
-use Rattle.gitconf_parse.specs.Events.{bytes_of}
-use Rattle.gitconf_parse.specs.ShownEvents.{copied, decoded_or, shown_event, CopyFits, EventCopyFits, IsShown, IsExtended}
+use Rattle.gitconf_parse.specs.Events.{bytes_of, token_of}
+use Rattle.gitconf_parse.specs.EventProps.{AreWithin}
+use Rattle.gitconf_parse.specs.Sections.{is_shown_header, is_header_event, front_of, sections_of}
+use Rattle.gitconf_parse.specs.ShownEvents.{copied, decoded_or, shown_event, CopyFits, EventCopyFits, IsShown, IsExtended, shown_token}
 
 -- a copy stays where copies are added
 copied_more : (copies more : List ℕ) (c : Copied) → c.start + c.len ≤ length copies → copied (copies ++ more) c ≡ copied copies c
@@ -86,3 +88,47 @@ pub all_at : {A : Type 0} (P : A → Type 0) (xs : List A) (i : ℕ) (d : A) →
 all_at P [] i d all within = absurd (omega (arith, within))
 all_at P (x ∷ xs) zero d all within = all.0
 all_at P (x ∷ xs) (suc i) d all within = all_at P xs i d all.1 (omega arith)
+
+-- what events show is what their tokens show
+pub shown_list : (buffer copies : List ℕ) (events : List Event) → AllByRecursion (IsShown buffer copies) events → map (shown_event buffer copies) events ≡ map shown_token (map (token_of buffer) events)
+shown_list buffer copies [] all = refl
+shown_list buffer copies (e ∷ events) all = let first = all.0.shown in let rest = shown_list buffer copies events all.1 in cc
+
+-- all of them stand within their buffers
+pub all_within : (buffer copies : List ℕ) (events : List Event) → AllByRecursion (IsShown buffer copies) events → AreWithin buffer copies events
+all_within buffer copies [] all = tt
+all_within buffer copies (e ∷ events) all = ((all.0.fits, all.0.copy_fits), all_within buffer copies events all.1)
+
+pub all_taken : {A : Type 0} (P : A → Type 0) (n : ℕ) (xs : List A) → AllByRecursion P xs → AllByRecursion P (take n xs)
+all_taken P zero xs all = tt
+all_taken P (suc n) [] all = tt
+all_taken P (suc n) (x ∷ xs) all = (all.0, all_taken P n xs all.1)
+
+-- cutting at headers goes along with a view that tells headers
+pub front_of-map : {A B : Type 0} (t : A → Bool) (u : B → Bool) (f : A → B) → ((x : A) → u (f x) ≡ t x) → (xs : List A) → map f (front_of t xs) ≡ front_of u (map f xs)
+front_of-map t u f same [] = refl
+front_of-map t u f same (x ∷ xs) = go (t x) refl (front_of-map t u f same xs)
+  where
+    go : (b : Bool) → t x ≡ b → map f (front_of t xs) ≡ front_of u (map f xs) → map f (front_of t (x ∷ xs)) ≡ front_of u (map f (x ∷ xs))
+    go true e later = rw (e, front_of) (sym (rw (same x ∙ e, front_of) refl))
+    go false e later = rw (e, front_of) (ap (λ ys. f x ∷ ys) later ∙ sym (rw (same x ∙ e, front_of) refl))
+
+pub sections_of-map : {A B : Type 0} (t : A → Bool) (u : B → Bool) (f : A → B) → ((x : A) → u (f x) ≡ t x) → (xs : List A) → map (map f) (sections_of t xs) ≡ sections_of u (map f xs)
+sections_of-map t u f same [] = refl
+sections_of-map t u f same (x ∷ xs) = go (t x) refl (sections_of-map t u f same xs)
+  where
+    go : (b : Bool) → t x ≡ b → map (map f) (sections_of t xs) ≡ sections_of u (map f xs) → map (map f) (sections_of t (x ∷ xs)) ≡ sections_of u (map f (x ∷ xs))
+    go true e later = rw (e, sections_of) (ap (λ ys. (f x ∷ ys) ∷ map (map f) (sections_of t xs)) (front_of-map t u f same xs)
+        ∙ ap (λ yss. (f x ∷ front_of u (map f xs)) ∷ yss) later ∙ sym (rw (same x ∙ e, sections_of) refl))
+    go false e later = rw (e, sections_of) (later ∙ sym (rw (same x ∙ e, sections_of) refl))
+
+pub header_told : (buffer copies : List ℕ) (e : Event) → is_shown_header (shown_event buffer copies e) ≡ is_header_event e
+header_told buffer copies (kinds.SectionHeader h) = refl
+header_told buffer copies (kinds.Comment tag text) = refl
+header_told buffer copies (kinds.SectionValueName s) = refl
+header_told buffer copies (kinds.Value s) = refl
+header_told buffer copies (kinds.Newline s) = refl
+header_told buffer copies (kinds.ValueNotDone s) = refl
+header_told buffer copies (kinds.ValueDone s) = refl
+header_told buffer copies (kinds.Whitespace s) = refl
+header_told buffer copies kinds.KeyValueSeparator = refl

@@ -1,12 +1,10 @@
 -- What the parser answers for a text.
-use Rattle.std.specs.Prelude.{◌≡◌, ◌⊎◌, ◌+◌, ◌≤◌, ◌<◌, ◌^◌, ℕ, List, length, take, drop, Result, Ok, Err}
+use Rattle.std.specs.Prelude.{◌≡◌, ◌⊎◌, ◌≤◌, ◌^◌, ℕ, List, length, take, drop}
 use Rattle.gitconf_text.specs.Part.{Part}
 use Rattle.gitconf_text.specs.Document.{IsText}
 use Rattle.gitconf_text.specs.Stuck.{line_behind, IsStuck}
-use Rattle.gitconf_parse.specs.declared.event.Event.{Event}
 use Rattle.gitconf_parse.specs.declared.reading.Fault.{Fault}
-use Rattle.gitconf_parse.specs.ParseError.{Refusal, unexpected_token, too_large_input, want_of_memory, kind_of}
-use Rattle.gitconf_parse.specs.Parsing.{IsRead}
+use Rattle.gitconf_parse.specs.ParseError.{Refusal, unexpected_token, too_large_input, want_of_memory}
 
 -- the refusal tells the line of the fault and the data from it on, or memory was wanting
 abbrev pub IsRefusal : (input : List ℕ) → Fault → Refusal → Type 0

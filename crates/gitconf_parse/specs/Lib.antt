@@ -8,3 +8,6 @@ pub mod ParseCause
 pub mod ShownEvents
 pub mod EventList
 pub mod EventResult
+pub mod EventProps
+pub mod Sections
+pub mod EventIters

@@ -1,4 +1,4 @@
-use Rattle.std.proofs.Common.{subst, sym}
+use Rattle.std.proofs.Common.{subst}
 use Rattle.std.proofs.lemmas.List.{take_more}
 use Rattle.gitconf_parse.specs.declared.event.Event.TheVariants.{Comment}
 use Rattle.gitconf_parse.specs.EventList.{IsKept}
