@@ -6,6 +6,7 @@ ghost use Rattle.gitconf_parse.specs.ParseError.{kind_of, unexpected_token, too_
 
 pub use crate::reading::Expected;
 use bstr::BStr;
+use gitconf_text::NoMemory;
 use std::alloc::{AllocError, AllocFailed};
 use std::fmt::Write;
 use std::marker::Model;
@@ -208,6 +209,14 @@ impl<T: Drop> From<AllocFailed<T>> for Error {
     ghost from_gives = { λ _ e. e ≡ want_of_memory };
 
     fn from(_e: AllocFailed<T>) -> Error {
+        Error::memory()
+    }
+}
+
+impl From<NoMemory> for Error {
+    ghost from_gives = { λ _ e. e ≡ want_of_memory };
+
+    fn from(_e: NoMemory) -> Error {
         Error::memory()
     }
 }
