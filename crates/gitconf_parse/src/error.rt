@@ -220,11 +220,3 @@ impl<T: Drop> From<AllocFailed<T>> for Error {
         Error::memory()
     }
 }
-
-impl From<NoMemory> for Error {
-    ghost from_gives = { λ _ e. e ≡ want_of_memory };
-
-    fn from(_e: NoMemory) -> Error {
-        Error::memory()
-    }
-}
