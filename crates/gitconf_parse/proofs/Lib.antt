@@ -24,3 +24,4 @@ pub mod Kept
 pub mod Filtering
 pub mod Cuts
 pub mod EscapedRuns
+pub mod Grouping

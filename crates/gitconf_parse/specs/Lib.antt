@@ -12,3 +12,4 @@ pub mod EventProps
 pub mod Sections
 pub mod EventIters
 pub mod TokenDocument
+pub mod Items

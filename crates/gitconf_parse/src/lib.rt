@@ -5,6 +5,7 @@ pub mod error;
 pub mod event;
 pub mod event_ref;
 pub mod events;
+pub mod items;
 pub mod laws;
 mod reading;
 pub mod sink;

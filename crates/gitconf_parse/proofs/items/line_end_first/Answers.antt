@@ -1,0 +1,19 @@
+use Rattle.std.proofs.Common.{rules, ◌≡◌, ◌∷◌, ◌++◌, true, map, flat_map, IfOk, ℕ, ◌+◌, ◌-◌, ◌*◌, ◌<◌, ◌≤◌, length, ◌/◌, ◌%◌, Bool, false, nat_eq, nat_lt, List, [], slice_index_or, slice_set, bit_and, bit_or, Fits, w8, w32, w64, Bor, MutBor}
+use Rattle.gitconf_text.specs.Token.{WhitespaceToken, NewlineToken, item_tokens, filled}
+use Rattle.gitconf_parse.specs.Events.{bytes_of, token_of}
+use Rattle.gitconf_parse.specs.Items as spec
+use Rattle.gitconf_parse.specs.Items.{item_of, assigned_of, Place, Between, BehindName, BehindNameBlanks, BehindSeparator, BehindSeparatorBlanks, BehindPiece, BehindPieceEnd, are_items}
+use Rattle.std.proofs.Common.{subst, sym, ap, ◌∙◌}
+use Rattle.gitconf_parse.specs.declared.event.Event.TheVariants as kinds
+use Rattle.gitconf_parse.proofs.Grouping.{filled_first}
+use Rattle.gitconf_parse.proofs.items.line_end_first.Goals as goal
+
+-- src/items.rt:68:1
+pub returns-in-Some-Newline-default : goal.returns-in-Some-Newline-default
+returns-in-Some-Newline-default c =
+    let b = c.args.buffer.now in
+    let run = c.in-Some-Newline-default.run' in
+    let behind = c.in-Some-Newline-default.behind.now in
+    let is : c.args.events.now ≡ kinds.Newline run ∷ behind = c.in-Some-Newline-default.ensures.cases.0 ∙ ap (λ e. e ∷ behind) c.in-Some-Newline-default.field-0-0-is in
+    subst (λ es. spec.AreBehind BehindPieceEnd (filled NewlineToken (bytes_of b run)) (map (token_of b) behind) (map (token_of b) es)) (sym is)
+    (filled_first BehindPieceEnd NewlineToken (bytes_of b run) (map (token_of b) behind) (subst (λ es. are_items BehindPiece (map (token_of b) es) ≡ true) is c.requires))

@@ -1,0 +1,82 @@
+-- Items as the code has them, and which tokens make items.
+use Rattle.std.specs.Prelude.{◌≡◌, ℕ, Bool, true, false, not, ◌&&◌, List, [], ◌∷◌, ◌++◌, map, flat_map, Option, Some, None}
+use Rattle.gitconf_text.specs.Text.{begins}
+use Rattle.gitconf_text.specs.Value as grammar
+use Rattle.gitconf_text.specs.Part as parts
+use Rattle.gitconf_text.specs.Token.{Token, CommentToken, HeaderToken, NameToken, ValueToken, NewlineToken, ValueNotDoneToken, ValueDoneToken, WhitespaceToken, SeparatorToken, value_tokens, item_tokens}
+use Rattle.gitconf_parse.specs.declared.items.Piece.{Piece}
+use Rattle.gitconf_parse.specs.declared.items.Value.{Value}
+use Rattle.gitconf_parse.specs.declared.items.Assigned.{Assigned}
+use Rattle.gitconf_parse.specs.declared.items.Entry.{Entry}
+use Rattle.gitconf_parse.specs.declared.items.Item.{Item}
+use Rattle.gitconf_parse.specs.declared.items.Item.TheVariants as kinds
+use Rattle.gitconf_parse.specs.Events.{bytes_of}
+
+abbrev pub piece_of : (buffer : List ℕ) → Piece → grammar.Piece
+piece_of buffer p = record { text = bytes_of buffer p.text; line_end = bytes_of buffer p.line_end }
+
+abbrev pub value_of : (buffer : List ℕ) → Value → grammar.Value
+value_of buffer v = record { pieces = map (piece_of buffer) v.pieces.items; last = bytes_of buffer v.last }
+
+abbrev pub assigned_of : (buffer : List ℕ) → Option Assigned → Option parts.Assigned
+assigned_of buffer None = None
+assigned_of buffer (Some a) = Some (record { blanks = bytes_of buffer a.blanks; value = value_of buffer a.value })
+
+abbrev pub entry_of : (buffer : List ℕ) → Entry → parts.Entry
+entry_of buffer e = record { name = bytes_of buffer e.name; blanks = bytes_of buffer e.blanks; assigned = assigned_of buffer e.assigned }
+
+abbrev pub item_of : (buffer : List ℕ) → Item → parts.Item
+item_of buffer (kinds.Blanks run) = parts.BlanksItem (bytes_of buffer run)
+item_of buffer (kinds.LineEnds run) = parts.LineEndsItem (bytes_of buffer run)
+item_of buffer (kinds.Comment tag text) = parts.CommentItem tag (bytes_of buffer text)
+item_of buffer (kinds.Entry e) = parts.EntryItem (entry_of buffer e)
+
+abbrev pub tokens_of_value : (buffer : List ℕ) → Value → List Token
+tokens_of_value buffer v = value_tokens (map (piece_of buffer) v.pieces.items) (bytes_of buffer v.last)
+
+-- the tokens of items, in order
+abbrev pub tokens_of_items : (buffer : List ℕ) → List Item → List Token
+tokens_of_items buffer items = flat_map (λ i. item_tokens (item_of buffer i)) items
+
+-- where a token may stand
+pub data Place : Type 0 where
+  Between : Place
+  BehindName : Place
+  BehindNameBlanks : Place
+  BehindSeparator : Place
+  BehindSeparatorBlanks : Place
+  BehindPiece : Place
+  BehindPieceEnd : Place
+
+abbrev pub is_filled : List ℕ → Bool
+is_filled bytes = begins (λ _. true) bytes
+
+-- The tokens go on, from this place, as items: between entries stand blanks, line ends, comments and names; behind a name blanks,
+-- and then an empty value or a separator; behind that blanks, and then a value or pieces, each with a line end, and the last one.
+abbrev pub are_items : Place → List Token → Bool
+are_items Between [] = true
+are_items Between (CommentToken tag text ∷ tokens) = are_items Between tokens
+are_items Between (NewlineToken bytes ∷ tokens) = are_items Between tokens
+are_items Between (WhitespaceToken bytes ∷ tokens) = are_items Between tokens
+are_items Between (NameToken bytes ∷ tokens) = are_items BehindName tokens
+are_items BehindName (WhitespaceToken bytes ∷ tokens) = is_filled bytes && are_items BehindNameBlanks tokens
+are_items BehindName (ValueToken bytes ∷ tokens) = not (is_filled bytes) && are_items Between tokens
+are_items BehindName (SeparatorToken ∷ tokens) = are_items BehindSeparator tokens
+are_items BehindNameBlanks (ValueToken bytes ∷ tokens) = not (is_filled bytes) && are_items Between tokens
+are_items BehindNameBlanks (SeparatorToken ∷ tokens) = are_items BehindSeparator tokens
+are_items BehindSeparator (WhitespaceToken bytes ∷ tokens) = is_filled bytes && are_items BehindSeparatorBlanks tokens
+are_items BehindSeparator (ValueToken bytes ∷ tokens) = are_items Between tokens
+are_items BehindSeparator (ValueNotDoneToken bytes ∷ tokens) = are_items BehindPiece tokens
+are_items BehindSeparatorBlanks (ValueToken bytes ∷ tokens) = are_items Between tokens
+are_items BehindSeparatorBlanks (ValueNotDoneToken bytes ∷ tokens) = are_items BehindPiece tokens
+are_items BehindPiece (NewlineToken bytes ∷ tokens) = is_filled bytes && are_items BehindPieceEnd tokens
+are_items BehindPiece (ValueNotDoneToken bytes ∷ tokens) = are_items BehindPiece tokens
+are_items BehindPiece (ValueDoneToken bytes ∷ tokens) = are_items Between tokens
+are_items BehindPieceEnd (ValueNotDoneToken bytes ∷ tokens) = are_items BehindPiece tokens
+are_items BehindPieceEnd (ValueDoneToken bytes ∷ tokens) = are_items Between tokens
+are_items _ _ = false
+
+-- the first tokens and then the others are all of them, and the others go on as items from this place
+pub record AreBehind (place : Place) (first others all : List Token) : Type 0 where
+  pub joined : first ++ others ≡ all
+  pub go_on : are_items place others ≡ true

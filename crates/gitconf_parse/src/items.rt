@@ -1,0 +1,199 @@
+//! Items: what a body is made of, as the parser's events say it.
+ghost use Rattle.std.specs.Prelude.{◌≡◌, ◌∷◌, ◌++◌, true, map, flat_map, IfOk};
+ghost use Rattle.gitconf_text.specs.Token.{WhitespaceToken, NewlineToken, ValueNotDoneToken, item_tokens, assigned_tokens, filled};
+ghost use Rattle.gitconf_parse.specs.Events.{bytes_of, token_of};
+ghost use Rattle.gitconf_parse.specs.Items as spec;
+ghost use Rattle.gitconf_parse.specs.Items.{item_of, assigned_of, Place, Between, BehindName, BehindNameBlanks, BehindSeparator, BehindSeparatorBlanks, BehindPiece, BehindPieceEnd, are_items};
+
+use crate::event::{Event, Span};
+use gitconf_text::NoMemory;
+use std::alloc::Global;
+
+/// A piece of a value that goes on.
+#[derive(Clone, Copy, Debug)]
+pub struct Piece {
+    /// Its bytes, without the backslash behind them.
+    pub text: Span,
+    /// The line end behind the backslash; no bytes where there is none.
+    pub line_end: Span,
+}
+
+/// A value: the pieces that go on, and the last one.
+#[derive(Debug, Drop)]
+pub struct Value {
+    pub pieces: Vec<Piece>,
+    pub last: Span,
+}
+
+/// What stands behind `=`.
+#[derive(Debug, Drop)]
+pub struct Assigned {
+    pub blanks: Span,
+    pub value: Value,
+}
+
+/// A value name, the blanks behind it, and what is assigned, if anything.
+#[derive(Debug, Drop)]
+pub struct Entry {
+    pub name: Span,
+    pub blanks: Span,
+    pub assigned: Option<Assigned>,
+}
+
+/// What a body is made of.
+#[derive(Debug, Drop)]
+pub enum Item {
+    Blanks(Span),
+    LineEnds(Span),
+    Comment { tag: u8, text: Span },
+    Entry(Entry),
+}
+
+const NOTHING: Span = Span { start: 0, len: 0 };
+
+/// The blanks that the events begin with, or no bytes, and the events behind them.
+fn blanks_first<'e>(buffer: &[u8], events: &'e [Event]) -> (Span, &'e [Event])
+    ensures name { are_items BehindName (map (token_of buffer.now) events.now) ≡ true → spec.AreBehind BehindNameBlanks
+        (filled WhitespaceToken (bytes_of buffer.now result.0)) (map (token_of buffer.now) result.1.now) (map (token_of buffer.now) events.now) }
+    ensures separator { are_items BehindSeparator (map (token_of buffer.now) events.now) ≡ true → spec.AreBehind BehindSeparatorBlanks
+        (filled WhitespaceToken (bytes_of buffer.now result.0)) (map (token_of buffer.now) result.1.now) (map (token_of buffer.now) events.now) }
+{
+    match events.split_first() {
+        Some((Event::Whitespace(run), behind)) => (*run, behind),
+        _ => (NOTHING, events),
+    }
+}
+
+/// The line end that the events begin with, or no bytes, and the events behind it.
+fn line_end_first<'e>(buffer: &[u8], events: &'e [Event]) -> (Span, &'e [Event])
+    requires { are_items BehindPiece (map (token_of buffer.now) events.now) ≡ true }
+    ensures { spec.AreBehind BehindPieceEnd
+        (filled NewlineToken (bytes_of buffer.now result.0)) (map (token_of buffer.now) result.1.now) (map (token_of buffer.now) events.now) }
+{
+    match events.split_first() {
+        Some((Event::Newline(run), behind)) => (*run, behind),
+        _ => (NOTHING, events),
+    }
+}
+
+/// A value that begins with a piece of this text, and the events behind it.
+fn pieces_first<'e>(
+    alloc: Global,
+    buffer: &[u8],
+    text: Span,
+    events: &'e [Event],
+) -> Result<(Value, &'e [Event]), NoMemory>
+    requires { are_items BehindPiece (map (token_of buffer.now) events.now) ≡ true }
+    ensures { IfOk result (λ r. spec.AreBehind Between (spec.tokens_of_value buffer.now r.0) (map (token_of buffer.now) r.1.now)
+        (ValueNotDoneToken (bytes_of buffer.now text) ∷ map (token_of buffer.now) events.now)) }
+{
+    let mut pieces = Vec::new(alloc);
+    let mut text = text;
+    let mut rest = events;
+    loop {
+        let (line_end, behind) = line_end_first(buffer, rest);
+        pieces.push(Piece { text, line_end })?;
+        match behind.split_first() {
+            Some((Event::ValueNotDone(next), behind)) => {
+                text = *next;
+                rest = behind;
+            }
+            Some((Event::ValueDone(last), behind)) => {
+                let last = *last;
+                return Ok((Value { pieces, last }, behind));
+            }
+            _ => unreachable!(),
+        }
+    }
+}
+
+/// The value that the events begin with, and the events behind it.
+fn value_first<'e>(
+    alloc: Global,
+    buffer: &[u8],
+    events: &'e [Event],
+) -> Result<(Value, &'e [Event]), NoMemory>
+    requires { are_items BehindSeparatorBlanks (map (token_of buffer.now) events.now) ≡ true }
+    ensures { IfOk result (λ r. spec.AreBehind Between (spec.tokens_of_value buffer.now r.0) (map (token_of buffer.now) r.1.now) (map (token_of buffer.now) events.now)) }
+{
+    match events.split_first() {
+        Some((Event::Value(last), behind)) => {
+            let value = Value {
+                pieces: Vec::new(alloc),
+                last: *last,
+            };
+            Ok((value, behind))
+        }
+        Some((Event::ValueNotDone(text), behind)) => pieces_first(alloc, buffer, *text, behind),
+        _ => unreachable!(),
+    }
+}
+
+/// What the events behind a name assign, and the events behind that.
+fn assigned_first<'e>(
+    alloc: Global,
+    buffer: &[u8],
+    events: &'e [Event],
+) -> Result<(Option<Assigned>, &'e [Event]), NoMemory>
+    requires { are_items BehindNameBlanks (map (token_of buffer.now) events.now) ≡ true }
+    ensures { IfOk result (λ r. spec.AreBehind Between (assigned_tokens (assigned_of buffer.now r.0)) (map (token_of buffer.now) r.1.now) (map (token_of buffer.now) events.now)) }
+{
+    match events.split_first() {
+        Some((Event::Value(_), behind)) => Ok((None, behind)),
+        Some((Event::KeyValueSeparator, behind)) => {
+            let (blanks, behind) = blanks_first(buffer, behind);
+            let (value, behind) = value_first(alloc, buffer, behind)?;
+            Ok((Some(Assigned { blanks, value }), behind))
+        }
+        _ => unreachable!(),
+    }
+}
+
+/// The item that the events begin with, and the events behind it.
+fn item_first<'e>(
+    alloc: Global,
+    buffer: &[u8],
+    first: &Event,
+    behind: &'e [Event],
+) -> Result<(Item, &'e [Event]), NoMemory>
+    requires { are_items Between (token_of buffer.now first.now ∷ map (token_of buffer.now) behind.now) ≡ true }
+    ensures { IfOk result (λ r. spec.AreBehind Between (item_tokens (item_of buffer.now r.0)) (map (token_of buffer.now) r.1.now) (token_of buffer.now first.now ∷ map (token_of buffer.now) behind.now)) }
+{
+    match *first {
+        Event::Comment { tag, text } => Ok((Item::Comment { tag, text }, behind)),
+        Event::Newline(run) => Ok((Item::LineEnds(run), behind)),
+        Event::Whitespace(run) => Ok((Item::Blanks(run), behind)),
+        Event::SectionValueName(name) => {
+            let (blanks, behind) = blanks_first(buffer, behind);
+            let (assigned, behind) = assigned_first(alloc, buffer, behind)?;
+            let entry = Entry {
+                name,
+                blanks,
+                assigned,
+            };
+            Ok((Item::Entry(entry), behind))
+        }
+        _ => unreachable!(),
+    }
+}
+
+/// The items of events between headers, whose spans are offsets of the buffer: their tokens are the events' again.
+///
+/// One pass, without a copy of a byte.
+///
+/// # Errors
+///
+/// Want of memory.
+pub fn grouped(alloc: Global, buffer: &[u8], events: &[Event]) -> Result<Vec<Item>, NoMemory>
+    requires { are_items Between (map (token_of buffer.now) events.now) ≡ true }
+    ensures { IfOk result (λ items. spec.tokens_of_items buffer.now items.items ≡ map (token_of buffer.now) events.now) }
+{
+    let mut items = Vec::new(alloc);
+    let mut rest = events;
+    while let Some((first, behind)) = rest.split_first() {
+        let (item, behind) = item_first(alloc, buffer, first, behind)?;
+        items.push(item)?;
+        rest = behind;
+    }
+    Ok(items)
+}
