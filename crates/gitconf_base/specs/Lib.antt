@@ -1,0 +1,5 @@
+pub mod Source
+pub mod Metadata
+pub mod MetadataLaws
+pub mod Memory
+pub mod Key
