@@ -8,3 +8,4 @@ pub mod laws;
 pub mod memory;
 pub mod meta;
 pub mod source;
+pub mod util;

@@ -1,0 +1,329 @@
+ghost use Rattle.std.specs.Prelude.{◌≡◌, ◌+◌, ◌<◌, ◌==◌, ◌↔◌, [], find, length, position, IfOk, OnOk, OnErr, IsErrOf};
+ghost use Rattle.std.specs.Option.{option_copied, option_map};
+ghost use Rattle.std.specs.Str.{str_to_ascii_lowercase};
+ghost use Rattle.std.specs.Borrow.{sem};
+ghost use Rattle.gitconf_base.specs.Sections.{entry_of, has_number, no_number, place_of, section_of, with_behind, with_last, with_names, without, IsItem, IsNumbered};
+ghost use Rattle.gitconf_base.specs.Rows.{entries_of, entry_of_row};
+
+use crate::memory::NoMemory;
+use std::alloc::{AllocError, AllocFailed, Global};
+use std::marker::Model;
+use thiserror::Error;
+
+/// The number of a section, by which it is found whatever comes before or behind it. The default is the
+/// greatest number, which no section gets from a table.
+#[derive(Clone, Copy, PartialEq, Eq, PartialOrd, Ord, Hash, Debug)]
+pub struct SectionId {
+    number: usize,
+}
+
+impl Model for SectionId {
+    ghost use Rattle.std.specs.Prelude.{ℕ};
+
+    ghost Value = { ℕ };
+
+    ghost view = { λ id. id.number };
+
+    ghost inverse = { λ n. record { number = n } };
+}
+
+impl Default for SectionId {
+    ghost is_default = { λ id. id ≡ no_number };
+
+    /// The greatest number, which no section gets from a table.
+    fn default() -> SectionId {
+        SectionId { number: usize::MAX }
+    }
+}
+
+/// A table could not take a section.
+#[derive(Clone, Copy, PartialEq, Eq, Debug, Error)]
+pub enum TableError {
+    /// All numbers but the greatest were given.
+    #[error("the numbers of sections are used up")]
+    NumbersUsedUp,
+    /// There was no memory.
+    #[error("memory ran out")]
+    Memory,
+}
+
+impl From<AllocError> for TableError {
+    ghost use Rattle.gitconf_base.specs.declared.util.TableError.TheVariants.{Memory};
+
+    ghost from_gives = { λ _ e. e ≡ Memory };
+
+    fn from(_refused: AllocError) -> TableError {
+        TableError::Memory
+    }
+}
+
+impl<T: Drop> From<AllocFailed<T>> for TableError {
+    ghost use Rattle.gitconf_base.specs.declared.util.TableError.TheVariants.{Memory};
+
+    ghost from_gives = { λ _ e. e ≡ Memory };
+
+    fn from(_refused: AllocFailed<T>) -> TableError {
+        TableError::Memory
+    }
+}
+
+// A section of the table.
+#[derive(Drop)]
+struct Row<T> {
+    id: SectionId,
+    // In ASCII lower case.
+    name: Vec<u8>,
+    subsection: Option<Vec<u8>>,
+    section: T,
+}
+
+/// The sections of a file, each with its number, in file order.
+#[derive(Drop)]
+pub struct SectionTable<T> {
+    rows: Vec<Row<T>>,
+    next: usize,
+}
+
+impl<T> Model for SectionTable<T> {
+    ghost use Rattle.gitconf_base.specs.Sections.{Sections, IsNumbered};
+    ghost use Rattle.gitconf_base.specs.Rows.{entries_of};
+
+    ghost Value = { Sections T };
+
+    ghost view = { λ t. record { entries = entries_of t.rows.items; next = t.next } };
+
+    ghost invariant = { λ t. IsNumbered (record { entries = entries_of t.rows.items; next = t.next }) };
+}
+
+impl<T> SectionTable<T> {
+    ghost use Rattle.gitconf_base.specs.SectionLoan.{LendsSection};
+
+    /// A table without sections, whose first one gets the number 0.
+    pub fn new(alloc: Global) -> SectionTable<T>
+        ensures empty { result.entries ≡ [] }
+        ensures first { result.next ≡ 0 }
+    {
+        SectionTable {
+            rows: Vec::new(alloc),
+            next: 0,
+        }
+    }
+
+    /// How many sections there are.
+    pub fn len(&self) -> usize
+        ensures { result ≡ length self.now.entries }
+    {
+        self.rows.len()
+    }
+
+    /// Whether there is no section.
+    pub fn is_empty(&self) -> bool
+        ensures { result ≡ (length self.now.entries == 0) }
+    {
+        self.rows.is_empty()
+    }
+
+    /// The number that the next section gets, if it is not the greatest; and no number was given twice.
+    pub fn next_id(&self) -> SectionId
+        ensures value { result ≡ self.now.next }
+        ensures numbered { IsNumbered self.now }
+    {
+        SectionId { number: self.next }
+    }
+
+    /// How many sections may still be added before the numbers are used up.
+    pub fn numbers_left(&self) -> usize
+        ensures { result + self.now.next ≡ no_number }
+    {
+        usize::MAX - self.next
+    }
+
+    /// The place of a section in file order, or `None` where none has that number. Takes a walk over the sections.
+    pub fn position(&self, id: SectionId) -> Option<usize>
+        ensures { result ≡ place_of id self.now }
+    {
+        position(&self.rows, id)
+    }
+
+    /// What the section of that number holds, or `None` where none has it. Takes a walk over the sections.
+    pub fn get(&self, id: SectionId) -> Option<&T>
+        ensures { option_copied result ≡ section_of id self.now }
+    {
+        let row = find(&self.rows, id)?;
+        Some(&row.section)
+    }
+
+    /// The number of the section at a place.
+    pub fn id_at(&self, position: usize) -> SectionId
+        requires { position < length self.now.entries }
+        ensures { IsItem self.now.entries position (λ e. result ≡ e.number) }
+    {
+        let row = &self.rows[position];
+        row.id
+    }
+
+    /// What the section at a place holds.
+    pub fn at(&self, position: usize) -> &T
+        requires { position < length self.now.entries }
+        ensures { IsItem self.now.entries position (λ e. result.now ≡ e.section) }
+    {
+        let row = &self.rows[position];
+        &row.section
+    }
+
+    /// What the section at a place holds, to be changed in place. Its number and names stay.
+    pub fn at_mut(&mut self, position: usize) -> &mut T
+        requires { position < length self.old.entries }
+        ensures* writes_back { sem 𝓛 (LendsSection T.row self.entry position result) }
+        ensures value { IsItem self.old.entries position (λ e. result.now ≡ e.section) }
+    {
+        let row = &mut self.rows[position];
+        &mut row.section
+    }
+
+    /// Puts a section last, under the next number and `name` in ASCII lower case, and answers that number.
+    /// Takes memory for the names and one place.
+    ///
+    /// Errors: [`TableError::NumbersUsedUp`] where only the greatest number is left, and
+    /// [`TableError::Memory`]. The table then is as it was.
+    pub fn push(
+        &mut self,
+        name: &[u8],
+        subsection: Option<&[u8]>,
+        section: T,
+    ) -> Result<SectionId, TableError>
+    where
+        T: Drop,
+        ensures id { IfOk result (λ id. id ≡ self.old.next) }
+        ensures ok { OnOk result (self.new ≡ with_last name.now (option_copied subsection.entry) section self.old) }
+        ensures used_up { IsErrOf result TableError.NumbersUsedUp ↔ (self.old.next ≡ no_number) }
+        ensures err { OnErr result (self.new ≡ self.old) }
+    {
+        if self.next == usize::MAX {
+            return Err(TableError::NumbersUsedUp);
+        }
+        let id = SectionId { number: self.next };
+        let row = row_of(*self.rows.allocator(), id, name, subsection, section)?;
+        self.rows.push(row)?;
+        self.next += 1;
+        Ok(id)
+    }
+
+    /// Puts a section directly behind the one at a place, under the next number and `name` in ASCII lower
+    /// case, and answers that number. Takes memory for the names and one place, and moves what stands behind.
+    ///
+    /// Errors: [`TableError::NumbersUsedUp`] where only the greatest number is left, and
+    /// [`TableError::Memory`]. The table then is as it was.
+    pub fn insert_behind(
+        &mut self,
+        position: usize,
+        name: &[u8],
+        subsection: Option<&[u8]>,
+        section: T,
+    ) -> Result<SectionId, TableError>
+    where
+        T: Drop,
+        requires { position < length self.old.entries }
+        ensures id { IfOk result (λ id. id ≡ self.old.next) }
+        ensures ok { OnOk result (self.new ≡ with_behind position name.now (option_copied subsection.entry) section self.old) }
+        ensures used_up { IsErrOf result TableError.NumbersUsedUp ↔ (self.old.next ≡ no_number) }
+        ensures err { OnErr result (self.new ≡ self.old) }
+    {
+        if self.next == usize::MAX {
+            return Err(TableError::NumbersUsedUp);
+        }
+        let id = SectionId { number: self.next };
+        let row = row_of(*self.rows.allocator(), id, name, subsection, section)?;
+        self.rows.insert(position + 1, row)?;
+        self.next += 1;
+        Ok(id)
+    }
+
+    /// Takes the section of that number out, and answers what it held, or `None` where none has it. Its number
+    /// is not given again. Takes a walk over the sections.
+    pub fn remove(&mut self, id: SectionId) -> Option<T>
+        ensures held { result ≡ section_of id self.old }
+        ensures rest { self.new ≡ without id self.old }
+    {
+        let at = position(&self.rows, id)?;
+        let Row {
+            id: _,
+            name: _,
+            subsection: _,
+            section,
+        } = self.rows.remove(at);
+        Some(section)
+    }
+
+    /// Gives the section at a place other names, `name` in ASCII lower case; its number, its place and what it
+    /// holds stay. For want of memory the table is as it was.
+    pub fn rename(
+        &mut self,
+        position: usize,
+        name: &[u8],
+        subsection: Option<&[u8]>,
+    ) -> Result<(), NoMemory>
+        requires { position < length self.old.entries }
+        ensures ok { OnOk result (self.new ≡ with_names self.old position name.now (option_copied subsection.entry)) }
+        ensures err { OnErr result (self.new ≡ self.old) }
+    {
+        let alloc = *self.rows.allocator();
+        let name = folded(alloc, name)?;
+        let subsection = copied(alloc, subsection)?;
+        let row = &mut self.rows[position];
+        row.name = name;
+        row.subsection = subsection;
+        Ok(())
+    }
+}
+
+// The bytes in ASCII lower case.
+fn folded(alloc: Global, name: &[u8]) -> Result<Vec<u8>, AllocError>
+    ensures { IfOk result (λ v. v.items ≡ str_to_ascii_lowercase name.now) }
+{
+    let mut folded = Vec::from_slice(alloc, name)?;
+    folded.make_ascii_lowercase();
+    Ok(folded)
+}
+
+// The bytes, if there are any to copy.
+fn copied(alloc: Global, subsection: Option<&[u8]>) -> Result<Option<Vec<u8>>, AllocError>
+    ensures { IfOk result (λ copy. option_map (λ v. v.items) copy ≡ option_copied subsection.entry) }
+{
+    match subsection {
+        Some(bytes) => Ok(Some(Vec::from_slice(alloc, bytes)?)),
+        None => Ok(None),
+    }
+}
+
+// A row with those names.
+fn row_of<T: Drop>(
+    alloc: Global,
+    id: SectionId,
+    name: &[u8],
+    subsection: Option<&[u8]>,
+    section: T,
+) -> Result<Row<T>, AllocError>
+    ensures { IfOk result (λ row. entry_of_row row ≡ entry_of id name.now (option_copied subsection.entry) section) }
+{
+    Ok(Row {
+        id,
+        name: folded(alloc, name)?,
+        subsection: copied(alloc, subsection)?,
+        section,
+    })
+}
+
+// The place of a number among the rows.
+fn position<T>(rows: &[Row<T>], id: SectionId) -> Option<usize>
+    ensures { result ≡ position (λ r. r.id == id) rows.now }
+{
+    rows.iter().position(|row| row.id == id)
+}
+
+// The row of a number.
+fn find<T>(rows: &[Row<T>], id: SectionId) -> Option<&Row<T>>
+    ensures { option_copied result ≡ find (λ r. r.id == id) rows.now }
+{
+    rows.iter().find(|row| row.id == id)
+}
