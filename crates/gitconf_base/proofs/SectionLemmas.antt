@@ -1,7 +1,8 @@
 -- Numbered sections under the edits of a table, and the rows that hold them.
 use Rattle.std.proofs.Common.{◌≡◌, ℕ, zero, suc, ◌+◌, ◌≤◌, ◌<◌, ◌==◌, Bool, true, false, not, cond, nat_lt, List, [], ◌∷◌, ◌++◌, length, take, drop, get_or, subst, eqb-true, set, filter, find, position, insert, remove, Option, Some, None, refl, ap, sym, ◌∙◌, arith}
+use Rattle.std.specs.Prelude.{◌||◌}
 use Rattle.std.specs.Option.{option_map}
-use Rattle.std.specs.List.{AllByRecursion, position_or_len, slice_get}
+use Rattle.std.specs.List.{AllByRecursion, list_any, position_or_len, slice_get}
 use Rattle.std.proofs.lemmas.Bool.Decides.{nat_tests}
 use Rattle.std.proofs.lemmas.Bool.{ltb-false}
 use Rattle.std.proofs.lemmas.List.{map-append, length-map, take-map, drop-map, take-append-drop, append-nil}
@@ -217,3 +218,7 @@ module _ {T : Type 0} where
         ap (option_map (λ (e : SectionEntry T). e.section)) (sym (placed_section n (entries_of rows) i (entry_of_row r) stands (ap entry_of_row is ∙ sym (get_or-map entry_of_row rows i r)))),
         entries_of-remove rows i ∙ sym (placed_removed n next (entries_of rows) i (entry_of_row r) k stands),
       )
+
+  pub list_any-rows : (p : SectionEntry T → Bool) (rows : List (Row T)) → list_any p (entries_of rows) ≡ list_any (λ r. p (entry_of_row r)) rows
+  list_any-rows p [] = refl
+  list_any-rows p (r ∷ rows) = ap (λ b. p (entry_of_row r) || b) (list_any-rows p rows)

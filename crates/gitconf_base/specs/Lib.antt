@@ -5,4 +5,5 @@ pub mod Memory
 pub mod Key
 pub mod Sections
 pub mod Rows
+pub mod SectionIters
 pub mod SectionLoan

@@ -81,9 +81,13 @@ with_names all at name subsection =
 abbrev pub sections_of : {T : Type 0} → Sections T → List (ℕ × T)
 sections_of all = map (λ e. (e.number, e.section)) all.entries
 
--- whether a section has the name, without ASCII case, and exactly the subsection
+-- whether a section has the name, without ASCII case
+abbrev pub has_name : {T : Type 0} → List ℕ → SectionEntry T → Bool
+has_name name e = bytes_eq e.name (str_to_ascii_lowercase name)
+
+-- whether a section has the name, and exactly the subsection
 abbrev pub is_named : {T : Type 0} → List ℕ → Option (List ℕ) → SectionEntry T → Bool
-is_named name subsection e = bytes_eq e.name (str_to_ascii_lowercase name) && option_eq bytes_eq e.subsection subsection
+is_named name subsection e = has_name name e && option_eq bytes_eq e.subsection subsection
 
 -- the numbers of the sections of a name and subsection, in file order
 abbrev pub ids : {T : Type 0} → List ℕ → Option (List ℕ) → Sections T → List ℕ

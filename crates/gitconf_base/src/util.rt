@@ -1,9 +1,12 @@
 ghost use Rattle.std.specs.Prelude.{◌≡◌, ◌+◌, ◌<◌, ◌==◌, ◌↔◌, [], find, length, position, IfOk, OnOk, OnErr, IsErrOf};
-ghost use Rattle.std.specs.Option.{option_copied, option_map};
-ghost use Rattle.std.specs.Str.{str_to_ascii_lowercase};
+ghost use Rattle.std.specs.Iterator.{item_count, YieldsFirst, YieldsFirstBy, YieldsLast, YieldsLastBy};
+ghost use Rattle.std.specs.List.{list_any};
+ghost use Rattle.std.specs.Option.{option_copied, option_eq, option_map};
+ghost use Rattle.std.specs.Str.{bytes_eq, str_to_ascii_lowercase};
 ghost use Rattle.std.specs.Borrow.{sem};
-ghost use Rattle.gitconf_base.specs.Sections.{entry_of, has_number, no_number, place_of, section_of, with_behind, with_last, with_names, without, IsItem, IsNumbered};
-ghost use Rattle.gitconf_base.specs.Rows.{entries_of, entry_of_row};
+ghost use Rattle.gitconf_base.specs.Sections.{entry_of, has_name, ids, is_named, no_number, place_of, section_of, sections_of, with_behind, with_last, with_names, without, IsItem, IsNumbered};
+ghost use Rattle.gitconf_base.specs.Rows.{entry_of_row};
+ghost use Rattle.gitconf_base.specs.SectionIters.{ids_left, sections_left, shown_section};
 
 use crate::memory::NoMemory;
 use std::alloc::{AllocError, AllocFailed, Global};
@@ -151,6 +154,32 @@ impl<T> SectionTable<T> {
     {
         let row = find(&self.rows, id)?;
         Some(&row.section)
+    }
+
+    /// The sections in file order, each as its number and what it holds.
+    pub fn iter(&self) -> SectionIter<'_, T>
+        ensures { sections_left result ≡ sections_of self.now }
+    {
+        SectionIter { rows: &self.rows }
+    }
+
+    /// The numbers of the sections of that name, without ASCII case, and exactly that subsection, in file
+    /// order. The walk takes no memory and passes each section once.
+    pub fn ids<'a>(&'a self, name: &'a str, subsection: Option<&'a [u8]>) -> Ids<'a, T>
+        ensures { ids_left result ≡ ids name.now (option_copied subsection.entry) self.now }
+    {
+        Ids {
+            rows: &self.rows,
+            name,
+            subsection,
+        }
+    }
+
+    /// Whether some section has that name, without ASCII case, and any subsection.
+    pub fn has_name(&self, name: &str) -> bool
+        ensures { result ≡ list_any (has_name name.now) self.now.entries }
+    {
+        any_has_name(&self.rows, name)
     }
 
     /// The number of the section at a place.
@@ -326,4 +355,114 @@ fn find<T>(rows: &[Row<T>], id: SectionId) -> Option<&Row<T>>
     ensures { option_copied result ≡ find (λ r. r.id == id) rows.now }
 {
     rows.iter().find(|row| row.id == id)
+}
+
+// Whether a row has the name, without ASCII case, and exactly the subsection.
+fn is_named<T>(row: &Row<T>, name: &str, subsection: Option<&[u8]>) -> bool
+    ensures { result ≡ is_named name.now (option_copied subsection.entry) (entry_of_row row.now) }
+{
+    is_folded(&row.name, name.as_bytes()) && same_subsection(&row.subsection, subsection)
+}
+
+// Whether some row has the name, without ASCII case.
+fn any_has_name<T>(rows: &[Row<T>], name: &str) -> bool
+    ensures { result ≡ list_any (λ r. has_name name.now (entry_of_row r)) rows.now }
+{
+    rows.iter().any(|row| is_folded(&row.name, name.as_bytes()))
+}
+
+// Whether the first is the second in ASCII lower case.
+fn is_folded(folded: &[u8], name: &[u8]) -> bool
+    ensures { result ≡ bytes_eq folded.now (str_to_ascii_lowercase name.now) }
+{
+    let (mut ours, mut asked) = (folded, name);
+    while let (Some((our, more)), Some((byte, rest))) = (ours.split_first(), asked.split_first()) {
+        if *our != byte.to_ascii_lowercase() {
+            return false;
+        }
+        ours = more;
+        asked = rest;
+    }
+    ours.is_empty() && asked.is_empty()
+}
+
+// Whether both are none, or the same bytes.
+fn same_subsection(ours: &Option<Vec<u8>>, asked: Option<&[u8]>) -> bool
+    ensures { result ≡ option_eq bytes_eq (option_map (λ s. s.items) ours.now) (option_copied asked.entry) }
+{
+    match (ours, asked) {
+        (None, None) => true,
+        (Some(ours), Some(asked)) => ours.as_slice() == asked,
+        _ => false,
+    }
+}
+
+/// The sections of a table in file order, from either end: [`SectionTable::iter`].
+#[derive(Drop)]
+pub struct SectionIter<'a, T> {
+    rows: &'a [Row<T>],
+}
+
+impl<'a, T> Iterator for SectionIter<'a, T> {
+    type Item = (SectionId, &'a T);
+
+    ghost next_gives = { YieldsFirstBy shown_section sections_left };
+
+    ghost remaining = { item_count sections_left };
+
+    fn next(&mut self) -> Option<(SectionId, &'a T)> {
+        let (row, rest) = self.rows.split_first()?;
+        self.rows = rest;
+        Some((row.id, &row.section))
+    }
+}
+
+impl<'a, T> DoubleEndedIterator for SectionIter<'a, T> {
+    ghost next_back_gives = { YieldsLastBy shown_section sections_left };
+
+    fn next_back(&mut self) -> Option<(SectionId, &'a T)> {
+        let (row, rest) = self.rows.split_last()?;
+        self.rows = rest;
+        Some((row.id, &row.section))
+    }
+}
+
+/// The numbers of the sections of a name and subsection in file order, from either end: [`SectionTable::ids`].
+#[derive(Drop)]
+pub struct Ids<'a, T> {
+    rows: &'a [Row<T>],
+    name: &'a str,
+    subsection: Option<&'a [u8]>,
+}
+
+impl<'a, T> Iterator for Ids<'a, T> {
+    type Item = SectionId;
+
+    ghost next_gives = { YieldsFirst ids_left };
+
+    ghost remaining = { item_count ids_left };
+
+    fn next(&mut self) -> Option<SectionId> {
+        while let Some((row, rest)) = self.rows.split_first() {
+            self.rows = rest;
+            if is_named(row, self.name, self.subsection) {
+                return Some(row.id);
+            }
+        }
+        None
+    }
+}
+
+impl<'a, T> DoubleEndedIterator for Ids<'a, T> {
+    ghost next_back_gives = { YieldsLast ids_left };
+
+    fn next_back(&mut self) -> Option<SectionId> {
+        while let Some((row, rest)) = self.rows.split_last() {
+            self.rows = rest;
+            if is_named(row, self.name, self.subsection) {
+                return Some(row.id);
+            }
+        }
+        None
+    }
 }
