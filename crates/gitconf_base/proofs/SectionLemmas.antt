@@ -1,5 +1,5 @@
 -- Numbered sections under the edits of a table, and the rows that hold them.
-use Rattle.std.proofs.Common.{◌≡◌, ℕ, zero, suc, ◌+◌, ◌≤◌, ◌<◌, ◌==◌, Bool, true, false, not, cond, nat_lt, List, [], ◌∷◌, ◌++◌, length, take, drop, get_or, subst, eqb-true, set, filter, find, position, insert, remove, Option, Some, None, refl, ap, sym, ◌∙◌, arith}
+use Rattle.std.proofs.Common.{◌≡◌, ℕ, zero, suc, ◌+◌, ◌≤◌, ◌<◌, ◌==◌, Bool, true, false, not, cond, nat_lt, List, [], ◌∷◌, ◌++◌, length, take, drop, get_or, subst, eqb-true, set, map, filter, find, position, insert, remove, Option, Some, None, refl, ap, sym, ◌∙◌, arith}
 use Rattle.std.specs.Prelude.{◌||◌}
 use Rattle.std.specs.Option.{option_map}
 use Rattle.std.specs.List.{AllByRecursion, list_any, position_or_len, slice_get}
@@ -9,11 +9,12 @@ use Rattle.std.proofs.lemmas.List.{map-append, length-map, take-map, drop-map, t
 use Rattle.std.proofs.lemmas.List.Quantifiers.{position-Some}
 use Rattle.std.specs.declared.vec.Vec.{Vec}
 use Rattle.std.specs.declared.alloc.Global.{Global}
+use Rattle.std.proofs.lemmas.List.Filters.{length-filter_both}
 use Rattle.std.proofs.lemmas.List.Folds.{find_at}
 use Rattle.std.proofs.lemmas.Option.{slice_get_read}
 use Rattle.std.proofs.Math.ListN.{get_or-map}
 use Rattle.gitconf_base.specs.declared.util.Row.{Row}
-use Rattle.gitconf_base.specs.Sections.{SectionEntry, Sections, AreNumbered, IsItem, has_number, changed_at}
+use Rattle.gitconf_base.specs.Sections.{SectionEntry, Sections, AreNumbered, changed_at, edited_at, has_number, section_at, with_section}
 use Rattle.gitconf_base.specs.Rows.{entry_of_row, entries_of}
 
 -- a number below another is another
@@ -22,6 +23,9 @@ below_differs a n h = grind (arith, nat_tests)
 
 above_differs : (a n : ℕ) → a < n → (n == a) ≡ false
 above_differs a n h = grind (arith, nat_tests)
+
+pub below_by : (a b d n : ℕ) → a ≤ b → b ≡ d → d < n → a < n
+below_by a b d n l e h = omega arith
 
 not_placed : (b : Bool) (n : ℕ) → cond b (Some n) None ≡ None → b ≡ false
 not_placed true n e = absurd (cc)
@@ -109,11 +113,11 @@ module _ {T : Type 0} where
   abbrev pub tables : ℕ → List (SectionEntry T) → Sections T
   tables next entries = record { entries = entries; next = next }
 
-  -- what holds of a row holds of its entry
-  pub item_of : (P : SectionEntry T → Type 0) (rows : List (Row T)) (i : ℕ) (r : Row T) → r ≡ get_or rows i r → P (entry_of_row r) → IsItem (entries_of rows) i P
-  item_of P [] i r is h = tt
-  item_of P (x ∷ rows) zero r is h = subst (λ (y : Row T). P (entry_of_row y)) is h
-  item_of P (x ∷ rows) (suc i) r is h = item_of P rows i r is h
+  -- the entry at a place is that of the row there
+  pub entry_at : (rows : List (Row T)) (i : ℕ) (r : Row T) → i < length (entries_of rows) → r ≡ get_or rows i r → slice_get (entries_of rows) i ≡ Some (entry_of_row r)
+  entry_at [] i r within is = absurd (omega (arith, within))
+  entry_at (x ∷ rows) zero r within is = ap (λ (y : Row T). Some (entry_of_row y)) (sym is)
+  entry_at (x ∷ rows) (suc i) r within is = entry_at rows i r (omega (arith, within)) is
 
   -- a row that is put between others is an entry that is put there
   pub entries_of-insert : (rows : List (Row T)) (i : ℕ) (r : Row T) → entries_of (insert rows i r) ≡ insert (entries_of rows) i (entry_of_row r)
@@ -222,3 +226,18 @@ module _ {T : Type 0} where
   pub list_any-rows : (p : SectionEntry T → Bool) (rows : List (Row T)) → list_any p (entries_of rows) ≡ list_any (λ r. p (entry_of_row r)) rows
   list_any-rows p [] = refl
   list_any-rows p (r ∷ rows) = ap (λ b. p (entry_of_row r) || b) (list_any-rows p rows)
+
+  section_set : (f : T → T) (es : List (SectionEntry T)) (at : ℕ) (s w : T) → option_map (λ (e : SectionEntry T). e.section) (slice_get es at) ≡ Some s → w ≡ f s → changed_at (λ e. record e { section = w }) es at ≡ changed_at (λ e. record e { section = f e.section }) es at
+  section_set f [] at s w h e = refl
+  section_set f (x ∷ es) zero s w h e =
+      let same : x.section ≡ s = cc in
+      ap (λ (v : T). record x { section = v } ∷ es) (e ∙ ap f (sym same))
+  section_set f (x ∷ es) (suc at) s w h e = ap (λ (ys : List (SectionEntry T)). x ∷ ys) (section_set f es at s w h e)
+
+  -- a section that was lent and left as f of what it held: for the callers of `at_mut`
+  pub section_edited : (f : T → T) (all : Sections T) (at : ℕ) (s w : T) → section_at at all ≡ Some s → w ≡ f s → with_section all at w ≡ edited_at f at all
+  section_edited f all at s w h e = ap (tables all.next) (section_set f all.entries at s w h e)
+
+  -- a walk by name has no more items than the table
+  pub length-named : (p : SectionEntry T → Bool) (es : List (SectionEntry T)) → length (map (λ (e : SectionEntry T). e.number) (filter p es)) ≤ length es
+  length-named p es = rw length-map (omega (arith, length-filter_both p (λ e. not (p e)) (λ e. refl) es))

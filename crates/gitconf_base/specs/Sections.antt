@@ -1,8 +1,10 @@
 -- The sections of a file as a plain list in file order.
-use Rattle.std.specs.Prelude.{◌≡◌, ℕ, ◌+◌, ◌<◌, ◌≤◌, Bool, false, not, ◌==◌, ◌&&◌, List, [], ◌∷◌, ◌++◌, Option, map, filter, find, position, insert, zero, suc, slice_get, IfSome}
+use Rattle.std.specs.Prelude.{◌≡◌, ℕ, ◌+◌, ◌<◌, ◌≤◌, Bool, false, not, ◌==◌, ◌&&◌, List, [], ◌∷◌, ◌++◌, Option, map, filter, find, position, insert, zero, suc, slice_get}
 use Rattle.std.specs.Option.{option_eq, option_map}
 use Rattle.std.specs.List.{AllByRecursion}
 use Rattle.std.specs.Str.{bytes_eq, str_to_ascii_lowercase}
+use Rattle.gitconf_base.specs.declared.util.TableError.{TableError}
+use Rattle.gitconf_base.specs.declared.util.TableError.TheVariants.{NumbersUsedUp, Memory}
 
 -- a section of the list: its number, its name in lower case, its subsection, and what it holds
 pub record SectionEntry (T : Type 0) : Type 0 where
@@ -58,9 +60,13 @@ section_of id all = option_map (λ e. e.section) (find (has_number id) all.entri
 abbrev pub without : {T : Type 0} → ℕ → Sections T → Sections T
 without id all = record all { entries = filter (λ e. not (has_number id e)) all.entries }
 
--- P holds of the section at a place
-abbrev pub IsItem : {T : Type 0} → List (SectionEntry T) → ℕ → (SectionEntry T → Type 0) → Type 0
-IsItem entries at P = IfSome (slice_get entries at) P
+-- the number of the section at a place
+abbrev pub number_at : {T : Type 0} → ℕ → Sections T → Option ℕ
+number_at at all = option_map (λ e. e.number) (slice_get all.entries at)
+
+-- what the section at a place holds
+abbrev pub section_at : {T : Type 0} → ℕ → Sections T → Option T
+section_at at all = option_map (λ e. e.section) (slice_get all.entries at)
 
 -- the list with a change of the section at a place
 abbrev pub changed_at : {T : Type 0} → (SectionEntry T → SectionEntry T) → List (SectionEntry T) → ℕ → List (SectionEntry T)
@@ -71,6 +77,10 @@ changed_at f (e ∷ es) (suc at) = e ∷ changed_at f es at
 -- the table with another content of the section at a place
 abbrev pub with_section : {T : Type 0} → Sections T → ℕ → T → Sections T
 with_section all at section = record all { entries = changed_at (λ e. record e { section = section }) all.entries at }
+
+-- the table with a change of what the section at a place holds
+abbrev pub edited_at : {T : Type 0} → (T → T) → ℕ → Sections T → Sections T
+edited_at f at all = record all { entries = changed_at (λ e. record e { section = f e.section }) all.entries at }
 
 -- the table with other names of the section at a place
 abbrev pub with_names : {T : Type 0} → Sections T → ℕ → List ℕ → Option (List ℕ) → Sections T
@@ -92,3 +102,8 @@ is_named name subsection e = has_name name e && option_eq bytes_eq e.subsection 
 -- the numbers of the sections of a name and subsection, in file order
 abbrev pub ids : {T : Type 0} → List ℕ → Option (List ℕ) → Sections T → List ℕ
 ids name subsection all = map (λ e. e.number) (filter (is_named name subsection) all.entries)
+
+-- the number of a refusal
+abbrev pub error_number : TableError → ℕ
+error_number NumbersUsedUp = 3
+error_number Memory = 27

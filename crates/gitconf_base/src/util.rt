@@ -1,10 +1,10 @@
-ghost use Rattle.std.specs.Prelude.{◌≡◌, ◌+◌, ◌<◌, ◌==◌, ◌↔◌, [], find, length, position, IfOk, OnOk, OnErr, IsErrOf};
+ghost use Rattle.std.specs.Prelude.{◌≡◌, ◌+◌, ◌^◌, ◌<◌, ◌==◌, ◌↔◌, [], find, length, position, IfOk, IfSome, OnOk, OnErr, IsErrOf};
 ghost use Rattle.std.specs.Iterator.{item_count, YieldsFirst, YieldsFirstBy, YieldsLast, YieldsLastBy};
 ghost use Rattle.std.specs.List.{list_any};
 ghost use Rattle.std.specs.Option.{option_copied, option_eq, option_map};
 ghost use Rattle.std.specs.Str.{bytes_eq, str_to_ascii_lowercase};
 ghost use Rattle.std.specs.Borrow.{sem};
-ghost use Rattle.gitconf_base.specs.Sections.{entry_of, has_name, ids, is_named, no_number, place_of, section_of, sections_of, with_behind, with_last, with_names, without, IsItem, IsNumbered};
+ghost use Rattle.gitconf_base.specs.Sections.{entry_of, has_name, ids, is_named, no_number, number_at, place_of, section_at, section_of, sections_of, with_behind, with_last, with_names, without, IsNumbered};
 ghost use Rattle.gitconf_base.specs.Rows.{entry_of_row};
 ghost use Rattle.gitconf_base.specs.SectionIters.{ids_left, sections_left, shown_section};
 
@@ -48,6 +48,20 @@ pub enum TableError {
     /// There was no memory.
     #[error("memory ran out")]
     Memory,
+}
+
+impl TableError {
+    ghost use Rattle.gitconf_base.specs.Sections.{error_number};
+
+    /// The number under which the program prints this refusal: 3 or 27.
+    pub fn number(&self) -> u8
+        ensures { result ≡ error_number self.now }
+    {
+        match self {
+            TableError::NumbersUsedUp => 3,
+            TableError::Memory => 27,
+        }
+    }
 }
 
 impl From<AllocError> for TableError {
@@ -143,7 +157,8 @@ impl<T> SectionTable<T> {
 
     /// The place of a section in file order, or `None` where none has that number. Takes a walk over the sections.
     pub fn position(&self, id: SectionId) -> Option<usize>
-        ensures { result ≡ place_of id self.now }
+        ensures place { result ≡ place_of id self.now }
+        ensures within { IfSome result (λ at. at < length self.now.entries) }
     {
         position(&self.rows, id)
     }
@@ -158,15 +173,21 @@ impl<T> SectionTable<T> {
 
     /// The sections in file order, each as its number and what it holds.
     pub fn iter(&self) -> SectionIter<'_, T>
-        ensures { sections_left result ≡ sections_of self.now }
+        ensures left { sections_left result ≡ sections_of self.now }
+        ensures fits { length (sections_left result) < 2 ^ 64 }
     {
         SectionIter { rows: &self.rows }
     }
 
     /// The numbers of the sections of that name, without ASCII case, and exactly that subsection, in file
     /// order. The walk takes no memory and passes each section once.
-    pub fn ids<'a>(&'a self, name: &'a str, subsection: Option<&'a [u8]>) -> Ids<'a, T>
-        ensures { ids_left result ≡ ids name.now (option_copied subsection.entry) self.now }
+    pub fn ids<'a, 'n, 's>(
+        &'a self,
+        name: &'n str,
+        subsection: Option<&'s [u8]>,
+    ) -> Ids<'a, 'n, 's, T>
+        ensures left { ids_left result ≡ ids name.now (option_copied subsection.entry) self.now }
+        ensures fits { length (ids_left result) < 2 ^ 64 }
     {
         Ids {
             rows: &self.rows,
@@ -185,7 +206,7 @@ impl<T> SectionTable<T> {
     /// The number of the section at a place.
     pub fn id_at(&self, position: usize) -> SectionId
         requires { position < length self.now.entries }
-        ensures { IsItem self.now.entries position (λ e. result ≡ e.number) }
+        ensures { number_at position self.now ≡ Some result }
     {
         let row = &self.rows[position];
         row.id
@@ -194,7 +215,7 @@ impl<T> SectionTable<T> {
     /// What the section at a place holds.
     pub fn at(&self, position: usize) -> &T
         requires { position < length self.now.entries }
-        ensures { IsItem self.now.entries position (λ e. result.now ≡ e.section) }
+        ensures { section_at position self.now ≡ Some result.now }
     {
         let row = &self.rows[position];
         &row.section
@@ -204,7 +225,7 @@ impl<T> SectionTable<T> {
     pub fn at_mut(&mut self, position: usize) -> &mut T
         requires { position < length self.old.entries }
         ensures* writes_back { sem 𝓛 (LendsSection T.row self.entry position result) }
-        ensures value { IsItem self.old.entries position (λ e. result.now ≡ e.section) }
+        ensures value { section_at position self.old ≡ Some result.now }
     {
         let row = &mut self.rows[position];
         &mut row.section
@@ -429,13 +450,13 @@ impl<'a, T> DoubleEndedIterator for SectionIter<'a, T> {
 
 /// The numbers of the sections of a name and subsection in file order, from either end: [`SectionTable::ids`].
 #[derive(Drop)]
-pub struct Ids<'a, T> {
+pub struct Ids<'a, 'n, 's, T> {
     rows: &'a [Row<T>],
-    name: &'a str,
-    subsection: Option<&'a [u8]>,
+    name: &'n str,
+    subsection: Option<&'s [u8]>,
 }
 
-impl<'a, T> Iterator for Ids<'a, T> {
+impl<T> Iterator for Ids<'_, '_, '_, T> {
     type Item = SectionId;
 
     ghost next_gives = { YieldsFirst ids_left };
@@ -453,7 +474,7 @@ impl<'a, T> Iterator for Ids<'a, T> {
     }
 }
 
-impl<'a, T> DoubleEndedIterator for Ids<'a, T> {
+impl<T> DoubleEndedIterator for Ids<'_, '_, '_, T> {
     ghost next_back_gives = { YieldsLast ids_left };
 
     fn next_back(&mut self) -> Option<SectionId> {
