@@ -1,5 +1,5 @@
 -- Numbered sections under the edits of a table, and the rows that hold them.
-use Rattle.std.proofs.Common.{◌≡◌, ℕ, zero, suc, ◌+◌, ◌≤◌, ◌<◌, ◌==◌, Bool, true, false, not, cond, nat_lt, List, [], ◌∷◌, ◌++◌, length, take, drop, get_or, subst, eqb-true, set, map, filter, find, position, insert, remove, Option, Some, None, refl, ap, sym, ◌∙◌, arith}
+use Rattle.std.proofs.Common.{◌≡◌, ℕ, zero, suc, ◌+◌, ◌≤◌, ◌<◌, ◌==◌, Bool, true, false, not, cond, nat_lt, List, [], ◌∷◌, ◌++◌, length, take, drop, get_or, subst, eqb-true, set, map, filter, find, position, insert, remove, Option, Some, None, refl, ap, sym, ◌∙◌, append_assoc, add-one, add-zero, arith}
 use Rattle.std.specs.Prelude.{◌||◌}
 use Rattle.std.specs.Option.{option_map}
 use Rattle.std.specs.List.{AllByRecursion, list_any, position_or_len, slice_get}
@@ -14,7 +14,7 @@ use Rattle.std.proofs.lemmas.List.Folds.{find_at}
 use Rattle.std.proofs.lemmas.Option.{slice_get_read}
 use Rattle.std.proofs.Math.ListN.{get_or-map}
 use Rattle.gitconf_base.specs.declared.util.Row.{Row}
-use Rattle.gitconf_base.specs.Sections.{SectionEntry, Sections, AreNumbered, changed_at, edited_at, has_number, section_at, with_section}
+use Rattle.gitconf_base.specs.Sections.{SectionEntry, Sections, AreNumbered, changed_at, edited_at, has_number, numbered_from, section_at, with_section}
 use Rattle.gitconf_base.specs.Rows.{entry_of_row, entries_of}
 
 -- a number below another is another
@@ -241,3 +241,65 @@ module _ {T : Type 0} where
   -- a walk by name has no more items than the table
   pub length-named : (p : SectionEntry T → Bool) (es : List (SectionEntry T)) → length (map (λ (e : SectionEntry T). e.number) (filter p es)) ≤ length es
   length-named p es = rw length-map (omega (arith, length-filter_both p (λ e. not (p e)) (λ e. refl) es))
+
+  -- the first n rows under the numbers from `next` on
+  abbrev pub numbered_until : ℕ → ℕ → List (Row T) → List (Row T)
+  numbered_until zero next rows = rows
+  numbered_until (suc n) next [] = []
+  numbered_until (suc n) next (r ∷ rows) = record r { id = next } ∷ numbered_until n (next + 1) rows
+
+  until_more : (n next m : ℕ) (rows : List (Row T)) (r : Row T) → m ≡ next + n → n < length rows → r ≡ get_or (numbered_until n next rows) n r → set (numbered_until n next rows) n (record r { id = m }) ≡ numbered_until (suc n) next rows
+  until_more zero next m [] r e h is = absurd (omega (arith, h))
+  until_more zero next m (x ∷ rows) r e h is =
+      let same : m ≡ next = omega (arith, e) in
+      λ j. record { id = same j; name = (is j).name; subsection = (is j).subsection; section = (is j).section } ∷ rows
+  until_more (suc n) next m [] r e h is = absurd (omega (arith, h))
+  until_more (suc n) next m (x ∷ rows) r e h is =
+      ap (λ (ys : List (Row T)). record x { id = next } ∷ ys) (until_more n (next + 1) m rows r (omega (arith, e)) (omega (arith, h)) is)
+
+  -- one row more has its number
+  pub until_next : (n next m : ℕ) (rows : List (Row T)) (r : Row T) → m ≡ next + n → n < length rows → r ≡ get_or (numbered_until n next rows) n r → set (numbered_until n next rows) n (record r { id = m }) ≡ numbered_until (n + 1) next rows
+  until_next n next m rows r e h is = rw add-one (until_more n next m rows r e h is)
+
+  -- all rows have theirs
+  pub until_all : (next : ℕ) (rows : List (Row T)) → entries_of (numbered_until (length rows) next rows) ≡ numbered_from next (entries_of rows)
+  until_all next [] = refl
+  until_all next (r ∷ rows) = ap (λ (ys : List (SectionEntry T)). record (entry_of_row r) { number = next } ∷ ys) (until_all (next + 1) rows)
+
+  pub length-until : (n next : ℕ) (rows : List (Row T)) → length (numbered_until n next rows) ≡ length rows
+  length-until zero next rows = refl
+  length-until (suc n) next [] = refl
+  length-until (suc n) next (r ∷ rows) = ap suc (length-until n (next + 1) rows)
+
+  -- sections that are put between others get the next numbers
+  pub all_numbered : (next : ℕ) (a fs b : List (SectionEntry T)) → AreNumbered next (a ++ b) → AreNumbered (next + length fs) (a ++ numbered_from next fs ++ b)
+  all_numbered next a [] b k = rw (append-nil, add-zero) k
+  all_numbered next a (f ∷ fs) b k =
+      let e : SectionEntry T = record f { number = next } in
+      let put : AreNumbered (next + 1) ((a ++ e ∷ []) ++ b) = rw append_assoc (put_numbered next a b e refl k) in
+      let more : AreNumbered (next + 1 + length fs) ((a ++ e ∷ []) ++ numbered_from (next + 1) fs ++ b) = all_numbered (next + 1) (a ++ e ∷ []) fs b put in
+      let lists : a ++ (e ∷ numbered_from (next + 1) fs) ≡ (a ++ e ∷ []) ++ numbered_from (next + 1) fs = sym (append_assoc a (e ∷ []) (numbered_from (next + 1) fs)) in
+      let sums : next + length (f ∷ fs) ≡ next + 1 + length fs = omega arith in
+      rw (sums, lists) more
+
+  pub all_put_numbered : (next at : ℕ) (es fs : List (SectionEntry T)) → AreNumbered next es → AreNumbered (next + length fs) (take at es ++ numbered_from next fs ++ drop at es)
+  all_put_numbered next at es fs k = all_numbered next (take at es) fs (drop at es) (rw take-append-drop k)
+
+  -- the rows that are put between others, as entries
+  pub entries_of-put : (at : ℕ) (rows added : List (Row T)) → entries_of (take at rows ++ added ++ drop at rows) ≡ take at (entries_of rows) ++ entries_of added ++ drop at (entries_of rows)
+  entries_of-put at rows added =
+      map-append entry_of_row (take at rows ++ added) (drop at rows)
+      ∙ (λ j. map-append entry_of_row (take at rows) added j ++ sym (drop-map entry_of_row at rows) j)
+      ∙ (λ j. sym (take-map entry_of_row at rows) j ++ entries_of added ++ drop at (entries_of rows))
+
+  -- a pass of the loop that gives numbers
+  pub renumbered_next : (n next m : ℕ) (before rows : List (Row T)) (r : Row T) → rows ≡ numbered_until n next before → m ≡ next + n → n < length before → r ≡ get_or rows n r → set rows n (record r { id = m }) ≡ numbered_until (n + 1) next before
+  renumbered_next n next m before rows r e sum within is =
+      ap (λ (ys : List (Row T)). set ys n (record r { id = m })) e
+      ∙ until_next n next m before r sum within (is ∙ ap (λ (ys : List (Row T)). get_or ys n r) e)
+
+  -- rows that got numbers and were put between others, as entries
+  pub put_all : (at next : ℕ) (rows added more new : List (Row T)) → new ≡ take at rows ++ more ++ drop at rows → entries_of more ≡ numbered_from next (entries_of added) → entries_of new ≡ take at (entries_of rows) ++ numbered_from next (entries_of added) ++ drop at (entries_of rows)
+  put_all at next rows added more new e numbers =
+      ap entries_of e ∙ entries_of-put at rows more
+      ∙ ap (λ (ys : List (SectionEntry T)). take at (entries_of rows) ++ ys ++ drop at (entries_of rows)) numbers

@@ -1,6 +1,6 @@
 -- Keys such as `core.editor` and `remote.origin.url`, as git-config's manual page describes them: the
 -- section up to the first dot, the name behind the last one, the subsection between.
-use Rattle.std.specs.Prelude.{ℕ, ◌+◌, ◌-◌, Bool, ◌==◌, ◌&&◌, not, nat_lt, if◌then◌else◌, List, [], length, take, drop, slice_range, position, Option, Some, None}
+use Rattle.std.specs.Prelude.{◌≡◌, ℕ, ◌+◌, ◌-◌, Bool, ◌==◌, ◌&&◌, not, nat_lt, if◌then◌else◌, List, [], length, take, drop, slice_range, position, Option, Some, None, IsSome}
 use Rattle.std.specs.Option.{option_map, option_and_then, unwrap_or}
 use Rattle.std.specs.List.{suffix_len}
 use Rattle.std.specs.Str.{is_utf8}
@@ -42,3 +42,8 @@ parsed_key bytes = option_and_then (λ first. key_cut bytes first (behind_last_d
 -- the key, where there is one
 abbrev pub the_key : Option Key → Key
 the_key key = unwrap_or key (record { section = []; subsection = None; name = [] })
+
+-- the answer of `as_key` is that of `try_as_key`, at each value that has a key
+abbrev pub AnswersAgree : {K : Type 0} → (K → Option Key) → Type 0
+AnswersAgree {K} key =
+    (k : K) (sure : KeyRef) (tried : Option KeyRef) → IsSome (key k) → key_of sure ≡ the_key (key k) → option_map key_of tried ≡ key k → option_map key_of tried ≡ Some (key_of sure)

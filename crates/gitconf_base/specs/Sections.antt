@@ -1,5 +1,5 @@
 -- The sections of a file as a plain list in file order.
-use Rattle.std.specs.Prelude.{◌≡◌, ℕ, ◌+◌, ◌<◌, ◌≤◌, Bool, false, not, ◌==◌, ◌&&◌, List, [], ◌∷◌, ◌++◌, Option, map, filter, find, position, insert, zero, suc, slice_get}
+use Rattle.std.specs.Prelude.{◌≡◌, ℕ, ◌+◌, ◌<◌, ◌≤◌, Bool, false, not, ◌==◌, ◌&&◌, List, [], ◌∷◌, ◌++◌, length, take, drop, Option, map, filter, find, position, insert, zero, suc, slice_get}
 use Rattle.std.specs.Option.{option_eq, option_map}
 use Rattle.std.specs.List.{AllByRecursion}
 use Rattle.std.specs.Str.{bytes_eq, str_to_ascii_lowercase}
@@ -43,6 +43,16 @@ with_last name subsection section all = record { entries = all.entries ++ entry_
 -- the list with a new section behind the one at a place
 abbrev pub with_behind : {T : Type 0} → ℕ → List ℕ → Option (List ℕ) → T → Sections T → Sections T
 with_behind at name subsection section all = record { entries = insert all.entries (at + 1) (entry_of all.next name subsection section); next = all.next + 1 }
+
+-- the sections under the numbers from `next` on
+abbrev pub numbered_from : {T : Type 0} → ℕ → List (SectionEntry T) → List (SectionEntry T)
+numbered_from next [] = []
+numbered_from next (e ∷ es) = record e { number = next } ∷ numbered_from (next + 1) es
+
+-- the list with all sections of another one behind the first ones, under the next numbers
+abbrev pub with_all : {T : Type 0} → ℕ → Sections T → Sections T → Sections T
+with_all at other all =
+    record { entries = take at all.entries ++ numbered_from all.next other.entries ++ drop at all.entries; next = all.next + length other.entries }
 
 -- whether a section has the number
 abbrev pub has_number : {T : Type 0} → ℕ → SectionEntry T → Bool

@@ -1,11 +1,11 @@
-ghost use Rattle.std.specs.Prelude.{◌≡◌, ◌+◌, ◌^◌, ◌<◌, ◌==◌, ◌↔◌, [], find, length, position, IfOk, IfSome, OnOk, OnErr, IsErrOf};
+ghost use Rattle.std.specs.Prelude.{◌≡◌, ◌+◌, ◌^◌, ◌<◌, ◌≤◌, ◌==◌, ◌↔◌, [], ◌++◌, drop, find, length, position, take, vec_len, IfOk, IfSome, OnOk, OnErr, IsErrOf};
 ghost use Rattle.std.specs.Iterator.{item_count, YieldsFirst, YieldsFirstBy, YieldsLast, YieldsLastBy};
 ghost use Rattle.std.specs.List.{list_any};
 ghost use Rattle.std.specs.Option.{option_copied, option_eq, option_map};
 ghost use Rattle.std.specs.Str.{bytes_eq, str_to_ascii_lowercase};
 ghost use Rattle.std.specs.Borrow.{sem};
-ghost use Rattle.gitconf_base.specs.Sections.{entry_of, has_name, ids, is_named, no_number, number_at, place_of, section_at, section_of, sections_of, with_behind, with_last, with_names, without, IsNumbered};
-ghost use Rattle.gitconf_base.specs.Rows.{entry_of_row};
+ghost use Rattle.gitconf_base.specs.Sections.{entry_of, has_name, ids, is_named, no_number, number_at, numbered_from, place_of, section_at, section_of, sections_of, with_all, with_behind, with_last, with_names, without, IsNumbered};
+ghost use Rattle.gitconf_base.specs.Rows.{entries_of, entry_of_row};
 ghost use Rattle.gitconf_base.specs.SectionIters.{ids_left, sections_left, shown_section};
 
 use crate::memory::NoMemory;
@@ -289,6 +289,33 @@ impl<T> SectionTable<T> {
         Ok(id)
     }
 
+    /// Puts all sections of another table behind the first `position` ones, in their order and under the next
+    /// numbers. Their names and what they hold are moved. Takes memory for the places, and moves what stands behind.
+    ///
+    /// Errors: [`TableError::NumbersUsedUp`] where fewer numbers are left than the other has sections, and
+    /// [`TableError::Memory`]. The table then is as it was, and the other is dropped.
+    pub fn insert_all(&mut self, position: usize, other: SectionTable<T>) -> Result<(), TableError>
+    where
+        T: Drop,
+        requires { position ≤ length self.old.entries }
+        ensures ok { OnOk result (self.new ≡ with_all position other self.old) }
+        ensures used_up { IsErrOf result TableError.NumbersUsedUp ↔ (no_number < self.old.next + length other.entries) }
+        ensures err { OnErr result (self.new ≡ self.old) }
+    {
+        let count = other.rows.len();
+        if usize::MAX - self.next < count {
+            return Err(TableError::NumbersUsedUp);
+        }
+        let SectionTable {
+            rows: mut added,
+            next: _,
+        } = other;
+        renumber(&mut added, self.next);
+        put_rows(&mut self.rows, position, &mut added)?;
+        self.next += count;
+        Ok(())
+    }
+
     /// Takes the section of that number out, and answers what it held, or `None` where none has it. Its number
     /// is not given again. Takes a walk over the sections.
     pub fn remove(&mut self, id: SectionId) -> Option<T>
@@ -376,6 +403,38 @@ fn find<T>(rows: &[Row<T>], id: SectionId) -> Option<&Row<T>>
     ensures { option_copied result ≡ find (λ r. r.id == id) rows.now }
 {
     rows.iter().find(|row| row.id == id)
+}
+
+// Gives the rows the numbers from `next` on.
+fn renumber<T>(rows: &mut Vec<Row<T>>, next: usize)
+    requires { next + vec_len rows.old ≤ no_number }
+    ensures { entries_of rows.new.items ≡ numbered_from next (entries_of rows.old.items) }
+{
+    for at in 0..rows.len() {
+        let row = &mut rows[at];
+        row.id = SectionId { number: next + at };
+    }
+}
+
+// Moves the added rows behind the first `at` ones; for want of memory nothing is moved.
+fn put_rows<T>(rows: &mut Vec<Row<T>>, at: usize, added: &mut Vec<Row<T>>) -> Result<(), AllocError>
+    requires { at ≤ vec_len rows.old }
+    ensures ok { OnOk result (rows.new.items ≡ take at rows.old.items ++ added.old.items ++ drop at rows.old.items) }
+    ensures err { OnErr result (rows.new.items ≡ rows.old.items) }
+{
+    let behind = rows.len() - at;
+    rows.append(added)?;
+    rotate_tail(rows, at, behind);
+    Ok(())
+}
+
+// Moves the first `count` rows from `at` on to the end.
+fn rotate_tail<T>(rows: &mut [Row<T>], at: usize, count: usize)
+    requires { at + count ≤ length rows.old }
+    ensures { rows.new ≡ take at rows.old ++ (drop count (drop at rows.old) ++ take count (drop at rows.old)) }
+{
+    let (_, tail) = rows.split_at_mut(at);
+    tail.rotate_left(count);
 }
 
 // Whether a row has the name, without ASCII case, and exactly the subsection.
