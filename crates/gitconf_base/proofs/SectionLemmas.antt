@@ -11,10 +11,10 @@ use Rattle.std.specs.declared.vec.Vec.{Vec}
 use Rattle.std.specs.declared.alloc.Global.{Global}
 use Rattle.std.proofs.lemmas.List.Filters.{length-filter_both}
 use Rattle.std.proofs.lemmas.List.Folds.{find_at}
-use Rattle.std.proofs.lemmas.Option.{slice_get_read}
+use Rattle.std.proofs.lemmas.Option.{slice_get_read, slice_get-get_or}
 use Rattle.std.proofs.Math.ListN.{get_or-map}
 use Rattle.gitconf_base.specs.declared.util.Row.{Row}
-use Rattle.gitconf_base.specs.Sections.{SectionEntry, Sections, AreNumbered, changed_at, edited_at, has_number, numbered_from, section_at, with_section}
+use Rattle.gitconf_base.specs.Sections.{SectionEntry, Sections, AreNumbered, changed_at, edited_at, has_number, numbered_from, number_at, place_of, section_at, section_of, with_section}
 use Rattle.gitconf_base.specs.Rows.{entry_of_row, entries_of}
 
 -- a number below another is another
@@ -238,6 +238,9 @@ module _ {T : Type 0} where
   pub section_edited : (f : T → T) (all : Sections T) (at : ℕ) (s w : T) → section_at at all ≡ Some s → w ≡ f s → with_section all at w ≡ edited_at f at all
   section_edited f all at s w h e = ap (tables all.next) (section_set f all.entries at s w h e)
 
+  abbrev pub shown : SectionEntry T → ℕ × T
+  shown e = (e.number, e.section)
+
   -- a walk by name has no more items than the table
   pub length-named : (p : SectionEntry T → Bool) (es : List (SectionEntry T)) → length (map (λ (e : SectionEntry T). e.number) (filter p es)) ≤ length es
   length-named p es = rw length-map (omega (arith, length-filter_both p (λ e. not (p e)) (λ e. refl) es))
@@ -303,3 +306,20 @@ module _ {T : Type 0} where
   put_all at next rows added more new e numbers =
       ap entries_of e ∙ entries_of-put at rows more
       ∙ ap (λ (ys : List (SectionEntry T)). take at (entries_of rows) ++ ys ++ drop at (entries_of rows)) numbers
+
+  pub length-shown : (p : SectionEntry T → Bool) (es : List (SectionEntry T)) → length (map shown (filter p es)) ≤ length es
+  length-shown p es = rw length-map (omega (arith, length-filter_both p (λ e. not (p e)) (λ e. refl) es))
+
+  -- at its place stands the section of a number: for callers that know a place
+  pub section_of-place : (id : ℕ) (all : Sections T) (at : ℕ) → place_of id all ≡ Some at → section_of id all ≡ section_at at all
+  section_of-place id all at h =
+      ap (option_map (λ (e : SectionEntry T). e.section)) (find_at (has_number id) all.entries ∙ ap (slice_get all.entries) (placed _ _ _ h))
+
+  its_number : (id : ℕ) (es : List (SectionEntry T)) (at : ℕ) → position (has_number id) es ≡ Some at → option_map (λ (e : SectionEntry T). e.number) (slice_get es at) ≡ Some id
+  its_number id [] at h = absurd (cc)
+  its_number id (e ∷ es) at h =
+      let facts = position-Some (has_number id) (e ∷ es) at e h in
+      rw (slice_get-get_or (e ∷ es) at e facts.0) (ap (λ (n : ℕ). Some n) (eqb-true _ id facts.1))
+
+  pub number_at-place : (id : ℕ) (all : Sections T) (at : ℕ) → place_of id all ≡ Some at → number_at at all ≡ Some id
+  number_at-place id all at h = its_number id all.entries at h

@@ -113,6 +113,14 @@ is_named name subsection e = has_name name e && option_eq bytes_eq e.subsection 
 abbrev pub ids : {T : Type 0} → List ℕ → Option (List ℕ) → Sections T → List ℕ
 ids name subsection all = map (λ e. e.number) (filter (is_named name subsection) all.entries)
 
+-- the sections of a name and subsection, in file order
+abbrev pub named : {T : Type 0} → List ℕ → Option (List ℕ) → Sections T → List (ℕ × T)
+named name subsection all = map (λ e. (e.number, e.section)) (filter (is_named name subsection) all.entries)
+
+-- the sections of a name and any subsection, in file order
+abbrev pub all_named : {T : Type 0} → List ℕ → Sections T → List (ℕ × T)
+all_named name all = map (λ e. (e.number, e.section)) (filter (has_name name) all.entries)
+
 -- the number of a refusal
 abbrev pub error_number : TableError → ℕ
 error_number NumbersUsedUp = 3

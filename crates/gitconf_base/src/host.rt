@@ -1,3 +1,4 @@
+//! What lies outside: the faults of files.
 /// Where a file's reading failed: as it was opened, as it was read, or for want of memory.
 #[derive(Clone, Copy, PartialEq, Eq, PartialOrd, Ord, Hash, Debug)]
 pub enum Stage {

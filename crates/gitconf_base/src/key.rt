@@ -1,3 +1,4 @@
+//! Keys: the three names of a value, written with dots between them, as git-config's manual page has them.
 ghost use Rattle.std.specs.Prelude.{◌≡◌, ◌≤◌, if◌then◌else◌, length, position, string_bytes, Some};
 ghost use Rattle.std.specs.Option.{option_copied, option_map};
 ghost use Rattle.std.specs.Str.{is_utf8};

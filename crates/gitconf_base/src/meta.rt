@@ -1,3 +1,4 @@
+//! Where a section comes from.
 ghost use Rattle.std.specs.Prelude.{◌≡◌, IfOk, IfErr, string_bytes};
 ghost use Rattle.gitconf_base.specs.Metadata.{api_meta, meta_of_file, meta_of_source};
 

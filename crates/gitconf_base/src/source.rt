@@ -1,3 +1,5 @@
+//! The places that configuration is read from, as git-config's manual page lists them under "FILES" and
+//! "ENVIRONMENT".
 ghost use Rattle.std.specs.Prelude.{◌≡◌};
 ghost use Rattle.gitconf_base.specs.Source.{kind_of, sources_of};
 

@@ -1,17 +1,23 @@
+//! The table of a file's sections and their numbers. Its contracts speak of the plain list in file order, so
+//! that a look-up by a hashed index can take the place of the walk without a change of them.
 ghost use Rattle.std.specs.Prelude.{◌≡◌, ◌+◌, ◌^◌, ◌<◌, ◌≤◌, ◌==◌, ◌↔◌, [], ◌++◌, drop, find, length, position, take, vec_len, IfOk, IfSome, OnOk, OnErr, IsErrOf};
 ghost use Rattle.std.specs.Iterator.{item_count, YieldsFirst, YieldsFirstBy, YieldsLast, YieldsLastBy};
 ghost use Rattle.std.specs.List.{list_any};
 ghost use Rattle.std.specs.Option.{option_copied, option_eq, option_map};
 ghost use Rattle.std.specs.Str.{bytes_eq, str_to_ascii_lowercase};
 ghost use Rattle.std.specs.Borrow.{sem};
-ghost use Rattle.gitconf_base.specs.Sections.{entry_of, has_name, ids, is_named, no_number, number_at, numbered_from, place_of, section_at, section_of, sections_of, with_all, with_behind, with_last, with_names, without, IsNumbered};
+ghost use Rattle.gitconf_base.specs.Sections.{all_named, entry_of, has_name, ids, is_named, named, no_number, number_at, numbered_from, place_of, section_at, section_of, sections_of, with_all, with_behind, with_last, with_names, without, IsNumbered};
 ghost use Rattle.gitconf_base.specs.Rows.{entries_of, entry_of_row};
-ghost use Rattle.gitconf_base.specs.SectionIters.{ids_left, sections_left, shown_section};
+ghost use Rattle.gitconf_base.specs.SectionIters.{ids_left, named_left, sections_left, shown_section, with_name_left};
 
 use crate::memory::NoMemory;
 use std::alloc::{AllocError, AllocFailed, Global};
 use std::marker::Model;
 use thiserror::Error;
+
+mod by_name;
+
+pub use by_name::{Named, WithName};
 
 /// The number of a section, by which it is found whatever comes before or behind it. The default is the
 /// greatest number, which no section gets from a table.
@@ -193,6 +199,35 @@ impl<T> SectionTable<T> {
             rows: &self.rows,
             name,
             subsection,
+        }
+    }
+
+    /// The sections of that name, without ASCII case, and exactly that subsection, in file order, each as its
+    /// number and what it holds. The walk takes no memory and passes each section once.
+    pub fn named<'a, 'n, 's>(
+        &'a self,
+        name: &'n str,
+        subsection: Option<&'s [u8]>,
+    ) -> Named<'a, 'n, 's, T>
+        ensures left { named_left result ≡ named name.now (option_copied subsection.entry) self.now }
+        ensures fits { length (named_left result) < 2 ^ 64 }
+    {
+        Named {
+            rows: &self.rows,
+            name,
+            subsection,
+        }
+    }
+
+    /// The sections of that name, without ASCII case, and any subsection, in file order, each as its number and
+    /// what it holds. The walk takes no memory and passes each section once.
+    pub fn with_name<'a, 'n>(&'a self, name: &'n str) -> WithName<'a, 'n, T>
+        ensures left { with_name_left result ≡ all_named name.now self.now }
+        ensures fits { length (with_name_left result) < 2 ^ 64 }
+    {
+        WithName {
+            rows: &self.rows,
+            name,
         }
     }
 
