@@ -1,0 +1,210 @@
+-- Runs: where one ends, told by what it consists of.
+use Rattle.std.proofs.Common.{◌≡◌, ℕ, ◌+◌, Bool, true, false, not, List, [], ◌∷◌, ◌++◌, length, refl, ap, sym, subst, ◌∙◌, arith}
+use Rattle.std.specs.Prelude.{◌&&◌, ◌||◌, ◌==◌}
+use Rattle.std.specs.List.{list_all}
+use Rattle.std.proofs.lemmas.Bool.{eqb-true}
+use Rattle.gitconf_text.specs.Text.{begins, ends, begins_line_end, are_line_ends}
+use Rattle.gitconf_text.specs.Part.{ends_comment}
+use Rattle.gitconf_parse.specs.Reading.{end_of_run}
+use Rattle.gitconf_parse.proofs.ValueAgain.{both_true}
+
+-- at each place of front, with rest behind it, the test passes
+abbrev pub AllPlaces : (List ℕ → Bool) → (front rest : List ℕ) → Type 0
+AllPlaces test [] rest = Unit {0}
+AllPlaces test (b ∷ front) rest = (test (b ∷ (front ++ rest)) ≡ true) × AllPlaces test front rest
+
+-- at the front of rest it doesn't, or there is no byte
+abbrev pub Stops : (List ℕ → Bool) → List ℕ → Type 0
+Stops test [] = Unit {0}
+Stops test (b ∷ rest) = test (b ∷ rest) ≡ false
+
+-- a run and what stands behind it
+pub record Run (test : List ℕ → Bool) (n : ℕ) (text : List ℕ) : Type 0 where
+  pub front : List ℕ
+  pub rest : List ℕ
+  pub whole : text ≡ front ++ rest
+  pub places : AllPlaces test front rest
+  pub stops : Stops test rest
+  pub end : end_of_run test n text ≡ n + length front
+
+pub run_again : (test : List ℕ → Bool) (front rest : List ℕ) (n : ℕ) → AllPlaces test front rest → Stops test rest → end_of_run test n (front ++ rest) ≡ n + length front
+unfolding end_of_run
+run_again test [] [] n places stops = let e : n ≡ n + 0 = omega arith in e
+run_again test [] (b ∷ rest) n places stops = rw (stops, end_of_run) (let e : n ≡ n + 0 = omega arith in e)
+run_again test (b ∷ front) rest n places stops = rw (places.0, end_of_run) (run_again test front rest (n + 1) places.1 stops ∙ (omega arith))
+
+pub run_takes : (test : List ℕ → Bool) (n : ℕ) (text : List ℕ) → Run test n text
+unfolding end_of_run
+run_takes test n [] = record { front = []; rest = []; whole = refl; places = tt; stops = tt; end = (let e : n ≡ n + 0 = omega arith in e) }
+run_takes test n (b ∷ text) = go (test (b ∷ text)) refl (run_takes test (n + 1) text)
+  where
+    go : (t : Bool) → test (b ∷ text) ≡ t → Run test (n + 1) text → Run test n (b ∷ text)
+    go false e later = record { front = []; rest = b ∷ text; whole = refl; places = tt; stops = e; end = rw (e, end_of_run) (let e : n ≡ n + 0 = omega arith in e) }
+    go true e later = record {
+      front = b ∷ later.front;
+      rest = later.rest;
+      whole = ap (λ t. b ∷ t) later.whole;
+      places = (subst (λ t. test (b ∷ t) ≡ true) later.whole e, later.places);
+      stops = later.stops;
+      end = rw (e, end_of_run) (later.end ∙ (omega arith));
+    }
+
+-- A run of bytes that pass a test.
+pub all_places : (p : ℕ → Bool) (front rest : List ℕ) → list_all p front ≡ true → AllPlaces (begins p) front rest
+all_places p [] rest h = tt
+all_places p (b ∷ front) rest h = let q = both_true (p b) (list_all p front) h in (q.0, all_places p front rest q.1)
+
+pub places_all : (p : ℕ → Bool) (front rest : List ℕ) → AllPlaces (begins p) front rest → list_all p front ≡ true
+places_all p [] rest h = refl
+places_all p (b ∷ front) rest h = rw h.0 (places_all p front rest h.1)
+
+pub begins_stops : (p : ℕ → Bool) (rest : List ℕ) → begins p rest ≡ false → Stops (begins p) rest
+begins_stops p [] h = tt
+begins_stops p (b ∷ rest) h = h
+
+pub stops_begins : (p : ℕ → Bool) (rest : List ℕ) → Stops (begins p) rest → begins p rest ≡ false
+stops_begins p [] h = refl
+stops_begins p (b ∷ rest) h = h
+
+-- A run of line ends.
+pub line_end_more : (b : ℕ) (front rest : List ℕ) → begins_line_end (b ∷ front) ≡ true → begins_line_end (b ∷ (front ++ rest)) ≡ true
+line_end_more b [] rest h = go (b == 10) refl
+  where
+    go : (t : Bool) → (b == 10) ≡ t → (b == 10 || b == 13 && begins (λ c. c == 10) rest) ≡ true
+    go true e = rw e refl
+    go false e = absurd (let k : (false || b == 13 && false) ≡ true = rw e at h in none (b == 13) k)
+      where
+        none : (t : Bool) → (t && false) ≡ true → ⊥
+        none true k = cc
+        none false k = cc
+line_end_more b (c ∷ front) rest h = h
+
+pub line_ends_places : (front rest : List ℕ) → are_line_ends front ≡ true → AllPlaces begins_line_end front rest
+line_ends_places [] rest h = tt
+line_ends_places (b ∷ front) rest h =
+    let q = both_true (begins_line_end (b ∷ front)) (are_line_ends front) h in
+    (line_end_more b front rest q.0, line_ends_places front rest q.1)
+
+-- the line end at the front of a run is whole within it
+pub line_end_within : (b : ℕ) (front rest : List ℕ) → begins_line_end (b ∷ (front ++ rest)) ≡ true → Stops begins_line_end rest → begins_line_end (b ∷ front) ≡ true
+line_end_within b (c ∷ front) rest h stops = h
+line_end_within b [] [] h stops = h
+line_end_within b [] (c ∷ rest) h stops = go (b == 10) refl (c == 10) refl
+  where
+    go : (t : Bool) → (b == 10) ≡ t → (s : Bool) → (c == 10) ≡ s → (b == 10 || b == 13 && false) ≡ true
+    go true e s k = rw e refl
+    go false e true k = absurd (let x : (true || c == 13 && begins (λ d. d == 10) rest) ≡ false = rw k at stops in cc)
+    go false e false k = absurd (let x : (false || b == 13 && false) ≡ true = rw (e, k) at h in none (b == 13) x)
+      where
+        none : (t : Bool) → (t && false) ≡ true → ⊥
+        none true k = cc
+        none false k = cc
+
+pub places_line_ends : (front rest : List ℕ) → AllPlaces begins_line_end front rest → Stops begins_line_end rest → are_line_ends front ≡ true
+places_line_ends [] rest h stops = refl
+places_line_ends (b ∷ front) rest h stops = rw (line_end_within b front rest h.0 stops) (places_line_ends front rest h.1 stops)
+
+pub line_end_stops : (rest : List ℕ) → begins_line_end rest ≡ false → Stops begins_line_end rest
+line_end_stops [] h = tt
+line_end_stops (b ∷ rest) h = h
+
+pub stops_line_end : (rest : List ℕ) → Stops begins_line_end rest → begins_line_end rest ≡ false
+stops_line_end [] h = refl
+stops_line_end (b ∷ rest) h = h
+
+-- A comment's text.
+abbrev pub is_comment_text : List ℕ → Bool
+is_comment_text text = not (begins_line_end text)
+
+or_none : (a b : Bool) → a ≡ false → b ≡ false → (a || b) ≡ false
+or_none true b p q = absurd (cc)
+or_none false b p q = q
+
+and_none : (a b : Bool) → (a ≡ true → b ≡ false) → (a && b) ≡ false
+and_none true b h = h refl
+and_none false b h = refl
+
+not_false : (a : Bool) → a ≡ false → not a ≡ true
+not_false true h = absurd (cc)
+not_false false h = refl
+
+pub false_not : (a : Bool) → not a ≡ true → a ≡ false
+false_not true h = absurd (cc)
+false_not false h = refl
+
+comment_place : (b : ℕ) (text rest : List ℕ) → (b == 10) ≡ false → list_all (λ c. not (c == 10)) text ≡ true → (ends (λ c. c == 13) (b ∷ text) ≡ true → begins (λ c. c == 10) rest ≡ false)
+    → begins_line_end (b ∷ (text ++ rest)) ≡ false
+comment_place b [] rest other all last = or_none (b == 10) _ other (and_none (b == 13) _ last)
+comment_place b (c ∷ text) rest other all last = or_none (b == 10) _ other (and_none (b == 13) _ (λ _. false_not (c == 10) (both_true (not (c == 10)) _ all).0))
+
+comment_last : (b : ℕ) (text rest : List ℕ) → (ends (λ c. c == 13) (b ∷ text) ≡ true → begins (λ c. c == 10) rest ≡ false) → ends (λ c. c == 13) text ≡ true → begins (λ c. c == 10) rest ≡ false
+comment_last b [] rest last h = absurd (cc)
+comment_last b (c ∷ text) rest last h = last h
+
+comment_places_from : (text rest : List ℕ) → list_all (λ c. not (c == 10)) text ≡ true → (ends (λ c. c == 13) text ≡ true → begins (λ c. c == 10) rest ≡ false) → AllPlaces is_comment_text text rest
+comment_places_from [] rest all last = tt
+comment_places_from (b ∷ text) rest all last =
+    let q = both_true (not (b == 10)) (list_all (λ c. not (c == 10)) text) all in
+    (not_false _ (comment_place b text rest (false_not (b == 10) q.0) q.1 last), comment_places_from text rest q.1 (comment_last b text rest last))
+
+-- what may end a comment is no LF behind a CR, and begins a line end
+ends_comment_last : (text rest : List ℕ) → ends_comment text rest ≡ true → ends (λ c. c == 13) text ≡ true → begins (λ c. c == 10) rest ≡ false
+ends_comment_last text [] h last = refl
+ends_comment_last text (b ∷ rest) h last = go (b == 10) refl (b == 13) refl
+  where
+    go : (t : Bool) → (b == 10) ≡ t → (s : Bool) → (b == 13) ≡ s → (b == 10) ≡ false
+    go false e s k = e
+    go true e true k = absurd (let x : 10 ≡ 13 = sym (eqb-true b 10 e) ∙ eqb-true b 13 k in omega arith)
+    go true e false k = absurd (let x : (false && begins (λ c. c == 10) rest || true && not true) ≡ true = rw (e, k, last) at h in cc)
+
+ends_comment_stops : (text rest : List ℕ) → ends_comment text rest ≡ true → Stops is_comment_text rest
+ends_comment_stops text [] h = tt
+ends_comment_stops text (b ∷ rest) h = go (b == 10) refl
+  where
+    go : (t : Bool) → (b == 10) ≡ t → not (begins_line_end (b ∷ rest)) ≡ false
+    go true e = rw e refl
+    go false e = rw e (let x : (b == 13 && begins (λ c. c == 10) rest || false) ≡ true = rw e at h in other (b == 13 && begins (λ c. c == 10) rest) x)
+      where
+        other : (s : Bool) → (s || false) ≡ true → not s ≡ false
+        other true k = refl
+        other false k = absurd (cc)
+
+pub comment_places : (text rest : List ℕ) → list_all (λ c. not (c == 10)) text ≡ true → ends_comment text rest ≡ true → AllPlaces is_comment_text text rest × Stops is_comment_text rest
+comment_places text rest all ended = (comment_places_from text rest all (ends_comment_last text rest ended), ends_comment_stops text rest ended)
+
+place_other : (b : ℕ) (text : List ℕ) → is_comment_text (b ∷ text) ≡ true → (b == 10) ≡ false
+place_other b text h = go (b == 10) refl
+  where
+    go : (t : Bool) → (b == 10) ≡ t → t ≡ false
+    go false e = refl
+    go true e = absurd (let x : not (true || b == 13 && begins (λ c. c == 10) text) ≡ true = rw e at h in cc)
+
+pub places_comment : (text rest : List ℕ) → AllPlaces is_comment_text text rest → list_all (λ c. not (c == 10)) text ≡ true
+places_comment [] rest h = refl
+places_comment (b ∷ text) rest h = rw (place_other b (text ++ rest) h.0) (places_comment text rest h.1)
+
+-- before LF a comment doesn't end in CR
+places_last : (text rest : List ℕ) → AllPlaces is_comment_text text rest → begins (λ c. c == 10) rest ≡ true → ends (λ c. c == 13) text ≡ false
+places_last [] rest h feed = refl
+places_last (b ∷ []) rest h feed = go (b == 13) refl
+  where
+    go : (t : Bool) → (b == 13) ≡ t → t ≡ false
+    go false e = refl
+    go true e = absurd (let x = rw (place_other b rest h.0, e, feed) at h.0 in cc)
+places_last (b ∷ c ∷ text) rest h feed = places_last (c ∷ text) rest h.1 feed
+
+pub places_ended : (text rest : List ℕ) → AllPlaces is_comment_text text rest → Stops is_comment_text rest → ends_comment text rest ≡ true
+places_ended text [] h stops = refl
+places_ended text (b ∷ rest) h stops = go (b == 10) refl
+  where
+    go : (t : Bool) → (b == 10) ≡ t → ends_comment text (b ∷ rest) ≡ true
+    go true e = rw (e, places_last text (b ∷ rest) h e) (last (b == 13 && begins (λ c. c == 10) rest))
+      where
+        last : (s : Bool) → (s || true) ≡ true
+        last true = refl
+        last false = refl
+    go false e = rw e (let x : not (false || b == 13 && begins (λ c. c == 10) rest) ≡ false = rw e at stops in other (b == 13 && begins (λ c. c == 10) rest) x)
+      where
+        other : (s : Bool) → not s ≡ false → (s || false) ≡ true
+        other true k = refl
+        other false k = absurd (cc)

@@ -1,0 +1,16 @@
+use Rattle.std.proofs.Common.{◌≡◌, ◌∙◌, ap, sym, map, take}
+use Rattle.gitconf_parse.specs.EventList.{EventList}
+use Rattle.gitconf_parse.specs.ShownEvents.{shown_token, shown_event}
+use Rattle.gitconf_parse.specs.Sections.{is_header_event, is_shown_header, front_of}
+use Rattle.gitconf_parse.proofs.Shown.{shown_list, front_of-map, header_told}
+use Rattle.gitconf_parse.proofs.events.Events.frontmatter.Goals as goal
+
+pub returns : goal.returns
+returns c =
+    let i = c.self.inside in
+    let front : c.split_at.result.0.now ≡ front_of is_header_event i.events.items
+    = c.split_at.ensures.front ∙ ap (take c.front_len.result) (c.deref.ensures.value ∙ sym c.deref-2.ensures.value)
+    ∙ c.front_len.ensures.front ∙ ap (front_of is_header_event) c.deref-2.ensures.value in
+    rw (c.deref-3.ensures.value, c.deref-4.ensures.value, front) at c.over.ensures
+    ∙ front_of-map is_header_event is_shown_header (shown_event i.buffer.items i.copies.items) (header_told i.buffer.items i.copies.items) i.events.items
+    ∙ ap (front_of is_shown_header) (shown_list _ _ _ c.self.invariant.shown ∙ ap (λ (l : EventList). map shown_token l.tokens) c.self.view_is)

@@ -1,0 +1,13 @@
+use Rattle.std.proofs.Common.{◌∙◌, ap, map}
+use Rattle.gitconf_parse.specs.EventList.{EventList}
+use Rattle.gitconf_parse.specs.ShownEvents.{shown_token, shown_event}
+use Rattle.gitconf_parse.specs.Sections.{is_header_event, is_shown_header, sections_of}
+use Rattle.gitconf_parse.proofs.Shown.{shown_list, sections_of-map, header_told}
+use Rattle.gitconf_parse.proofs.events.Events.sections.Goals as goal
+
+pub returns : goal.returns
+returns c =
+    let i = c.self.inside in
+    rw (c.deref.ensures.value, c.deref-2.ensures.value, c.deref-3.ensures.value) at c.over.ensures
+    ∙ sections_of-map is_header_event is_shown_header (shown_event i.buffer.items i.copies.items) (header_told i.buffer.items i.copies.items) i.events.items
+    ∙ ap (sections_of is_shown_header) (shown_list _ _ _ c.self.invariant.shown ∙ ap (λ (l : EventList). map shown_token l.tokens) c.self.view_is)

@@ -1,0 +1,13 @@
+pub mod Reading
+pub mod Events
+pub mod Parsing
+pub mod Sink
+pub mod EventRef
+pub mod ParseError
+pub mod ParseCause
+pub mod ShownEvents
+pub mod EventList
+pub mod EventResult
+pub mod EventProps
+pub mod Sections
+pub mod EventIters

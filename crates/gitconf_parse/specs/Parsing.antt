@@ -1,0 +1,36 @@
+-- What the parser promises of a text.
+use Rattle.std.specs.Prelude.{◌≡◌, ℕ, ◌≤◌, List, length, take, drop, map, Result, Ok, Err}
+use Rattle.std.specs.List.{AllByRecursion}
+use Rattle.gitconf_text.specs.Part.{Part}
+use Rattle.gitconf_text.specs.Document.{IsText}
+use Rattle.gitconf_text.specs.Token.{tokens_of}
+use Rattle.gitconf_text.specs.Stuck.{line_behind, IsStuck}
+use Rattle.gitconf_parse.specs.declared.event.Event.{Event}
+use Rattle.gitconf_parse.specs.declared.reading.Fault.{Fault}
+use Rattle.gitconf_parse.specs.declared.reading.ReadError.{ReadError}
+use Rattle.gitconf_parse.specs.declared.reading.ReadError.TheVariants as errors
+use Rattle.gitconf_parse.specs.ParseError.{kind_of}
+use Rattle.gitconf_parse.specs.Events.{token_of, EventFits}
+
+-- the input has a document, and the events are its tokens
+pub record IsRead (input : List ℕ) (events : List Event) : Type 0 where
+  pub parts : List Part
+  pub text : IsText input parts
+  pub tokens : map (token_of input) events ≡ tokens_of parts
+  pub inside : AllByRecursion (EventFits (length input)) events
+
+-- the input can't be read on where the fault is told
+pub record IsFault (input : List ℕ) (f : Fault) : Type 0 where
+  pub inside : f.at ≤ length input
+  pub stuck : IsStuck input (line_behind (take f.at input)) (drop f.at input) (kind_of f.expected)
+
+abbrev pub IsReading : (input : List ℕ) → (events : List Event) → Result (Unit {0}) ReadError → Type 0
+IsReading input events (Ok done) = IsRead input events
+IsReading input events (Err errors.Memory) = Unit {0}
+IsReading input events (Err (errors.Fault f)) = IsFault input f
+
+-- there was no fault
+abbrev pub NoFault : Result (Unit {0}) ReadError → Type 0
+NoFault (Ok done) = Unit {0}
+NoFault (Err errors.Memory) = Unit {0}
+NoFault (Err (errors.Fault f)) = ⊥

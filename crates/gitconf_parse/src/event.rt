@@ -1,0 +1,62 @@
+//! Events as the parser makes them: kinds with spans of the text.
+ghost use Rattle.std.specs.Prelude.{◌≡◌, ◌≤◌, ◌<◌, ◌-◌, ◌^◌};
+
+/// A part of a buffer: where it begins, and how many bytes it has.
+#[derive(Clone, Copy, Debug, PartialEq, Eq)]
+pub struct Span {
+    /// The offset of its first byte.
+    pub start: u32,
+    /// Its length in bytes.
+    pub len: u32,
+}
+
+impl Span {
+    /// The bytes from one offset up to another.
+    pub fn between(from: usize, end: usize) -> Span
+        requires ordered { from ≤ end }
+        requires fits { end < 2 ^ 32 }
+        ensures start { result.start ≡ from }
+        ensures len { result.len ≡ end - from }
+    {
+        Span {
+            start: from as u32,
+            len: (end - from) as u32,
+        }
+    }
+}
+
+/// Where the decoded copy of a subsection stands, in a buffer of such copies.
+#[derive(Clone, Copy, Debug)]
+pub struct Copied {
+    /// The offset of its first byte.
+    pub start: usize,
+    /// Its length in bytes.
+    pub len: usize,
+}
+
+/// A header as its text has it.
+#[derive(Clone, Copy, Debug)]
+pub struct Header {
+    pub name: Span,
+    /// The dot, or the blanks before the quote.
+    pub separator: Option<Span>,
+    /// What stands behind the dot or between the quotes, as spelled.
+    pub subsection: Option<Span>,
+    /// The decoded subsection, where it isn't what is spelled.
+    pub decoded: Option<Copied>,
+}
+
+/// A token of a text.
+#[derive(Clone, Copy, Debug)]
+pub enum Event {
+    Comment { tag: u8, text: Span },
+    SectionHeader(Header),
+    SectionValueName(Span),
+    Value(Span),
+    Newline(Span),
+    /// A piece of a value, without the backslash behind it.
+    ValueNotDone(Span),
+    ValueDone(Span),
+    Whitespace(Span),
+    KeyValueSeparator,
+}

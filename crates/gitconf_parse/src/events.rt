@@ -1,0 +1,233 @@
+//! The events of a whole text, in a buffer of their own.
+ghost use Rattle.std.specs.Prelude.{◌≡◌, ◌↔◌, ◌≤◌, ◌<◌, ◌^◌, [], List, ℕ, Bool, true, length, map, IfOk, IfErr, IsOk, OnOk};
+ghost use Rattle.std.specs.Option.{ForSome, ForNone};
+ghost use Rattle.gitconf_text.specs.Document.{Document, Reads};
+ghost use Rattle.gitconf_text.specs.Stuck.{IsStuck};
+ghost use Rattle.gitconf_parse.specs.EventRef.{Shown, shown};
+ghost use Rattle.gitconf_parse.specs.Parsing.{IsRead};
+ghost use Rattle.gitconf_parse.specs.ParseError.{too_large_input};
+ghost use Rattle.gitconf_parse.specs.EventList.{IsParsed};
+ghost use Rattle.gitconf_parse.specs.EventResult.{IsRefusal, IsRefused};
+
+mod decode;
+mod filter;
+mod iters;
+mod lend;
+
+use crate::error::Error;
+use crate::event::Event;
+use crate::event_ref::EventRef;
+use crate::reading::{Fault, ReadError, read};
+use decode::decode_headers;
+use filter::kept_events;
+use gitconf_text::NoMemory;
+use iters::front_len;
+pub use iters::{EventIter, SectionIter, SectionRef};
+use std::alloc::Global;
+use std::marker::Model;
+
+/// The events of a text, with the text.
+#[derive(Debug, Drop)]
+pub struct Events {
+    buffer: Vec<u8>,
+    /// The decoded subsections of the headers that need one.
+    copies: Vec<u8>,
+    events: Vec<Event>,
+    keeps_entries: bool,
+}
+
+impl Model for Events {
+    ghost use Rattle.std.specs.Prelude.{map, length};
+    ghost use Rattle.gitconf_parse.specs.EventList.{EventList, EventsFit};
+    ghost use Rattle.gitconf_parse.specs.Events.{token_of};
+
+    ghost Value = { EventList };
+
+    ghost view = { λ e. record {
+      tokens = map (token_of e.buffer.items) e.events.items;
+      keeps_entries = e.keeps_entries;
+      used = length e.buffer.items;
+    } };
+
+    ghost invariant = { λ e. EventsFit e.buffer.items e.copies.items e.events.items };
+}
+
+/// Refuses an input of more than 4294967295 bytes.
+fn check_len(len: usize) -> Result<(), Error>
+    ensures large { IfErr result (λ e. e ≡ too_large_input len) }
+    ensures fits { IsOk result ↔ (len < 2 ^ 32) }
+{
+    if len > u32::MAX as usize {
+        return Err(Error::too_large(len));
+    }
+    Ok(())
+}
+
+/// The refusal of a text that can't be read from a place on.
+fn refusal(alloc: Global, input: &[u8], fault: Fault) -> Error
+    requires { fault.at ≤ length input.now }
+    ensures { IsRefusal input.now fault result }
+{
+    let (before, remaining) = input.split_at(fault.at);
+    let line_feeds = before.iter().filter(|byte| **byte == b'\n').count();
+    match Vec::from_slice(alloc, remaining) {
+        Ok(remaining) => Error::unexpected(line_feeds + 1, fault.expected, remaining),
+        Err(_) => Error::memory(),
+    }
+}
+
+/// The events of a text that has a document.
+fn events_of(alloc: Global, input: &[u8]) -> Result<Vec<Event>, Error>
+    ensures found { IfOk result (λ events. IsRead input.now events.items) }
+    ensures fits { OnOk result (length input.now < 2 ^ 32) }
+    ensures refused { IfErr result (IsRefused input.now) }
+{
+    check_len(input.len())?;
+    let mut events = Vec::new(alloc);
+    match read(input, &mut events) {
+        Ok(()) => Ok(events),
+        Err(ReadError::Memory) => Err(Error::memory()),
+        Err(ReadError::Fault(fault)) => Err(refusal(alloc, input, fault)),
+    }
+}
+
+impl Events {
+    ghost use Rattle.std.specs.Prelude.{◌≡◌, List, Bool, true, map, IfOk, IfErr};
+    ghost use Rattle.std.specs.Option.{ForSome, ForNone};
+    ghost use Rattle.gitconf_text.specs.Part.{Part};
+    ghost use Rattle.gitconf_text.specs.Document.{IsText};
+    ghost use Rattle.gitconf_text.specs.Token.{tokens_of};
+    ghost use Rattle.gitconf_parse.specs.EventRef.{Shown, shown};
+    ghost use Rattle.gitconf_parse.specs.ShownEvents.{shown_token};
+    ghost use Rattle.gitconf_parse.specs.Sections.{is_shown_header, front_of, sections_of};
+    ghost use Rattle.gitconf_parse.specs.EventIters.{events_left, sections_left};
+    ghost use Rattle.gitconf_parse.specs.EventList.{IsParsed, IsWhole, IsFiltered};
+    ghost use Rattle.gitconf_parse.specs.EventResult.{IsRefused};
+
+    /// All events of a text.
+    fn whole(alloc: Global, input: &[u8]) -> Result<Events, Error>
+        ensures whole { IfOk result (IsWhole input.now) }
+        ensures refused { IfErr result (IsRefused input.now) }
+    {
+        let mut events = events_of(alloc, input)?;
+        let buffer = Vec::from_slice(alloc, input)?;
+        let mut copies = Vec::new(alloc);
+        decode_headers(&buffer, &mut events, &mut copies)?;
+        Ok(Events {
+            buffer,
+            copies,
+            events,
+            keeps_entries: true,
+        })
+    }
+
+    /// Those that are headers or that the filter keeps.
+    fn filtered(self, alloc: Global, filter: fn(&EventRef<'_>) -> bool) -> Result<Events, NoMemory>
+        requires { IsAlwaysCallable filter }
+        ensures { IfOk result (λ e. (p : Shown → Bool) → ((r : _) (b : Bool) → post filter r b → b ≡ p (shown r.now)) → IsFiltered p self e) }
+    {
+        let (events, keeps_entries) = kept_events(
+            alloc,
+            &self.buffer,
+            &self.copies,
+            &self.events,
+            filter,
+        )?;
+        Ok(Events {
+            buffer: self.buffer,
+            copies: self.copies,
+            events,
+            keeps_entries,
+        })
+    }
+
+    /// The events of a text, all of them or those that `filter` keeps; headers are always kept.
+    ///
+    /// The text is read once. The filter is asked about each other event, in order, once the whole text was read.
+    /// The answer has a copy of the text.
+    ///
+    /// # Errors
+    ///
+    /// Refusal 1 where the text has no document, with the line and the data from where it can't be read on; refusal 2 for
+    /// more than 4294967295 bytes; refusal 27 for want of memory.
+    #[tactic(auto, using(crate::proofs::Filtering::filtering))]
+    pub fn from_bytes(
+        alloc: Global,
+        input: &[u8],
+        filter: Option<fn(&EventRef<'_>) -> bool>,
+    ) -> Result<Events, Error>
+        requires { ForSome filter (λ f. IsAlwaysCallable f) }
+        // With a filter that answers by what it is shown, and none is one that keeps all.
+        ensures parsed { IfOk result (λ events. (p : Shown → Bool) → ForSome filter (λ f. (e : _) (b : Bool) → post f e b → b ≡ p (shown e.now))
+            → ForNone filter ((s : Shown) → p s ≡ true) → IsParsed p input.now events) }
+        // With any filter.
+        ensures documented { IfOk result (λ _. (parts : List Part) × IsText input.now parts) }
+        ensures refused { IfErr result (IsRefused input.now) }
+    {
+        let events = Events::whole(alloc, input)?;
+        match filter {
+            None => Ok(events),
+            Some(filter) => Ok(events.filtered(alloc, filter)?),
+        }
+    }
+
+    /// All events of a text, as `from_bytes` without a filter gives them.
+    ///
+    /// # Errors
+    ///
+    /// Those of `from_bytes`.
+    pub fn from_str(alloc: Global, input: &str) -> Result<Events, Error>
+        ensures parsed { IfOk result (IsWhole input.now) }
+        ensures refused { IfErr result (IsRefused input.now) }
+    {
+        Events::whole(alloc, input.as_bytes())
+    }
+
+    /// All events in the order of the text.
+    pub fn iter(&self) -> EventIter<'_>
+        ensures { events_left result ≡ map shown_token self.now.tokens }
+    {
+        EventIter::over(&self.buffer, &self.copies, &self.events)
+    }
+
+    /// The events before the first header.
+    pub fn frontmatter(&self) -> EventIter<'_>
+        ensures { events_left result ≡ front_of is_shown_header (map shown_token self.now.tokens) }
+    {
+        let front = self.events.split_at(front_len(&self.events)).0;
+        EventIter::over(&self.buffer, &self.copies, front)
+    }
+
+    /// The sections in the order of the text.
+    pub fn sections(&self) -> SectionIter<'_>
+        ensures { sections_left result ≡ sections_of is_shown_header (map shown_token self.now.tokens) }
+    {
+        SectionIter::over(&self.buffer, &self.copies, &self.events)
+    }
+
+    /// Whether the filter kept every name, separator, value and piece of a value.
+    pub fn keeps_entries(&self) -> bool
+        ensures { result ≡ self.now.keeps_entries }
+    {
+        self.keeps_entries
+    }
+
+    /// The same events again, with a text of their own.
+    ///
+    /// # Errors
+    ///
+    /// Memory was wanting.
+    pub fn try_clone(&self) -> Result<Events, NoMemory>
+        ensures { IfOk result (λ events. events ≡ self.now) }
+    {
+        let buffer = self.buffer.clone()?;
+        let copies = self.copies.clone()?;
+        let events = self.events.clone()?;
+        Ok(Events {
+            buffer,
+            copies,
+            events,
+            keeps_entries: self.keeps_entries,
+        })
+    }
+}

@@ -1,0 +1,135 @@
+//! Subsections that aren't what is spelled, decoded.
+ghost use Rattle.std.specs.Prelude.{◌≡◌, ◌++◌, Some, length, map, OnOk, IfOk};
+ghost use Rattle.std.specs.List.{AllByRecursion, list_any};
+ghost use Rattle.std.specs.Char.{is_ascii_uppercase};
+ghost use Rattle.gitconf_text.specs.Bytes.{fold};
+ghost use Rattle.gitconf_text.specs.Header.{unquoted};
+ghost use Rattle.gitconf_text.specs.Token.{HeaderToken};
+ghost use Rattle.gitconf_parse.specs.Events.{token_of, header_of, EventFits, HeaderFits};
+ghost use Rattle.gitconf_parse.specs.ShownEvents.{decoded_or, shown_header, shown_token, CopyFits, IsShown, IsExtended};
+
+use super::lend::bytes;
+use crate::event::{Copied, Event, Header};
+use gitconf_text::NoMemory;
+
+/// Adds the bytes with their letters in lower case.
+fn append_lower(copies: &mut Vec<u8>, bytes: &[u8]) -> Result<(), NoMemory>
+    ensures { OnOk result (copies.new.items ≡ copies.old.items ++ fold bytes.now) }
+{
+    for byte in bytes {
+        copies.push(byte.to_ascii_lowercase())?;
+    }
+    Ok(())
+}
+
+/// Adds the subsection that is spelled so in quotes.
+fn append_unquoted(copies: &mut Vec<u8>, spelling: &[u8]) -> Result<(), NoMemory>
+    ensures { OnOk result (copies.new.items ≡ copies.old.items ++ unquoted spelling.now) }
+{
+    let mut escaped = false;
+    for byte in spelling {
+        if *byte == b'\\' && !escaped {
+            escaped = true;
+        } else {
+            copies.push(*byte)?;
+            escaped = false;
+        }
+    }
+    Ok(())
+}
+
+/// Whether there is a letter in upper case.
+fn has_upper(bytes: &[u8]) -> bool
+    ensures { result ≡ list_any is_ascii_uppercase bytes.now }
+{
+    bytes.iter().any(|byte| byte.is_ascii_uppercase())
+}
+
+/// The copy of a dotted subsection, in lower case, where it isn't what is spelled.
+#[tactic(auto, using(crate::proofs::Copies::fold_same))]
+fn lower_copy(copies: &mut Vec<u8>, spelled: &[u8]) -> Result<Option<Copied>, NoMemory>
+    ensures decoded { IfOk result (λ copy. decoded_or copies.new.items copy (Some spelled.now) ≡ Some (fold spelled.now)) }
+    ensures fits { IfOk result (λ copy. CopyFits (length copies.new.items) copy) }
+    ensures extended { OnOk result (IsExtended copies.old.items copies.new.items) }
+{
+    if !has_upper(spelled) {
+        return Ok(None);
+    }
+    let start = copies.len();
+    append_lower(copies, spelled)?;
+    let len = copies.len() - start;
+    Ok(Some(Copied { start, len }))
+}
+
+/// The copy of a quoted subsection, without its backslashes, where it isn't what is spelled.
+#[tactic(auto, using(crate::proofs::Copies::unquoted_same))]
+fn unquoted_copy(copies: &mut Vec<u8>, spelled: &[u8]) -> Result<Option<Copied>, NoMemory>
+    ensures decoded { IfOk result (λ copy. decoded_or copies.new.items copy (Some spelled.now) ≡ Some (unquoted spelled.now)) }
+    ensures fits { IfOk result (λ copy. CopyFits (length copies.new.items) copy) }
+    ensures extended { OnOk result (IsExtended copies.old.items copies.new.items) }
+{
+    if !spelled.contains(&b'\\') {
+        return Ok(None);
+    }
+    let start = copies.len();
+    append_unquoted(copies, spelled)?;
+    let len = copies.len() - start;
+    Ok(Some(Copied { start, len }))
+}
+
+/// The copy of a header's subsection, where it has one that isn't what is spelled.
+fn header_copy(
+    buffer: &[u8],
+    header: Header,
+    copies: &mut Vec<u8>,
+) -> Result<Option<Copied>, NoMemory>
+    requires { HeaderFits (length buffer.now) header }
+    ensures shown { IfOk result (λ copy. shown_header buffer.now copies.new.items (record header { decoded = copy })
+        ≡ shown_token (HeaderToken (header_of buffer.now header))) }
+    ensures fits { IfOk result (λ copy. CopyFits (length copies.new.items) copy) }
+    ensures extended { OnOk result (IsExtended copies.old.items copies.new.items) }
+{
+    match (header.separator, header.subsection) {
+        (Some(separator), Some(subsection)) => {
+            let spelled = bytes(buffer, subsection);
+            if bytes(buffer, separator) == b".".as_slice() {
+                lower_copy(copies, spelled)
+            } else {
+                unquoted_copy(copies, spelled)
+            }
+        }
+        _ => Ok(None),
+    }
+}
+
+/// An event, whose subsection has a copy where it isn't what is spelled.
+fn decoded_event(buffer: &[u8], event: Event, copies: &mut Vec<u8>) -> Result<Event, NoMemory>
+    requires { EventFits (length buffer.now) event }
+    ensures same { IfOk result (λ e. token_of buffer.now e ≡ token_of buffer.now event) }
+    ensures shown { IfOk result (IsShown buffer.now copies.new.items) }
+    ensures extended { OnOk result (IsExtended copies.old.items copies.new.items) }
+{
+    match event {
+        Event::SectionHeader(header) => {
+            let decoded = header_copy(buffer, header, copies)?;
+            Ok(Event::SectionHeader(Header { decoded, ..header }))
+        }
+        _ => Ok(event),
+    }
+}
+
+/// Gives each header the copy of its subsection, where that isn't what is spelled.
+pub fn decode_headers(
+    buffer: &[u8],
+    events: &mut [Event],
+    copies: &mut Vec<u8>,
+) -> Result<(), NoMemory>
+    requires { AllByRecursion (EventFits (length buffer.now)) events.old }
+    ensures tokens { map (token_of buffer.now) events.new ≡ map (token_of buffer.now) events.old }
+    ensures shown { OnOk result (AllByRecursion (IsShown buffer.now copies.new.items) events.new) }
+{
+    for event in events.iter_mut() {
+        *event = decoded_event(buffer, *event, copies)?;
+    }
+    Ok(())
+}

@@ -1,0 +1,69 @@
+//! Events that a filter keeps.
+ghost use Rattle.std.specs.Prelude.{◌≡◌, ◌++◌, ◌∷◌, [], ℕ, Bool, List, if◌then◌else◌, IfOk, OnOk};
+ghost use Rattle.std.specs.List.{AllByRecursion};
+ghost use Rattle.gitconf_parse.specs.EventRef.{Shown, shown};
+ghost use Rattle.gitconf_parse.specs.Events.{token_of};
+ghost use Rattle.gitconf_parse.specs.ShownEvents.{IsShown};
+ghost use Rattle.gitconf_parse.specs.EventList.{is_entry_token, keeps_token, IsKept};
+
+use super::lend::event_ref;
+use crate::event::Event;
+use crate::event_ref::EventRef;
+use gitconf_text::NoMemory;
+use std::alloc::Global;
+
+/// Whether an event is a header or the filter keeps it.
+fn keeps(buffer: &[u8], copies: &[u8], event: &Event, filter: fn(&EventRef<'_>) -> bool) -> bool
+    requires shown { IsShown buffer.now copies.now event.now }
+    requires callable { IsAlwaysCallable filter }
+    ensures { (p : Shown → Bool) → ((e : _) (b : Bool) → post filter e b → b ≡ p (shown e.now)) → result ≡ keeps_token p (token_of buffer.now event.now) }
+{
+    matches!(event, Event::SectionHeader(_)) || filter(&event_ref(buffer, copies, event))
+}
+
+/// The events that are headers or that the filter keeps, in order, and whether each name, separator and value is among them.
+pub fn kept_events(
+    alloc: Global,
+    buffer: &[u8],
+    copies: &[u8],
+    events: &[Event],
+    filter: fn(&EventRef<'_>) -> bool,
+) -> Result<(Vec<Event>, bool), NoMemory>
+    requires shown { AllByRecursion (IsShown buffer.now copies.now) events.now }
+    requires callable { IsAlwaysCallable filter }
+    ensures kept { IfOk result (λ kept. (p : Shown → Bool) → ((e : _) (b : Bool) → post filter e b → b ≡ p (shown e.now))
+        → IsKept p buffer.now events.now kept.0.items kept.1) }
+    ensures fits { IfOk result (λ kept. AllByRecursion (IsShown buffer.now copies.now) kept.0.items) }
+{
+    let mut kept = Vec::new(alloc);
+    let mut entries = true;
+    for event in events {
+        let keep = keeps(buffer, copies, event, filter);
+        push_if(&mut kept, *event, keep)?;
+        entries &= !is_entry(event) | keep;
+    }
+    Ok((kept, entries))
+}
+
+fn push_if(events: &mut Vec<Event>, event: Event, keep: bool) -> Result<(), NoMemory>
+    ensures { OnOk result (events.new.items ≡ events.old.items ++ (if keep then event ∷ [] else [])) }
+{
+    if keep {
+        events.push(event)?;
+    }
+    Ok(())
+}
+
+/// Whether the event is a name, a separator, or a value or a piece of one.
+fn is_entry(event: &Event) -> bool
+    ensures { (buffer : List ℕ) → result ≡ is_entry_token (token_of buffer event.now) }
+{
+    matches!(
+        event,
+        Event::SectionValueName(_)
+            | Event::Value(_)
+            | Event::ValueNotDone(_)
+            | Event::ValueDone(_)
+            | Event::KeyValueSeparator
+    )
+}

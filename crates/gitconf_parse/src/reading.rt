@@ -1,0 +1,70 @@
+//! The parser's cursor: each function reads at an offset of the text, adds its events, and answers the offset behind what it read.
+ghost use Rattle.std.specs.Prelude.{◌≡◌, ◌≤◌, ◌<◌, ◌^◌, ◌==◌, List, [], length, take, drop, count_by};
+ghost use Rattle.gitconf_text.specs.Part.{Part};
+ghost use Rattle.gitconf_text.specs.Document.{unmarked, IsText};
+ghost use Rattle.gitconf_parse.specs.Parsing.{IsReading, NoFault};
+ghost use Rattle.gitconf_parse.specs.declared.reading.ReadError.TheVariants.{Memory};
+
+use crate::event::Event;
+use part::parts;
+use std::alloc::AllocFailed;
+
+/// What was looked for where the text was refused.
+#[derive(Clone, Copy, Debug, PartialEq, Eq)]
+pub enum Expected {
+    SectionHeader,
+    Name,
+    Value,
+}
+
+/// Where the text was refused.
+#[derive(Clone, Copy, Debug, PartialEq, Eq)]
+pub struct Fault {
+    pub at: usize,
+    pub expected: Expected,
+}
+
+#[derive(Clone, Copy, Debug, PartialEq, Eq)]
+pub enum ReadError {
+    Memory,
+    Fault(Fault),
+}
+
+impl<T: Drop> From<AllocFailed<T>> for ReadError {
+    ghost from_gives = { λ _ e. e ≡ Memory };
+
+    fn from(_failed: AllocFailed<T>) -> ReadError {
+        ReadError::Memory
+    }
+}
+
+mod entry;
+mod header;
+mod part;
+mod run;
+mod value;
+
+/// How many bytes the mark EF BB BF takes at the front of a text.
+fn mark_len(input: &[u8]) -> usize
+    ensures unmarked { drop result input.now ≡ unmarked input.now }
+    ensures line { count_by (λ b. b == 10) (take result input.now) ≡ 0 }
+    ensures inside { result ≤ length input.now }
+{
+    if input.starts_with(b"\xEF\xBB\xBF") {
+        3
+    } else {
+        0
+    }
+}
+
+/// Reads the text into `events`, which hold nothing before: they are its tokens where it has a document, and else the
+/// refusal tells where and why it has none. One pass.
+pub fn read(input: &[u8], events: &mut Vec<Event>) -> Result<(), ReadError>
+    requires fits { length input.now < 2 ^ 32 }
+    requires empty { events.old.items ≡ [] }
+    ensures found { IsReading input.now events.new.items result }
+    // A text with a document is never refused.
+    ensures only { (parts : List Part) → IsText input.now parts → NoFault result }
+{
+    parts(input, mark_len(input), events)
+}

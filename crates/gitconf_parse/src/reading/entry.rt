@@ -1,0 +1,61 @@
+//! Blanks, and entries: a value name, and what is assigned to it.
+ghost use Rattle.std.specs.Prelude.{◌≡◌, ◌≤◌, ◌<◌, ◌^◌, length, drop, IfOk, IsOkUnless};
+ghost use Rattle.gitconf_parse.specs.declared.reading.ReadError.TheVariants.{Memory};
+ghost use Rattle.gitconf_parse.specs.declared.reading.run.Run.TheVariants.{Blanks};
+ghost use Rattle.gitconf_parse.specs.Reading.{Gives, with_blanks, run_end_at, assigned_at, entry_at};
+
+use super::ReadError;
+use super::run::{Run, run_end};
+use super::value::value_events;
+use crate::event::{Event, Span};
+
+/// The blanks at an offset, if there are any.
+fn blanks(input: &[u8], at: usize, events: &mut Vec<Event>) -> Result<usize, ReadError>
+    requires within { at ≤ length input.now }
+    requires fits { length input.now < 2 ^ 32 }
+    ensures events { IfOk result (λ end. events.new.items ≡ with_blanks events.old.items at end) }
+    ensures end { IfOk result (λ end. end ≡ run_end_at input.now Blanks at) }
+    ensures behind { IfOk result (λ end. at ≤ end) }
+    ensures inside { IfOk result (λ end. end ≤ length input.now) }
+    ensures memory { IsOkUnless result Memory }
+{
+    let end = run_end(input, at, Run::Blanks);
+    if at < end {
+        events.push(Event::Whitespace(Span::between(at, end)))?;
+    }
+    Ok(end)
+}
+
+/// What is assigned behind a name and its blanks: `=`, blanks and a value, or nothing.
+#[tactic(auto, unfolding(crate::specs::Reading::assigned_at))]
+fn assigned(input: &[u8], at: usize, events: &mut Vec<Event>) -> Result<usize, ReadError>
+    requires within { at ≤ length input.now }
+    requires fits { length input.now < 2 ^ 32 }
+    ensures gives { Gives result events.new.items (assigned_at input.now at events.old.items) }
+    ensures behind { IfOk result (λ end. at ≤ end) }
+    ensures inside { IfOk result (λ end. end ≤ length input.now) }
+{
+    if input.get(at).copied() == Some(b'=') {
+        events.push(Event::KeyValueSeparator)?;
+        let first = blanks(input, at + 1, events)?;
+        value_events(input, first, events)
+    } else {
+        events.push(Event::Value(Span::between(at, at)))?;
+        Ok(at)
+    }
+}
+
+/// The entry whose name begins, with a letter, at an offset.
+#[tactic(auto, unfolding(crate::specs::Reading::entry_at))]
+pub fn entry(input: &[u8], at: usize, events: &mut Vec<Event>) -> Result<usize, ReadError>
+    requires within { at < length input.now }
+    requires fits { length input.now < 2 ^ 32 }
+    ensures gives { Gives result events.new.items (entry_at input.now at events.old.items) }
+    ensures behind { IfOk result (λ end. at < end) }
+    ensures inside { IfOk result (λ end. end ≤ length input.now) }
+{
+    let name_end = run_end(input, at + 1, Run::NameBytes);
+    events.push(Event::SectionValueName(Span::between(at, name_end)))?;
+    let blanks_end = blanks(input, name_end, events)?;
+    assigned(input, blanks_end, events)
+}

@@ -1,0 +1,77 @@
+//! The parts of a text, one behind the other.
+ghost use Rattle.std.specs.Prelude.{◌≡◌, ◌≤◌, ◌<◌, ◌^◌, length, drop, IfOk};
+ghost use Rattle.gitconf_parse.specs.declared.reading.Expected.TheVariants.{SectionHeader};
+ghost use Rattle.gitconf_parse.specs.Reading.{Gives, GivesAll, part_at, text_from};
+
+use super::entry::entry;
+use super::header::header;
+use super::run::{Run, is_line_end, run_end};
+use super::{Expected, Fault, ReadError};
+use crate::event::{Event, Span};
+
+/// One part, and the offset behind it; `wanted` is told as looked for where none stands.
+#[tactic(auto, unfolding(crate::specs::Reading::part_at))]
+fn part(
+    input: &[u8],
+    at: usize,
+    wanted: Expected,
+    events: &mut Vec<Event>,
+) -> Result<usize, ReadError>
+    requires within { at < length input.now }
+    requires fits { length input.now < 2 ^ 32 }
+    ensures gives { Gives result events.new.items (part_at input.now at wanted events.old.items) }
+    ensures behind { IfOk result (λ end. at < end) }
+    ensures inside { IfOk result (λ end. end ≤ length input.now) }
+{
+    let first = input[at];
+    if first == b' ' || first == b'\t' {
+        let end = run_end(input, at + 1, Run::Blanks);
+        events.push(Event::Whitespace(Span::between(at, end)))?;
+        return Ok(end);
+    }
+    if is_line_end(input, at) {
+        let end = run_end(input, at + 1, Run::LineEnds);
+        events.push(Event::Newline(Span::between(at, end)))?;
+        return Ok(end);
+    }
+    let refused = ReadError::Fault(Fault {
+        at,
+        expected: wanted,
+    });
+    match first {
+        b';' | b'#' => {
+            let end = run_end(input, at + 1, Run::CommentText);
+            let text = Span::between(at + 1, end);
+            events.push(Event::Comment { tag: first, text })?;
+            Ok(end)
+        }
+        b'[' => match header(input, at) {
+            Some((spans, end)) => {
+                events.push(Event::SectionHeader(spans))?;
+                Ok(end)
+            }
+            None => Err(refused),
+        },
+        b'a'..=b'z' | b'A'..=b'Z' => entry(input, at, events),
+        _ => Err(refused),
+    }
+}
+
+/// All parts from an offset on.
+#[tactic(auto, unfolding(crate::specs::Reading::text_from))]
+pub fn parts(input: &[u8], start: usize, events: &mut Vec<Event>) -> Result<(), ReadError>
+    requires within { start ≤ length input.now }
+    requires fits { length input.now < 2 ^ 32 }
+    ensures { GivesAll result events.new.items (text_from input.now SectionHeader events.old.items start 0 (drop start input.now)) }
+{
+    let mut wanted = Expected::SectionHeader;
+    let mut at = start;
+    while at < input.len() {
+        let end = part(input, at, wanted, events)?;
+        if input[at] == b'[' {
+            wanted = Expected::Name;
+        }
+        at = end;
+    }
+    Ok(())
+}

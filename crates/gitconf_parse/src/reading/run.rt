@@ -1,0 +1,71 @@
+//! Runs: blanks, line ends, and the bytes of comments and names.
+ghost use Rattle.std.specs.Prelude.{◌≡◌, ◌≤◌, ◌<◌, length, drop};
+ghost use Rattle.gitconf_text.specs.Text.{begins_line_end};
+ghost use Rattle.gitconf_text.specs.Bytes as text_bytes;
+ghost use Rattle.gitconf_parse.specs.Reading.{run_test, run_end_at};
+
+/// What a run consists of.
+#[derive(Clone, Copy)]
+pub enum Run {
+    /// Spaces and tabs.
+    Blanks,
+    /// LF, and CR before LF.
+    LineEnds,
+    /// All bytes before a line end.
+    CommentText,
+    /// Letters, digits and dashes.
+    NameBytes,
+    /// The same, and dots.
+    HeaderBytes,
+}
+
+/// Whether LF, or CR and LF, stand at an offset.
+#[inline(always)]
+pub fn is_line_end(input: &[u8], at: usize) -> bool
+    requires { at < length input.now }
+    ensures { result ≡ begins_line_end (drop at input.now) }
+{
+    let byte = input[at];
+    byte == b'\n' || byte == b'\r' && input.get(at + 1).copied() == Some(b'\n')
+}
+
+#[inline(always)]
+fn is_name_byte(byte: u8) -> bool
+    ensures { result ≡ text_bytes.is_name_byte byte }
+{
+    byte.is_ascii_alphanumeric() || byte == b'-'
+}
+
+impl Run {
+    /// Whether the byte at an offset belongs to the run.
+    #[inline(always)]
+    fn goes_on(self, input: &[u8], at: usize) -> bool
+        requires { at < length input.now }
+        ensures { result ≡ run_test self (drop at input.now) }
+    {
+        let byte = input[at];
+        match self {
+            Run::Blanks => byte == b' ' || byte == b'\t',
+            Run::LineEnds => is_line_end(input, at),
+            Run::CommentText => !is_line_end(input, at),
+            Run::NameBytes => is_name_byte(byte),
+            Run::HeaderBytes => is_name_byte(byte) || byte == b'.',
+        }
+    }
+}
+
+/// The offset behind the run that stands at an offset.
+#[inline(always)]
+#[tactic(auto, unfolding(crate::specs::Reading::end_of_run))]
+pub fn run_end(input: &[u8], from: usize, run: Run) -> usize
+    requires { from ≤ length input.now }
+    ensures end { result ≡ run_end_at input.now run from }
+    ensures behind { from ≤ result }
+    ensures inside { result ≤ length input.now }
+{
+    let mut i = from;
+    while i < input.len() && run.goes_on(input, i) {
+        i += 1;
+    }
+    i
+}

@@ -1,0 +1,7 @@
+pub mod NamesLaws
+pub mod SectionKeysLaws
+pub mod Rows
+pub mod RefusedRows
+pub mod ValuesPlain
+pub mod ValuesEscaped
+pub mod ValuesRows

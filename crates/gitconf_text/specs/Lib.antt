@@ -1,0 +1,16 @@
+pub mod Bytes
+pub mod Text
+pub mod Unit
+pub mod Value
+pub mod Header
+pub mod Part
+pub mod Document
+pub mod Token
+pub mod Stuck
+pub mod Cause
+pub mod HeaderErrors
+pub mod Names
+pub mod SectionKeyRefs
+pub mod SectionKeys
+pub mod Stripped
+pub mod ValueErrors

@@ -1,0 +1,9 @@
+//! The text layer of git's configuration files.
+#![tactic(auto)]
+
+pub mod laws;
+pub mod memory;
+pub mod parse;
+pub mod value;
+
+pub use memory::NoMemory;

@@ -1,0 +1,64 @@
+//! Want of memory, which any call that needs some may answer.
+
+use std::alloc::{AllocError, AllocFailed};
+use thiserror::Error;
+
+/// A growth was refused in the call.
+#[derive(Clone, Copy, Debug, PartialEq, Eq, PartialOrd, Ord, Hash, Error)]
+#[error("out of memory")]
+pub struct NoMemory;
+
+impl NoMemory {
+    ghost use Rattle.std.specs.Prelude.{◌≡◌};
+
+    /// The refusal's number, 27.
+    pub fn number(&self) -> u8
+        ensures { result ≡ 27 }
+    {
+        27
+    }
+}
+
+impl From<AllocError> for NoMemory {
+    fn from(_e: AllocError) -> NoMemory {
+        NoMemory
+    }
+}
+
+impl<T: Drop> From<AllocFailed<T>> for NoMemory {
+    fn from(_e: AllocFailed<T>) -> NoMemory {
+        NoMemory
+    }
+}
+
+/// What an error comes from that tells its own refusal or want of memory.
+#[derive(Clone, Copy, Debug, PartialEq, Eq, PartialOrd, Ord)]
+pub(crate) enum Cause {
+    Refused,
+    Memory,
+}
+
+impl Cause {
+    ghost use Rattle.std.specs.Prelude.{◌≡◌, codes};
+    ghost use Rattle.gitconf_text.specs.Cause.{number_of, text_of};
+
+    /// The number to show, where the refusal's own is `own`.
+    pub(crate) fn number(self, own: u8) -> u8
+        ensures { result ≡ number_of own self }
+    {
+        match self {
+            Cause::Refused => own,
+            Cause::Memory => 27,
+        }
+    }
+
+    /// The text to show, where the refusal's own is `own`.
+    pub(crate) fn text(self, own: &str) -> &str
+        ensures { result.now ≡ text_of own.now self }
+    {
+        match self {
+            Cause::Refused => own,
+            Cause::Memory => "out of memory",
+        }
+    }
+}

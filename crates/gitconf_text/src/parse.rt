@@ -1,0 +1,4 @@
+//! What the parser reads, and how it refuses.
+
+pub mod section;
+pub mod span;

@@ -1,0 +1,115 @@
+//! Headers that are made.
+ghost use Rattle.std.specs.Prelude.{◌≡◌, ◌↔◌, true, false, IsOk, IsErrOf, option_copied};
+ghost use Rattle.gitconf_text.specs.Names as spec;
+
+use super::bytes::is_made_name;
+use crate::memory::NoMemory;
+use crate::parse::span;
+use std::alloc::{AllocError, AllocFailed};
+use thiserror::Error;
+
+/// How a header is refused that is to be made.
+#[derive(Debug, Drop, PartialEq, Eq, PartialOrd, Error)]
+pub enum Error {
+    /// A byte of the section's name is no letter, digit or dash: refusal 4.
+    #[error("section names can only be ascii, '-'")]
+    InvalidName,
+    /// The subsection holds LF or NUL: refusal 5.
+    #[error("sub-section names must not contain newlines or null bytes")]
+    InvalidSubSection,
+    /// The header has no place in the text, or there is no section number for it: refusal 3.
+    #[error(transparent)]
+    Span(span::Error),
+    /// A growth was refused: refusal 27.
+    #[error("out of memory")]
+    Memory,
+}
+
+impl Error {
+    ghost use Rattle.gitconf_text.specs.HeaderErrors.{header_number};
+
+    /// The refusal's number: 3 to 5, or 27.
+    pub fn number(&self) -> u8
+        ensures { result ≡ header_number self.now }
+    {
+        match self {
+            Error::InvalidName => 4,
+            Error::InvalidSubSection => 5,
+            Error::Span(e) => e.number(),
+            Error::Memory => 27,
+        }
+    }
+}
+
+impl From<span::Error> for Error {
+    ghost use Rattle.gitconf_text.specs.declared.parse.section.header.Error.TheVariants.{Span};
+
+    ghost from_gives = { λ span e. e ≡ Span span };
+
+    fn from(span: span::Error) -> Error {
+        Error::Span(span)
+    }
+}
+
+impl From<NoMemory> for Error {
+    ghost use Rattle.gitconf_text.specs.declared.parse.section.header.Error.TheVariants.{Memory};
+
+    ghost from_gives = { λ _ e. e ≡ Memory };
+
+    fn from(_e: NoMemory) -> Error {
+        Error::Memory
+    }
+}
+
+impl From<AllocError> for Error {
+    ghost use Rattle.gitconf_text.specs.declared.parse.section.header.Error.TheVariants.{Memory};
+
+    ghost from_gives = { λ _ e. e ≡ Memory };
+
+    fn from(_e: AllocError) -> Error {
+        Error::Memory
+    }
+}
+
+impl<T: Drop> From<AllocFailed<T>> for Error {
+    ghost use Rattle.gitconf_text.specs.declared.parse.section.header.Error.TheVariants.{Memory};
+
+    ghost from_gives = { λ _ e. e ≡ Memory };
+
+    fn from(_e: AllocFailed<T>) -> Error {
+        Error::Memory
+    }
+}
+
+/// Whether `name` may be a subsection of a header that is made: it holds neither LF nor NUL.
+///
+/// It reads `name` once.
+pub fn is_valid_subsection(name: &[u8]) -> bool
+    ensures { result ≡ spec.is_valid_subsection name.now }
+{
+    name.iter().all(|b| !(*b == b'\n' || *b == b'\0'))
+}
+
+/// Tests the parts of a header that is to be made. The name may be empty.
+///
+/// It is for the crates above this one. It reads both parts once, and takes no memory.
+///
+/// # Errors
+///
+/// `InvalidName` where a byte of the name is no letter, digit or dash, and else `InvalidSubSection` where there
+/// is a subsection that `is_valid_subsection` refuses.
+pub fn validate(name: &[u8], subsection: Option<&[u8]>) -> Result<(), Error>
+    ensures name { IsErrOf result Error.InvalidName ↔ (spec.is_made_name name.now ≡ false) }
+    ensures subsection { IsErrOf result Error.InvalidSubSection ↔ ((spec.is_made_name name.now ≡ true)
+        × (spec.is_valid_or_none (option_copied subsection.entry) ≡ false)) }
+    ensures ok { IsOk result ↔ ((spec.is_made_name name.now ≡ true)
+        × (spec.is_valid_or_none (option_copied subsection.entry) ≡ true)) }
+{
+    if !is_made_name(name) {
+        return Err(Error::InvalidName);
+    }
+    match subsection {
+        Some(subsection) if !is_valid_subsection(subsection) => Err(Error::InvalidSubSection),
+        _ => Ok(()),
+    }
+}

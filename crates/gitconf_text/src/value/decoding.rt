@@ -1,0 +1,97 @@
+//! From a raw value to its meaning.
+ghost use Rattle.std.specs.Prelude.{◌≡◌, true, false, IfOk, IsOkAnd};
+ghost use Rattle.std.specs.List.{list_any};
+ghost use Rattle.std.specs.Cow.{cow_slice_items, IsBorrowedSlice, IsOwnedSlice};
+ghost use Rattle.gitconf_text.specs.Value.{plain, escape_meaning};
+ghost use Rattle.gitconf_text.specs.Stripped as spec;
+
+use crate::memory::NoMemory;
+use std::alloc::Global;
+use std::borrow::CowSlice;
+
+/// What the byte behind a backslash stands for.
+fn escape_meaning(b: u8) -> u8
+    ensures { result ≡ escape_meaning b }
+{
+    match b {
+        b'n' => b'\n',
+        b't' => b'\t',
+        b'b' => b'\x08',
+        _ => b,
+    }
+}
+
+/// Quotes stand first and last, the last not behind a backslash.
+#[tactic(auto, using(crate::proofs::ValuesPlain::enclosed_at))]
+fn is_enclosed(text: &[u8]) -> bool
+    ensures { result ≡ spec.is_enclosed text.now }
+{
+    let n = text.len();
+    n >= 2 && text[0] == b'"' && text[n - 1] == b'"' && text[n - 2] != b'\\'
+}
+
+/// The text without its enclosing quotes.
+#[tactic(auto, using(crate::proofs::ValuesPlain::stripping))]
+fn stripped(text: &[u8]) -> &[u8]
+    ensures { result.now ≡ spec.stripped text.now }
+{
+    let mut left = text;
+    while is_enclosed(left) {
+        left = &left[1..left.len() - 1];
+    }
+    left
+}
+
+/// Whether a byte of the text doesn't stand for itself.
+fn has_coded_byte(text: &[u8]) -> bool
+    ensures { result ≡ list_any spec.is_coded text.now }
+{
+    text.iter().any(|b| *b == b'"' || *b == b'\\')
+}
+
+/// The meaning, in memory of its own.
+#[tactic(auto, using(crate::proofs::ValuesPlain::decoding))]
+fn decoded(alloc: Global, text: &[u8]) -> Result<Vec<u8>, NoMemory>
+    ensures { IfOk result (λ it. it.items ≡ plain text.now) }
+{
+    let mut out = Vec::with_capacity(alloc, text.len())?;
+    let mut escaped = false;
+    for b in text {
+        if escaped {
+            out.push_reserved(escape_meaning(*b));
+            escaped = false;
+        } else if *b == b'\\' {
+            escaped = true;
+        } else if *b != b'"' {
+            out.push_reserved(*b);
+        }
+    }
+    Ok(out)
+}
+
+/// The meaning of a raw value, as a file spells it behind `=`.
+///
+/// Unescaped quotes are dropped, `\n`, `\t` and `\b` stand for LF, tab and byte 8, any other byte behind a backslash
+/// for itself, and a lone last backslash for nothing. (The manual page of `git-config`, section "Syntax", tells the
+/// escapes; what bytes mean that no file may hold is the Rust crate's.)
+///
+/// Quotes that enclose the whole are stripped first, as often as they stand, which leaves the meaning as it is. Where
+/// neither a quote nor a backslash is left then, the answer is a part of `input`, and takes no memory. Else it takes
+/// memory once, no more than `input.len()` bytes. The time is linear in `input.len()`.
+///
+/// # Errors
+///
+/// Only where memory is wanting, and never where the answer is a part of `input`.
+#[tactic(auto, using(crate::proofs::ValuesPlain::normalizing))]
+pub fn normalize(alloc: Global, input: &[u8]) -> Result<CowSlice<'_, u8>, NoMemory>
+    ensures meaning { IfOk result (λ it. cow_slice_items it ≡ plain input.now) }
+    ensures borrowed { spec.needs_decoding input.now ≡ false → IsOkAnd result (λ it. IsBorrowedSlice it) }
+    ensures owned { spec.needs_decoding input.now ≡ true → IfOk result (λ it. IsOwnedSlice it) }
+{
+    let text = stripped(input);
+    if !has_coded_byte(text) {
+        return Ok(CowSlice::Borrowed(text));
+    }
+    let bytes = decoded(alloc, text)?;
+    Ok(CowSlice::Owned(bytes))
+}

@@ -1,0 +1,141 @@
+//! How a value is refused by the type that it is to have.
+ghost use Rattle.std.specs.Prelude.{◌≡◌, Some, codes};
+ghost use Rattle.bstr.specs.Owned.{bstring_bytes};
+ghost use Rattle.gitconf_text.specs.ValueErrors.{refused, value_error_text, wanting};
+
+use crate::memory::NoMemory;
+use bstr::BString;
+use std::alloc::{AllocError, AllocFailed};
+use std::fmt;
+use std::marker::Model;
+
+/// What is wrong, and with which bytes.
+#[derive(Debug, Drop)]
+struct Told {
+    message: &'static str,
+    input: BString,
+}
+
+/// A value that is no boolean or no integer, or overflows: refusal 11. Or a growth was refused: refusal 27.
+#[derive(Debug, Drop)]
+pub struct Error {
+    /// None where memory was wanting.
+    told: Option<Told>,
+}
+
+impl Model for Error {
+    ghost use Rattle.gitconf_text.specs.ValueErrors.{ValueError, shown};
+
+    ghost Value = { ValueError };
+
+    ghost view = { λ e. shown e.told };
+}
+
+impl Error {
+    /// The refusal of bytes that are no boolean. It keeps them, and takes no memory.
+    pub fn not_a_boolean(input: BString) -> Error
+        ensures { result ≡ refused (codes "not a boolean") (bstring_bytes input) }
+    {
+        Error {
+            told: Some(Told {
+                message: "not a boolean",
+                input,
+            }),
+        }
+    }
+
+    /// The refusal of bytes that are no integer. It keeps them, and takes no memory.
+    pub fn not_an_integer(input: BString) -> Error
+        ensures { result ≡ refused (codes "not an integer") (bstring_bytes input) }
+    {
+        Error {
+            told: Some(Told {
+                message: "not an integer",
+                input,
+            }),
+        }
+    }
+
+    /// The refusal of an integer that 64 bits with a sign don't hold. It keeps its bytes, and takes no memory.
+    pub fn overflow(input: BString) -> Error
+        ensures { result ≡ refused (codes "Integer overflow") (bstring_bytes input) }
+    {
+        Error {
+            told: Some(Told {
+                message: "Integer overflow",
+                input,
+            }),
+        }
+    }
+
+    /// The refusal's number: 11, or 27 where memory was wanting.
+    pub fn number(&self) -> u8
+        ensures { result ≡ self.now.number }
+    {
+        match self.told {
+            Some(_) => 11,
+            None => 27,
+        }
+    }
+
+    /// What is wrong with the input; empty where memory was wanting.
+    pub fn message(&self) -> &str
+        ensures { result.now ≡ self.now.message }
+    {
+        match &self.told {
+            Some(told) => told.message,
+            None => "",
+        }
+    }
+
+    /// The bytes that were refused; none where memory was wanting.
+    pub fn input(&self) -> &[u8]
+        ensures { result.now ≡ self.now.input }
+    {
+        match &self.told {
+            Some(told) => told.input.as_bytes(),
+            None => b"",
+        }
+    }
+}
+
+impl fmt::Display for Error {
+    ghost output = { λ e. Some (value_error_text e) };
+
+    fn fmt<W: fmt::Write>(&self, f: &mut fmt::Formatter<W>) -> fmt::Result {
+        match &self.told {
+            Some(told) => {
+                let input = &told.input;
+                let message = told.message;
+                write!(f, "Could not decode '{input}': {message}")
+            }
+            None => f.write_str("out of memory"),
+        }
+    }
+}
+
+impl std::error::Error for Error {}
+
+impl From<NoMemory> for Error {
+    ghost from_gives = { λ _ e. e ≡ wanting };
+
+    fn from(_e: NoMemory) -> Error {
+        Error { told: None }
+    }
+}
+
+impl From<AllocError> for Error {
+    ghost from_gives = { λ _ e. e ≡ wanting };
+
+    fn from(_e: AllocError) -> Error {
+        Error { told: None }
+    }
+}
+
+impl<T: Drop> From<AllocFailed<T>> for Error {
+    ghost from_gives = { λ _ e. e ≡ wanting };
+
+    fn from(_e: AllocFailed<T>) -> Error {
+        Error { told: None }
+    }
+}
