@@ -2,7 +2,8 @@
 use Rattle.std.proofs.Common.{◌≡◌, ℕ, ◌-◌, ◌≤◌, ◌<◌, true, false, not, List, length, get_or, arith}
 use Rattle.std.proofs.lemmas.Bool.Decides.{nat_tests}
 use Rattle.std.proofs.lemmas.List.Sums.{suffix_len_is}
-use Rattle.gitconf_base.specs.Key.{is_dot, behind_last_dot}
+use Rattle.gitconf_text.specs.SectionKeys.{is_dot}
+use Rattle.gitconf_base.specs.Key.{behind_last_dot}
 
 no_dot : (b : ℕ) → (b ≡ 46 → ⊥) → not (is_dot b) ≡ true
 no_dot b differs = grind (arith, nat_tests)

@@ -2,6 +2,10 @@
 use Rattle.std.proofs.Common.{◌≡◌, ℕ, zero, suc, ◌+◌, ◌≤◌, ◌<◌, ◌==◌, Bool, true, false, not, cond, nat_lt, List, [], ◌∷◌, ◌++◌, length, take, drop, get_or, subst, eqb-true, set, map, filter, find, position, insert, remove, Option, Some, None, refl, ap, sym, ◌∙◌, append_assoc, add-one, add-zero, arith}
 use Rattle.std.specs.Prelude.{◌||◌}
 use Rattle.std.specs.Option.{option_map}
+use Rattle.std.specs.Str.{bytes_eq}
+use Rattle.std.proofs.lemmas.Str.Ascii.{lowercase-lowercase}
+use Rattle.gitconf_text.specs.Bytes.{fold}
+use Rattle.gitconf_text.specs.Names.{is_same_name}
 use Rattle.std.specs.List.{AllByRecursion, list_any, position_or_len, slice_get}
 use Rattle.std.proofs.lemmas.Bool.Decides.{nat_tests}
 use Rattle.std.proofs.lemmas.Bool.{ltb-false}
@@ -14,8 +18,17 @@ use Rattle.std.proofs.lemmas.List.Folds.{find_at}
 use Rattle.std.proofs.lemmas.Option.{slice_get_read, slice_get-get_or}
 use Rattle.std.proofs.Math.ListN.{get_or-map}
 use Rattle.gitconf_base.specs.declared.util.Row.{Row}
-use Rattle.gitconf_base.specs.Sections.{SectionEntry, Sections, AreNumbered, changed_at, edited_at, has_number, numbered_from, number_at, place_of, section_at, section_of, with_section}
+use Rattle.gitconf_base.specs.Sections.{SectionEntry, Sections, AreNumbered, changed_at, edited_at, entry_of, has_name, has_number, numbered_from, number_at, place_of, section_at, section_of, with_section}
 use Rattle.gitconf_base.specs.Rows.{entry_of_row, entries_of}
+
+-- letters in lower case stay
+fold_again : (name : List ℕ) → fold (fold name) ≡ fold name
+fold_again [] = refl
+fold_again (b ∷ bs) = λ j. lowercase-lowercase b j ∷ fold_again bs j
+
+-- a name is that of a new section where the section got the same name: for the callers that add sections
+pub has_name-new : {T : Type 0} (asked name : List ℕ) (number : ℕ) (subsection : Option (List ℕ)) (section : T) → has_name asked (entry_of number name subsection section) ≡ is_same_name asked name
+has_name-new asked name number subsection section = ap (λ bs. bytes_eq (fold asked) bs) (fold_again name)
 
 -- a number below another is another
 below_differs : (a n : ℕ) → a < n → (a == n) ≡ false

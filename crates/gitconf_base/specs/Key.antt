@@ -1,9 +1,10 @@
 -- Keys such as `core.editor` and `remote.origin.url`, as git-config's manual page describes them: the
 -- section up to the first dot, the name behind the last one, the subsection between.
-use Rattle.std.specs.Prelude.{◌≡◌, ℕ, ◌+◌, ◌-◌, Bool, ◌==◌, ◌&&◌, not, nat_lt, if◌then◌else◌, List, [], length, take, drop, slice_range, position, Option, Some, None, IsSome}
+use Rattle.std.specs.Prelude.{◌≡◌, ℕ, ◌+◌, ◌-◌, ◌&&◌, not, nat_lt, if◌then◌else◌, List, [], length, take, drop, slice_range, position, Option, Some, None, IsSome}
 use Rattle.std.specs.Option.{option_map, option_and_then, unwrap_or}
 use Rattle.std.specs.List.{suffix_len}
 use Rattle.std.specs.Str.{is_utf8}
+use Rattle.gitconf_text.specs.SectionKeys.{is_dot}
 use Rattle.gitconf_base.specs.declared.key.KeyRef.{KeyRef}
 
 -- the three names of a key
@@ -15,10 +16,6 @@ pub record Key : Type 0 where
 -- the names that a key of the program holds
 abbrev pub key_of : KeyRef → Key
 key_of key = record { section = key.section_name.now; subsection = option_map (λ s. s.now) key.subsection_name; name = key.value_name.now }
-
--- whether a byte is a dot
-abbrev pub is_dot : ℕ → Bool
-is_dot b = b == 46
 
 -- how many bytes end with the last dot, or 0 where there is none
 abbrev pub behind_last_dot : List ℕ → ℕ

@@ -2,9 +2,9 @@
 use Rattle.std.specs.Prelude.{◌≡◌, ℕ, ◌+◌, ◌<◌, ◌≤◌, Bool, false, not, ◌==◌, ◌&&◌, List, [], ◌∷◌, ◌++◌, length, take, drop, Option, map, filter, find, position, insert, zero, suc, slice_get}
 use Rattle.std.specs.Option.{option_eq, option_map}
 use Rattle.std.specs.List.{AllByRecursion}
-use Rattle.std.specs.Str.{bytes_eq, str_to_ascii_lowercase}
-use Rattle.gitconf_base.specs.declared.util.TableError.{TableError}
-use Rattle.gitconf_base.specs.declared.util.TableError.TheVariants.{NumbersUsedUp, Memory}
+use Rattle.std.specs.Str.{bytes_eq}
+use Rattle.gitconf_text.specs.Bytes.{fold}
+use Rattle.gitconf_text.specs.Names.{is_same_name}
 
 -- a section of the list: its number, its name in lower case, its subsection, and what it holds
 pub record SectionEntry (T : Type 0) : Type 0 where
@@ -24,7 +24,7 @@ no_number = 18446744073709551615
 
 -- a new section
 abbrev pub entry_of : {T : Type 0} → ℕ → List ℕ → Option (List ℕ) → T → SectionEntry T
-entry_of number name subsection section = record { number = number; name = str_to_ascii_lowercase name; subsection = subsection; section = section }
+entry_of number name subsection section = record { number = number; name = fold name; subsection = subsection; section = section }
 
 -- each number is below the next one to be given, and stands once
 abbrev pub AreNumbered : {T : Type 0} → ℕ → List (SectionEntry T) → Type 0
@@ -95,15 +95,15 @@ edited_at f at all = record all { entries = changed_at (λ e. record e { section
 -- the table with other names of the section at a place
 abbrev pub with_names : {T : Type 0} → Sections T → ℕ → List ℕ → Option (List ℕ) → Sections T
 with_names all at name subsection =
-    record all { entries = changed_at (λ e. record e { name = str_to_ascii_lowercase name; subsection = subsection }) all.entries at }
+    record all { entries = changed_at (λ e. record e { name = fold name; subsection = subsection }) all.entries at }
 
 -- the numbers with what the sections hold, in file order
 abbrev pub sections_of : {T : Type 0} → Sections T → List (ℕ × T)
 sections_of all = map (λ e. (e.number, e.section)) all.entries
 
--- whether a section has the name, without ASCII case
+-- whether a section has the name
 abbrev pub has_name : {T : Type 0} → List ℕ → SectionEntry T → Bool
-has_name name e = bytes_eq e.name (str_to_ascii_lowercase name)
+has_name name e = is_same_name name e.name
 
 -- whether a section has the name, and exactly the subsection
 abbrev pub is_named : {T : Type 0} → List ℕ → Option (List ℕ) → SectionEntry T → Bool
@@ -120,8 +120,3 @@ named name subsection all = map (λ e. (e.number, e.section)) (filter (is_named 
 -- the sections of a name and any subsection, in file order
 abbrev pub all_named : {T : Type 0} → List ℕ → Sections T → List (ℕ × T)
 all_named name all = map (λ e. (e.number, e.section)) (filter (has_name name) all.entries)
-
--- the number of a refusal
-abbrev pub error_number : TableError → ℕ
-error_number NumbersUsedUp = 3
-error_number Memory = 27

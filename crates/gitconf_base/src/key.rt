@@ -1,9 +1,9 @@
 //! Keys: the three names of a value, written with dots between them, as git-config's manual page has them.
-ghost use Rattle.std.specs.Prelude.{◌≡◌, ◌≤◌, if◌then◌else◌, length, position, string_bytes, Some};
+ghost use Rattle.std.specs.Prelude.{◌≡◌, ◌≤◌, length, position, string_bytes, Some};
 ghost use Rattle.std.specs.Option.{option_copied, option_map};
-ghost use Rattle.std.specs.Str.{is_utf8};
 ghost use Rattle.bstr.specs.Owned.{bstring_bytes};
-ghost use Rattle.gitconf_base.specs.Key.{behind_last_dot, is_dot, key_of, parsed_key};
+ghost use Rattle.gitconf_text.specs.SectionKeys.{as_utf8, is_dot};
+ghost use Rattle.gitconf_base.specs.Key.{behind_last_dot, key_of, parsed_key};
 
 use bstr::BString;
 
@@ -64,12 +64,9 @@ fn name_start(input: &[u8]) -> usize
 
 // The bytes as text, if they are UTF-8.
 fn text(bytes: &[u8]) -> Option<&str>
-    ensures { option_copied result ≡ (if is_utf8 bytes.now then Some bytes.now else None) }
+    ensures { option_copied result ≡ as_utf8 bytes.now }
 {
-    match str::from_utf8(bytes) {
-        Ok(text) => Some(text),
-        Err(_) => None,
-    }
+    str::from_utf8(bytes).ok()
 }
 
 /// What can be read as a key: a text such as `core.editor`, or the three names themselves.

@@ -5,7 +5,6 @@
 pub mod host;
 pub mod key;
 pub mod laws;
-pub mod memory;
 pub mod meta;
 pub mod source;
 pub mod util;

@@ -3,9 +3,8 @@ ghost use Rattle.std.specs.Prelude.{◌≡◌, IfOk, IfErr, string_bytes};
 ghost use Rattle.gitconf_base.specs.Metadata.{api_meta, meta_of_file, meta_of_source};
 
 use crate::host::FileFault;
-use crate::memory::NoMemory;
 use crate::source::{Source, Trust};
-use std::alloc::AllocError;
+use gitconf_text::NoMemory;
 use std::cmp::Ordering;
 use std::hash::{Hash, Hasher};
 use std::marker::Model;

@@ -1,19 +1,21 @@
 //! The table of a file's sections and their numbers. Its contracts speak of the plain list in file order, so
 //! that a look-up by a hashed index can take the place of the walk without a change of them.
-ghost use Rattle.std.specs.Prelude.{◌≡◌, ◌+◌, ◌^◌, ◌<◌, ◌≤◌, ◌==◌, ◌↔◌, [], ◌++◌, drop, find, length, position, take, vec_len, IfOk, IfSome, OnOk, OnErr, IsErrOf};
+ghost use Rattle.std.specs.Prelude.{◌≡◌, ◌+◌, ◌^◌, ◌<◌, ◌≤◌, ◌==◌, ◌↔◌, [], ◌++◌, drop, find, length, position, take, vec_len, IfErr, IfOk, IfSome, OnOk, OnErr, IsErrOf};
 ghost use Rattle.std.specs.Iterator.{item_count, YieldsFirst, YieldsFirstBy, YieldsLast, YieldsLastBy};
 ghost use Rattle.std.specs.List.{list_any};
 ghost use Rattle.std.specs.Option.{option_copied, option_eq, option_map};
-ghost use Rattle.std.specs.Str.{bytes_eq, str_to_ascii_lowercase};
+ghost use Rattle.std.specs.Str.{bytes_eq};
 ghost use Rattle.std.specs.Borrow.{sem};
+ghost use Rattle.gitconf_text.specs.Bytes.{fold};
 ghost use Rattle.gitconf_base.specs.Sections.{all_named, entry_of, has_name, ids, is_named, named, no_number, number_at, numbered_from, place_of, section_at, section_of, sections_of, with_all, with_behind, with_last, with_names, without, IsNumbered};
 ghost use Rattle.gitconf_base.specs.Rows.{entries_of, entry_of_row};
 ghost use Rattle.gitconf_base.specs.SectionIters.{ids_left, named_left, sections_left, shown_section, with_name_left};
 
-use crate::memory::NoMemory;
-use std::alloc::{AllocError, AllocFailed, Global};
+use gitconf_text::NoMemory;
+use gitconf_text::parse::section::bytes::is_same_name;
+use gitconf_text::parse::span;
+use std::alloc::{AllocError, Global};
 use std::marker::Model;
-use thiserror::Error;
 
 mod by_name;
 
@@ -42,51 +44,6 @@ impl Default for SectionId {
     /// The greatest number, which no section gets from a table.
     fn default() -> SectionId {
         SectionId { number: usize::MAX }
-    }
-}
-
-/// A table could not take a section.
-#[derive(Clone, Copy, PartialEq, Eq, Debug, Error)]
-pub enum TableError {
-    /// All numbers but the greatest were given.
-    #[error("the numbers of sections are used up")]
-    NumbersUsedUp,
-    /// There was no memory.
-    #[error("memory ran out")]
-    Memory,
-}
-
-impl TableError {
-    ghost use Rattle.gitconf_base.specs.Sections.{error_number};
-
-    /// The number under which the program prints this refusal: 3 or 27.
-    pub fn number(&self) -> u8
-        ensures { result ≡ error_number self.now }
-    {
-        match self {
-            TableError::NumbersUsedUp => 3,
-            TableError::Memory => 27,
-        }
-    }
-}
-
-impl From<AllocError> for TableError {
-    ghost use Rattle.gitconf_base.specs.declared.util.TableError.TheVariants.{Memory};
-
-    ghost from_gives = { λ _ e. e ≡ Memory };
-
-    fn from(_refused: AllocError) -> TableError {
-        TableError::Memory
-    }
-}
-
-impl<T: Drop> From<AllocFailed<T>> for TableError {
-    ghost use Rattle.gitconf_base.specs.declared.util.TableError.TheVariants.{Memory};
-
-    ghost from_gives = { λ _ e. e ≡ Memory };
-
-    fn from(_refused: AllocFailed<T>) -> TableError {
-        TableError::Memory
     }
 }
 
@@ -269,23 +226,24 @@ impl<T> SectionTable<T> {
     /// Puts a section last, under the next number and `name` in ASCII lower case, and answers that number.
     /// Takes memory for the names and one place.
     ///
-    /// Errors: [`TableError::NumbersUsedUp`] where only the greatest number is left, and
-    /// [`TableError::Memory`]. The table then is as it was.
+    /// Errors: a [`span::Error`], number 3 where only the greatest number is left, and else 27 for want of
+    /// memory. The table then is as it was.
     pub fn push(
         &mut self,
         name: &[u8],
         subsection: Option<&[u8]>,
         section: T,
-    ) -> Result<SectionId, TableError>
+    ) -> Result<SectionId, span::Error>
     where
         T: Drop,
         ensures id { IfOk result (λ id. id ≡ self.old.next) }
         ensures ok { OnOk result (self.new ≡ with_last name.now (option_copied subsection.entry) section self.old) }
-        ensures used_up { IsErrOf result TableError.NumbersUsedUp ↔ (self.old.next ≡ no_number) }
+        ensures used_up { IsErrOf result 3 ↔ (self.old.next ≡ no_number) }
+        ensures memory { IfErr result (λ e. self.old.next < no_number → e ≡ 27) }
         ensures err { OnErr result (self.new ≡ self.old) }
     {
         if self.next == usize::MAX {
-            return Err(TableError::NumbersUsedUp);
+            return Err(span::Error::too_large());
         }
         let id = SectionId { number: self.next };
         let row = row_of(*self.rows.allocator(), id, name, subsection, section)?;
@@ -297,25 +255,26 @@ impl<T> SectionTable<T> {
     /// Puts a section directly behind the one at a place, under the next number and `name` in ASCII lower
     /// case, and answers that number. Takes memory for the names and one place, and moves what stands behind.
     ///
-    /// Errors: [`TableError::NumbersUsedUp`] where only the greatest number is left, and
-    /// [`TableError::Memory`]. The table then is as it was.
+    /// Errors: a [`span::Error`], number 3 where only the greatest number is left, and else 27 for want of
+    /// memory. The table then is as it was.
     pub fn insert_behind(
         &mut self,
         position: usize,
         name: &[u8],
         subsection: Option<&[u8]>,
         section: T,
-    ) -> Result<SectionId, TableError>
+    ) -> Result<SectionId, span::Error>
     where
         T: Drop,
         requires { position < length self.old.entries }
         ensures id { IfOk result (λ id. id ≡ self.old.next) }
         ensures ok { OnOk result (self.new ≡ with_behind position name.now (option_copied subsection.entry) section self.old) }
-        ensures used_up { IsErrOf result TableError.NumbersUsedUp ↔ (self.old.next ≡ no_number) }
+        ensures used_up { IsErrOf result 3 ↔ (self.old.next ≡ no_number) }
+        ensures memory { IfErr result (λ e. self.old.next < no_number → e ≡ 27) }
         ensures err { OnErr result (self.new ≡ self.old) }
     {
         if self.next == usize::MAX {
-            return Err(TableError::NumbersUsedUp);
+            return Err(span::Error::too_large());
         }
         let id = SectionId { number: self.next };
         let row = row_of(*self.rows.allocator(), id, name, subsection, section)?;
@@ -327,19 +286,20 @@ impl<T> SectionTable<T> {
     /// Puts all sections of another table behind the first `position` ones, in their order and under the next
     /// numbers. Their names and what they hold are moved. Takes memory for the places, and moves what stands behind.
     ///
-    /// Errors: [`TableError::NumbersUsedUp`] where fewer numbers are left than the other has sections, and
-    /// [`TableError::Memory`]. The table then is as it was, and the other is dropped.
-    pub fn insert_all(&mut self, position: usize, other: SectionTable<T>) -> Result<(), TableError>
+    /// Errors: a [`span::Error`], number 3 where fewer numbers are left than the other has sections, and else
+    /// 27 for want of memory. The table then is as it was, and the other is dropped.
+    pub fn insert_all(&mut self, position: usize, other: SectionTable<T>) -> Result<(), span::Error>
     where
         T: Drop,
         requires { position ≤ length self.old.entries }
         ensures ok { OnOk result (self.new ≡ with_all position other self.old) }
-        ensures used_up { IsErrOf result TableError.NumbersUsedUp ↔ (no_number < self.old.next + length other.entries) }
+        ensures used_up { IsErrOf result 3 ↔ (no_number < self.old.next + length other.entries) }
+        ensures memory { IfErr result (λ e. self.old.next + length other.entries ≤ no_number → e ≡ 27) }
         ensures err { OnErr result (self.new ≡ self.old) }
     {
         let count = other.rows.len();
         if usize::MAX - self.next < count {
-            return Err(TableError::NumbersUsedUp);
+            return Err(span::Error::too_large());
         }
         let SectionTable {
             rows: mut added,
@@ -391,7 +351,7 @@ impl<T> SectionTable<T> {
 
 // The bytes in ASCII lower case.
 fn folded(alloc: Global, name: &[u8]) -> Result<Vec<u8>, AllocError>
-    ensures { IfOk result (λ v. v.items ≡ str_to_ascii_lowercase name.now) }
+    ensures { IfOk result (λ v. v.items ≡ fold name.now) }
 {
     let mut folded = Vec::from_slice(alloc, name)?;
     folded.make_ascii_lowercase();
@@ -476,29 +436,15 @@ fn rotate_tail<T>(rows: &mut [Row<T>], at: usize, count: usize)
 fn is_named<T>(row: &Row<T>, name: &str, subsection: Option<&[u8]>) -> bool
     ensures { result ≡ is_named name.now (option_copied subsection.entry) (entry_of_row row.now) }
 {
-    is_folded(&row.name, name.as_bytes()) && same_subsection(&row.subsection, subsection)
+    is_same_name(name.as_bytes(), &row.name) && same_subsection(&row.subsection, subsection)
 }
 
 // Whether some row has the name, without ASCII case.
 fn any_has_name<T>(rows: &[Row<T>], name: &str) -> bool
     ensures { result ≡ list_any (λ r. has_name name.now (entry_of_row r)) rows.now }
 {
-    rows.iter().any(|row| is_folded(&row.name, name.as_bytes()))
-}
-
-// Whether the first is the second in ASCII lower case.
-fn is_folded(folded: &[u8], name: &[u8]) -> bool
-    ensures { result ≡ bytes_eq folded.now (str_to_ascii_lowercase name.now) }
-{
-    let (mut ours, mut asked) = (folded, name);
-    while let (Some((our, more)), Some((byte, rest))) = (ours.split_first(), asked.split_first()) {
-        if *our != byte.to_ascii_lowercase() {
-            return false;
-        }
-        ours = more;
-        asked = rest;
-    }
-    ours.is_empty() && asked.is_empty()
+    rows.iter()
+        .any(|row| is_same_name(name.as_bytes(), &row.name))
 }
 
 // Whether both are none, or the same bytes.

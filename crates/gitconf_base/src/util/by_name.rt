@@ -2,7 +2,8 @@
 ghost use Rattle.std.specs.Iterator.{item_count, YieldsFirstBy, YieldsLastBy};
 ghost use Rattle.gitconf_base.specs.SectionIters.{named_left, shown_section, with_name_left};
 
-use crate::util::{Row, SectionId, is_folded, is_named};
+use crate::util::{Row, SectionId, is_named};
+use gitconf_text::parse::section::bytes::is_same_name;
 
 /// The sections of a name and subsection in file order, from either end: [`SectionTable::named`].
 #[derive(Drop)]
@@ -61,7 +62,7 @@ impl<'a, T> Iterator for WithName<'a, '_, T> {
     fn next(&mut self) -> Option<(SectionId, &'a T)> {
         while let Some((row, rest)) = self.rows.split_first() {
             self.rows = rest;
-            if is_folded(&row.name, self.name.as_bytes()) {
+            if is_same_name(self.name.as_bytes(), &row.name) {
                 return Some((row.id, &row.section));
             }
         }
@@ -75,7 +76,7 @@ impl<'a, T> DoubleEndedIterator for WithName<'a, '_, T> {
     fn next_back(&mut self) -> Option<(SectionId, &'a T)> {
         while let Some((row, rest)) = self.rows.split_last() {
             self.rows = rest;
-            if is_folded(&row.name, self.name.as_bytes()) {
+            if is_same_name(self.name.as_bytes(), &row.name) {
                 return Some((row.id, &row.section));
             }
         }
