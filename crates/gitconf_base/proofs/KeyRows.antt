@@ -48,6 +48,14 @@ pub section_alone : parsed_section_key (codes "core") ≡ section_key (codes "co
 unfolding is_utf8 chars encode
 section_alone = refl
 
+pub section_and_one : parsed_section_key (codes "core.editor") ≡ section_key (codes "core") (Some (codes "editor"))
+unfolding is_utf8 chars encode
+section_and_one = refl
+
+pub section_and_address : parsed_section_key (codes "url.https://a.b/.insteadOf") ≡ section_key (codes "url") (Some (codes "https://a.b/.insteadOf"))
+unfolding is_utf8 chars encode
+section_and_address = refl
+
 pub section_and_more : parsed_section_key (codes "remote.origin.url") ≡ section_key (codes "remote") (Some (codes "origin.url"))
 unfolding is_utf8 chars encode
 section_and_more = refl
