@@ -1,0 +1,3 @@
+pub mod KeyLemmas
+pub mod KeyRows
+pub mod SectionLemmas
