@@ -13,6 +13,7 @@ pub mod PartTakes
 pub mod TextTakes
 pub mod TokensLaws
 pub mod OneDocument
+pub mod TextLaws
 pub mod Fitting
 pub mod Whole
 pub mod SinkLaws

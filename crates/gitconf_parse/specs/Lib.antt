@@ -11,3 +11,4 @@ pub mod EventResult
 pub mod EventProps
 pub mod Sections
 pub mod EventIters
+pub mod TokenDocument

@@ -1,6 +1,8 @@
 //! Events as the parser makes them: kinds with spans of the text.
 ghost use Rattle.std.specs.Prelude.{◌≡◌, ◌≤◌, ◌<◌, ◌-◌, ◌^◌};
 
+use gitconf_text::parse::span;
+
 /// A part of a buffer: where it begins, and how many bytes it has.
 #[derive(Clone, Copy, Debug, PartialEq, Eq)]
 pub struct Span {
@@ -21,6 +23,45 @@ impl Span {
         Span {
             start: from as u32,
             len: (end - from) as u32,
+        }
+    }
+}
+
+impl Span {
+    ghost use Rattle.std.specs.Prelude.{◌≡◌, ◌↔◌, ◌+◌, ◌<◌, ◌^◌, IsOk, IfOk, IfErr};
+
+    /// The span that begins at an offset and has so many bytes.
+    ///
+    /// # Errors
+    ///
+    /// Refusal 3 where the offset or the length is past 4294967295.
+    pub fn try_new(start: usize, len: usize) -> Result<Span, span::Error>
+        ensures same { IfOk result (λ s. (s.start ≡ start) × (s.len ≡ len)) }
+        ensures fits { IsOk result ↔ ((start < 2 ^ 32) × (len < 2 ^ 32)) }
+        ensures too_large { IfErr result (λ e. e ≡ 3) }
+    {
+        if start > u32::MAX as usize || len > u32::MAX as usize {
+            return Err(span::Error::too_large());
+        }
+        Ok(Span {
+            start: start as u32,
+            len: len as u32,
+        })
+    }
+
+    /// The same bytes, where so many others were put before them.
+    ///
+    /// # Errors
+    ///
+    /// Refusal 3 where the offset would be past 4294967295.
+    pub fn moved(self, by: usize) -> Result<Span, span::Error>
+        ensures same { IfOk result (λ s. (s.start ≡ self.start + by) × (s.len ≡ self.len)) }
+        ensures fits { IsOk result ↔ (self.start + by < 2 ^ 32) }
+        ensures too_large { IfErr result (λ e. e ≡ 3) }
+    {
+        match (self.start as usize).checked_add(by) {
+            Some(start) => Span::try_new(start, self.len as usize),
+            None => Err(span::Error::too_large()),
         }
     }
 }

@@ -19,6 +19,7 @@ use crate::event::Event;
 use crate::event_ref::EventRef;
 use crate::reading::{Fault, ReadError, read};
 use decode::decode_headers;
+pub use filter::keeps_meaning;
 use filter::kept_events;
 use gitconf_text::NoMemory;
 use iters::front_len;

@@ -1,12 +1,35 @@
 //! What holds of the definitions, for all values: each law is a function that does nothing.
 ghost use Rattle.std.specs.Prelude.{◌≡◌, ◌==◌, true, not, List, ℕ};
-ghost use Rattle.std.specs.List.{list_all};
+ghost use Rattle.std.specs.Prelude.{filter};
+ghost use Rattle.std.specs.List.{list_all, flat_map};
+ghost use Rattle.gitconf_text.specs.Part.{Part};
+ghost use Rattle.gitconf_text.specs.Document.{Document, IsText, Reads, gathered, unmarked};
+ghost use Rattle.gitconf_text.specs.Token.{spelled_token, tokens_of};
 ghost use Rattle.gitconf_text.specs.Header.{is_spelling, unquoted};
 ghost use Rattle.gitconf_parse.specs.EventRef.{escaped_subsection};
+ghost use Rattle.gitconf_parse.specs.EventList.{keeps_token};
+ghost use Rattle.gitconf_parse.specs.TokenDocument.{document_of_tokens, keeps_meaning};
 
 /// A subsection without LF that is spelled in quotes, with `"` and `\` each behind a backslash, may stand in a header,
 /// and is read back as it was.
 pub fn escaped_subsection_reads_back()
     ensures fits { (s : List ℕ) → list_all (λ b. not (b == 10)) s ≡ true → is_spelling (escaped_subsection s) ≡ true }
     ensures same { (s : List ℕ) → list_all (λ b. not (b == 10)) s ≡ true → unquoted (escaped_subsection s) ≡ s }
+{}
+
+/// A text has at most one document, and one list of tokens.
+pub fn one_document()
+    ensures document { (text : List ℕ) (document other : Document) → Reads text document → Reads text other → document ≡ other }
+    ensures tokens { (text : List ℕ) (parts others : List Part) → IsText text parts → IsText text others → tokens_of parts ≡ tokens_of others }
+{}
+
+/// The tokens of a text, joined as they are spelled, give the text without its mark.
+pub fn tokens_join()
+    ensures { (text : List ℕ) (parts : List Part) → IsText text parts → flat_map spelled_token (tokens_of parts) ≡ unmarked text }
+{}
+
+/// The tokens of a text say its document, and so do those that are left without blanks, line ends and comments.
+pub fn lossy_tokens_have_the_document()
+    ensures all { (parts : List Part) → document_of_tokens (tokens_of parts) ≡ gathered parts }
+    ensures lossy { (parts : List Part) → document_of_tokens (filter (keeps_token keeps_meaning) (tokens_of parts)) ≡ gathered parts }
 {}

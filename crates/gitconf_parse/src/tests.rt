@@ -1,6 +1,7 @@
 //! What no clause says: the texts that are printed, by tables.
 
 use crate::error::{Error, Expected};
+use crate::event::Span;
 use crate::event_ref::EventRef;
 use crate::sink::{Sink, SinkFault, write_all};
 use std::test::Fail;
@@ -247,5 +248,32 @@ fn texts_are_written_in_parts(rt: HostRuntime) -> Result<(), Fail> {
     assert_eq!(rt; token.write_to(&mut full), Err(SinkFault));
     assert!(rt; full.taken.as_slice() == b"[name \"q".as_slice());
     assert_eq!(rt; full.failures, 1);
+    Ok(())
+}
+
+#[test]
+fn spans_end_at_the_limit(rt: HostRuntime) -> Result<(), Fail> {
+    // A start, a length, and whether there is such a span.
+    let spans = [
+        (0, 0, true),
+        (4294967295, 0, true),
+        (4294967295, 4294967295, true),
+        (4294967296, 0, false),
+        (0, 4294967296, false),
+    ];
+    for (start, len, fits) in spans {
+        let span = Span::try_new(start, len);
+        assert_eq!(rt; span.is_ok(), fits, "start {start}, length {len}");
+        if let Err(refused) = span {
+            assert_eq!(rt; refused.number(), 3);
+        }
+    }
+    let last = Span::try_new(4294967295, 0)?;
+    assert_eq!(rt; last.moved(0)?, last);
+    let moved = last.moved(1);
+    assert!(rt; moved.is_err());
+    if let Err(refused) = moved {
+        assert_eq!(rt; refused.number(), 3);
+    }
     Ok(())
 }

@@ -4,6 +4,7 @@ ghost use Rattle.std.specs.List.{AllByRecursion};
 ghost use Rattle.gitconf_parse.specs.EventRef.{Shown, shown};
 ghost use Rattle.gitconf_parse.specs.Events.{token_of};
 ghost use Rattle.gitconf_parse.specs.ShownEvents.{IsShown};
+ghost use Rattle.gitconf_parse.specs.TokenDocument as spec;
 ghost use Rattle.gitconf_parse.specs.EventList.{is_entry_token, keeps_token, IsKept};
 
 use super::lend::event_ref;
@@ -65,5 +66,15 @@ fn is_entry(event: &Event) -> bool
             | Event::ValueNotDone(_)
             | Event::ValueDone(_)
             | Event::KeyValueSeparator
+    )
+}
+
+/// A filter that drops blanks, line ends and comments, and keeps all that has a meaning.
+pub fn keeps_meaning(event: &EventRef<'_>) -> bool
+    ensures { result ≡ spec.keeps_meaning (shown event.now) }
+{
+    !matches!(
+        event,
+        EventRef::Comment { .. } | EventRef::Newline(_) | EventRef::Whitespace(_)
     )
 }
