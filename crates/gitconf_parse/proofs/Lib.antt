@@ -25,3 +25,4 @@ pub mod Filtering
 pub mod Cuts
 pub mod EscapedRuns
 pub mod Grouping
+pub mod GroupLaws

@@ -9,8 +9,10 @@ use Rattle.gitconf_parse.specs.declared.items.Value.{Value}
 use Rattle.gitconf_parse.specs.declared.items.Assigned.{Assigned}
 use Rattle.gitconf_parse.specs.declared.items.Entry.{Entry}
 use Rattle.gitconf_parse.specs.declared.items.Item.{Item}
+use Rattle.gitconf_parse.specs.declared.items.Section.{Section}
+use Rattle.gitconf_parse.specs.declared.items.Items.{Items}
 use Rattle.gitconf_parse.specs.declared.items.Item.TheVariants as kinds
-use Rattle.gitconf_parse.specs.Events.{bytes_of}
+use Rattle.gitconf_parse.specs.Events.{bytes_of, header_of}
 
 abbrev pub piece_of : (buffer : List ℕ) → Piece → grammar.Piece
 piece_of buffer p = record { text = bytes_of buffer p.text; line_end = bytes_of buffer p.line_end }
@@ -38,6 +40,13 @@ tokens_of_value buffer v = value_tokens (map (piece_of buffer) v.pieces.items) (
 abbrev pub tokens_of_items : (buffer : List ℕ) → List Item → List Token
 tokens_of_items buffer items = flat_map (λ i. item_tokens (item_of buffer i)) items
 
+abbrev pub tokens_of_section : (buffer : List ℕ) → Section → List Token
+tokens_of_section buffer s = HeaderToken (header_of buffer s.header) ∷ tokens_of_items buffer s.items.items
+
+-- the tokens of the front and of the sections, in order
+abbrev pub tokens_of_all : (buffer : List ℕ) → Items → List Token
+tokens_of_all buffer g = tokens_of_items buffer g.front.items ++ flat_map (tokens_of_section buffer) g.sections.items
+
 -- where a token may stand
 pub data Place : Type 0 where
   Between : Place
@@ -51,10 +60,11 @@ pub data Place : Type 0 where
 abbrev pub is_filled : List ℕ → Bool
 is_filled bytes = begins (λ _. true) bytes
 
--- The tokens go on, from this place, as items: between entries stand blanks, line ends, comments and names; behind a name blanks,
+-- The tokens go on, from this place, as items: between entries stand headers, blanks, line ends, comments and names; behind a name blanks,
 -- and then an empty value or a separator; behind that blanks, and then a value or pieces, each with a line end, and the last one.
 abbrev pub are_items : Place → List Token → Bool
 are_items Between [] = true
+are_items Between (HeaderToken h ∷ tokens) = are_items Between tokens
 are_items Between (CommentToken tag text ∷ tokens) = are_items Between tokens
 are_items Between (NewlineToken bytes ∷ tokens) = are_items Between tokens
 are_items Between (WhitespaceToken bytes ∷ tokens) = are_items Between tokens

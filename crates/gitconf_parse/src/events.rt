@@ -17,6 +17,7 @@ mod lend;
 use crate::error::Error;
 use crate::event::Event;
 use crate::event_ref::EventRef;
+use crate::items::{Items, grouped};
 use crate::reading::{Fault, ReadError, read};
 use decode::decode_headers;
 pub use filter::keeps_meaning;
@@ -104,6 +105,7 @@ impl Events {
     ghost use Rattle.gitconf_parse.specs.EventIters.{events_left, sections_left};
     ghost use Rattle.gitconf_parse.specs.EventList.{IsParsed, IsWhole, IsFiltered};
     ghost use Rattle.gitconf_parse.specs.EventResult.{IsRefused};
+    ghost use Rattle.gitconf_parse.specs.Items.{Between, are_items, tokens_of_all};
 
     /// All events of a text.
     fn whole(alloc: Global, input: &[u8]) -> Result<Events, Error>
@@ -182,6 +184,22 @@ impl Events {
         ensures refused { IfErr result (IsRefused input.now) }
     {
         Events::whole(alloc, input.as_bytes())
+    }
+
+    /// The items of what was kept, by section, and the buffer that their spans are offsets of.
+    ///
+    /// It asks that names, separators and values stand as in a text; they do where `keeps_entries` is true, by
+    /// `laws::kept_entries_make_items`. One pass.
+    ///
+    /// # Errors
+    ///
+    /// Want of memory.
+    pub fn items(&self, alloc: Global) -> Result<(Items, &[u8]), NoMemory>
+        requires { are_items Between self.now.tokens ≡ true }
+        ensures { IfOk result (λ r. tokens_of_all r.1.now r.0 ≡ self.now.tokens) }
+    {
+        let items = grouped(alloc, &self.buffer, &self.events)?;
+        Ok((items, &self.buffer))
     }
 
     /// All events in the order of the text.

@@ -1,11 +1,12 @@
 //! Items: what a body is made of, as the parser's events say it.
-ghost use Rattle.std.specs.Prelude.{◌≡◌, ◌∷◌, ◌++◌, true, map, flat_map, IfOk};
+ghost use Rattle.std.specs.Prelude.{◌≡◌, ◌∷◌, ◌++◌, true, false, map, flat_map, IfOk};
 ghost use Rattle.gitconf_text.specs.Token.{WhitespaceToken, NewlineToken, ValueNotDoneToken, item_tokens, assigned_tokens, filled};
 ghost use Rattle.gitconf_parse.specs.Events.{bytes_of, token_of};
+ghost use Rattle.gitconf_parse.specs.Sections.{is_header_event, is_cut};
 ghost use Rattle.gitconf_parse.specs.Items as spec;
 ghost use Rattle.gitconf_parse.specs.Items.{item_of, assigned_of, Place, Between, BehindName, BehindNameBlanks, BehindSeparator, BehindSeparatorBlanks, BehindPiece, BehindPieceEnd, are_items};
 
-use crate::event::{Event, Span};
+use crate::event::{Event, Header, Span};
 use gitconf_text::NoMemory;
 use std::alloc::Global;
 
@@ -47,6 +48,20 @@ pub enum Item {
     LineEnds(Span),
     Comment { tag: u8, text: Span },
     Entry(Entry),
+}
+
+/// A header and what stands behind it.
+#[derive(Debug, Drop)]
+pub struct Section {
+    pub header: Header,
+    pub items: Vec<Item>,
+}
+
+/// What stands before the first header, and the sections.
+#[derive(Debug, Drop)]
+pub struct Items {
+    pub front: Vec<Item>,
+    pub sections: Vec<Section>,
 }
 
 const NOTHING: Span = Span { start: 0, len: 0 };
@@ -149,14 +164,15 @@ fn assigned_first<'e>(
     }
 }
 
-/// The item that the events begin with, and the events behind it.
+/// The item of the first event, which is no header, and of some behind it, and the others behind these.
 fn item_first<'e>(
     alloc: Global,
     buffer: &[u8],
     first: &Event,
     behind: &'e [Event],
 ) -> Result<(Item, &'e [Event]), NoMemory>
-    requires { are_items Between (token_of buffer.now first.now ∷ map (token_of buffer.now) behind.now) ≡ true }
+    requires items { are_items Between (token_of buffer.now first.now ∷ map (token_of buffer.now) behind.now) ≡ true }
+    requires no_header { is_header_event first.now ≡ false }
     ensures { IfOk result (λ r. spec.AreBehind Between (item_tokens (item_of buffer.now r.0)) (map (token_of buffer.now) r.1.now) (token_of buffer.now first.now ∷ map (token_of buffer.now) behind.now)) }
 {
     match *first {
@@ -177,23 +193,56 @@ fn item_first<'e>(
     }
 }
 
-/// The items of events between headers, whose spans are offsets of the buffer: their tokens are the events' again.
+/// The items that the events begin with, up to a header or the end, and the events behind them.
+fn items_first<'e>(
+    alloc: Global,
+    buffer: &[u8],
+    events: &'e [Event],
+) -> Result<(Vec<Item>, &'e [Event]), NoMemory>
+    requires { are_items Between (map (token_of buffer.now) events.now) ≡ true }
+    ensures items { IfOk result (λ r. spec.AreBehind Between (spec.tokens_of_items buffer.now r.0.items) (map (token_of buffer.now) r.1.now) (map (token_of buffer.now) events.now)) }
+    ensures cut { IfOk result (λ r. is_cut is_header_event r.1.now ≡ true) }
+{
+    let mut items = Vec::new(alloc);
+    let mut rest = events;
+    while let Some((first, behind)) = rest.split_first() {
+        if is_header(first) {
+            break;
+        }
+        let (item, behind) = item_first(alloc, buffer, first, behind)?;
+        items.push(item)?;
+        rest = behind;
+    }
+    Ok((items, rest))
+}
+
+fn is_header(event: &Event) -> bool
+    ensures { result ≡ is_header_event event.now }
+{
+    matches!(event, Event::SectionHeader(_))
+}
+
+/// The items of events by section; the spans are offsets of the buffer. Their tokens are the events' again.
 ///
 /// One pass, without a copy of a byte.
 ///
 /// # Errors
 ///
 /// Want of memory.
-pub fn grouped(alloc: Global, buffer: &[u8], events: &[Event]) -> Result<Vec<Item>, NoMemory>
+pub fn grouped(alloc: Global, buffer: &[u8], events: &[Event]) -> Result<Items, NoMemory>
     requires { are_items Between (map (token_of buffer.now) events.now) ≡ true }
-    ensures { IfOk result (λ items. spec.tokens_of_items buffer.now items.items ≡ map (token_of buffer.now) events.now) }
+    ensures { IfOk result (λ g. spec.tokens_of_all buffer.now g ≡ map (token_of buffer.now) events.now) }
 {
-    let mut items = Vec::new(alloc);
-    let mut rest = events;
-    while let Some((first, behind)) = rest.split_first() {
-        let (item, behind) = item_first(alloc, buffer, first, behind)?;
-        items.push(item)?;
+    let (front, behind) = items_first(alloc, buffer, events)?;
+    let mut rest = behind;
+    let mut sections = Vec::new(alloc);
+    while let Some((Event::SectionHeader(header), behind)) = rest.split_first() {
+        let (items, behind) = items_first(alloc, buffer, behind)?;
+        sections.push(Section {
+            header: *header,
+            items,
+        })?;
         rest = behind;
     }
-    Ok(items)
+    Ok(Items { front, sections })
 }

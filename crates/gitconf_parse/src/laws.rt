@@ -1,13 +1,14 @@
 //! What holds of the definitions, for all values: each law is a function that does nothing.
-ghost use Rattle.std.specs.Prelude.{◌≡◌, ◌==◌, true, not, List, ℕ};
+ghost use Rattle.std.specs.Prelude.{◌≡◌, ◌==◌, Bool, true, not, List, ℕ};
 ghost use Rattle.std.specs.Prelude.{filter};
 ghost use Rattle.std.specs.List.{list_all, flat_map};
 ghost use Rattle.gitconf_text.specs.Part.{Part};
 ghost use Rattle.gitconf_text.specs.Document.{Document, IsText, Reads, gathered, unmarked};
 ghost use Rattle.gitconf_text.specs.Token.{spelled_token, tokens_of};
 ghost use Rattle.gitconf_text.specs.Header.{is_spelling, unquoted};
-ghost use Rattle.gitconf_parse.specs.EventRef.{escaped_subsection};
-ghost use Rattle.gitconf_parse.specs.EventList.{keeps_token};
+ghost use Rattle.gitconf_parse.specs.EventRef.{Shown, escaped_subsection};
+ghost use Rattle.gitconf_parse.specs.EventList.{EventList, IsParsed, IsWhole, keeps_token};
+ghost use Rattle.gitconf_parse.specs.Items.{Between, are_items};
 ghost use Rattle.gitconf_parse.specs.TokenDocument.{document_of_tokens, keeps_meaning};
 
 /// A subsection without LF that is spelled in quotes, with `"` and `\` each behind a backslash, may stand in a header,
@@ -32,4 +33,10 @@ pub fn tokens_join()
 pub fn lossy_tokens_have_the_document()
     ensures all { (parts : List Part) → document_of_tokens (tokens_of parts) ≡ gathered parts }
     ensures lossy { (parts : List Part) → document_of_tokens (filter (keeps_token keeps_meaning) (tokens_of parts)) ≡ gathered parts }
+{}
+
+/// Events of a text make items by section, without a filter, and with one that keeps each name, separator and value.
+pub fn kept_entries_make_items()
+    ensures whole { (text : List ℕ) (list : EventList) → IsWhole text list → are_items Between list.tokens ≡ true }
+    ensures kept { (p : Shown → Bool) (text : List ℕ) (list : EventList) → IsParsed p text list → list.keeps_entries ≡ true → are_items Between list.tokens ≡ true }
 {}

@@ -1,14 +1,16 @@
-use Rattle.std.proofs.Common.{◌≡◌, ◌++◌, true, map, length}
+use Rattle.std.proofs.Common.{◌≡◌, ◌++◌, true, map, flat_map, length}
 use Rattle.gitconf_parse.specs.Events.{token_of}
-use Rattle.gitconf_parse.specs.Items.{tokens_of_items, Between, are_items}
+use Rattle.gitconf_parse.specs.Sections.{is_header_event, is_cut}
+use Rattle.gitconf_parse.specs.Items.{tokens_of_items, tokens_of_section, Between, are_items}
 use Rattle.gitconf_parse.proofs.items.grouped.Given as goal
 
--- these items were read, and behind them go others on
-abbrev pub invariant-loop-first : goal.invariant-loop-first
-invariant-loop-first l = record {
-  joined : tokens_of_items l.buffer l.items.items ++ map (token_of l.buffer) l.rest ≡ map (token_of l.buffer) l.events;
+-- the front and these sections were read, and behind them go others on
+abbrev pub invariant-loop-header : goal.invariant-loop-header
+invariant-loop-header l = record {
+  joined : tokens_of_items l.buffer l.front.items ++ (flat_map (tokens_of_section l.buffer) l.sections.items ++ map (token_of l.buffer) l.rest) ≡ map (token_of l.buffer) l.events;
   go_on : are_items Between (map (token_of l.buffer) l.rest) ≡ true;
+  cut : is_cut is_header_event l.rest ≡ true;
 }
 
-abbrev pub decreases-loop-first : goal.decreases-loop-first
-decreases-loop-first l = length l.rest
+abbrev pub decreases-loop-header : goal.decreases-loop-header
+decreases-loop-header l = length l.rest

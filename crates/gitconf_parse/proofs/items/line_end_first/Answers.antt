@@ -1,5 +1,5 @@
-use Rattle.std.proofs.Common.{rules, ◌≡◌, ◌∷◌, ◌++◌, true, map, flat_map, IfOk, ℕ, ◌+◌, ◌-◌, ◌*◌, ◌<◌, ◌≤◌, length, ◌/◌, ◌%◌, Bool, false, nat_eq, nat_lt, List, [], slice_index_or, slice_set, bit_and, bit_or, Fits, w8, w32, w64, Bor, MutBor}
-use Rattle.gitconf_text.specs.Token.{WhitespaceToken, NewlineToken, item_tokens, filled}
+use Rattle.std.proofs.Common.{◌≡◌, ◌∷◌, true, map}
+use Rattle.gitconf_text.specs.Token.{NewlineToken, filled}
 use Rattle.gitconf_parse.specs.Events.{bytes_of, token_of}
 use Rattle.gitconf_parse.specs.Items as spec
 use Rattle.gitconf_parse.specs.Items.{item_of, assigned_of, Place, Between, BehindName, BehindNameBlanks, BehindSeparator, BehindSeparatorBlanks, BehindPiece, BehindPieceEnd, are_items}

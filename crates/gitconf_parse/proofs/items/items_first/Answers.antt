@@ -1,9 +1,9 @@
-use Rattle.std.proofs.Common.{◌≡◌, ◌∷◌, ◌<◌, arith, map, length}
+use Rattle.std.proofs.Common.{◌∷◌, arith, map}
 use Rattle.std.proofs.lemmas.List.{length-map}
 use Rattle.gitconf_parse.specs.Events.{token_of}
 use Rattle.gitconf_parse.specs.Items.{item_of}
 use Rattle.gitconf_parse.proofs.Grouping.{fewer}
-use Rattle.gitconf_parse.proofs.items.grouped.Goals as goal
+use Rattle.gitconf_parse.proofs.items.items_first.Goals as goal
 
 pub loop-first-smaller : goal.loop-first-smaller
 loop-first-smaller c =
