@@ -1,0 +1,21 @@
+//! Worked rows of the parser and of the text layer, by their public calls.
+//!
+//! Each expected value is written by hand from the rules of the grammar, and none was taken from a run.
+#![tactic(auto)]
+
+#[cfg(test)]
+mod filters;
+#[cfg(test)]
+mod fronts;
+#[cfg(test)]
+mod names;
+#[cfg(test)]
+mod refusals;
+#[cfg(test)]
+mod rendering;
+#[cfg(test)]
+mod rows;
+#[cfg(test)]
+mod texts;
+#[cfg(test)]
+mod values;
