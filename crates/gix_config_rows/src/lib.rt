@@ -8,6 +8,8 @@ mod filters;
 #[cfg(test)]
 mod fronts;
 #[cfg(test)]
+mod items;
+#[cfg(test)]
 mod names;
 #[cfg(test)]
 mod refusals;
