@@ -1,5 +1,6 @@
 //! Events as the parser makes them: kinds with spans of the text.
 ghost use Rattle.std.specs.Prelude.{◌≡◌, ◌≤◌, ◌<◌, ◌-◌, ◌^◌};
+ghost use Rattle.gitconf_parse.specs.Sections.{is_header_event};
 
 use gitconf_text::parse::span;
 
@@ -100,4 +101,11 @@ pub enum Event {
     ValueDone(Span),
     Whitespace(Span),
     KeyValueSeparator,
+}
+
+/// Whether the event is a header.
+pub fn is_header(event: &Event) -> bool
+    ensures { result ≡ is_header_event event.now }
+{
+    matches!(event, Event::SectionHeader(_))
 }

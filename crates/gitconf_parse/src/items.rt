@@ -6,7 +6,7 @@ ghost use Rattle.gitconf_parse.specs.Sections.{is_header_event, is_cut};
 ghost use Rattle.gitconf_parse.specs.Items as spec;
 ghost use Rattle.gitconf_parse.specs.Items.{item_of, assigned_of, Place, Between, BehindName, BehindNameBlanks, BehindSeparator, BehindSeparatorBlanks, BehindPiece, BehindPieceEnd, are_items};
 
-use crate::event::{Event, Header, Span};
+use crate::event::{Event, Header, Span, is_header};
 use gitconf_text::NoMemory;
 use std::alloc::Global;
 
@@ -214,12 +214,6 @@ fn items_first<'e>(
         rest = behind;
     }
     Ok((items, rest))
-}
-
-fn is_header(event: &Event) -> bool
-    ensures { result ≡ is_header_event event.now }
-{
-    matches!(event, Event::SectionHeader(_))
 }
 
 /// The items of events by section; the spans are offsets of the buffer. Their tokens are the events' again.

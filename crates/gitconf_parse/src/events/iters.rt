@@ -4,7 +4,7 @@ ghost use Rattle.gitconf_parse.specs.EventProps.{AreWithin, AreWithin-prop};
 ghost use Rattle.gitconf_parse.specs.Sections.{is_header_event, front_of, sections_of, is_cut};
 
 use super::lend::event_ref;
-use crate::event::Event;
+use crate::event::{Event, is_header};
 use crate::event_ref::EventRef;
 
 /// Events in the order of their text.
@@ -65,12 +65,6 @@ pub fn front_len(events: &[Event]) -> usize
         len += 1;
     }
     len
-}
-
-fn is_header(event: &Event) -> bool
-    ensures { result ≡ is_header_event event.now }
-{
-    matches!(event, Event::SectionHeader(_))
 }
 
 /// A section: its header, and what stands behind it up to the next.
