@@ -1,0 +1,25 @@
+-- The state that the tokens of a text make, all of them or those that a filter keeps.
+use Rattle.std.specs.Prelude.{◌≡◌, Bool, List, [], ◌∷◌, ◌++◌, flat_map, filter}
+use Rattle.std.specs.List.{AllByRecursion}
+use Rattle.gitconf_text.specs.Part.{Part}
+use Rattle.gitconf_text.specs.Token.{Token, HeaderToken, item_tokens, tokens_of}
+use Rattle.gitconf_parse.specs.EventRef.{Shown}
+use Rattle.gitconf_parse.specs.EventList.{keeps_token}
+use Rattle.gitconf_state.specs.State.{SectionState, State}
+
+abbrev pub section_tokens : SectionState → List Token
+section_tokens s = HeaderToken s.header ∷ flat_map item_tokens s.items
+
+-- the tokens of a state, but for those that are held
+abbrev pub state_tokens : State → List Token
+state_tokens state = flat_map item_tokens state.front ++ flat_map section_tokens state.sections
+
+-- the state has the tokens that a filter keeps of a text of these parts, and holds none
+pub record IsLoad (keeps : Shown → Bool) (parts : List Part) (state : State) : Type 0 where
+  pub tokens : state_tokens state ≡ filter (keeps_token keeps) (tokens_of parts)
+  pub held : AllByRecursion (λ s. s.held ≡ []) state.sections
+
+-- the state has all tokens of a text of these parts, and holds none
+pub record IsFullLoad (parts : List Part) (state : State) : Type 0 where
+  pub tokens : state_tokens state ≡ tokens_of parts
+  pub held : AllByRecursion (λ s. s.held ≡ []) state.sections

@@ -1,0 +1,142 @@
+-- The text of a state: its parts, with a line end put in where two of them would else run together.
+-- Source: this project's profile.
+use Rattle.std.specs.Prelude.{ℕ, Bool, true, false, not, List, [], ◌∷◌, ◌++◌, ◌||◌, map, Option, Some, None}
+use Rattle.std.specs.List.{list_any}
+use Rattle.gitconf_text.specs.Value.{Piece}
+use Rattle.gitconf_text.specs.Part.{Assigned, Item, BlanksItem, LineEndsItem, CommentItem, EntryItem, Part, ItemPart, HeaderPart, spelled}
+use Rattle.gitconf_state.specs.State.{SectionState, State}
+use Rattle.gitconf_state.specs.LineEnds.{section_line_end, file_line_end, ends_line}
+
+-- what stands before in the same list, with no line end between: nothing; an entry without `=`, with no byte behind its name
+-- or with blanks there; an entry with a value; a comment
+pub data Open : Type 0 where
+  Closed : Open
+  OpenKey : Open
+  OpenKeyAndBlanks : Open
+  OpenValue : Open
+  OpenComment : Open
+
+-- behind blanks
+abbrev pub after_blanks : (run : List ℕ) → Open → Open
+after_blanks [] before = before
+after_blanks (b ∷ run) Closed = Closed
+after_blanks (b ∷ run) OpenKey = OpenKeyAndBlanks
+after_blanks (b ∷ run) OpenKeyAndBlanks = OpenKeyAndBlanks
+after_blanks (b ∷ run) OpenValue = OpenValue
+after_blanks (b ∷ run) OpenComment = OpenComment
+
+-- behind an entry; the line ends of a value that goes on close a comment before it, but not the value
+abbrev pub after_entry : Open → (blanks : List ℕ) → Option Assigned → Open
+after_entry OpenComment blanks None = OpenComment
+after_entry OpenComment blanks (Some a) = elim a.value.pieces [ [] ↦ OpenComment | p ∷ pieces ↦ OpenValue ]
+after_entry before blanks None = after_blanks blanks OpenKey
+after_entry before blanks (Some a) = OpenValue
+
+-- behind an item
+abbrev pub after : Open → Item → Open
+after before (BlanksItem run) = after_blanks run before
+after before (LineEndsItem run) = Closed
+after before (CommentItem tag text) = OpenComment
+after before (EntryItem e) = after_entry before e.blanks e.assigned
+
+-- A line end is put before a comment behind a comment, and in a body before a name behind an entry or a comment.
+abbrev pub breaks : (in_body : Bool) → Open → Item → Bool
+breaks in_body OpenComment (CommentItem tag text) = true
+breaks in_body OpenComment (EntryItem e) = in_body
+breaks in_body Closed (EntryItem e) = false
+breaks in_body before (EntryItem e) = in_body
+breaks in_body before i = false
+
+-- a piece that goes on without a line end gets one
+abbrev pub closed_piece : (line_end : List ℕ) → Piece → Piece
+closed_piece line_end p = elim p.line_end [ [] ↦ record { text = p.text; line_end = line_end } | b ∷ bs ↦ p ]
+
+abbrev pub closed_assigned : (line_end : List ℕ) → Option Assigned → Option Assigned
+closed_assigned line_end None = None
+closed_assigned line_end (Some a) =
+    Some (record { blanks = a.blanks; value = record { pieces = map (closed_piece line_end) a.value.pieces; last = a.value.last } })
+
+abbrev pub closed_item : (line_end : List ℕ) → Item → Item
+closed_item line_end (BlanksItem run) = BlanksItem run
+closed_item line_end (LineEndsItem run) = LineEndsItem run
+closed_item line_end (CommentItem tag text) = CommentItem tag text
+closed_item line_end (EntryItem e) = EntryItem (record { name = e.name; blanks = e.blanks; assigned = closed_assigned line_end e.assigned })
+
+-- the items of a list as they are printed
+abbrev pub printed_items : (in_body : Bool) → (line_end : List ℕ) → Open → List Item → List Item
+printed_items in_body line_end before [] = []
+printed_items in_body line_end before (i ∷ items) = elim (breaks in_body before i) [
+  | true ↦ LineEndsItem line_end ∷ closed_item line_end i ∷ printed_items in_body line_end (after Closed i) items
+  | false ↦ closed_item line_end i ∷ printed_items in_body line_end (after before i) items
+]
+
+-- the items hold a line end before their first entry, or, without one, any
+abbrev pub begins_on_a_line : List Item → Bool
+begins_on_a_line [] = false
+begins_on_a_line (BlanksItem run ∷ items) = begins_on_a_line items
+begins_on_a_line (LineEndsItem run ∷ items) = true
+begins_on_a_line (CommentItem tag text ∷ items) = begins_on_a_line items
+begins_on_a_line (EntryItem e ∷ items) = false
+
+-- a line end, where one is missing
+abbrev pub unless : Bool → (line_end : List ℕ) → List Item
+unless true line_end = []
+unless false line_end = LineEndsItem line_end ∷ []
+
+-- Behind a header stands a line end, but where the body is empty.
+abbrev pub behind_header : (line_end : List ℕ) → List Item → List Item
+behind_header line_end [] = []
+behind_header line_end (i ∷ items) = unless (begins_on_a_line (i ∷ items)) line_end
+
+-- a section's body as it is printed, with its own line end
+abbrev pub printed_body : SectionState → List Item
+printed_body s = behind_header (section_line_end s) s.items ++ printed_items true (section_line_end s) Closed s.items
+
+-- a section alone: its header and body
+abbrev pub section_parts : SectionState → List Part
+section_parts s = HeaderPart s.header ∷ map ItemPart (printed_body s)
+
+-- what a section and the items held behind it end with
+abbrev pub ends_with_line : (line_end : List ℕ) → SectionState → Bool
+ends_with_line line_end s = elim s.held [ [] ↦ ends_line line_end s.items | i ∷ held ↦ ends_line line_end s.held ]
+
+-- the items held behind a section, on a line of their own
+abbrev pub held_items : (line_end : List ℕ) → SectionState → List Item
+held_items line_end s = elim s.held [
+  | [] ↦ []
+  | i ∷ held ↦ unless (ends_line line_end s.items) line_end ++ printed_items false line_end Closed s.held
+]
+
+-- The sections in order. Where the last printed one, what is held behind it counted in, ended without a line end, one stands before each
+-- section, also before one that is not printed, and at the end.
+abbrev pub sections_parts : (keeps : SectionState → Bool) → (line_end : List ℕ) → (ended : Bool) → List SectionState → List Part
+sections_parts keeps line_end ended [] = map ItemPart (unless ended line_end)
+sections_parts keeps line_end ended (s ∷ sections) = map ItemPart (unless ended line_end) ++ elim (keeps s) [
+  | true ↦ section_parts s ++ (map ItemPart (held_items line_end s) ++ sections_parts keeps line_end (ends_with_line line_end s) sections)
+  | false ↦ sections_parts keeps line_end ended sections
+]
+
+-- A line end stands behind a front that is not empty and has none at its end, where a section is printed.
+abbrev pub behind_front : (keeps : SectionState → Bool) → State → List Item
+behind_front keeps state = elim state.front [
+  | [] ↦ []
+  | i ∷ front ↦ unless (ends_line (file_line_end state) state.front || not (list_any keeps state.sections)) (file_line_end state)
+]
+
+-- the parts of what is written with a filter of sections: the front, and the sections that it keeps
+abbrev pub printed_parts : (keeps : SectionState → Bool) → State → List Part
+printed_parts keeps state =
+    map ItemPart (printed_items false (file_line_end state) Closed state.front ++ behind_front keeps state)
+    ++ sections_parts keeps (file_line_end state) true state.sections
+
+-- the text of the front and of the sections that a filter keeps
+abbrev pub printed_kept : (keeps : SectionState → Bool) → State → List ℕ
+printed_kept keeps state = spelled (printed_parts keeps state)
+
+-- the text of a state
+abbrev pub printed : State → List ℕ
+printed state = printed_kept (λ _. true) state
+
+-- the text of a section alone
+abbrev pub printed_section : SectionState → List ℕ
+printed_section s = spelled (section_parts s)
