@@ -13,3 +13,4 @@ pub mod Sections
 pub mod EventIters
 pub mod TokenDocument
 pub mod Items
+pub mod ItemsFit

@@ -67,6 +67,21 @@ impl Span {
     }
 }
 
+impl Span {
+    ghost use Rattle.gitconf_parse.specs.Events.{bytes_of};
+
+    /// Its bytes in the buffer, as far as that goes.
+    #[tactic(auto, using(std::proofs::lemmas::List::take_min, std::proofs::lemmas::List::drop_all))]
+    pub fn bytes_in(self, buffer: &[u8]) -> &[u8]
+        ensures { result.now ≡ bytes_of buffer.now self }
+    {
+        let start = (self.start as usize).min(buffer.len());
+        let behind = buffer.split_at(start).1;
+        let len = (self.len as usize).min(behind.len());
+        behind.split_at(len).0
+    }
+}
+
 /// Where the decoded copy of a subsection stands, in a buffer of such copies.
 #[derive(Clone, Copy, Debug)]
 pub struct Copied {

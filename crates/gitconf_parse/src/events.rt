@@ -105,7 +105,9 @@ impl Events {
     ghost use Rattle.gitconf_parse.specs.EventIters.{events_left, sections_left};
     ghost use Rattle.gitconf_parse.specs.EventList.{IsParsed, IsWhole, IsFiltered};
     ghost use Rattle.gitconf_parse.specs.EventResult.{IsRefused};
+    ghost use Rattle.std.specs.Prelude.{length, ◌<◌, ◌^◌};
     ghost use Rattle.gitconf_parse.specs.Items.{Between, are_items, tokens_of_all};
+    ghost use Rattle.gitconf_parse.specs.ItemsFit.{ItemsFit};
 
     /// All events of a text.
     fn whole(alloc: Global, input: &[u8]) -> Result<Events, Error>
@@ -196,10 +198,29 @@ impl Events {
     /// Want of memory.
     pub fn items(&self, alloc: Global) -> Result<(Items, &[u8]), NoMemory>
         requires { are_items Between self.now.tokens ≡ true }
-        ensures { IfOk result (λ r. tokens_of_all r.1.now r.0 ≡ self.now.tokens) }
+        ensures tokens { IfOk result (λ r. tokens_of_all r.1.now r.0 ≡ self.now.tokens) }
+        ensures within { IfOk result (λ r. ItemsFit (length r.1.now) r.0) }
     {
         let items = grouped(alloc, &self.buffer, &self.events)?;
         Ok((items, &self.buffer))
+    }
+
+    /// The text and the items of what was kept, by section; their spans are offsets of the text.
+    ///
+    /// As [`Events::items`], but the text is handed over. One pass, and no byte is copied.
+    ///
+    /// # Errors
+    ///
+    /// Want of memory.
+    pub fn into_items(self, alloc: Global) -> Result<(Vec<u8>, Items), NoMemory>
+        requires { are_items Between self.tokens ≡ true }
+        ensures tokens { IfOk result (λ r. tokens_of_all r.0.items r.1 ≡ self.tokens) }
+        ensures within { IfOk result (λ r. ItemsFit (length r.0.items) r.1) }
+        ensures used { IfOk result (λ r. length r.0.items ≡ self.used) }
+        ensures fits { IfOk result (λ r. length r.0.items < 2 ^ 32) }
+    {
+        let items = grouped(alloc, &self.buffer, &self.events)?;
+        Ok((self.buffer, items))
     }
 
     /// All events in the order of the text.

@@ -1,8 +1,9 @@
 //! Items: what a body is made of, as the parser's events say it.
-ghost use Rattle.std.specs.Prelude.{◌≡◌, ◌∷◌, ◌++◌, true, false, map, flat_map, IfOk};
+ghost use Rattle.std.specs.Prelude.{◌≡◌, ◌∷◌, ◌++◌, true, false, length, map, flat_map, IfOk};
 ghost use Rattle.gitconf_text.specs.Token.{WhitespaceToken, NewlineToken, ValueNotDoneToken, item_tokens, assigned_tokens, filled};
-ghost use Rattle.gitconf_parse.specs.Events.{bytes_of, token_of};
+ghost use Rattle.gitconf_parse.specs.Events.{bytes_of, token_of, SpanFits, EventFits};
 ghost use Rattle.gitconf_parse.specs.Sections.{is_header_event, is_cut};
+ghost use Rattle.gitconf_parse.specs.ItemsFit.{EventsWithin, AreItemsWithin, AssignedFits, ItemFits, ItemsFit, ValueFits};
 ghost use Rattle.gitconf_parse.specs.Items as spec;
 ghost use Rattle.gitconf_parse.specs.Items.{item_of, assigned_of, Place, Between, BehindName, BehindNameBlanks, BehindSeparator, BehindSeparatorBlanks, BehindPiece, BehindPieceEnd, are_items};
 
@@ -68,10 +69,13 @@ const NOTHING: Span = Span { start: 0, len: 0 };
 
 /// The blanks that the events begin with, or no bytes, and the events behind them.
 fn blanks_first<'e>(buffer: &[u8], events: &'e [Event]) -> (Span, &'e [Event])
+    requires within { EventsWithin (length buffer.now) events.now }
     ensures name { are_items BehindName (map (token_of buffer.now) events.now) ≡ true → spec.AreBehind BehindNameBlanks
         (filled WhitespaceToken (bytes_of buffer.now result.0)) (map (token_of buffer.now) result.1.now) (map (token_of buffer.now) events.now) }
     ensures separator { are_items BehindSeparator (map (token_of buffer.now) events.now) ≡ true → spec.AreBehind BehindSeparatorBlanks
         (filled WhitespaceToken (bytes_of buffer.now result.0)) (map (token_of buffer.now) result.1.now) (map (token_of buffer.now) events.now) }
+    ensures first { SpanFits (length buffer.now) result.0 }
+    ensures others { EventsWithin (length buffer.now) result.1.now }
 {
     match events.split_first() {
         Some((Event::Whitespace(run), behind)) => (*run, behind),
@@ -81,9 +85,12 @@ fn blanks_first<'e>(buffer: &[u8], events: &'e [Event]) -> (Span, &'e [Event])
 
 /// The line end that the events begin with, or no bytes, and the events behind it.
 fn line_end_first<'e>(buffer: &[u8], events: &'e [Event]) -> (Span, &'e [Event])
-    requires { are_items BehindPiece (map (token_of buffer.now) events.now) ≡ true }
-    ensures { spec.AreBehind BehindPieceEnd
+    requires items { are_items BehindPiece (map (token_of buffer.now) events.now) ≡ true }
+    requires within { EventsWithin (length buffer.now) events.now }
+    ensures tokens { spec.AreBehind BehindPieceEnd
         (filled NewlineToken (bytes_of buffer.now result.0)) (map (token_of buffer.now) result.1.now) (map (token_of buffer.now) events.now) }
+    ensures first { SpanFits (length buffer.now) result.0 }
+    ensures others { EventsWithin (length buffer.now) result.1.now }
 {
     match events.split_first() {
         Some((Event::Newline(run), behind)) => (*run, behind),
@@ -98,9 +105,13 @@ fn pieces_first<'e>(
     text: Span,
     events: &'e [Event],
 ) -> Result<(Value, &'e [Event]), NoMemory>
-    requires { are_items BehindPiece (map (token_of buffer.now) events.now) ≡ true }
-    ensures { IfOk result (λ r. spec.AreBehind Between (spec.tokens_of_value buffer.now r.0) (map (token_of buffer.now) r.1.now)
+    requires items { are_items BehindPiece (map (token_of buffer.now) events.now) ≡ true }
+    requires text { SpanFits (length buffer.now) text }
+    requires within { EventsWithin (length buffer.now) events.now }
+    ensures tokens { IfOk result (λ r. spec.AreBehind Between (spec.tokens_of_value buffer.now r.0) (map (token_of buffer.now) r.1.now)
         (ValueNotDoneToken (bytes_of buffer.now text) ∷ map (token_of buffer.now) events.now)) }
+    ensures first { IfOk result (λ r. ValueFits (length buffer.now) r.0) }
+    ensures others { IfOk result (λ r. EventsWithin (length buffer.now) r.1.now) }
 {
     let mut pieces = Vec::new(alloc);
     let mut text = text;
@@ -128,8 +139,11 @@ fn value_first<'e>(
     buffer: &[u8],
     events: &'e [Event],
 ) -> Result<(Value, &'e [Event]), NoMemory>
-    requires { are_items BehindSeparatorBlanks (map (token_of buffer.now) events.now) ≡ true }
-    ensures { IfOk result (λ r. spec.AreBehind Between (spec.tokens_of_value buffer.now r.0) (map (token_of buffer.now) r.1.now) (map (token_of buffer.now) events.now)) }
+    requires items { are_items BehindSeparatorBlanks (map (token_of buffer.now) events.now) ≡ true }
+    requires within { EventsWithin (length buffer.now) events.now }
+    ensures first { IfOk result (λ r. ValueFits (length buffer.now) r.0) }
+    ensures others { IfOk result (λ r. EventsWithin (length buffer.now) r.1.now) }
+    ensures tokens { IfOk result (λ r. spec.AreBehind Between (spec.tokens_of_value buffer.now r.0) (map (token_of buffer.now) r.1.now) (map (token_of buffer.now) events.now)) }
 {
     match events.split_first() {
         Some((Event::Value(last), behind)) => {
@@ -150,8 +164,11 @@ fn assigned_first<'e>(
     buffer: &[u8],
     events: &'e [Event],
 ) -> Result<(Option<Assigned>, &'e [Event]), NoMemory>
-    requires { are_items BehindNameBlanks (map (token_of buffer.now) events.now) ≡ true }
-    ensures { IfOk result (λ r. spec.AreBehind Between (assigned_tokens (assigned_of buffer.now r.0)) (map (token_of buffer.now) r.1.now) (map (token_of buffer.now) events.now)) }
+    requires items { are_items BehindNameBlanks (map (token_of buffer.now) events.now) ≡ true }
+    requires within { EventsWithin (length buffer.now) events.now }
+    ensures first { IfOk result (λ r. AssignedFits (length buffer.now) r.0) }
+    ensures others { IfOk result (λ r. EventsWithin (length buffer.now) r.1.now) }
+    ensures tokens { IfOk result (λ r. spec.AreBehind Between (assigned_tokens (assigned_of buffer.now r.0)) (map (token_of buffer.now) r.1.now) (map (token_of buffer.now) events.now)) }
 {
     match events.split_first() {
         Some((Event::Value(_), behind)) => Ok((None, behind)),
@@ -173,7 +190,11 @@ fn item_first<'e>(
 ) -> Result<(Item, &'e [Event]), NoMemory>
     requires items { are_items Between (token_of buffer.now first.now ∷ map (token_of buffer.now) behind.now) ≡ true }
     requires no_header { is_header_event first.now ≡ false }
-    ensures { IfOk result (λ r. spec.AreBehind Between (item_tokens (item_of buffer.now r.0)) (map (token_of buffer.now) r.1.now) (token_of buffer.now first.now ∷ map (token_of buffer.now) behind.now)) }
+    requires first_within { EventFits (length buffer.now) first.now }
+    requires within { EventsWithin (length buffer.now) behind.now }
+    ensures first { IfOk result (λ r. ItemFits (length buffer.now) r.0) }
+    ensures others { IfOk result (λ r. EventsWithin (length buffer.now) r.1.now) }
+    ensures tokens { IfOk result (λ r. spec.AreBehind Between (item_tokens (item_of buffer.now r.0)) (map (token_of buffer.now) r.1.now) (token_of buffer.now first.now ∷ map (token_of buffer.now) behind.now)) }
 {
     match *first {
         Event::Comment { tag, text } => Ok((Item::Comment { tag, text }, behind)),
@@ -199,7 +220,10 @@ fn items_first<'e>(
     buffer: &[u8],
     events: &'e [Event],
 ) -> Result<(Vec<Item>, &'e [Event]), NoMemory>
-    requires { are_items Between (map (token_of buffer.now) events.now) ≡ true }
+    requires items { are_items Between (map (token_of buffer.now) events.now) ≡ true }
+    requires within { EventsWithin (length buffer.now) events.now }
+    ensures first { IfOk result (λ r. AreItemsWithin (length buffer.now) r.0.items) }
+    ensures others { IfOk result (λ r. EventsWithin (length buffer.now) r.1.now) }
     ensures items { IfOk result (λ r. spec.AreBehind Between (spec.tokens_of_items buffer.now r.0.items) (map (token_of buffer.now) r.1.now) (map (token_of buffer.now) events.now)) }
     ensures cut { IfOk result (λ r. is_cut is_header_event r.1.now ≡ true) }
 {
@@ -223,9 +247,11 @@ fn items_first<'e>(
 /// # Errors
 ///
 /// Want of memory.
-pub fn grouped(alloc: Global, buffer: &[u8], events: &[Event]) -> Result<Items, NoMemory>
-    requires { are_items Between (map (token_of buffer.now) events.now) ≡ true }
-    ensures { IfOk result (λ g. spec.tokens_of_all buffer.now g ≡ map (token_of buffer.now) events.now) }
+pub(crate) fn grouped(alloc: Global, buffer: &[u8], events: &[Event]) -> Result<Items, NoMemory>
+    requires items { are_items Between (map (token_of buffer.now) events.now) ≡ true }
+    requires within { EventsWithin (length buffer.now) events.now }
+    ensures within { IfOk result (ItemsFit (length buffer.now)) }
+    ensures tokens { IfOk result (λ g. spec.tokens_of_all buffer.now g ≡ map (token_of buffer.now) events.now) }
 {
     let (front, behind) = items_first(alloc, buffer, events)?;
     let mut rest = behind;

@@ -8,7 +8,6 @@ ghost use Rattle.gitconf_text.specs.Token.{HeaderToken};
 ghost use Rattle.gitconf_parse.specs.Events.{token_of, header_of, EventFits, HeaderFits};
 ghost use Rattle.gitconf_parse.specs.ShownEvents.{decoded_or, shown_header, shown_token, CopyFits, IsShown, IsExtended};
 
-use super::lend::bytes;
 use crate::event::{Copied, Event, Header};
 use gitconf_text::NoMemory;
 
@@ -91,8 +90,8 @@ fn header_copy(
 {
     match (header.separator, header.subsection) {
         (Some(separator), Some(subsection)) => {
-            let spelled = bytes(buffer, subsection);
-            if bytes(buffer, separator) == b".".as_slice() {
+            let spelled = subsection.bytes_in(buffer);
+            if separator.bytes_in(buffer) == b".".as_slice() {
                 lower_copy(copies, spelled)
             } else {
                 unquoted_copy(copies, spelled)

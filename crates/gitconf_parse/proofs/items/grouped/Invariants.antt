@@ -1,5 +1,7 @@
 use Rattle.std.proofs.Common.{◌≡◌, ◌++◌, true, map, flat_map, length}
+use Rattle.std.specs.List.{AllByRecursion}
 use Rattle.gitconf_parse.specs.Events.{token_of}
+use Rattle.gitconf_parse.specs.ItemsFit.{SectionFits, EventsWithin}
 use Rattle.gitconf_parse.specs.Sections.{is_header_event, is_cut}
 use Rattle.gitconf_parse.specs.Items.{tokens_of_items, tokens_of_section, Between, are_items}
 use Rattle.gitconf_parse.proofs.items.grouped.Given as goal
@@ -10,6 +12,8 @@ invariant-loop-header l = record {
   joined : tokens_of_items l.buffer l.front.items ++ (flat_map (tokens_of_section l.buffer) l.sections.items ++ map (token_of l.buffer) l.rest) ≡ map (token_of l.buffer) l.events;
   go_on : are_items Between (map (token_of l.buffer) l.rest) ≡ true;
   cut : is_cut is_header_event l.rest ≡ true;
+  sections : AllByRecursion (SectionFits (length l.buffer)) l.sections.items;
+  others : EventsWithin (length l.buffer) l.rest;
 }
 
 abbrev pub decreases-loop-header : goal.decreases-loop-header

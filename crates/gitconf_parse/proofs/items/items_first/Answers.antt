@@ -9,7 +9,7 @@ pub loop-first-smaller : goal.loop-first-smaller
 loop-first-smaller c =
     let b = c.args.buffer.now in
     let less = fewer (item_of b c.in_ok-item.item) (map (token_of b) c.in_ok-item.behind.now)
-    (token_of b c.in-Some.first.now ∷ map (token_of b) c.in-Some.behind.now) c.in_ok-item.ensures.joined in
+    (token_of b c.in-Some.first.now ∷ map (token_of b) c.in-Some.behind.now) c.in_ok-item.ensures.tokens.joined in
     let left = length-map c.in_ok-item.behind.now (token_of b) in
     let behind = length-map c.in-Some.behind.now (token_of b) in
     let all = c.in-Some.ensures.cases.1 in

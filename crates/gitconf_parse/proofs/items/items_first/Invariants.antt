@@ -1,5 +1,6 @@
 use Rattle.std.proofs.Common.{◌≡◌, ◌++◌, true, map, length}
 use Rattle.gitconf_parse.specs.Events.{token_of}
+use Rattle.gitconf_parse.specs.ItemsFit.{AreItemsWithin, EventsWithin}
 use Rattle.gitconf_parse.specs.Items.{tokens_of_items, Between, are_items}
 use Rattle.gitconf_parse.proofs.items.items_first.Given as goal
 
@@ -8,6 +9,8 @@ abbrev pub invariant-loop-first : goal.invariant-loop-first
 invariant-loop-first l = record {
   joined : tokens_of_items l.buffer l.items.items ++ map (token_of l.buffer) l.rest ≡ map (token_of l.buffer) l.events;
   go_on : are_items Between (map (token_of l.buffer) l.rest) ≡ true;
+  items : AreItemsWithin (length l.buffer) l.items.items;
+  others : EventsWithin (length l.buffer) l.rest;
 }
 
 abbrev pub decreases-loop-first : goal.decreases-loop-first

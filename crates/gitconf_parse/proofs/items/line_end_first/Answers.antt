@@ -9,11 +9,11 @@ use Rattle.gitconf_parse.proofs.Grouping.{filled_first}
 use Rattle.gitconf_parse.proofs.items.line_end_first.Goals as goal
 
 -- src/items.rt:68:1
-pub returns-in-Some-Newline-default : goal.returns-in-Some-Newline-default
-returns-in-Some-Newline-default c =
+pub returns-in-Some-Newline-default-clause-tokens : goal.returns-in-Some-Newline-default-clause-tokens
+returns-in-Some-Newline-default-clause-tokens c =
     let b = c.args.buffer.now in
     let run = c.in-Some-Newline-default.run' in
     let behind = c.in-Some-Newline-default.behind.now in
     let is : c.args.events.now ≡ kinds.Newline run ∷ behind = c.in-Some-Newline-default.ensures.cases.0 ∙ ap (λ e. e ∷ behind) c.in-Some-Newline-default.field-0-0-is in
     subst (λ es. spec.AreBehind BehindPieceEnd (filled NewlineToken (bytes_of b run)) (map (token_of b) behind) (map (token_of b) es)) (sym is)
-    (filled_first BehindPieceEnd NewlineToken (bytes_of b run) (map (token_of b) behind) (subst (λ es. are_items BehindPiece (map (token_of b) es) ≡ true) is c.requires))
+    (filled_first BehindPieceEnd NewlineToken (bytes_of b run) (map (token_of b) behind) (subst (λ es. are_items BehindPiece (map (token_of b) es) ≡ true) is c.requires.items))

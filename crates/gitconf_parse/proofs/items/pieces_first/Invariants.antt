@@ -1,6 +1,8 @@
 use Rattle.std.proofs.Common.{◌≡◌, ◌∷◌, ◌++◌, true, map, flat_map, length}
 use Rattle.gitconf_text.specs.Token.{ValueNotDoneToken, piece_tokens}
-use Rattle.gitconf_parse.specs.Events.{bytes_of, token_of}
+use Rattle.std.specs.List.{AllByRecursion}
+use Rattle.gitconf_parse.specs.Events.{bytes_of, token_of, SpanFits}
+use Rattle.gitconf_parse.specs.ItemsFit.{PieceFits, EventsWithin}
 use Rattle.gitconf_parse.specs.Items.{piece_of, BehindPiece, are_items}
 use Rattle.gitconf_parse.proofs.items.pieces_first.Given as goal
 
@@ -10,6 +12,9 @@ invariant-loop-pieces l = record {
   joined : flat_map piece_tokens (map (piece_of l.buffer) l.pieces.items) ++ ValueNotDoneToken (bytes_of l.buffer l.text) ∷ map (token_of l.buffer) l.rest
       ≡ ValueNotDoneToken (bytes_of l.buffer l.fn.text) ∷ map (token_of l.buffer) l.events;
   go_on : are_items BehindPiece (map (token_of l.buffer) l.rest) ≡ true;
+  pieces : AllByRecursion (PieceFits (length l.buffer)) l.pieces.items;
+  text : SpanFits (length l.buffer) l.text;
+  others : EventsWithin (length l.buffer) l.rest;
 }
 
 abbrev pub decreases-loop-pieces : goal.decreases-loop-pieces
