@@ -101,6 +101,27 @@ fn header_copy(
     }
 }
 
+/// The header, with a decoded copy of its subsection where that isn't what is spelled. Copies are added at the end.
+///
+/// # Errors
+///
+/// Want of memory for the copy.
+pub fn decoded_header(
+    buffer: &[u8],
+    header: Header,
+    copies: &mut Vec<u8>,
+) -> Result<Header, NoMemory>
+    requires { HeaderFits (length buffer.now) header }
+    ensures same { IfOk result (λ h. header_of buffer.now h ≡ header_of buffer.now header) }
+    ensures fits { IfOk result (HeaderFits (length buffer.now)) }
+    ensures copy_fits { IfOk result (λ h. CopyFits (length copies.new.items) h.decoded) }
+    ensures shown { IfOk result (λ h. shown_header buffer.now copies.new.items h ≡ shown_token (HeaderToken (header_of buffer.now header))) }
+    ensures extended { OnOk result (IsExtended copies.old.items copies.new.items) }
+{
+    let decoded = header_copy(buffer, header, copies)?;
+    Ok(Header { decoded, ..header })
+}
+
 /// An event, whose subsection has a copy where it isn't what is spelled.
 fn decoded_event(buffer: &[u8], event: Event, copies: &mut Vec<u8>) -> Result<Event, NoMemory>
     requires { EventFits (length buffer.now) event }
@@ -110,8 +131,8 @@ fn decoded_event(buffer: &[u8], event: Event, copies: &mut Vec<u8>) -> Result<Ev
 {
     match event {
         Event::SectionHeader(header) => {
-            let decoded = header_copy(buffer, header, copies)?;
-            Ok(Event::SectionHeader(Header { decoded, ..header }))
+            let header = decoded_header(buffer, header, copies)?;
+            Ok(Event::SectionHeader(header))
         }
         _ => Ok(event),
     }

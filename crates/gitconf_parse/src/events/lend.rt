@@ -1,9 +1,10 @@
 //! Events with their bytes, lent from the buffers that their spans are offsets of.
 ghost use Rattle.std.specs.Prelude.{◌≡◌, ◌+◌, ◌≤◌, length};
 ghost use Rattle.gitconf_parse.specs.EventRef.{shown};
-ghost use Rattle.gitconf_parse.specs.Events.{EventFits, HeaderFits};
+ghost use Rattle.std.specs.Option.{option_copied, option_map};
+ghost use Rattle.gitconf_parse.specs.Events.{bytes_of, EventFits, HeaderFits};
 ghost use Rattle.gitconf_parse.specs.ShownEvents as spec;
-ghost use Rattle.gitconf_parse.specs.ShownEvents.{shown_event, shown_header, CopyFits, EventCopyFits};
+ghost use Rattle.gitconf_parse.specs.ShownEvents.{decoded_or, shown_event, shown_header, CopyFits, EventCopyFits};
 
 use crate::event::{Copied, Event, Header};
 use crate::event_ref::EventRef;
@@ -15,6 +16,22 @@ fn copy(copies: &[u8], copied: Copied) -> &[u8]
     copies.split_at(copied.start).1.split_at(copied.len).0
 }
 
+/// The decoded subsection of a header, if it has one; `copies` has the decoded subsections.
+pub fn subsection_name<'a>(
+    buffer: &'a [u8],
+    copies: &'a [u8],
+    header: &Header,
+) -> Option<&'a [u8]>
+    requires { CopyFits (length copies.now) header.now.decoded }
+    ensures { option_copied result ≡ decoded_or copies.now header.now.decoded (option_map (bytes_of buffer.now) header.now.subsection) }
+{
+    match (header.decoded, header.subsection) {
+        (Some(copied), _) => Some(copy(copies, copied)),
+        (None, Some(span)) => Some(span.bytes_in(buffer)),
+        (None, None) => None,
+    }
+}
+
 fn header_ref<'a>(buffer: &'a [u8], copies: &'a [u8], header: Header) -> EventRef<'a>
     requires fits { HeaderFits (length buffer.now) header }
     requires copy_fits { CopyFits (length copies.now) header.decoded }
@@ -24,11 +41,7 @@ fn header_ref<'a>(buffer: &'a [u8], copies: &'a [u8], header: Header) -> EventRe
         Some(span) => Some(span.bytes_in(buffer)),
         None => None,
     };
-    let subsection_name = match (header.decoded, header.subsection) {
-        (Some(copied), _) => Some(copy(copies, copied)),
-        (None, Some(span)) => Some(span.bytes_in(buffer)),
-        (None, None) => None,
-    };
+    let subsection_name = subsection_name(buffer, copies, &header);
     EventRef::SectionHeader {
         name: header.name.bytes_in(buffer),
         separator,
