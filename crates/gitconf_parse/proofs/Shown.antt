@@ -50,7 +50,7 @@ shown_event_more buffer copies more (kinds.ValueDone s) fits = refl
 shown_event_more buffer copies more (kinds.Whitespace s) fits = refl
 shown_event_more buffer copies more kinds.KeyValueSeparator fits = refl
 
-is_shown_more : (buffer copies more : List ℕ) (e : Event) → IsShown buffer copies e → IsShown buffer (copies ++ more) e
+pub is_shown_more : (buffer copies more : List ℕ) (e : Event) → IsShown buffer copies e → IsShown buffer (copies ++ more) e
 is_shown_more buffer copies more e s = record {
   fits = s.fits;
   copy_fits = event_fits_more copies more e s.copy_fits;

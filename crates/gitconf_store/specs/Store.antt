@@ -1,0 +1,84 @@
+-- What a store stands for, in the buffer that its spans are offsets of.
+use Rattle.std.specs.Prelude.{◌≡◌, ℕ, ◌+◌, ◌<◌, ◌^◌, List, [], ◌∷◌, length, map}
+use Rattle.std.specs.List.{AllByRecursion}
+use Rattle.gitconf_text.specs.Bytes.{fold}
+use Rattle.gitconf_text.specs.Header.{name_of, subsection_of}
+use Rattle.gitconf_text.specs.Part as parts
+use Rattle.gitconf_base.specs.Metadata.{Meta}
+use Rattle.gitconf_base.specs.Sections.{SectionEntry, Sections}
+use Rattle.gitconf_parse.specs.declared.items.Item.{Item}
+use Rattle.gitconf_parse.specs.declared.items.Section.{Section as Loaded}
+use Rattle.gitconf_parse.specs.declared.items.Items.{Items}
+use Rattle.gitconf_parse.specs.declared.event.Event.TheVariants as kinds
+use Rattle.gitconf_parse.specs.Events.{header_of}
+use Rattle.gitconf_parse.specs.Items.{item_of}
+use Rattle.gitconf_parse.specs.ItemsFit.{AreItemsWithin}
+use Rattle.gitconf_parse.specs.ShownEvents.{IsShown}
+use Rattle.gitconf_state.specs.State.{SectionState, State, HasItems}
+use Rattle.gitconf_store.specs.declared.section.Section.{Section}
+
+abbrev pub items_of : (buffer : List ℕ) → List Item → List parts.Item
+items_of buffer items = map (item_of buffer) items
+
+-- a section with its number
+abbrev pub section_state : (buffer : List ℕ) → SectionEntry Section → SectionState
+section_state buffer e = record {
+  number = e.number;
+  header = header_of buffer e.section.header;
+  meta = e.section.meta.value;
+  items = items_of buffer e.section.items.items;
+  held = items_of buffer e.section.held.items;
+}
+
+-- a store of these parts
+abbrev pub state_of : (buffer : List ℕ) → (front : List Item) → Meta → Sections Section → State
+state_of buffer front meta sections = record {
+  front = items_of buffer front;
+  meta = meta;
+  next = sections.next;
+  used = length buffer;
+  sections = map (section_state buffer) sections.entries;
+}
+
+-- A section of a store: its spans stand within the buffer, its header is shown as its token is, and the table names it as its header does.
+pub record SectionFits (buffer copies : List ℕ) (e : SectionEntry Section) : Type 0 where
+  pub header : IsShown buffer copies (kinds.SectionHeader e.section.header)
+  pub items : AreItemsWithin (length buffer) e.section.items.items
+  pub held : AreItemsWithin (length buffer) e.section.held.items
+  pub name : e.name ≡ fold (name_of (header_of buffer e.section.header))
+  pub subsection : e.subsection ≡ subsection_of (header_of buffer e.section.header)
+
+abbrev pub AllSectionsFit : (buffer copies : List ℕ) → Sections Section → Type 0
+AllSectionsFit buffer copies sections = AllByRecursion (SectionFits buffer copies) sections.entries
+
+-- what a store keeps
+pub record StoreFits (buffer copies : List ℕ) (front : List Item) (meta : Meta) (sections : Sections Section) : Type 0 where
+  pub room : length buffer < 2 ^ 32
+  pub front_within : AreItemsWithin (length buffer) front
+  pub sections_within : AllSectionsFit buffer copies sections
+  pub items : HasItems (state_of buffer front meta sections)
+
+-- a section as it is loaded under a number
+abbrev pub loaded_section : (buffer : List ℕ) → Meta → ℕ → Loaded → SectionState
+loaded_section buffer meta number s = record {
+  number = number;
+  header = header_of buffer s.header;
+  meta = meta;
+  items = items_of buffer s.items.items;
+  held = [];
+}
+
+-- sections as they are loaded under the numbers from the next one on
+abbrev pub loaded_sections : (buffer : List ℕ) → Meta → ℕ → List Loaded → List SectionState
+loaded_sections buffer meta next [] = []
+loaded_sections buffer meta next (s ∷ sections) = loaded_section buffer meta next s ∷ loaded_sections buffer meta (next + 1) sections
+
+-- the state that is loaded of items in a buffer
+abbrev pub loaded : (buffer : List ℕ) → Items → Meta → State
+loaded buffer g meta = record {
+  front = items_of buffer g.front.items;
+  meta = meta;
+  next = length g.sections.items;
+  used = length buffer;
+  sections = loaded_sections buffer meta 0 g.sections.items;
+}

@@ -1,0 +1,6 @@
+//! The state of a git-config file behind one buffer with spans: how it is made, looked at and printed.
+#![tactic(auto)]
+
+mod load;
+mod section;
+pub mod store;
