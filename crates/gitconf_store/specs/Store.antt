@@ -20,15 +20,19 @@ use Rattle.gitconf_store.specs.declared.section.Section.{Section}
 abbrev pub items_of : (buffer : List ℕ) → List Item → List parts.Item
 items_of buffer items = map (item_of buffer) items
 
--- a section with its number
-abbrev pub section_state : (buffer : List ℕ) → SectionEntry Section → SectionState
-section_state buffer e = record {
-  number = e.number;
-  header = header_of buffer e.section.header;
-  meta = e.section.meta.value;
-  items = items_of buffer e.section.items.items;
-  held = items_of buffer e.section.held.items;
+-- a section under a number
+abbrev pub section_under : (buffer : List ℕ) → ℕ → Section → SectionState
+section_under buffer number s = record {
+  number = number;
+  header = header_of buffer s.header;
+  meta = s.meta.value;
+  items = items_of buffer s.items.items;
+  held = items_of buffer s.held.items;
 }
+
+-- a section of the table
+abbrev pub section_state : (buffer : List ℕ) → SectionEntry Section → SectionState
+section_state buffer e = section_under buffer e.number e.section
 
 -- a store of these parts
 abbrev pub state_of : (buffer : List ℕ) → (front : List Item) → Meta → Sections Section → State

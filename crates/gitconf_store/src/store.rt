@@ -1,8 +1,16 @@
 //! The state of a file behind one buffer.
-use crate::section::Section;
+ghost use Rattle.std.specs.Prelude.{◌≡◌, ◌<◌, ◌^◌, [], length, IfOk};
+ghost use Rattle.gitconf_parse.specs.ItemsFit.{ItemsFit};
+ghost use Rattle.gitconf_state.specs.State.{HasItems};
+ghost use Rattle.gitconf_store.specs.Store.{loaded};
+
+use crate::load::load_sections;
+use crate::section::{Section, Sections};
 use gitconf_base::meta::Metadata;
 use gitconf_base::util::SectionTable;
-use gitconf_parse::items::Item;
+use gitconf_parse::items::{Item, Items};
+use gitconf_text::NoMemory;
+use std::alloc::Global;
 use std::marker::Model;
 use std::rc::Rc;
 
@@ -26,4 +34,66 @@ impl Model for Store {
     ghost view = { λ s. state_of s.buffer.items s.front.items s.meta.value s.sections };
 
     ghost invariant = { λ s. StoreFits s.buffer.items s.copies.items s.front.items s.meta.value s.sections };
+}
+
+impl Store {
+    ghost use Rattle.std.specs.Prelude.{◌≡◌, ◌<◌, ◌^◌, [], length, IfOk};
+    ghost use Rattle.gitconf_parse.specs.ItemsFit.{ItemsFit};
+    ghost use Rattle.gitconf_state.specs.State.{HasItems};
+    ghost use Rattle.gitconf_store.specs.Store.{loaded};
+    ghost use Rattle.gitconf_store.specs.Views.{sections_left};
+
+    /// A file without front and sections. Takes no memory.
+    pub fn new(alloc: Global, meta: Rc<Metadata>) -> Store
+        ensures { result ≡ record { front = []; meta = meta.value; next = 0; used = 0; sections = [] } }
+    {
+        Store {
+            buffer: Vec::new(alloc),
+            copies: Vec::new(alloc),
+            front: Vec::new(alloc),
+            meta,
+            sections: SectionTable::new(alloc),
+        }
+    }
+
+    /// The state of these items of a buffer.
+    fn from_items(
+        alloc: Global,
+        buffer: Vec<u8>,
+        items: Items,
+        meta: Rc<Metadata>,
+    ) -> Result<Store, NoMemory>
+        requires room { length buffer.items < 2 ^ 32 }
+        requires within { ItemsFit (length buffer.items) items }
+        requires items { HasItems (loaded buffer.items items meta.value) }
+        ensures { IfOk result (λ s. s ≡ loaded buffer.items items meta.value) }
+    {
+        let mut copies = Vec::new(alloc);
+        let sections = load_sections(alloc, &buffer, &mut copies, items.sections, &meta)?;
+        Ok(Store {
+            buffer,
+            copies,
+            front: items.front,
+            meta,
+            sections,
+        })
+    }
+
+    /// Where the file comes from.
+    pub fn meta(&self) -> &Metadata
+        ensures { result.now ≡ self.now.meta }
+    {
+        &self.meta
+    }
+
+    /// The sections in file order.
+    #[tactic(auto, using(crate::proofs::Views::sections_viewed))]
+    pub fn sections(&self) -> Sections<'_>
+        ensures { sections_left result ≡ self.now.sections }
+    {
+        Sections {
+            buffer: &self.buffer,
+            sections: self.sections.iter(),
+        }
+    }
 }
