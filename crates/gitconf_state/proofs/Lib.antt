@@ -1,1 +1,2 @@
 pub mod LoadingTokens
+pub mod LoadingFilters
