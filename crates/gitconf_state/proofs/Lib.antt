@@ -1,2 +1,3 @@
 pub mod LoadingTokens
 pub mod LoadingFilters
+pub mod LoadingItems
