@@ -1,3 +1,4 @@
 pub mod LoadingTokens
 pub mod LoadingFilters
 pub mod LoadingItems
+pub mod LoadingNames
