@@ -2,3 +2,5 @@ pub mod LoadingTokens
 pub mod LoadingFilters
 pub mod LoadingItems
 pub mod LoadingNames
+pub mod LoadingClean
+pub mod LoadingDocument

@@ -19,7 +19,7 @@ abbrev pub is_part : Part → Bool
 is_part (ItemPart i) = is_item i
 is_part (HeaderPart h) = is_header h
 
-both_hold : (a b : Bool) → a ≡ true → b ≡ true → (a && b) ≡ true
+pub both_hold : (a b : Bool) → a ≡ true → b ≡ true → (a && b) ≡ true
 both_hold true b p q = q
 both_hold false b p q = absurd (cc)
 
