@@ -4,3 +4,4 @@ pub mod LoadingItems
 pub mod LoadingNames
 pub mod LoadingClean
 pub mod LoadingDocument
+pub mod InsertingTexts
