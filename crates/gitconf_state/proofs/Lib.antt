@@ -5,3 +5,4 @@ pub mod LoadingNames
 pub mod LoadingClean
 pub mod LoadingDocument
 pub mod InsertingTexts
+pub mod InsertingLineEnds
