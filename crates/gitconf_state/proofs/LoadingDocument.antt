@@ -1,0 +1,57 @@
+-- The state that a text's tokens make says the text's document, also a lossy one.
+use Rattle.std.proofs.Common.{◌≡◌, List, [], ◌∷◌, ◌++◌, flat_map, map, refl, ap, sym, ◌∙◌, append-nil}
+use Rattle.gitconf_text.specs.Header.{name_of, subsection_of}
+use Rattle.gitconf_text.specs.Part.{Item, BlanksItem, LineEndsItem, CommentItem, EntryItem, Part, ItemPart, HeaderPart}
+use Rattle.gitconf_text.specs.Document.{DocumentEntry, DocumentSection, Document, with_item, with_part, gathered}
+use Rattle.gitconf_text.specs.Token.{tokens_of}
+use Rattle.gitconf_parse.specs.TokenDocument.{Told, nothing, told, keeps_meaning}
+use Rattle.gitconf_parse.proofs.OneDocument.{told_parts}
+use Rattle.gitconf_parse.proofs.TextLaws as tokens
+use Rattle.gitconf_state.specs.State.{SectionState, State, entries_of, section_document, document_of}
+use Rattle.gitconf_state.specs.Loads.{state_tokens, IsLoad, IsFullLoad}
+use Rattle.gitconf_state.proofs.LoadingTokens.{own_section_parts, own_parts, own_tokens}
+
+-- entries put before a document's own
+abbrev before_front : List DocumentEntry → Document → Document
+before_front entries d = record { front = entries ++ d.front; sections = d.sections }
+
+items_gathered : (items : List Item) (tail : List Part) → gathered (map ItemPart items ++ tail) ≡ before_front (entries_of items) (gathered tail)
+items_gathered [] tail = refl
+items_gathered (BlanksItem run ∷ items) tail = items_gathered items tail
+items_gathered (LineEndsItem run ∷ items) tail = items_gathered items tail
+items_gathered (CommentItem tag text ∷ items) tail = items_gathered items tail
+items_gathered (EntryItem e ∷ items) tail = ap (with_item (EntryItem e)) (items_gathered items tail)
+
+-- the document of sections alone
+abbrev sections_document : List DocumentSection → Document
+sections_document sections = record { front = []; sections = sections }
+
+sections_gathered : (sections : List SectionState) → gathered (flat_map own_section_parts sections) ≡ sections_document (map section_document sections)
+sections_gathered [] = refl
+sections_gathered (s ∷ sections) =
+    ap (with_part (HeaderPart s.header)) (items_gathered s.items (flat_map own_section_parts sections))
+    ∙ ap (λ d. with_part (HeaderPart s.header) (before_front (entries_of s.items) d)) (sections_gathered sections)
+    ∙ ap (λ (entries : List DocumentEntry). sections_document ((record { name = name_of s.header; subsection = subsection_of s.header; entries = entries }) ∷ map section_document sections)) (append-nil (entries_of s.items))
+
+-- the document of a state's parts is the one that the state says
+own_document : (state : State) → gathered (own_parts state) ≡ document_of state
+own_document state =
+    items_gathered state.front (flat_map own_section_parts state.sections)
+    ∙ ap (before_front (entries_of state.front)) (sections_gathered state.sections)
+    ∙ ap (λ (entries : List DocumentEntry). record { front = entries; sections = map section_document state.sections }) (append-nil (entries_of state.front))
+
+-- the document that a state's tokens say
+tokens_document : (state : State) → document_of state ≡ (told (state_tokens state) nothing).document
+tokens_document state = sym (own_document state) ∙ sym (told_parts (own_parts state)) ∙ ap (λ t. (told t nothing).document) (own_tokens state)
+
+-- A whole load says the text's document.
+pub full_document : (parts : List Part) (state : State) → IsFullLoad parts state → document_of state ≡ gathered parts
+full_document parts state load = tokens_document state ∙ ap (λ t. (told t nothing).document) load.tokens ∙ told_parts parts
+
+-- A lossy load does too.
+pub lossy_document : (parts : List Part) (state : State) → IsLoad keeps_meaning parts state → document_of state ≡ gathered parts
+lossy_document parts state load =
+    tokens_document state
+    ∙ ap (λ t. (told t nothing).document) load.tokens
+    ∙ ap (λ (t : Told). t.document) (tokens.lossy_document (tokens_of parts))
+    ∙ told_parts parts
