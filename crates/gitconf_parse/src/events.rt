@@ -96,7 +96,7 @@ fn events_of(alloc: Global, input: &[u8]) -> Result<Vec<Event>, Error>
 }
 
 impl Events {
-    ghost use Rattle.std.specs.Prelude.{◌≡◌, List, Bool, true, map, IfOk, IfErr};
+    ghost use Rattle.std.specs.Prelude.{◌≡◌, List, Bool, true, map, IfOk, IfErr, IsNone, OnOk};
     ghost use Rattle.std.specs.Option.{ForSome, ForNone};
     ghost use Rattle.gitconf_text.specs.Part.{Part};
     ghost use Rattle.gitconf_text.specs.Document.{IsText};
@@ -114,6 +114,7 @@ impl Events {
     /// All events of a text.
     fn whole(alloc: Global, input: &[u8]) -> Result<Events, Error>
         ensures whole { IfOk result (IsWhole input.now) }
+        ensures fits { OnOk result (length input.now < 2 ^ 32) }
         ensures refused { IfErr result (IsRefused input.now) }
     {
         let mut events = events_of(alloc, input)?;
@@ -167,7 +168,9 @@ impl Events {
         // With a filter that answers by what it is shown, and none is one that keeps all.
         ensures parsed { IfOk result (λ events. (p : Shown → Bool) → ForSome filter (λ f. (e : _) (b : Bool) → post f e b → b ≡ p (shown e.now))
             → ForNone filter ((s : Shown) → p s ≡ true) → IsParsed p input.now events) }
+        ensures whole { IsNone filter → IfOk result (IsWhole input.now) }
         // With any filter.
+        ensures fits { OnOk result (length input.now < 2 ^ 32) }
         ensures documented { IfOk result (λ _. (parts : List Part) × IsText input.now parts) }
         ensures refused { IfErr result (IsRefused input.now) }
     {

@@ -1,11 +1,17 @@
 -- A section more in a store's table.
-use Rattle.std.proofs.Common.{◌≡◌, ℕ, List, [], ◌∷◌, ◌++◌, length, Option, refl, ap, sym, subst, ◌∙◌}
-use Rattle.std.specs.List.{AllByRecursion}
+use Rattle.std.proofs.Common.{◌≡◌, ℕ, suc, ◌+◌, map, List, [], ◌∷◌, ◌++◌, length, Option, refl, ap, sym, subst, ◌∙◌}
+use Rattle.std.specs.List.{AllByRecursion, flat_map, range_with_len}
 use Rattle.std.specs.Option.{option_map}
 use Rattle.gitconf_text.specs.Bytes.{fold}
 use Rattle.gitconf_text.specs.Header.{name_of, subsection_of}
 use Rattle.gitconf_base.specs.Sections.{SectionEntry, Sections, with_last}
-use Rattle.gitconf_parse.specs.declared.event.Header.{Header}
+use Rattle.gitconf_text.specs.Token.{HeaderToken, item_tokens}
+use Rattle.gitconf_base.specs.Metadata.{Meta}
+use Rattle.gitconf_parse.specs.declared.items.Item.{Item}
+use Rattle.gitconf_parse.specs.declared.items.Items.{Items}
+use Rattle.gitconf_parse.specs.declared.items.Section.{Section as Loaded}
+use Rattle.gitconf_parse.specs.Items.{item_of, tokens_of_items, tokens_of_section, tokens_of_all}
+use Rattle.gitconf_state.specs.Loads.{section_tokens}
 use Rattle.gitconf_parse.specs.declared.event.Event.TheVariants as kinds
 use Rattle.gitconf_parse.specs.Events.{bytes_of, header_of}
 use Rattle.gitconf_parse.specs.EventRef.{Shown, ShownHeader}
@@ -13,7 +19,13 @@ use Rattle.gitconf_parse.specs.ItemsFit.{AreItemsWithin}
 use Rattle.gitconf_parse.specs.ShownEvents.{decoded_or, separator_of, shown_header, IsShown, IsExtended}
 use Rattle.gitconf_parse.proofs.Shown.{is_shown_more, all_push}
 use Rattle.gitconf_store.specs.declared.section.Section.{Section}
-use Rattle.gitconf_store.specs.Store.{SectionFits, AllSectionsFit}
+use Rattle.gitconf_store.specs.Store.{items_of, SectionFits, AllSectionsFit, loaded, loaded_sections}
+use Rattle.gitconf_store.specs.Made.{IsMade}
+
+-- the tokens of items, told by what they stand for
+items_tokens : (buffer : List ℕ) (items : List Item) → flat_map item_tokens (items_of buffer items) ≡ tokens_of_items buffer items
+items_tokens buffer [] = refl
+items_tokens buffer (i ∷ items) = ap (λ ts. item_tokens (item_of buffer i) ++ ts) (items_tokens buffer items)
 
 section_fits_more : (buffer copies more : List ℕ) (e : SectionEntry Section) → SectionFits buffer copies e → SectionFits buffer (copies ++ more) e
 section_fits_more buffer copies more e s = record {
@@ -58,3 +70,41 @@ added_fits buffer copies new table after section name subsection all more header
       name = ap fold (name_is ∙ name_shown _ (name_of h) _ (separator_of h) _ (subsection_of h) header.shown);
       subsection = subsection_is ∙ subsection_shown _ (name_of h) _ (separator_of h) _ (subsection_of h) header.shown;
     }))
+
+-- the sections under the numbers from next on
+loaded_tokens : (buffer : List ℕ) (meta : Meta) (next : ℕ) (sections : List Loaded)
+    → flat_map section_tokens (loaded_sections buffer meta next sections) ≡ flat_map (tokens_of_section buffer) sections
+loaded_tokens buffer meta next [] = refl
+loaded_tokens buffer meta next (s ∷ sections) = ap (λ ts. HeaderToken (header_of buffer s.header) ∷ ts)
+    (ap (λ ts. ts ++ flat_map section_tokens (loaded_sections buffer meta (next + 1) sections)) (items_tokens buffer s.items.items)
+    ∙ ap (λ ts. tokens_of_items buffer s.items.items ++ ts) (loaded_tokens buffer meta (next + 1) sections))
+
+loaded_held : (buffer : List ℕ) (meta : Meta) (next : ℕ) (sections : List Loaded) → AllByRecursion (λ s. s.held ≡ []) (loaded_sections buffer meta next sections)
+loaded_held buffer meta next [] = tt
+loaded_held buffer meta next (s ∷ sections) = (refl, loaded_held buffer meta (next + 1) sections)
+
+loaded_metas : (buffer : List ℕ) (meta : Meta) (next : ℕ) (sections : List Loaded) → AllByRecursion (λ s. s.meta ≡ meta) (loaded_sections buffer meta next sections)
+loaded_metas buffer meta next [] = tt
+loaded_metas buffer meta next (s ∷ sections) = (refl, loaded_metas buffer meta (next + 1) sections)
+
+loaded_numbers : (buffer : List ℕ) (meta : Meta) (next : ℕ) (sections : List Loaded)
+    → map (λ s. s.number) (loaded_sections buffer meta next sections) ≡ range_with_len next (length (loaded_sections buffer meta next sections))
+loaded_numbers buffer meta next [] = refl
+loaded_numbers buffer meta next (s ∷ sections) = ap (λ ns. next ∷ ns) (loaded_numbers buffer meta (next + 1) sections)
+
+loaded_length : (buffer : List ℕ) (meta : Meta) (next : ℕ) (sections : List Loaded) → length sections ≡ length (loaded_sections buffer meta next sections)
+loaded_length buffer meta next [] = refl
+loaded_length buffer meta next (s ∷ sections) = ap suc (loaded_length buffer meta (next + 1) sections)
+
+-- the loaded state has the tokens of its items
+pub loaded_is_made : (buffer : List ℕ) (g : Items) (meta : Meta) → IsMade (tokens_of_all buffer g) meta (length buffer) (loaded buffer g meta)
+loaded_is_made buffer g meta = record {
+  tokens_are = ap (λ ts. ts ++ flat_map section_tokens (loaded_sections buffer meta 0 g.sections.items)) (items_tokens buffer g.front.items)
+      ∙ ap (λ ts. tokens_of_items buffer g.front.items ++ ts) (loaded_tokens buffer meta 0 g.sections.items);
+  held = loaded_held buffer meta 0 g.sections.items;
+  meta = refl;
+  metas = loaded_metas buffer meta 0 g.sections.items;
+  numbers = loaded_numbers buffer meta 0 g.sections.items;
+  next = loaded_length buffer meta 0 g.sections.items;
+  used = refl;
+}

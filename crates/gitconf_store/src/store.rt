@@ -8,6 +8,8 @@ use crate::load::load_sections;
 use crate::section::{Section, Sections};
 use gitconf_base::meta::Metadata;
 use gitconf_base::util::SectionTable;
+use gitconf_parse::error::Error;
+use gitconf_parse::events::{Events, keeps_meaning};
 use gitconf_parse::items::{Item, Items};
 use gitconf_text::NoMemory;
 use std::alloc::Global;
@@ -42,6 +44,17 @@ impl Store {
     ghost use Rattle.gitconf_state.specs.State.{HasItems};
     ghost use Rattle.gitconf_store.specs.Store.{loaded};
     ghost use Rattle.gitconf_store.specs.Views.{sections_left};
+    ghost use Rattle.std.specs.Prelude.{true};
+    ghost use Rattle.gitconf_parse.specs.Items.{Between, are_items};
+    ghost use Rattle.gitconf_state.specs.State.{State};
+    ghost use Rattle.std.specs.Prelude.{List, filter, IfErr};
+    ghost use Rattle.gitconf_text.specs.Part.{Part};
+    ghost use Rattle.gitconf_text.specs.Document.{IsText};
+    ghost use Rattle.gitconf_text.specs.Token.{tokens_of};
+    ghost use Rattle.gitconf_parse.specs.EventList.{keeps_token};
+    ghost use Rattle.gitconf_parse.specs.EventResult.{IsRefused};
+    ghost use Rattle.gitconf_parse.specs.TokenDocument.{keeps_meaning};
+    ghost use Rattle.gitconf_store.specs.Made.{IsMade};
 
     /// A file without front and sections. Takes no memory.
     pub fn new(alloc: Global, meta: Rc<Metadata>) -> Store
@@ -77,6 +90,36 @@ impl Store {
             meta,
             sections,
         })
+    }
+
+    /// The state of events, if they make items and these are such as a text may have.
+    #[tactic(auto, using(crate::proofs::Loading::loaded_is_made))]
+    fn from_events(alloc: Global, events: Events, meta: Rc<Metadata>) -> Result<Store, NoMemory>
+        requires items { are_items Between events.tokens ≡ true }
+        requires sound { (state : State) → IsMade events.tokens meta.value events.used state → HasItems state }
+        ensures { IfOk result (λ s. IsMade events.tokens meta.value events.used s) }
+    {
+        let (buffer, items) = events.into_items(alloc)?;
+        Store::from_items(alloc, buffer, items, meta)
+    }
+
+    /// The state of a text, all of it.
+    fn whole(alloc: Global, input: &[u8], meta: Rc<Metadata>) -> Result<Store, Error>
+        ensures made { IfOk result (λ s. (parts : List Part) × IsText input.now parts × IsMade (tokens_of parts) meta.value (length input.now) s) }
+        ensures refused { IfErr result (IsRefused input.now) }
+    {
+        let events = Events::from_bytes(alloc, input, None)?;
+        Ok(Store::from_events(alloc, events, meta)?)
+    }
+
+    /// The state of a text without its blanks, line ends and comments.
+    fn lossy(alloc: Global, input: &[u8], meta: Rc<Metadata>) -> Result<Store, Error>
+        ensures made { IfOk result (λ s. (parts : List Part) × IsText input.now parts
+            × IsMade (filter (keeps_token keeps_meaning) (tokens_of parts)) meta.value (length input.now) s) }
+        ensures refused { IfErr result (IsRefused input.now) }
+    {
+        let events = Events::from_bytes(alloc, input, Some(keeps_meaning))?;
+        Ok(Store::from_events(alloc, events, meta)?)
     }
 
     /// Where the file comes from.
