@@ -1,2 +1,4 @@
 pub mod Follows
 pub mod Fitted
+pub mod FittedComment
+pub mod FittedEntry
