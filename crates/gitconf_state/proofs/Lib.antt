@@ -2,3 +2,4 @@ pub mod Follows
 pub mod Fitted
 pub mod FittedComment
 pub mod FittedEntry
+pub mod Apart
