@@ -33,10 +33,11 @@ IsSound (HeaderPart h) = FitsHeader h
 
 -- A header stands where nothing is left open, and a comment not behind a comment.
 abbrev pub stands : Open → Part → Bool
-stands Closed (HeaderPart h) = true
-stands before (HeaderPart h) = false
-stands OpenComment (ItemPart (CommentItem tag text)) = false
-stands before (ItemPart i) = may_stand before i
+stands before (ItemPart (BlanksItem run)) = true
+stands before (ItemPart (LineEndsItem run)) = true
+stands before (ItemPart (CommentItem tag text)) = elim before [ OpenComment ↦ false | _ ↦ true ]
+stands before (ItemPart (EntryItem e)) = may_stand before (EntryItem e)
+stands before (HeaderPart h) = elim before [ Closed ↦ true | _ ↦ false ]
 
 abbrev pub after_part : Open → Part → Open
 after_part before (ItemPart i) = after before i
