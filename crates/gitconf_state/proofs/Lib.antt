@@ -3,3 +3,5 @@ pub mod Fitted
 pub mod FittedComment
 pub mod FittedEntry
 pub mod Apart
+pub mod PrintedItem
+pub mod PrintedApart
