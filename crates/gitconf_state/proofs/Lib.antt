@@ -5,3 +5,4 @@ pub mod FittedEntry
 pub mod Apart
 pub mod PrintedItem
 pub mod PrintedApart
+pub mod SectionsApart

@@ -53,7 +53,7 @@ placed_behind_break true before i items placed e = tt
 placed_behind_break false before i items placed e = subst (λ b. stand_apart b items ≡ true) (sym (broken_after before i e)) (both_true (may_stand before i) _ placed).1
 
 -- No printed item runs into the next.
-items_apart : (in_body : Bool) (line_end : List ℕ) (before : Open) (items : List Item) → is_line_end line_end ≡ true → list_all is_item items ≡ true → list_all has_blanks items ≡ true
+pub items_apart : (in_body : Bool) (line_end : List ℕ) (before : Open) (items : List Item) → is_line_end line_end ≡ true → list_all is_item items ≡ true → list_all has_blanks items ≡ true
     → ArePlaced in_body before items → AreApart before (map ItemPart (printed_items in_body line_end before items))
 items_apart in_body line_end before [] closes are blanks placed = tt
 items_apart in_body line_end before (i ∷ items) closes are blanks placed =
@@ -99,15 +99,15 @@ item_ended line_end before ended (LineEndsItem run) told h = refl
 item_ended line_end before ended (CommentItem tag text) told h = absurd (cc)
 item_ended line_end before ended (EntryItem e) told h = absurd (cc)
 
--- Nothing is left open behind printed items that end with a line end.
-items_ended : (in_body : Bool) (line_end : List ℕ) (before : Open) (ended : Bool) (items : List Item) → (ended ≡ true → before ≡ Closed) → fold (ends_with line_end) ended items ≡ true
+-- Nothing is left open behind printed items that end with a line end, of either kind.
+pub items_ended : (in_body : Bool) (line_end kind : List ℕ) (before : Open) (ended : Bool) (items : List Item) → (ended ≡ true → before ≡ Closed) → fold (ends_with kind) ended items ≡ true
     → behind_parts before (map ItemPart (printed_items in_body line_end before items)) ≡ Closed
-items_ended in_body line_end before ended [] told h = told h
-items_ended in_body line_end before ended (i ∷ items) told h = go (λ b told. items_ended in_body line_end b (ends_with line_end ended i) items told h) (breaks in_body before i) refl
+items_ended in_body line_end kind before ended [] told h = told h
+items_ended in_body line_end kind before ended (i ∷ items) told h = go (λ b told. items_ended in_body line_end kind b (ends_with kind ended i) items told h) (breaks in_body before i) refl
   where
-    go : ((b : Open) → (ends_with line_end ended i ≡ true → b ≡ Closed) → behind_parts b (map ItemPart (printed_items in_body line_end b items)) ≡ Closed)
+    go : ((b : Open) → (ends_with kind ended i ≡ true → b ≡ Closed) → behind_parts b (map ItemPart (printed_items in_body line_end b items)) ≡ Closed)
         → (t : Bool) → breaks in_body before i ≡ t → behind_parts before (map ItemPart (printed_items in_body line_end before (i ∷ items))) ≡ Closed
     go later true e = rw (e, printed_items)
-        (ap (λ b. behind_parts b (map ItemPart (printed_items in_body line_end (after Closed i) items))) (item_after line_end Closed i) ∙ later (after Closed i) (item_ended line_end Closed ended i (λ _. refl)))
+        (ap (λ b. behind_parts b (map ItemPart (printed_items in_body line_end (after Closed i) items))) (item_after line_end Closed i) ∙ later (after Closed i) (item_ended kind Closed ended i (λ _. refl)))
     go later false e = rw (e, printed_items)
-        (ap (λ b. behind_parts b (map ItemPart (printed_items in_body line_end (after before i) items))) (item_after line_end before i) ∙ later (after before i) (item_ended line_end before ended i told))
+        (ap (λ b. behind_parts b (map ItemPart (printed_items in_body line_end (after before i) items))) (item_after line_end before i) ∙ later (after before i) (item_ended kind before ended i told))
