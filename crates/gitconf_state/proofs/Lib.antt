@@ -6,3 +6,4 @@ pub mod Apart
 pub mod PrintedItem
 pub mod PrintedApart
 pub mod SectionsApart
+pub mod PrintedDocument

@@ -87,7 +87,7 @@ without_entries before (i ∷ items) h =
     rw (others_stand before i q.0) (without_entries (after before i) items q.1)
 
 -- the section with these items held behind it
-abbrev with_held : SectionState → List Item → SectionState
+abbrev pub with_held : SectionState → List Item → SectionState
 with_held s held = record { number = s.number; header = s.header; meta = s.meta; items = s.items; held = held }
 
 held_apart : (line_end : List ℕ) (before : Open) (s : SectionState) (held : List Item) → is_line_end line_end ≡ true → (ends_line line_end s.items ≡ true → before ≡ Closed) → list_all is_item held ≡ true
@@ -162,7 +162,7 @@ behind_front_apart keeps line_end ended before sections closes told all = go (li
     go false e = rw (either ended, none_kept keeps line_end sections e) tt
 
 -- the state with this front
-abbrev with_front : State → List Item → State
+abbrev pub with_front : State → List Item → State
 with_front state front = record { front = front; meta = state.meta; next = state.next; used = state.used; sections = state.sections }
 
 front_apart : (keeps : SectionState → Bool) (state : State) (front : List Item) → list_all is_item front ≡ true → list_all has_blanks front ≡ true → stand_apart Closed front ≡ true
