@@ -7,3 +7,5 @@ pub mod PrintedItem
 pub mod PrintedApart
 pub mod SectionsApart
 pub mod PrintedDocument
+pub mod ReadsBack
+pub mod CommentLaws
