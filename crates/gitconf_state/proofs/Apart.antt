@@ -1,7 +1,7 @@
 -- Parts of which none runs into the next: their text is one of parts that fit, with the same document and comments.
-use Rattle.std.proofs.Common.{◌≡◌, ◌<◌, ℕ, Bool, true, false, not, List, [], ◌∷◌, ◌++◌, length, Option, Some, None, refl, ap, sym, subst, ◌∙◌, append_assoc, arith}
-use Rattle.std.specs.Prelude.{◌&&◌, ◌==◌}
-use Rattle.std.specs.List.{list_all, flat_map}
+use Rattle.std.proofs.Common.{◌≡◌, ◌<◌, ℕ, Bool, true, false, not, List, [], ◌∷◌, ◌++◌, length, Option, Some, None, refl, sym, subst, append_assoc, arith}
+use Rattle.std.specs.Prelude.{◌==◌}
+use Rattle.std.specs.List.{list_all}
 use Rattle.gitconf_text.specs.Bytes.{is_blank}
 use Rattle.gitconf_text.specs.Text.{begins_line_end, are_line_ends}
 use Rattle.gitconf_text.specs.Unit.{is_mark}
@@ -19,6 +19,7 @@ use Rattle.gitconf_state.proofs.Fitted.{Fitted, put, put_blanks, put_line_ends}
 use Rattle.gitconf_state.proofs.FittedComment.{put_comment}
 use Rattle.gitconf_state.proofs.FittedEntry.{IsClosed, put_key, put_value}
 
+-- what an entry assigns, if anything, has a value that a text may have
 abbrev pub AreClosed : Option Assigned → Type 0
 AreClosed None = Unit {0}
 AreClosed (Some a) = IsClosed a
@@ -39,6 +40,7 @@ stands before (ItemPart (CommentItem tag text)) = elim before [ OpenComment ↦ 
 stands before (ItemPart (EntryItem e)) = may_stand before (EntryItem e)
 stands before (HeaderPart h) = elim before [ Closed ↦ true | _ ↦ false ]
 
+-- what is left open behind a part
 abbrev pub after_part : Open → Part → Open
 after_part before (ItemPart i) = after before i
 after_part before (HeaderPart h) = Closed
@@ -56,10 +58,12 @@ end_follows OpenKeyAndBlanks = refl
 end_follows OpenValue = refl
 end_follows OpenComment = refl
 
+-- a run of line ends begins with one
 run_begins : (run rest : List ℕ) → 0 < length run → are_line_ends run ≡ true → begins_line_end (run ++ rest) ≡ true
 run_begins [] rest some all = absurd (omega arith)
 run_begins (b ∷ run) rest some all = line_end_more b run rest (both_true _ _ all).0
 
+-- an entry may follow a name and blanks
 name_follows : (name rest : List ℕ) → is_value_name name ≡ true → may_follow OpenKeyAndBlanks (name ++ rest) ≡ true
 name_follows [] rest named = absurd (cc)
 name_follows (b ∷ name) rest named = letter_follows b (name ++ rest) (both_true _ _ named).0
@@ -72,6 +76,7 @@ comment_apart OpenKeyAndBlanks tag text h e = absurd (cc)
 comment_apart OpenValue tag text h e = absurd (cc)
 comment_apart OpenComment tag text h e = absurd (cc)
 
+-- an entry may follow where it stands
 entry_follows : (before : Open) (e : Entry) (rest : List ℕ) → stands before (ItemPart (EntryItem e)) ≡ true → is_value_name e.name ≡ true → may_follow before (e.name ++ rest) ≡ true
 entry_follows Closed e rest h named = refl
 entry_follows OpenKeyAndBlanks e rest h named = name_follows e.name rest named
@@ -92,6 +97,7 @@ part_follows OpenKeyAndBlanks (HeaderPart h) text stands sound follows = absurd 
 part_follows OpenValue (HeaderPart h) text stands sound follows = absurd (cc)
 part_follows OpenComment (HeaderPart h) text stands sound follows = absurd (cc)
 
+-- behind a name and blanks an entry leaves open what it does behind a line end
 after_key : (blanks : List ℕ) (a : Option Assigned) → after_entry OpenKeyAndBlanks blanks a ≡ after_entry Closed blanks a
 after_key blanks None = refl
 after_key blanks (Some a) = refl
@@ -104,6 +110,7 @@ after_entry-is OpenKey e h = absurd (cc)
 after_entry-is OpenValue e h = absurd (cc)
 after_entry-is OpenComment e h = absurd (cc)
 
+-- an entry put before a text that may follow it
 put_entry : (name blanks : List ℕ) (a : Option Assigned) {text : List ℕ} {document : Document} {comments : List (List ℕ)} → is_value_name name ≡ true → list_all is_blank blanks ≡ true → AreClosed a
     → may_follow (after_entry Closed blanks a) text ≡ true → Fitted text document comments
     → Fitted ((name ++ (blanks ++ spelled_assigned a)) ++ text) (with_part (ItemPart (EntryItem (record { name = name; blanks = blanks; assigned = a }))) document) comments
@@ -127,6 +134,7 @@ fitted_behind before (p ∷ parts) apart =
     let later = fitted_behind (after_part before p) parts apart.2 in
     (part_follows before p (spelled parts) apart.0 apart.1 later.0, put_part before p apart.0 apart.1 later.0 later.1)
 
+-- Parts that begin a text and of which none runs into the next have a text of parts that fit.
 pub fitted : (parts : List Part) → AreApart Closed parts → Fitted (spelled parts) (gathered parts) (comments_of parts)
 fitted parts apart = (fitted_behind Closed parts apart).1
 
@@ -135,6 +143,7 @@ abbrev pub behind_parts : Open → List Part → Open
 behind_parts before [] = before
 behind_parts before (p ∷ parts) = behind_parts (after_part before p) parts
 
+-- two lists of parts, the second apart from what the first leaves open
 pub apart-append : (before : Open) (parts others : List Part) → AreApart before parts → AreApart (behind_parts before parts) others → AreApart before (parts ++ others)
 apart-append before [] others apart also = also
 apart-append before (p ∷ parts) others apart also = (apart.0, apart.1, apart-append (after_part before p) parts others apart.2 also)

@@ -1,13 +1,12 @@
 -- A text in parts that fit, with the document and the comments that they have; and one more blank, line end or other part before it.
-use Rattle.std.proofs.Common.{◌≡◌, ◌<◌, ℕ, Bool, true, false, not, List, [], ◌∷◌, ◌++◌, length, refl, ap, sym, subst, ◌∙◌, append_assoc, append-nil, arith}
-use Rattle.std.specs.Prelude.{◌&&◌, ◌||◌, ◌==◌}
+use Rattle.std.proofs.Common.{◌≡◌, ◌<◌, ℕ, Bool, true, false, List, [], ◌∷◌, ◌++◌, length, refl, ap, sym, subst, ◌∙◌, append_assoc, append-nil, arith}
 use Rattle.std.specs.List.{list_all}
 use Rattle.std.proofs.lemmas.List.Folds.{list_all-append}
 use Rattle.gitconf_text.specs.Bytes.{is_blank}
 use Rattle.gitconf_text.specs.Text.{begins, begins_line_end, are_line_ends}
 use Rattle.gitconf_text.specs.Header.{Header, PlainHeader, DottedHeader, QuotedHeader, spelled_header}
 use Rattle.gitconf_text.specs.Names.{is_value_name}
-use Rattle.gitconf_text.specs.Part.{Entry, Item, BlanksItem, LineEndsItem, CommentItem, EntryItem, Part, ItemPart, HeaderPart, spelled_item, spelled_part, spelled, FitsItem, FitsPart, AreFit}
+use Rattle.gitconf_text.specs.Part.{BlanksItem, LineEndsItem, CommentItem, EntryItem, Part, ItemPart, HeaderPart, spelled_part, spelled, FitsPart, AreFit}
 use Rattle.gitconf_text.specs.Document.{Document, with_part, gathered}
 use Rattle.gitconf_parse.proofs.ValueAgain.{both_true}
 use Rattle.gitconf_parse.proofs.ByteLaws.{letter_no_blank, letter_no_line_end, mark_no_blank, mark_no_line_end, line_end_no_blank}
@@ -70,24 +69,29 @@ name_no_blank : (name rest : List ℕ) → is_value_name name ≡ true → begin
 name_no_blank [] rest h = absurd (cc)
 name_no_blank (b ∷ name) rest h = letter_no_blank b (both_true _ _ h).0
 
+-- a name begins with no line end
 name_no_line_end : (name rest : List ℕ) → is_value_name name ≡ true → begins_line_end (name ++ rest) ≡ false
 name_no_line_end [] rest h = absurd (cc)
 name_no_line_end (b ∷ name) rest h = letter_no_line_end b (name ++ rest) (both_true _ _ h).0
 
+-- a header begins with no blank
 header_no_blank : (h : Header) (rest : List ℕ) → begins is_blank (spelled_header h ++ rest) ≡ false
 header_no_blank (PlainHeader name) rest = refl
 header_no_blank (DottedHeader name subsection) rest = refl
 header_no_blank (QuotedHeader name blanks spelling) rest = refl
 
+-- a header begins with no line end
 header_no_line_end : (h : Header) (rest : List ℕ) → begins_line_end (spelled_header h ++ rest) ≡ false
 header_no_line_end (PlainHeader name) rest = refl
 header_no_line_end (DottedHeader name subsection) rest = refl
 header_no_line_end (QuotedHeader name blanks spelling) rest = refl
 
+-- line ends begin with no blank
 line_ends_no_blank : (run rest : List ℕ) → 0 < length run → are_line_ends run ≡ true → begins is_blank (run ++ rest) ≡ false
 line_ends_no_blank [] rest some h = absurd (omega arith)
 line_ends_no_blank (b ∷ run) rest some h = line_end_no_blank b run (both_true _ _ h).0
 
+-- blanks begin with no line end
 blanks_no_line_end : (run rest : List ℕ) → 0 < length run → list_all is_blank run ≡ true → begins_line_end (run ++ rest) ≡ false
 blanks_no_line_end [] rest some h = absurd (omega arith)
 blanks_no_line_end (b ∷ run) rest some h = blank_cases (λ b. begins_line_end (b ∷ (run ++ rest)) ≡ false) refl refl b (both_true (is_blank b) (list_all is_blank run) h).0

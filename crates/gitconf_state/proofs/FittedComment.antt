@@ -1,13 +1,13 @@
 -- A comment put before a text in parts that fit.
-use Rattle.std.proofs.Common.{◌≡◌, ℕ, Bool, true, false, not, List, [], ◌∷◌, ◌++◌, refl, ap, sym, subst, ◌∙◌, append_assoc, arith, length}
-use Rattle.std.specs.Prelude.{◌&&◌, ◌||◌, ◌==◌}
-use Rattle.std.specs.List.{list_all, fold}
+use Rattle.std.proofs.Common.{◌≡◌, ℕ, Bool, true, false, not, List, [], ◌∷◌, ◌++◌, refl, ap, sym, subst, ◌∙◌, append_assoc, arith}
+use Rattle.std.specs.Prelude.{◌||◌, ◌==◌}
+use Rattle.std.specs.List.{list_all}
 use Rattle.std.proofs.lemmas.Bool.{eqb-true}
 use Rattle.std.proofs.lemmas.List.Folds.{list_all-append}
 use Rattle.gitconf_text.specs.Bytes.{is_blank}
 use Rattle.gitconf_text.specs.Text.{begins, ends, begins_line_end, are_line_ends}
 use Rattle.gitconf_text.specs.Unit.{is_mark}
-use Rattle.gitconf_text.specs.Part.{BlanksItem, LineEndsItem, CommentItem, ItemPart, ends_comment}
+use Rattle.gitconf_text.specs.Part.{LineEndsItem, CommentItem, ItemPart, ends_comment}
 use Rattle.gitconf_text.specs.Document.{Document}
 use Rattle.gitconf_parse.proofs.ValueAgain.{both_true}
 use Rattle.gitconf_state.specs.Comments.{stripped}
@@ -22,6 +22,7 @@ recommented same f = record { parts = f.parts; same = f.same; fits = f.fits; doc
 abbrev is_stripped : ℕ → Bool
 is_stripped b = is_blank b || b == 13
 
+-- bytes that are all stripped leave nothing
 stripped_none : (run : List ℕ) → list_all is_stripped run ≡ true → stripped run ≡ []
 stripped_none [] all = refl
 stripped_none (b ∷ run) all = let q = both_true (is_stripped b) (list_all is_stripped run) all in rw (stripped_none run q.1, stripped, q.0) refl
@@ -32,6 +33,7 @@ stripped-append [] run all = stripped_none run all
 stripped-append (b ∷ text) run all =
     ap (λ (t : List ℕ). elim t [ [] ↦ elim (is_blank b || b == 13) [ true ↦ [] | false ↦ b ∷ [] ] | c ∷ rest ↦ b ∷ c ∷ rest ]) (stripped-append text run all)
 
+-- blanks are stripped
 blanks_stripped : (run : List ℕ) → list_all is_blank run ≡ true → list_all is_stripped run ≡ true
 blanks_stripped [] all = refl
 blanks_stripped (b ∷ run) all = let q = both_true (is_blank b) (list_all is_blank run) all in rw q.0 (blanks_stripped run q.1)

@@ -1,14 +1,14 @@
 -- An entry put before a text in parts that fit.
-use Rattle.std.proofs.Common.{◌≡◌, ℕ, Bool, true, false, not, List, [], ◌∷◌, ◌++◌, Option, Some, None, refl, ap, sym, subst, ◌∙◌, append_assoc, append-nil, inl, inr}
-use Rattle.std.specs.Prelude.{◌&&◌, ◌||◌, ◌==◌, ◌⊎◌}
-use Rattle.std.specs.List.{list_all, flat_map}
+use Rattle.std.proofs.Common.{◌≡◌, ℕ, true, false, not, List, [], ◌∷◌, ◌++◌, Some, None, refl, ap, sym, subst, ◌∙◌, append_assoc, append-nil, inl}
+use Rattle.std.specs.Prelude.{◌==◌}
+use Rattle.std.specs.List.{list_all}
 use Rattle.std.proofs.lemmas.List.Folds.{list_all-append}
 use Rattle.gitconf_text.specs.Bytes.{is_blank, is_name_byte}
 use Rattle.gitconf_text.specs.Text.{begins, ends, is_line_end}
 use Rattle.gitconf_text.specs.Unit.{is_white}
-use Rattle.gitconf_text.specs.Value.{Piece, Value, spelled_value, value_units, are_paired, may_follow_value, IsEnded, FitsValue}
+use Rattle.gitconf_text.specs.Value.{Piece, spelled_value, value_units, are_paired, may_follow_value, IsEnded, FitsValue}
 use Rattle.gitconf_text.specs.Names.{is_value_name}
-use Rattle.gitconf_text.specs.Part.{Assigned, Entry, EntryItem, ItemPart, spelled_item}
+use Rattle.gitconf_text.specs.Part.{Assigned, EntryItem, ItemPart}
 use Rattle.gitconf_text.specs.Document.{Document, with_item}
 use Rattle.gitconf_parse.proofs.ValueAgain.{both_true}
 use Rattle.gitconf_parse.proofs.RunLaws.{false_not}
@@ -33,6 +33,7 @@ no_equals : (rest : List ℕ) → begins is_blank rest ≡ false → may_follow_
 no_equals [] stops follows = refl
 no_equals (b ∷ rest) stops follows = false_not (b == 61) (rw (stops, may_follow_key) at follows)
 
+-- blanks behind an entry without `=` are its own
 regrouped : (name blanks run rest : List ℕ) → (name ++ ((blanks ++ run) ++ [])) ++ rest ≡ (name ++ (blanks ++ [])) ++ (run ++ rest)
 regrouped name blanks run rest = simp (append_assoc, append-nil)
 
@@ -55,9 +56,11 @@ ended : (pieces : List Piece) (last rest : List ℕ) → list_all (λ (p : Piece
 ended [] last rest all white follows = (white, follows)
 ended (p ∷ pieces) last rest all white follows = let q = both_true (is_line_end p.line_end) _ all in inl (q.0, ended pieces last rest q.1 white follows)
 
+-- such a value may stand before what may follow a value
 closed_fits : (a : Assigned) (rest : List ℕ) → IsClosed a → begins is_blank (spelled_value a.value ++ rest) ≡ false → may_follow_value rest ≡ true → FitsValue a.value rest
 closed_fits a rest closed front follows = record { front = front; units = closed.units; end = ended a.value.pieces a.value.last rest closed.pieces closed.last follows }
 
+-- blanks behind an entry with an empty value are those behind its `=`
 value_regrouped : (name blanks between value run rest : List ℕ) → value ≡ [] → (name ++ (blanks ++ 61 ∷ ((between ++ run) ++ value))) ++ rest ≡ (name ++ (blanks ++ 61 ∷ (between ++ value))) ++ (run ++ rest)
 value_regrouped name blanks between value run rest none = rw none (simp (append_assoc, append-nil))
 

@@ -1,5 +1,5 @@
 -- What text may follow an item that is left open, and what text does.
-use Rattle.std.proofs.Common.{◌≡◌, ℕ, Bool, true, false, not, List, [], ◌∷◌, ◌++◌, refl, ap, sym, subst, ◌∙◌}
+use Rattle.std.proofs.Common.{◌≡◌, ℕ, Bool, true, false, not, List, [], ◌∷◌, ◌++◌, refl, sym, subst, ◌∙◌}
 use Rattle.std.specs.Prelude.{◌&&◌, ◌||◌, ◌==◌}
 use Rattle.std.specs.Char.{is_ascii_alphabetic}
 use Rattle.std.specs.List.{list_all}
@@ -76,12 +76,15 @@ skips : (test : List ℕ → Bool) → ((b : ℕ) (rest : List ℕ) → is_blank
 skips test one [] rest all = refl
 skips test one (b ∷ run) rest all = let q = both_true (is_blank b) (list_all is_blank run) all in one b (run ++ rest) q.0 ∙ skips test one run rest q.1
 
+-- what may follow a comment may follow it behind blanks
 pub comment_skips : (run rest : List ℕ) → list_all is_blank run ≡ true → may_follow_comment (run ++ rest) ≡ may_follow_comment rest
 comment_skips = skips may_follow_comment (λ b rest h. blank_cases (λ b. may_follow_comment (b ∷ rest) ≡ may_follow_comment rest) refl refl b h)
 
+-- what may follow a name may follow it behind more blanks
 pub key_skips : (run rest : List ℕ) → list_all is_blank run ≡ true → may_follow_key (run ++ rest) ≡ may_follow_key rest
 key_skips = skips may_follow_key (λ b rest h. blank_cases (λ b. may_follow_key (b ∷ rest) ≡ may_follow_key rest) refl refl b h)
 
+-- what may follow a value may follow it behind blanks
 pub value_skips : (run rest : List ℕ) → list_all is_blank run ≡ true → may_follow_value (run ++ rest) ≡ may_follow_value rest
 value_skips = skips may_follow_value (λ b rest h. blank_cases (λ b. may_follow_value (b ∷ rest) ≡ may_follow_value rest) refl refl b h)
 

@@ -1,17 +1,16 @@
--- No printed part runs into the next.
-use Rattle.std.proofs.Common.{◌≡◌, ℕ, Bool, true, false, not, List, [], ◌∷◌, ◌++◌, map, filter, refl, ap, sym, subst, ◌∙◌, append-nil}
+-- No printed item runs into the next, and where they end with a line end nothing is left open.
+use Rattle.std.proofs.Common.{◌≡◌, ℕ, Bool, true, false, List, [], ◌∷◌, map, refl, ap, sym, subst, ◌∙◌}
 use Rattle.std.specs.Prelude.{◌&&◌, ◌||◌}
-use Rattle.std.specs.List.{list_all, list_any, fold, AllByRecursion}
-use Rattle.std.proofs.lemmas.List.{map-append}
+use Rattle.std.specs.List.{list_all, fold}
 use Rattle.gitconf_text.specs.Text.{is_line_end}
-use Rattle.gitconf_text.specs.Part.{Item, BlanksItem, LineEndsItem, CommentItem, EntryItem, Part, ItemPart, HeaderPart}
+use Rattle.gitconf_text.specs.Part.{Item, BlanksItem, LineEndsItem, CommentItem, EntryItem, ItemPart}
 use Rattle.gitconf_parse.proofs.ValueAgain.{both_true}
-use Rattle.gitconf_state.specs.State.{SectionState, State, is_item, HasSectionItems, HasItems}
-use Rattle.gitconf_state.specs.LineEnds.{holds, ends_line, section_line_end, file_line_end}
-use Rattle.gitconf_state.specs.Clean.{has_blanks, is_entry, may_stand, stand_apart, IsCleanSection, IsClean}
-use Rattle.gitconf_state.specs.Printing.{Open, Closed, OpenKey, OpenKeyAndBlanks, OpenValue, OpenComment, after_blanks, after, breaks, closed_item, printed_items, unless, behind_header, printed_body, section_parts, ends_with_line, held_items, sections_parts, behind_front, printed_parts}
-use Rattle.gitconf_state.proofs.Apart.{IsSound, stands, after_part, AreApart, behind_parts, apart-append}
-use Rattle.gitconf_state.proofs.PrintedItem.{line_end_of-is, line_end_sound, item_sound, header_sound, item_after}
+use Rattle.gitconf_state.specs.State.{is_item}
+use Rattle.gitconf_state.specs.LineEnds.{holds}
+use Rattle.gitconf_state.specs.Clean.{has_blanks, may_stand, stand_apart}
+use Rattle.gitconf_state.specs.Printing.{Open, Closed, OpenKeyAndBlanks, OpenComment, after_blanks, after, breaks, closed_item, printed_items}
+use Rattle.gitconf_state.proofs.Apart.{IsSound, stands, AreApart, behind_parts}
+use Rattle.gitconf_state.proofs.PrintedItem.{line_end_sound, item_sound, item_after}
 
 -- in a front the names stand apart
 abbrev pub ArePlaced : (in_body : Bool) → Open → List Item → Type 0
@@ -44,10 +43,12 @@ broken_after OpenComment (EntryItem e) h = absurd (cc)
 broken_after before (CommentItem tag text) h = refl
 broken_after before i h = absurd (cc)
 
+-- the items behind one that is placed are placed
 placed_after : (in_body : Bool) (before : Open) (i : Item) (items : List Item) → ArePlaced in_body before (i ∷ items) → ArePlaced in_body (after before i) items
 placed_after true before i items placed = tt
 placed_after false before i items placed = (both_true (may_stand before i) _ placed).1
 
+-- so they are where a line end was put before it
 placed_behind_break : (in_body : Bool) (before : Open) (i : Item) (items : List Item) → ArePlaced in_body before (i ∷ items) → breaks in_body before i ≡ true → ArePlaced in_body (after Closed i) items
 placed_behind_break true before i items placed e = tt
 placed_behind_break false before i items placed e = subst (λ b. stand_apart b items ≡ true) (sym (broken_after before i e)) (both_true (may_stand before i) _ placed).1
@@ -61,9 +62,6 @@ items_apart in_body line_end before (i ∷ items) closes are blanks placed =
     let r = both_true (has_blanks i) (list_all has_blanks items) blanks in
     go (item_sound line_end i closes q.0 r.0) (λ b. items_apart in_body line_end b items closes q.1 r.1) (breaks in_body before i) refl
   where
-    behind : Open → Type 0
-    behind b = AreApart b (map ItemPart (printed_items in_body line_end b items))
-
     go : IsSound (ItemPart (closed_item line_end i)) → ((b : Open) → ArePlaced in_body b items → AreApart b (map ItemPart (printed_items in_body line_end b items)))
         → (t : Bool) → breaks in_body before i ≡ t → AreApart before (map ItemPart (printed_items in_body line_end before (i ∷ items)))
     go sound later true e = rw (e, printed_items) (
@@ -89,6 +87,7 @@ ends_with line_end ended i = elim i [
   | _ ↦ false
 ]
 
+-- nothing is left open behind an item that ends with a line end
 item_ended : (line_end : List ℕ) (before : Open) (ended : Bool) (i : Item) → (ended ≡ true → before ≡ Closed) → ends_with line_end ended i ≡ true → after before i ≡ Closed
 item_ended line_end before ended (BlanksItem run) told h = ap (after_blanks run) (told h) ∙ go run
   where

@@ -1,15 +1,15 @@
 -- An item as it is printed: what it is, what it leaves open, and that it says the same.
-use Rattle.std.proofs.Common.{◌≡◌, ◌<◌, ℕ, Bool, true, false, not, List, [], ◌∷◌, ◌++◌, map, length, Option, Some, None, refl, ap, sym, subst, ◌∙◌, append_assoc, arith}
-use Rattle.std.specs.Prelude.{◌&&◌, ◌||◌, ◌==◌, if◌then◌else◌}
+use Rattle.std.proofs.Common.{◌≡◌, ◌<◌, ℕ, Bool, true, false, not, List, [], ◌∷◌, ◌++◌, map, length, Option, Some, None, refl, ap, sym, subst, ◌∙◌, arith}
+use Rattle.std.specs.Prelude.{◌==◌, if◌then◌else◌}
 use Rattle.std.specs.List.{list_all, list_any, flat_map}
 use Rattle.std.proofs.lemmas.Bool.{eqb-true}
-use Rattle.gitconf_text.specs.Bytes.{is_blank, is_name_byte}
+use Rattle.gitconf_text.specs.Bytes.{is_blank}
 use Rattle.gitconf_text.specs.Text.{begins, ends, is_line_end, are_line_ends}
 use Rattle.gitconf_text.specs.Unit.{TextUnit, units_of, is_white}
-use Rattle.gitconf_text.specs.Value.{Piece, Value, spelled_value, raw_of, value_units, are_paired}
+use Rattle.gitconf_text.specs.Value.{Piece, spelled_value, value_units, are_paired}
 use Rattle.gitconf_text.specs.Header.{Header, PlainHeader, DottedHeader, QuotedHeader, FitsHeader, is_spelling}
 use Rattle.gitconf_text.specs.Part.{Assigned, Item, BlanksItem, LineEndsItem, CommentItem, EntryItem, ItemPart}
-use Rattle.gitconf_text.specs.Token.{Token, CommentToken, HeaderToken, NameToken, ValueToken, NewlineToken, ValueNotDoneToken, ValueDoneToken, WhitespaceToken, SeparatorToken}
+use Rattle.gitconf_text.specs.Token.{Token, NewlineToken}
 use Rattle.gitconf_text.specs.Document.{document_entry}
 use Rattle.gitconf_parse.proofs.ValueAgain.{both_true}
 use Rattle.gitconf_parse.proofs.RunLaws.{false_not}
@@ -17,8 +17,7 @@ use Rattle.gitconf_state.specs.State.{is_piece, is_value, is_assigned, is_item, 
 use Rattle.gitconf_state.specs.Clean.{has_blanks, is_nameless}
 use Rattle.gitconf_state.specs.Comments.{item_comments}
 use Rattle.gitconf_state.specs.LineEnds.{line_end_of}
-use Rattle.gitconf_state.specs.Printing.{Open, Closed, OpenKey, OpenKeyAndBlanks, OpenValue, OpenComment, after, after_entry, closed_piece, closed_assigned, closed_item}
-use Rattle.gitconf_state.proofs.FittedEntry.{IsClosed}
+use Rattle.gitconf_state.specs.Printing.{Open, OpenValue, OpenComment, after, after_entry, closed_piece, closed_assigned, closed_item}
 use Rattle.gitconf_state.proofs.Apart.{AreClosed, IsSound}
 
 -- the line end of tokens is one line end
@@ -45,29 +44,34 @@ piece_text : (line_end text own : List ℕ) → (closed_piece line_end (record {
 piece_text line_end text [] = refl
 piece_text line_end text (b ∷ own) = refl
 
+-- a printed piece has a line end
 piece_closed : (line_end text own : List ℕ) → is_line_end line_end ≡ true → is_piece (record { text = text; line_end = own }) ≡ true
     → is_line_end (closed_piece line_end (record { text = text; line_end = own })).line_end ≡ true
 piece_closed line_end text [] closes h = closes
 piece_closed line_end text (b ∷ own) closes h = h
 
+-- so have all printed pieces
 pieces_closed : (line_end : List ℕ) (pieces : List Piece) → is_line_end line_end ≡ true → list_all is_piece pieces ≡ true → list_all (λ (p : Piece). is_line_end p.line_end) (map (closed_piece line_end) pieces) ≡ true
 pieces_closed line_end [] closes all = refl
 pieces_closed line_end (p ∷ pieces) closes all =
     let q = both_true (is_piece p) (list_all is_piece pieces) all in
     rw (piece_closed line_end p.text p.line_end closes q.0) (pieces_closed line_end pieces closes q.1)
 
+-- printed pieces have the units of the pieces
 pieces_units : (line_end : List ℕ) (pieces : List Piece) → flat_map (λ (p : Piece). units_of p.text) (map (closed_piece line_end) pieces) ≡ flat_map (λ (p : Piece). units_of p.text) pieces
 pieces_units line_end [] = refl
 pieces_units line_end (p ∷ pieces) =
     ap (λ (t : List ℕ). units_of t ++ flat_map (λ (p : Piece). units_of p.text) (map (closed_piece line_end) pieces)) (piece_text line_end p.text p.line_end)
     ∙ ap (λ t. units_of p.text ++ t) (pieces_units line_end pieces)
 
+-- printed pieces have the raw text of the pieces
 pieces_raw : (line_end : List ℕ) (pieces : List Piece) → flat_map (λ (p : Piece). p.text) (map (closed_piece line_end) pieces) ≡ flat_map (λ (p : Piece). p.text) pieces
 pieces_raw line_end [] = refl
 pieces_raw line_end (p ∷ pieces) =
     ap (λ (t : List ℕ). t ++ flat_map (λ (p : Piece). p.text) (map (closed_piece line_end) pieces)) (piece_text line_end p.text p.line_end)
     ∙ ap (λ t. p.text ++ t) (pieces_raw line_end pieces)
 
+-- the bytes of pieces
 abbrev spelled_pieces : List Piece → List ℕ
 spelled_pieces pieces = flat_map (λ (p : Piece). p.text ++ 92 ∷ p.line_end) pieces
 
@@ -81,6 +85,7 @@ value_front line_end (p ∷ pieces) last h = rw (piece_text line_end p.text p.li
     go [] h = refl
     go (b ∷ text) h = h
 
+-- what is assigned is, as it is printed, a value that a text may have
 assigned_closed : (line_end : List ℕ) (a : Option Assigned) → is_line_end line_end ≡ true → is_assigned a ≡ true → AreClosed (closed_assigned line_end a)
 assigned_closed line_end None closes h = tt
 assigned_closed line_end (Some a) closes h =
@@ -96,6 +101,7 @@ assigned_closed line_end (Some a) closes h =
       last = false_not _ last.1;
     }
 
+-- a run that begins has a byte
 run_some : (run : List ℕ) → begins (λ _. true) run ≡ true → 0 < length run
 run_some [] h = absurd (cc)
 run_some (b ∷ run) h = omega arith
@@ -121,6 +127,7 @@ header_sound (QuotedHeader name blanks spelling) is named =
     let s = both_true _ (begins (λ _. true) blanks) r.0 in
     (s.0, run_some blanks s.1, r.1, q.1)
 
+-- a printed entry leaves open what the entry does
 entry_after : (line_end : List ℕ) (before : Open) (blanks : List ℕ) (a : Option Assigned) → after_entry before blanks (closed_assigned line_end a) ≡ after_entry before blanks a
 entry_after line_end OpenComment blanks None = refl
 entry_after line_end OpenComment blanks (Some a) = go a.value.pieces

@@ -1,6 +1,6 @@
 -- The printed text is read back: it has no mark, and its parts that fit have the document of the state.
 use Rattle.std.proofs.Common.{◌≡◌, ◌<◌, ℕ, Bool, true, false, List, [], ◌∷◌, ◌++◌, length, refl, ap, sym, subst, ◌∙◌, append_assoc, arith}
-use Rattle.std.specs.Prelude.{nat_eq, ◌&&◌, filter}
+use Rattle.std.specs.Prelude.{nat_eq, filter}
 use Rattle.std.specs.Char.{is_ascii_alphabetic}
 use Rattle.std.specs.List.{list_all, AllByRecursion}
 use Rattle.std.proofs.lemmas.Bool.{eqb-true}
@@ -28,14 +28,17 @@ unmarked_byte p b rest fails passes = go (nat_eq 239 b) refl
     go false e = rw e refl
     go true e = absurd (let h : p 239 ≡ true = ap p (eqb-true 239 b e) ∙ passes in cc)
 
+-- blanks are no mark
 unmarked_run : (run rest : List ℕ) → 0 < length run → list_all is_blank run ≡ true → unmarked (run ++ rest) ≡ run ++ rest
 unmarked_run [] rest some all = absurd (omega arith)
 unmarked_run (b ∷ run) rest some all = unmarked_byte is_blank b (run ++ rest) refl (both_true (is_blank b) (list_all is_blank run) all).0
 
+-- line ends are no mark
 unmarked_line_ends : (run rest : List ℕ) → 0 < length run → are_line_ends run ≡ true → unmarked (run ++ rest) ≡ run ++ rest
 unmarked_line_ends [] rest some all = absurd (omega arith)
 unmarked_line_ends (b ∷ run) rest some all = unmarked_byte (λ b. begins_line_end (b ∷ run)) b (run ++ rest) refl (both_true (begins_line_end (b ∷ run)) (are_line_ends run) all).0
 
+-- a name is no mark
 unmarked_name : (name rest : List ℕ) → is_value_name name ≡ true → unmarked (name ++ rest) ≡ name ++ rest
 unmarked_name [] rest named = absurd (cc)
 unmarked_name (b ∷ name) rest named = unmarked_byte is_ascii_alphabetic b (name ++ rest) refl (both_true _ _ named).0
@@ -75,6 +78,7 @@ pub filter_all : {A : Type 0} (xs : List A) → filter (λ _. true) xs ≡ xs
 filter_all [] = refl
 filter_all (x ∷ xs) = ap (λ ys. x ∷ ys) (filter_all xs)
 
+-- The text of all of a state is read back.
 pub all_reads_back : (state : State) → HasItems state → IsClean state → Reads (printed state) (document_of state)
 all_reads_back state has clean =
     subst (λ (sections : List SectionState). Reads (printed state) (document_of (record { front = state.front; meta = state.meta; next = state.next; used = state.used; sections = sections })))

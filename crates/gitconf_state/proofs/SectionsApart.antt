@@ -1,25 +1,26 @@
 -- No part of a printed state runs into the next.
 use Rattle.std.proofs.Common.{◌≡◌, ℕ, Bool, true, false, not, List, [], ◌∷◌, ◌++◌, map, refl, ap, sym, subst, ◌∙◌, append_assoc, append-nil}
-use Rattle.std.specs.Prelude.{◌&&◌, ◌||◌}
+use Rattle.std.specs.Prelude.{◌||◌}
 use Rattle.std.specs.List.{list_all, list_any, flat_map, AllByRecursion}
 use Rattle.std.proofs.lemmas.List.{map-append}
 use Rattle.gitconf_text.specs.Text.{is_line_end}
-use Rattle.gitconf_text.specs.Part.{Item, BlanksItem, LineEndsItem, CommentItem, EntryItem, Part, ItemPart, HeaderPart}
+use Rattle.gitconf_text.specs.Part.{Item, EntryItem, Part, ItemPart, HeaderPart}
 use Rattle.gitconf_text.specs.Token.{item_tokens}
 use Rattle.gitconf_parse.proofs.ValueAgain.{both_true}
 use Rattle.gitconf_state.specs.State.{SectionState, State, is_item, HasSectionItems, HasItems}
 use Rattle.gitconf_state.specs.LineEnds.{ends_line, section_line_end, file_line_end}
 use Rattle.gitconf_state.specs.Clean.{has_blanks, is_entry, may_stand, stand_apart, IsCleanSection, IsClean}
 use Rattle.gitconf_state.specs.Printing.{Open, Closed, after, begins_on_a_line, printed_items, unless, behind_header, printed_body, section_parts, ends_with_line, held_items, sections_parts, behind_front, printed_parts}
-use Rattle.gitconf_state.proofs.Apart.{IsSound, AreApart, behind_parts, apart-append}
+use Rattle.gitconf_state.proofs.Apart.{AreApart, behind_parts, apart-append}
 use Rattle.gitconf_state.proofs.PrintedItem.{line_end_of-is, line_end_sound, header_sound}
 use Rattle.gitconf_state.proofs.PrintedApart.{items_apart, items_ended}
 
--- what holds of all holds of each
+-- two facts that hold of all hold of each together
 pub all_both : {A : Type 0} (P Q : A → Type 0) (xs : List A) → AllByRecursion P xs → AllByRecursion Q xs → AllByRecursion (λ x. P x × Q x) xs
 all_both P Q [] ps qs = tt
 all_both P Q (x ∷ xs) ps qs = ((ps.0, qs.0), all_both P Q xs ps.1 qs.1)
 
+-- what follows from a fact holds of all that have it
 pub all_mapped : {A : Type 0} (P Q : A → Type 0) (xs : List A) → ((x : A) → P x → Q x) → AllByRecursion P xs → AllByRecursion Q xs
 all_mapped P Q [] h ps = tt
 all_mapped P Q (x ∷ xs) h ps = (h x ps.0, all_mapped P Q xs h ps.1)
@@ -36,21 +37,26 @@ closed_off : (ended : Bool) (line_end : List ℕ) (before : Open) (rest : List P
 closed_off true line_end before rest closes told apart = subst (λ b. AreApart b rest) (sym (told refl)) apart
 closed_off false line_end before rest closes told apart = (refl, line_end_sound line_end closes, apart)
 
-behind_closed_off : (ended : Bool) (line_end : List ℕ) → behind_parts Closed (map ItemPart (unless ended line_end)) ≡ Closed
-behind_closed_off true line_end = refl
-behind_closed_off false line_end = refl
+-- nothing is left open behind a line end that is put where one is missing
+behind_unless : (ended : Bool) (line_end : List ℕ) (before : Open) → (ended ≡ true → before ≡ Closed) → behind_parts before (map ItemPart (unless ended line_end)) ≡ Closed
+behind_unless true line_end before told = told refl
+behind_unless false line_end before told = refl
 
+-- what stands apart behind a line end stands apart behind a header and its line end
 header_line_apart : (line_end : List ℕ) (items : List Item) (rest : List Part) → is_line_end line_end ≡ true → AreApart Closed rest → AreApart Closed (map ItemPart (behind_header line_end items) ++ rest)
 header_line_apart line_end [] rest closes apart = apart
 header_line_apart line_end (i ∷ items) rest closes apart = closed_off (begins_on_a_line (i ∷ items)) line_end Closed rest closes (λ _. refl) apart
 
+-- nothing is left open behind a header and its line end
 behind_header_line : (line_end : List ℕ) (items : List Item) → behind_parts Closed (map ItemPart (behind_header line_end items)) ≡ Closed
 behind_header_line line_end [] = refl
-behind_header_line line_end (i ∷ items) = behind_closed_off (begins_on_a_line (i ∷ items)) line_end
+behind_header_line line_end (i ∷ items) = behind_unless (begins_on_a_line (i ∷ items)) line_end Closed (λ _. refl)
 
+-- the printed items of a body, without the line end before them
 abbrev body_of : SectionState → List Item
 body_of s = printed_items true (section_line_end s) Closed s.items
 
+-- a printed body is a line end, where one is missing, and the printed items
 body_parts : (s : SectionState) → map ItemPart (printed_body s) ≡ map ItemPart (behind_header (section_line_end s) s.items) ++ map ItemPart (body_of s)
 body_parts s = map-append ItemPart (behind_header (section_line_end s) s.items) (body_of s)
 
@@ -80,6 +86,7 @@ others_stand before (EntryItem e) h = absurd (cc)
 others_stand Closed i h = refl
 others_stand before i h = refl
 
+-- items without an entry stand apart
 without_entries : (before : Open) (items : List Item) → list_all (λ i. not (is_entry i)) items ≡ true → stand_apart before items ≡ true
 without_entries before [] h = refl
 without_entries before (i ∷ items) h =
@@ -90,6 +97,7 @@ without_entries before (i ∷ items) h =
 abbrev pub with_held : SectionState → List Item → SectionState
 with_held s held = record { number = s.number; header = s.header; meta = s.meta; items = s.items; held = held }
 
+-- no held item runs into the next, nor what is before them into the first
 held_apart : (line_end : List ℕ) (before : Open) (s : SectionState) (held : List Item) → is_line_end line_end ≡ true → (ends_line line_end s.items ≡ true → before ≡ Closed) → list_all is_item held ≡ true
     → list_all has_blanks held ≡ true → list_all (λ i. not (is_entry i)) held ≡ true → AreApart before (map ItemPart (held_items line_end (with_held s held)))
 held_apart line_end before s [] closes told are blanks none = tt
@@ -97,11 +105,7 @@ held_apart line_end before s (i ∷ held) closes told are blanks none =
     subst (AreApart before) (sym (map-append ItemPart (unless (ends_line line_end s.items) line_end) (printed_items false line_end Closed (i ∷ held))))
     (closed_off (ends_line line_end s.items) line_end before _ closes told (items_apart false line_end Closed (i ∷ held) closes are blanks (without_entries Closed (i ∷ held) none)))
 
-behind_unless : (ended : Bool) (line_end : List ℕ) (before : Open) → (ended ≡ true → before ≡ Closed) → behind_parts before (map ItemPart (unless ended line_end)) ≡ Closed
-behind_unless true line_end before told = told refl
-behind_unless false line_end before told = refl
-
--- nothing is left open behind them where they end with a line end
+-- nothing is left open behind a section's end and its held items where these end with a line end
 held_ended : (line_end : List ℕ) (before : Open) (s : SectionState) (held : List Item) → (ends_line line_end s.items ≡ true → before ≡ Closed)
     → ends_with_line line_end (with_held s held) ≡ true → behind_parts before (map ItemPart (held_items line_end (with_held s held))) ≡ Closed
 held_ended line_end before s [] told ended = told ended
@@ -165,6 +169,7 @@ behind_front_apart keeps line_end ended before sections closes told all = go (li
 abbrev pub with_front : State → List Item → State
 with_front state front = record { front = front; meta = state.meta; next = state.next; used = state.used; sections = state.sections }
 
+-- no part of a printed state with this front runs into the next
 front_apart : (keeps : SectionState → Bool) (state : State) (front : List Item) → list_all is_item front ≡ true → list_all has_blanks front ≡ true → stand_apart Closed front ≡ true
     → AllByRecursion IsSection state.sections → AreApart Closed (printed_parts keeps (with_front state front))
 front_apart keeps state [] are blanks placed all = sections_apart keeps _ true Closed state.sections (line_end_of-is (flat_map item_tokens (flat_map (λ (s : SectionState). s.items) state.sections))) (λ _. refl) all
