@@ -6,3 +6,14 @@ pub mod LoadingClean
 pub mod LoadingDocument
 pub mod InsertingTexts
 pub mod InsertingLineEnds
+pub mod Follows
+pub mod Fitted
+pub mod FittedComment
+pub mod FittedEntry
+pub mod Apart
+pub mod PrintedItem
+pub mod PrintedApart
+pub mod SectionsApart
+pub mod PrintedDocument
+pub mod ReadsBack
+pub mod CommentLaws

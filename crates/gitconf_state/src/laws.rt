@@ -1,17 +1,18 @@
 //! What holds of the definitions, for all states: each law is a function that does nothing.
-ghost use Rattle.std.specs.Prelude.{◌≡◌, Bool, true, List, [], ℕ, map};
-ghost use Rattle.std.specs.List.{list_all};
+ghost use Rattle.std.specs.Prelude.{◌≡◌, Bool, true, List, [], ℕ, map, ◌∷◌};
+ghost use Rattle.std.specs.List.{list_all, AllByRecursion, flat_map};
 ghost use Rattle.gitconf_text.specs.Part.{Part};
-ghost use Rattle.gitconf_text.specs.Document.{IsText, gathered, unmarked};
+ghost use Rattle.gitconf_text.specs.Document.{IsText, gathered, unmarked, Reads};
 ghost use Rattle.gitconf_text.specs.Token.{spelled_token, tokens_of};
 ghost use Rattle.gitconf_parse.specs.EventRef.{Shown};
 ghost use Rattle.gitconf_parse.specs.EventList.{keeps_entry_token};
 ghost use Rattle.gitconf_parse.specs.TokenDocument.{keeps_meaning};
-ghost use Rattle.gitconf_state.specs.State.{State, HasItems, document_of, entries_of};
-ghost use Rattle.gitconf_state.specs.Printing.{printed};
+ghost use Rattle.gitconf_state.specs.State.{State, HasItems, document_of, entries_of, SectionState, section_document, document_of_kept};
+ghost use Rattle.gitconf_state.specs.Printing.{printed, printed_kept, printed_section};
 ghost use Rattle.gitconf_state.specs.Clean.{IsClean};
 ghost use Rattle.gitconf_state.specs.Loads.{IsFullLoad, IsLoad};
 ghost use Rattle.gitconf_state.specs.Inserted.{Inserted};
+ghost use Rattle.gitconf_state.specs.Comments.{item_comments, comments_of, comments, comments_of_kept};
 
 /// A state loaded from a text has items of a text, also where a filter dropped blanks, line ends and comments. Loaded whole it is
 /// clean and has the text's document; a lossy one has the document too, and is clean where no entry stands before its first section.
@@ -26,4 +27,28 @@ pub fn loads_are_clean()
 /// Loaded whole and printed, a text keeps the bytes of all its tokens, in order; nothing is put in but a line end behind some of them.
 pub fn full_load_is_inserted()
     ensures { (text : List ℕ) (parts : List Part) (state : State) → IsText text parts → IsFullLoad parts state → Inserted (map spelled_token (tokens_of parts)) (printed state) }
+{}
+
+/// The text of a section alone is read back: its document has the section, and nothing else.
+pub fn printed_section_reads_back()
+    ensures { (state : State) → HasItems state → IsClean state
+        → AllByRecursion (λ s. Reads (printed_section s) (record { front = []; sections = section_document s ∷ [] })) state.sections }
+{}
+
+/// The text of the front and of the sections that a filter keeps has their document, and the text of a state has that
+/// of the state.
+pub fn printed_text_reads_back()
+    ensures kept { (keeps : SectionState → Bool) (state : State) → HasItems state → IsClean state
+        → Reads (printed_kept keeps state) (document_of_kept keeps state) }
+    ensures all { (state : State) → HasItems state → IsClean state → Reads (printed state) (document_of state) }
+{}
+
+/// The comments of a printed text are those of what is printed, in order, but for spaces, tabs and CRs at their ends.
+pub fn comments_are_kept()
+    ensures kept { (keeps : SectionState → Bool) (state : State) → HasItems state → IsClean state
+        → (parts : List Part) → IsText (printed_kept keeps state) parts → comments_of parts ≡ comments_of_kept keeps state }
+    ensures all { (state : State) → HasItems state → IsClean state
+        → (parts : List Part) → IsText (printed state) parts → comments_of parts ≡ comments state }
+    ensures section { (state : State) → HasItems state → IsClean state
+        → AllByRecursion (λ s. (parts : List Part) → IsText (printed_section s) parts → comments_of parts ≡ flat_map item_comments s.items) state.sections }
 {}
