@@ -109,7 +109,10 @@ impl Store {
         ensures refused { IfErr result (IsRefused input.now) }
     {
         let events = Events::from_bytes(alloc, input, None)?;
-        Ok(Store::from_events(alloc, events, meta)?)
+        match Store::from_events(alloc, events, meta) {
+            Ok(store) => Ok(store),
+            Err(_) => Err(Error::memory()),
+        }
     }
 
     /// The state of a text without its blanks, line ends and comments.
@@ -119,7 +122,10 @@ impl Store {
         ensures refused { IfErr result (IsRefused input.now) }
     {
         let events = Events::from_bytes(alloc, input, Some(keeps_meaning))?;
-        Ok(Store::from_events(alloc, events, meta)?)
+        match Store::from_events(alloc, events, meta) {
+            Ok(store) => Ok(store),
+            Err(_) => Err(Error::memory()),
+        }
     }
 
     /// Where the file comes from.
