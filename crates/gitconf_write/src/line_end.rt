@@ -1,6 +1,13 @@
 //! Line ends: which one a text uses, and where items end with one.
-ghost use Rattle.std.specs.Prelude.{◌≡◌, map, option_map};
-ghost use Rattle.gitconf_write.specs.LineEnds.{bytes_of_line_end, line_end_in};
+ghost use Rattle.std.specs.Prelude.{◌≡◌, [], ◌∷◌, map, option_map};
+ghost use Rattle.std.specs.Option.{unwrap_or};
+ghost use Rattle.gitconf_text.specs.Token.{item_tokens};
+ghost use Rattle.gitconf_state.specs.LineEnds.{line_end_of};
+ghost use Rattle.gitconf_parse.specs.Items.{item_of, tokens_of_value};
+ghost use Rattle.gitconf_write.specs.Bodies.{items_of, tokens_in};
+ghost use Rattle.gitconf_write.specs.LineEnds.{bytes_of_line_end, line_end_in, first_newline};
+
+use gitconf_parse::items::{Item, Value};
 
 /// What a line ends with.
 #[derive(Clone, Copy, Debug, PartialEq, Eq)]
@@ -32,4 +39,56 @@ impl LineEnd {
             LineEnd::Lf
         }
     }
+}
+
+/// The line end of the first piece of a value that has one.
+#[tactic(auto, using(crate::proofs::Newlines::newlines))]
+fn value_line_end(buffer: &[u8], value: &Value) -> Option<LineEnd>
+    ensures { option_map bytes_of_line_end result ≡ first_newline (tokens_of_value buffer.now value.now) }
+{
+    for piece in &value.pieces {
+        let run = piece.line_end.bytes_in(buffer);
+        if !run.is_empty() {
+            return Some(LineEnd::of_newline(run));
+        }
+    }
+    None
+}
+
+/// The line end of an item's first newline.
+#[tactic(auto, using(crate::proofs::Newlines::newlines))]
+fn item_line_end(buffer: &[u8], item: &Item) -> Option<LineEnd>
+    ensures { option_map bytes_of_line_end result ≡ first_newline (item_tokens (item_of buffer.now item.now)) }
+{
+    match item {
+        Item::Blanks(_) | Item::Comment { .. } => None,
+        Item::LineEnds(run) => Some(LineEnd::of_newline(run.bytes_in(buffer))),
+        Item::Entry(entry) => match &entry.assigned {
+            Some(assigned) => value_line_end(buffer, &assigned.value),
+            None => None,
+        },
+    }
+}
+
+/// The line end of the first newline among items, those of values included.
+///
+/// It stops at the first one.
+#[tactic(auto, using(crate::proofs::Newlines::newlines))]
+pub fn first_line_end(buffer: &[u8], items: &[Item]) -> Option<LineEnd>
+    ensures { option_map bytes_of_line_end result ≡ first_newline (tokens_in (items_of buffer.now items.now)) }
+{
+    for item in items {
+        if let Some(found) = item_line_end(buffer, item) {
+            return Some(found);
+        }
+    }
+    None
+}
+
+/// The line end that a body uses: that of its first newline, or LF.
+#[tactic(auto, using(crate::proofs::Newlines::newlines))]
+pub fn body_line_end(buffer: &[u8], items: &[Item]) -> LineEnd
+    ensures { bytes_of_line_end result ≡ line_end_of (tokens_in (items_of buffer.now items.now)) }
+{
+    first_line_end(buffer, items).unwrap_or(LineEnd::Lf)
 }
