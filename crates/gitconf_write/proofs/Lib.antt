@@ -1,1 +1,2 @@
 pub mod Newlines
+pub mod LastItems

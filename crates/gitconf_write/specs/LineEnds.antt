@@ -1,7 +1,9 @@
 -- Line ends as the code has them, and the first newline among tokens.
-use Rattle.std.specs.Prelude.{ℕ, List, [], ◌∷◌, ◌==◌, Option, Some, None, if◌then◌else◌}
+use Rattle.std.specs.Prelude.{ℕ, Bool, List, [], ◌∷◌, ◌==◌, Option, Some, None, if◌then◌else◌}
 use Rattle.std.specs.List.{list_any}
 use Rattle.gitconf_text.specs.Token.{Token, NewlineToken}
+use Rattle.gitconf_text.specs.Part.{Item}
+use Rattle.gitconf_state.specs.LineEnds.{ends_line}
 use Rattle.gitconf_write.specs.declared.line_end.LineEnd.{LineEnd}
 use Rattle.gitconf_write.specs.declared.line_end.LineEnd.TheVariants as kinds
 
@@ -18,3 +20,8 @@ abbrev pub first_newline : List Token → Option (List ℕ)
 first_newline [] = None
 first_newline (NewlineToken run ∷ tokens) = Some (line_end_in run)
 first_newline (_ ∷ tokens) = first_newline tokens
+
+-- a body and the items held behind it end with a line end
+abbrev pub both_end_line : (line_end : List ℕ) → (items held : List Item) → Bool
+both_end_line line_end items [] = ends_line line_end items
+both_end_line line_end items (i ∷ held) = ends_line line_end (i ∷ held)

@@ -2,10 +2,11 @@
 ghost use Rattle.std.specs.Prelude.{◌≡◌, [], ◌∷◌, map, option_map};
 ghost use Rattle.std.specs.Option.{unwrap_or};
 ghost use Rattle.gitconf_text.specs.Token.{item_tokens};
+ghost use Rattle.gitconf_state.specs.LineEnds as spec;
 ghost use Rattle.gitconf_state.specs.LineEnds.{line_end_of};
 ghost use Rattle.gitconf_parse.specs.Items.{item_of, tokens_of_value};
 ghost use Rattle.gitconf_write.specs.Bodies.{items_of, tokens_in};
-ghost use Rattle.gitconf_write.specs.LineEnds.{bytes_of_line_end, line_end_in, first_newline};
+ghost use Rattle.gitconf_write.specs.LineEnds.{bytes_of_line_end, line_end_in, first_newline, both_end_line};
 
 use gitconf_parse::items::{Item, Value};
 
@@ -91,4 +92,54 @@ pub fn body_line_end(buffer: &[u8], items: &[Item]) -> LineEnd
     ensures { bytes_of_line_end result ≡ line_end_of (tokens_in (items_of buffer.now items.now)) }
 {
     first_line_end(buffer, items).unwrap_or(LineEnd::Lf)
+}
+
+/// Whether the line end stands somewhere in a run of line ends.
+fn holds(line_end: &[u8], run: &[u8]) -> bool
+    ensures { result ≡ spec.holds line_end.now run.now }
+{
+    let mut rest = run;
+    while let Some((_, behind)) = rest.split_first() {
+        if rest.starts_with(line_end) {
+            return true;
+        }
+        rest = behind;
+    }
+    false
+}
+
+/// Whether items end with a line end: among the blanks and line ends at their end one holds it.
+///
+/// It walks from the end, up to an entry, a comment or a line end.
+#[tactic(auto, using(crate::proofs::LastItems::last_items))]
+pub fn ends_line(buffer: &[u8], items: &[Item], line_end: LineEnd) -> bool
+    ensures { result ≡ spec.ends_line (bytes_of_line_end line_end) (items_of buffer.now items.now) }
+{
+    let mut rest = items;
+    while let Some((item, before)) = rest.split_last() {
+        match item {
+            Item::Blanks(_) => rest = before,
+            Item::LineEnds(run) => {
+                if holds(line_end.as_bytes(), run.bytes_in(buffer)) {
+                    return true;
+                }
+                rest = before;
+            }
+            Item::Comment { .. } | Item::Entry(_) => return false,
+        }
+    }
+    false
+}
+
+/// Whether a section ends with a line end, what is held behind its body counted in.
+///
+/// It walks from the end, as `ends_line` does.
+pub fn ends_with_line(buffer: &[u8], items: &[Item], held: &[Item], line_end: LineEnd) -> bool
+    ensures { result ≡ both_end_line (bytes_of_line_end line_end) (items_of buffer.now items.now) (items_of buffer.now held.now) }
+{
+    if held.is_empty() {
+        ends_line(buffer, items, line_end)
+    } else {
+        ends_line(buffer, held, line_end)
+    }
 }
