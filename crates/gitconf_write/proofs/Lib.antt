@@ -1,2 +1,4 @@
 pub mod Newlines
 pub mod LastItems
+pub mod Left
+pub mod Values

@@ -1,0 +1,98 @@
+//! Items, written as they are printed.
+ghost use Rattle.std.specs.Prelude.{◌≡◌, ◌++◌, ◌∷◌, map, flat_map};
+ghost use Rattle.gitconf_text.specs.Part.{spelled_item, spelled_assigned};
+ghost use Rattle.gitconf_text.specs.Value.{spelled_value};
+ghost use Rattle.gitconf_parse.specs.Sink.{Writes, Counts};
+ghost use Rattle.gitconf_parse.specs.Items.{piece_of, value_of, assigned_of, entry_of, item_of};
+ghost use Rattle.gitconf_state.specs.Printing.{closed_piece, closed_assigned, closed_item, Closed};
+ghost use Rattle.gitconf_write.specs.Bodies.{items_of};
+ghost use Rattle.gitconf_write.specs.LineEnds.{bytes_of_line_end};
+ghost use Rattle.gitconf_write.specs.Texts.{spelled_piece, closed_value, items_text};
+
+use crate::line_end::LineEnd;
+use gitconf_parse::items::{Assigned, Item, Piece, Value};
+use gitconf_parse::sink::{Sink, SinkFault, write_all};
+
+/// Writes a piece of a value, and a line end behind its backslash: its own, or else this one.
+#[tactic(auto, using(gitconf_parse::proofs::SinkLaws::in_turn))]
+fn write_piece<W: Sink>(
+    out: &mut W,
+    buffer: &[u8],
+    piece: &Piece,
+    line_end: LineEnd,
+) -> Result<(), SinkFault>
+    ensures written { Writes result (spelled_piece (closed_piece (bytes_of_line_end line_end) (piece_of buffer.now piece.now))) (W.told out.old) (W.told out.new) }
+    ensures counted { Counts result (W.faults out.old) (W.faults out.new) }
+{
+    write_all(out, piece.text.bytes_in(buffer))?;
+    write_all(out, b"\\")?;
+    let own = piece.line_end.bytes_in(buffer);
+    if own.is_empty() {
+        write_all(out, line_end.as_bytes())
+    } else {
+        write_all(out, own)
+    }
+}
+
+/// Writes a value, with a line end behind each piece that goes on.
+#[tactic(auto, using(crate::proofs::Left::in_rest))]
+fn write_value<W: Sink>(
+    out: &mut W,
+    buffer: &[u8],
+    value: &Value,
+    line_end: LineEnd,
+) -> Result<(), SinkFault>
+    ensures written { Writes result (spelled_value (closed_value (bytes_of_line_end line_end) (value_of buffer.now value.now))) (W.told out.old) (W.told out.new) }
+    ensures counted { Counts result (W.faults out.old) (W.faults out.new) }
+{
+    for piece in &value.pieces {
+        write_piece(out, buffer, piece, line_end)?;
+    }
+    write_all(out, value.last.bytes_in(buffer))
+}
+
+/// Writes what stands behind a name: `=`, blanks and a value, or nothing.
+#[tactic(auto, using(gitconf_parse::proofs::SinkLaws::in_turn))]
+fn write_assigned<W: Sink>(
+    out: &mut W,
+    buffer: &[u8],
+    assigned: &Option<Assigned>,
+    line_end: LineEnd,
+) -> Result<(), SinkFault>
+    ensures written { Writes result (spelled_assigned (closed_assigned (bytes_of_line_end line_end) (assigned_of buffer.now assigned.now))) (W.told out.old) (W.told out.new) }
+    ensures counted { Counts result (W.faults out.old) (W.faults out.new) }
+{
+    match assigned {
+        None => Ok(()),
+        Some(assigned) => {
+            write_all(out, b"=")?;
+            write_all(out, assigned.blanks.bytes_in(buffer))?;
+            write_value(out, buffer, &assigned.value, line_end)
+        }
+    }
+}
+
+/// Writes an item, with a line end behind each piece of a value that goes on.
+#[tactic(auto, using(gitconf_parse::proofs::SinkLaws::in_turn))]
+fn write_item<W: Sink>(
+    out: &mut W,
+    buffer: &[u8],
+    item: &Item,
+    line_end: LineEnd,
+) -> Result<(), SinkFault>
+    ensures written { Writes result (spelled_item (closed_item (bytes_of_line_end line_end) (item_of buffer.now item.now))) (W.told out.old) (W.told out.new) }
+    ensures counted { Counts result (W.faults out.old) (W.faults out.new) }
+{
+    match item {
+        Item::Blanks(run) | Item::LineEnds(run) => write_all(out, run.bytes_in(buffer)),
+        Item::Comment { tag, text } => {
+            write_all(out, &[*tag])?;
+            write_all(out, text.bytes_in(buffer))
+        }
+        Item::Entry(entry) => {
+            write_all(out, entry.name.bytes_in(buffer))?;
+            write_all(out, entry.blanks.bytes_in(buffer))?;
+            write_assigned(out, buffer, &entry.assigned, line_end)
+        }
+    }
+}
