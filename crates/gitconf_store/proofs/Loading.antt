@@ -19,7 +19,8 @@ use Rattle.gitconf_parse.specs.ItemsFit.{AreItemsWithin}
 use Rattle.gitconf_parse.specs.ShownEvents.{decoded_or, separator_of, shown_header, IsShown, IsExtended}
 use Rattle.gitconf_parse.proofs.Shown.{is_shown_more, all_push}
 use Rattle.gitconf_store.specs.declared.section.Section.{Section}
-use Rattle.gitconf_store.specs.Store.{items_of, SectionFits, AllSectionsFit, loaded, loaded_sections}
+use Rattle.gitconf_write.specs.Bodies.{items_of}
+use Rattle.gitconf_store.specs.Store.{SectionFits, AllSectionsFit, loaded, loaded_sections}
 use Rattle.gitconf_store.specs.Made.{IsMade}
 
 -- the tokens of items, told by what they stand for

@@ -3,7 +3,6 @@ use Rattle.std.specs.Prelude.{◌≡◌, ℕ, ◌+◌, ◌<◌, ◌^◌, List, [
 use Rattle.std.specs.List.{AllByRecursion}
 use Rattle.gitconf_text.specs.Bytes.{fold}
 use Rattle.gitconf_text.specs.Header.{name_of, subsection_of}
-use Rattle.gitconf_text.specs.Part as parts
 use Rattle.gitconf_base.specs.Metadata.{Meta}
 use Rattle.gitconf_base.specs.Sections.{SectionEntry, Sections}
 use Rattle.gitconf_parse.specs.declared.items.Item.{Item}
@@ -11,14 +10,11 @@ use Rattle.gitconf_parse.specs.declared.items.Section.{Section as Loaded}
 use Rattle.gitconf_parse.specs.declared.items.Items.{Items}
 use Rattle.gitconf_parse.specs.declared.event.Event.TheVariants as kinds
 use Rattle.gitconf_parse.specs.Events.{header_of}
-use Rattle.gitconf_parse.specs.Items.{item_of}
 use Rattle.gitconf_parse.specs.ItemsFit.{AreItemsWithin}
 use Rattle.gitconf_parse.specs.ShownEvents.{IsShown}
 use Rattle.gitconf_state.specs.State.{SectionState, State, HasItems}
+use Rattle.gitconf_write.specs.Bodies.{items_of}
 use Rattle.gitconf_store.specs.declared.section.Section.{Section}
-
-abbrev pub items_of : (buffer : List ℕ) → List Item → List parts.Item
-items_of buffer items = map (item_of buffer) items
 
 -- a section under a number
 abbrev pub section_under : (buffer : List ℕ) → ℕ → Section → SectionState

@@ -1,0 +1,48 @@
+-- The first newline among tokens.
+use Rattle.std.proofs.Common.{◌≡◌, ℕ, ◌+◌, ◌<◌, List, [], ◌∷◌, ◌++◌, length, get_or, drop, refl, ap, sym, ◌∙◌}
+use Rattle.std.specs.Option.{option_or, unwrap_or}
+use Rattle.std.proofs.lemmas.List.{at_drop_more}
+use Rattle.gitconf_parse.specs.declared.items.Item.{Item}
+use Rattle.gitconf_parse.specs.Items.{item_of}
+use Rattle.gitconf_write.specs.Bodies.{items_of, tokens_in}
+use Rattle.gitconf_text.specs.Token.{Token, CommentToken, HeaderToken, NameToken, ValueToken, NewlineToken, ValueNotDoneToken, ValueDoneToken, WhitespaceToken, SeparatorToken, item_tokens}
+use Rattle.gitconf_state.specs.LineEnds.{line_end_of}
+use Rattle.gitconf_write.specs.LineEnds.{first_newline}
+
+-- of two lists it is that of the first one, or else of the second
+pub first_newline-append : (xs ys : List Token) → first_newline (xs ++ ys) ≡ option_or (first_newline xs) (first_newline ys)
+first_newline-append [] ys = refl
+first_newline-append (NewlineToken run ∷ xs) ys = refl
+first_newline-append (CommentToken tag text ∷ xs) ys = first_newline-append xs ys
+first_newline-append (HeaderToken h ∷ xs) ys = first_newline-append xs ys
+first_newline-append (NameToken bytes ∷ xs) ys = first_newline-append xs ys
+first_newline-append (ValueToken bytes ∷ xs) ys = first_newline-append xs ys
+first_newline-append (ValueNotDoneToken bytes ∷ xs) ys = first_newline-append xs ys
+first_newline-append (ValueDoneToken bytes ∷ xs) ys = first_newline-append xs ys
+first_newline-append (WhitespaceToken bytes ∷ xs) ys = first_newline-append xs ys
+first_newline-append (SeparatorToken ∷ xs) ys = first_newline-append xs ys
+
+-- the line end that tokens tell: that of the first newline, or else LF
+pub line_end_of-first : (tokens : List Token) → line_end_of tokens ≡ unwrap_or (first_newline tokens) (10 ∷ [])
+line_end_of-first [] = refl
+line_end_of-first (NewlineToken run ∷ tokens) = refl
+line_end_of-first (CommentToken tag text ∷ tokens) = line_end_of-first tokens
+line_end_of-first (HeaderToken h ∷ tokens) = line_end_of-first tokens
+line_end_of-first (NameToken bytes ∷ tokens) = line_end_of-first tokens
+line_end_of-first (ValueToken bytes ∷ tokens) = line_end_of-first tokens
+line_end_of-first (ValueNotDoneToken bytes ∷ tokens) = line_end_of-first tokens
+line_end_of-first (ValueDoneToken bytes ∷ tokens) = line_end_of-first tokens
+line_end_of-first (WhitespaceToken bytes ∷ tokens) = line_end_of-first tokens
+line_end_of-first (SeparatorToken ∷ tokens) = line_end_of-first tokens
+
+-- the first newline of what is left of items: that of the next one, or else of those behind it
+pub next_newline : (buffer : List ℕ) (items : List Item) (i : ℕ) (x : Item) → i < length items → x ≡ get_or items i x
+    → first_newline (tokens_in (items_of buffer (drop i items)))
+    ≡ option_or (first_newline (item_tokens (item_of buffer x))) (first_newline (tokens_in (items_of buffer (drop (i + 1) items))))
+next_newline buffer items i x within is =
+    let left = λ (xs : List Item). first_newline (tokens_in (items_of buffer xs)) in
+    at_drop_more left items i x within
+    ∙ (ap (λ y. left (y ∷ drop (i + 1) items)) (sym is)
+    ∙ first_newline-append (item_tokens (item_of buffer x)) (tokens_in (items_of buffer (drop (i + 1) items))))
+
+pub ruleset newlines = (first_newline-append, line_end_of-first, next_newline)

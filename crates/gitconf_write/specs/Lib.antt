@@ -1,0 +1,4 @@
+pub mod Bodies
+pub mod LineEnds
+pub mod Open
+pub mod Texts

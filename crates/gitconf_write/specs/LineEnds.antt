@@ -1,0 +1,27 @@
+-- Line ends as the code has them, and the first newline among tokens.
+use Rattle.std.specs.Prelude.{ℕ, Bool, List, [], ◌∷◌, ◌==◌, Option, Some, None, if◌then◌else◌}
+use Rattle.std.specs.List.{list_any}
+use Rattle.gitconf_text.specs.Token.{Token, NewlineToken}
+use Rattle.gitconf_text.specs.Part.{Item}
+use Rattle.gitconf_state.specs.LineEnds.{ends_line}
+use Rattle.gitconf_write.specs.declared.line_end.LineEnd.{LineEnd}
+use Rattle.gitconf_write.specs.declared.line_end.LineEnd.TheVariants as kinds
+
+abbrev pub bytes_of_line_end : LineEnd → List ℕ
+bytes_of_line_end kinds.Lf = 10 ∷ []
+bytes_of_line_end kinds.CrLf = 13 ∷ 10 ∷ []
+
+-- the line end of a newline: CR LF where it holds a CR, else LF
+abbrev pub line_end_in : (run : List ℕ) → List ℕ
+line_end_in run = if list_any (λ b. b == 13) run then 13 ∷ 10 ∷ [] else 10 ∷ []
+
+-- the line end of the first newline of tokens, if any
+abbrev pub first_newline : List Token → Option (List ℕ)
+first_newline [] = None
+first_newline (NewlineToken run ∷ tokens) = Some (line_end_in run)
+first_newline (_ ∷ tokens) = first_newline tokens
+
+-- a body and the items held behind it end with a line end
+abbrev pub both_end_line : (line_end : List ℕ) → (items held : List Item) → Bool
+both_end_line line_end items [] = ends_line line_end items
+both_end_line line_end items (i ∷ held) = ends_line line_end (i ∷ held)

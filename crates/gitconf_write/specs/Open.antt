@@ -1,0 +1,11 @@
+-- What stands before an item, as the code has it.
+use Rattle.gitconf_state.specs.Printing as spec
+use Rattle.gitconf_write.specs.declared.open.Open.{Open}
+use Rattle.gitconf_write.specs.declared.open.Open.TheVariants as kinds
+
+abbrev pub open_of : Open → spec.Open
+open_of kinds.Closed = spec.Closed
+open_of kinds.Key = spec.OpenKey
+open_of kinds.KeyAndBlanks = spec.OpenKeyAndBlanks
+open_of kinds.Value = spec.OpenValue
+open_of kinds.Comment = spec.OpenComment

@@ -1,0 +1,6 @@
+//! Writing what a state of a file is made of: items, headers and sections, to any sink.
+#![tactic(auto)]
+
+pub mod items;
+pub mod line_end;
+mod open;

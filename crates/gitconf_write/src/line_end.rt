@@ -1,0 +1,145 @@
+//! Line ends: which one a text uses, and where items end with one.
+ghost use Rattle.std.specs.Prelude.{◌≡◌, [], ◌∷◌, map, option_map};
+ghost use Rattle.std.specs.Option.{unwrap_or};
+ghost use Rattle.gitconf_text.specs.Token.{item_tokens};
+ghost use Rattle.gitconf_state.specs.LineEnds as spec;
+ghost use Rattle.gitconf_state.specs.LineEnds.{line_end_of};
+ghost use Rattle.gitconf_parse.specs.Items.{item_of, tokens_of_value};
+ghost use Rattle.gitconf_write.specs.Bodies.{items_of, tokens_in};
+ghost use Rattle.gitconf_write.specs.LineEnds.{bytes_of_line_end, line_end_in, first_newline, both_end_line};
+
+use gitconf_parse::items::{Item, Value};
+
+/// What a line ends with.
+#[derive(Clone, Copy, Debug, PartialEq, Eq)]
+pub enum LineEnd {
+    /// LF alone.
+    Lf,
+    /// CR and LF.
+    CrLf,
+}
+
+impl LineEnd {
+    /// Its bytes.
+    pub fn as_bytes(self) -> &'static [u8]
+        ensures { result.now ≡ bytes_of_line_end self }
+    {
+        match self {
+            LineEnd::Lf => b"\n",
+            LineEnd::CrLf => b"\r\n",
+        }
+    }
+
+    /// The line end of a newline: CR and LF where a CR stands in it, else LF.
+    fn of_newline(run: &[u8]) -> LineEnd
+        ensures { bytes_of_line_end result ≡ line_end_in run.now }
+    {
+        if run.contains(&b'\r') {
+            LineEnd::CrLf
+        } else {
+            LineEnd::Lf
+        }
+    }
+}
+
+/// The line end of the first piece of a value that has one.
+#[tactic(auto, using(crate::proofs::Newlines::newlines))]
+fn value_line_end(buffer: &[u8], value: &Value) -> Option<LineEnd>
+    ensures { option_map bytes_of_line_end result ≡ first_newline (tokens_of_value buffer.now value.now) }
+{
+    for piece in &value.pieces {
+        let run = piece.line_end.bytes_in(buffer);
+        if !run.is_empty() {
+            return Some(LineEnd::of_newline(run));
+        }
+    }
+    None
+}
+
+/// The line end of an item's first newline.
+#[tactic(auto, using(crate::proofs::Newlines::newlines))]
+fn item_line_end(buffer: &[u8], item: &Item) -> Option<LineEnd>
+    ensures { option_map bytes_of_line_end result ≡ first_newline (item_tokens (item_of buffer.now item.now)) }
+{
+    match item {
+        Item::Blanks(_) | Item::Comment { .. } => None,
+        Item::LineEnds(run) => Some(LineEnd::of_newline(run.bytes_in(buffer))),
+        Item::Entry(entry) => match &entry.assigned {
+            Some(assigned) => value_line_end(buffer, &assigned.value),
+            None => None,
+        },
+    }
+}
+
+/// The line end of the first newline among items, those of values included.
+///
+/// It stops at the first one.
+#[tactic(auto, using(crate::proofs::Newlines::newlines))]
+pub fn first_line_end(buffer: &[u8], items: &[Item]) -> Option<LineEnd>
+    ensures { option_map bytes_of_line_end result ≡ first_newline (tokens_in (items_of buffer.now items.now)) }
+{
+    for item in items {
+        if let Some(found) = item_line_end(buffer, item) {
+            return Some(found);
+        }
+    }
+    None
+}
+
+/// The line end that a body uses: that of its first newline, or LF.
+#[tactic(auto, using(crate::proofs::Newlines::newlines))]
+pub fn body_line_end(buffer: &[u8], items: &[Item]) -> LineEnd
+    ensures { bytes_of_line_end result ≡ line_end_of (tokens_in (items_of buffer.now items.now)) }
+{
+    first_line_end(buffer, items).unwrap_or(LineEnd::Lf)
+}
+
+/// Whether the line end stands somewhere in a run of line ends.
+fn holds(line_end: &[u8], run: &[u8]) -> bool
+    ensures { result ≡ spec.holds line_end.now run.now }
+{
+    let mut rest = run;
+    while let Some((_, behind)) = rest.split_first() {
+        if rest.starts_with(line_end) {
+            return true;
+        }
+        rest = behind;
+    }
+    false
+}
+
+/// Whether items end with a line end: among the blanks and line ends at their end one holds it.
+///
+/// It walks from the end, up to an entry, a comment or a line end.
+#[tactic(auto, using(crate::proofs::LastItems::last_items))]
+pub fn ends_line(buffer: &[u8], items: &[Item], line_end: LineEnd) -> bool
+    ensures { result ≡ spec.ends_line (bytes_of_line_end line_end) (items_of buffer.now items.now) }
+{
+    let mut rest = items;
+    while let Some((item, before)) = rest.split_last() {
+        match item {
+            Item::Blanks(_) => rest = before,
+            Item::LineEnds(run) => {
+                if holds(line_end.as_bytes(), run.bytes_in(buffer)) {
+                    return true;
+                }
+                rest = before;
+            }
+            Item::Comment { .. } | Item::Entry(_) => return false,
+        }
+    }
+    false
+}
+
+/// Whether a section ends with a line end, what is held behind its body counted in.
+///
+/// It walks from the end, as `ends_line` does.
+pub fn ends_with_line(buffer: &[u8], items: &[Item], held: &[Item], line_end: LineEnd) -> bool
+    ensures { result ≡ both_end_line (bytes_of_line_end line_end) (items_of buffer.now items.now) (items_of buffer.now held.now) }
+{
+    if held.is_empty() {
+        ends_line(buffer, items, line_end)
+    } else {
+        ends_line(buffer, held, line_end)
+    }
+}
