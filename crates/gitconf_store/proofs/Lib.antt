@@ -1,3 +1,5 @@
 pub mod Loading
 pub mod Views
 pub mod Parsed
+pub mod Filters
+pub mod Counting

@@ -1,3 +1,4 @@
 pub mod Store
 pub mod Views
 pub mod Made
+pub mod Counts

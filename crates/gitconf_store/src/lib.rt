@@ -2,5 +2,7 @@
 #![tactic(auto)]
 
 mod load;
+mod print;
 mod section;
 pub mod store;
+mod tokens;
