@@ -24,6 +24,10 @@ left_behind text left part rest old mid new is_left next written = record {
   told = written ∙ (ap (with_text part) is_left.told ∙ with_text-with_text part is_left.done old);
 }
 
+-- behind its first part
+pub left_first : (text part rest : List ℕ) (old new : Option (List ℕ)) → text ≡ part ++ rest → new ≡ with_text part old → IsLeft text rest old new
+left_first text part rest old new next written = left_behind text text part rest old old new (left_all text old) next written
+
 -- nothing is left
 pub left_none : (text : List ℕ) (old mid : Option (List ℕ)) → IsLeft text [] old mid → mid ≡ with_text text old
 left_none text old mid is_left = is_left.told ∙ ap (λ t. with_text t old) (sym (append-nil is_left.done) ∙ sym is_left.whole)

@@ -1,12 +1,12 @@
 -- The first newline among tokens.
 use Rattle.std.proofs.Common.{◌≡◌, ℕ, ◌+◌, ◌<◌, List, [], ◌∷◌, ◌++◌, length, get_or, drop, refl, ap, sym, ◌∙◌}
 use Rattle.std.specs.Option.{option_or, unwrap_or}
-use Rattle.std.proofs.lemmas.List.{at_drop_more}
 use Rattle.gitconf_parse.specs.declared.items.Item.{Item}
 use Rattle.gitconf_parse.specs.Items.{item_of}
 use Rattle.gitconf_write.specs.Bodies.{items_of, tokens_in}
 use Rattle.gitconf_text.specs.Token.{Token, CommentToken, HeaderToken, NameToken, ValueToken, NewlineToken, ValueNotDoneToken, ValueDoneToken, WhitespaceToken, SeparatorToken, item_tokens}
 use Rattle.gitconf_state.specs.LineEnds.{line_end_of}
+use Rattle.gitconf_write.proofs.Bodies.{at_next}
 use Rattle.gitconf_write.specs.LineEnds.{first_newline}
 
 -- of two lists it is that of the first one, or else of the second
@@ -40,9 +40,7 @@ pub next_newline : (buffer : List ℕ) (items : List Item) (i : ℕ) (x : Item) 
     → first_newline (tokens_in (items_of buffer (drop i items)))
     ≡ option_or (first_newline (item_tokens (item_of buffer x))) (first_newline (tokens_in (items_of buffer (drop (i + 1) items))))
 next_newline buffer items i x within is =
-    let left = λ (xs : List Item). first_newline (tokens_in (items_of buffer xs)) in
-    at_drop_more left items i x within
-    ∙ (ap (λ y. left (y ∷ drop (i + 1) items)) (sym is)
-    ∙ first_newline-append (item_tokens (item_of buffer x)) (tokens_in (items_of buffer (drop (i + 1) items))))
+    at_next (λ xs. first_newline (tokens_in xs)) buffer items i x x within is
+    ∙ first_newline-append (item_tokens (item_of buffer x)) (tokens_in (items_of buffer (drop (i + 1) items)))
 
 pub ruleset newlines = (first_newline-append, line_end_of-first, next_newline)

@@ -4,3 +4,4 @@
 pub mod items;
 pub mod line_end;
 mod open;
+pub mod sections;
