@@ -6,3 +6,4 @@ pub mod Values
 pub mod Texts
 pub mod Headers
 pub mod SectionTexts
+pub mod Printed

@@ -1,5 +1,5 @@
 -- The text of a section and of what is held behind it, part by part.
-use Rattle.std.proofs.Common.{◌≡◌, ℕ, Bool, true, false, List, [], ◌∷◌, ◌++◌, length, refl, ap, sym, ◌∙◌}
+use Rattle.std.proofs.Common.{◌≡◌, ℕ, Bool, true, false, List, [], ◌∷◌, ◌++◌, length, ap, sym, ◌∙◌}
 use Rattle.std.specs.Prelude.{◌==◌, flat_map}
 use Rattle.gitconf_text.specs.Header.{Header, spelled_header}
 use Rattle.gitconf_text.specs.Part.{spelled_item}
