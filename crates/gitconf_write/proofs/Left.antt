@@ -1,5 +1,5 @@
 -- What is left to write of a text.
-use Rattle.std.proofs.Common.{◌≡◌, ℕ, ◌+◌, ◌<◌, true, List, [], ◌∷◌, ◌++◌, Option, Result, Ok, Err, length, get_or, drop, refl, ap, sym, subst, ◌∙◌, append_assoc}
+use Rattle.std.proofs.Common.{◌≡◌, ℕ, true, List, [], ◌++◌, Option, Result, Ok, Err, refl, ap, sym, subst, ◌∙◌, append_assoc}
 use Rattle.std.proofs.lemmas.List.{append-nil}
 use Rattle.std.specs.Prelude.{IsErr}
 use Rattle.gitconf_parse.specs.Sink.{with_text, is_begun, Writes}
@@ -23,6 +23,10 @@ left_behind text left part rest old mid new is_left next written = record {
   whole = is_left.whole ∙ (ap (λ t. is_left.done ++ t) next ∙ sym (append_assoc is_left.done part rest));
   told = written ∙ (ap (with_text part) is_left.told ∙ with_text-with_text part is_left.done old);
 }
+
+-- behind its first part
+pub left_first : (text part rest : List ℕ) (old new : Option (List ℕ)) → text ≡ part ++ rest → new ≡ with_text part old → IsLeft text rest old new
+left_first text part rest old new next written = left_behind text text part rest old old new (left_all text old) next written
 
 -- nothing is left
 pub left_none : (text : List ℕ) (old mid : Option (List ℕ)) → IsLeft text [] old mid → mid ≡ with_text text old

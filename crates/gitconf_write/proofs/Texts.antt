@@ -1,6 +1,6 @@
 -- The text of items, item by item.
-use Rattle.std.proofs.Common.{◌≡◌, ℕ, ◌+◌, ◌<◌, ◌≤◌, Bool, true, false, List, [], ◌∷◌, ◌++◌, length, get_or, drop, refl, ap, sym, ◌∙◌, append_assoc}
-use Rattle.std.proofs.lemmas.List.{at_drop_more, at_drop_all, append-nil}
+use Rattle.std.proofs.Common.{◌≡◌, ℕ, ◌+◌, ◌<◌, ◌≤◌, Bool, true, false, List, [], ◌∷◌, ◌++◌, length, get_or, drop, ap, sym, ◌∙◌, append_assoc}
+use Rattle.std.proofs.lemmas.List.{at_drop_all, append-nil}
 use Rattle.std.specs.Prelude.{flat_map}
 use Rattle.gitconf_text.specs.Part as parts
 use Rattle.gitconf_text.specs.Part.{spelled_item}
@@ -8,6 +8,7 @@ use Rattle.gitconf_parse.specs.declared.items.Item.{Item}
 use Rattle.gitconf_parse.specs.Items.{item_of}
 use Rattle.gitconf_state.specs.Printing.{Open, Closed, after, breaks, closed_item, printed_items}
 use Rattle.gitconf_write.specs.Bodies.{items_of}
+use Rattle.gitconf_write.proofs.Bodies.{at_next}
 use Rattle.gitconf_write.specs.Texts.{items_text, next_text, behind_next}
 
 -- the first item, and the others behind it
@@ -31,11 +32,9 @@ pub next_item : (in_body : Bool) (line_end buffer : List ℕ) (before behind : O
     → items_text in_body line_end before (items_of buffer (drop i items))
     ≡ next_text in_body line_end before (item_of buffer x) ++ items_text in_body line_end behind (items_of buffer (drop (i + 1) items))
 next_item in_body line_end buffer before behind items i x within is next =
-    let left = λ (xs : List Item). items_text in_body line_end before (items_of buffer xs) in
-    at_drop_more left items i x within
-    ∙ (ap (λ y. left (y ∷ drop (i + 1) items)) (sym is)
+    at_next (items_text in_body line_end before) buffer items i x x within is
     ∙ (first_item in_body line_end before (item_of buffer x) (items_of buffer (drop (i + 1) items))
-    ∙ ap (λ o. next_text in_body line_end before (item_of buffer x) ++ items_text in_body line_end o (items_of buffer (drop (i + 1) items))) (sym next)))
+    ∙ ap (λ o. next_text in_body line_end before (item_of buffer x) ++ items_text in_body line_end o (items_of buffer (drop (i + 1) items))) (sym next))
 
 -- no item is left
 pub no_item : (in_body : Bool) (line_end buffer : List ℕ) (before : Open) (items : List Item) (i : ℕ) → length items ≤ i

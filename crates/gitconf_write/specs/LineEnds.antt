@@ -1,9 +1,12 @@
 -- Line ends as the code has them, and the first newline among tokens.
 use Rattle.std.specs.Prelude.{ℕ, Bool, List, [], ◌∷◌, ◌==◌, Option, Some, None, if◌then◌else◌}
 use Rattle.std.specs.List.{list_any}
+use Rattle.std.specs.Option.{option_or}
 use Rattle.gitconf_text.specs.Token.{Token, NewlineToken}
 use Rattle.gitconf_text.specs.Part.{Item}
+use Rattle.gitconf_state.specs.State.{SectionState}
 use Rattle.gitconf_state.specs.LineEnds.{ends_line}
+use Rattle.gitconf_write.specs.Bodies.{tokens_in}
 use Rattle.gitconf_write.specs.declared.line_end.LineEnd.{LineEnd}
 use Rattle.gitconf_write.specs.declared.line_end.LineEnd.TheVariants as kinds
 
@@ -25,3 +28,8 @@ first_newline (_ ∷ tokens) = first_newline tokens
 abbrev pub both_end_line : (line_end : List ℕ) → (items held : List Item) → Bool
 both_end_line line_end items [] = ends_line line_end items
 both_end_line line_end items (i ∷ held) = ends_line line_end (i ∷ held)
+
+-- the line end of the first newline of the bodies of sections, in order, if any
+abbrev pub first_newline_of_bodies : List SectionState → Option (List ℕ)
+first_newline_of_bodies [] = None
+first_newline_of_bodies (s ∷ sections) = option_or (first_newline (tokens_in s.items)) (first_newline_of_bodies sections)

@@ -1,8 +1,12 @@
 -- The texts that are written.
-use Rattle.std.specs.Prelude.{ℕ, Bool, true, false, List, [], ◌∷◌, ◌++◌, map, flat_map}
+use Rattle.std.specs.Prelude.{ℕ, Bool, true, false, List, [], ◌∷◌, ◌++◌, map, flat_map, if◌then◌else◌}
+use Rattle.std.specs.Str.{bytes_eq}
 use Rattle.gitconf_text.specs.Value.{Piece, Value}
+use Rattle.gitconf_text.specs.Header.{Header, spelled_header}
 use Rattle.gitconf_text.specs.Part.{Item, spelled_item}
-use Rattle.gitconf_state.specs.Printing.{Open, Closed, after, breaks, closed_piece, printed_items}
+use Rattle.gitconf_state.specs.Printing.{Open, Closed, after, breaks, closed_piece, printed_items, unless, behind_header}
+use Rattle.gitconf_state.specs.LineEnds.{line_end_of, ends_line}
+use Rattle.gitconf_write.specs.Bodies.{tokens_in}
 
 abbrev pub spelled_piece : Piece → List ℕ
 spelled_piece p = p.text ++ 92 ∷ p.line_end
@@ -22,3 +26,22 @@ next_text in_body line_end before i = items_text in_body line_end before (i ∷ 
 -- what stands behind it
 abbrev pub behind_next : (in_body : Bool) → Open → Item → Open
 behind_next in_body before i = elim (breaks in_body before i) [ true ↦ after Closed i | false ↦ after before i ]
+
+-- a subsection behind its separator: behind a dot as it is, and else in quotes
+abbrev pub subsection_text : (separator subsection : List ℕ) → List ℕ
+subsection_text separator subsection =
+    if bytes_eq separator (46 ∷ []) then separator ++ subsection else separator ++ 34 ∷ (subsection ++ 34 ∷ [])
+
+-- a section with this line end, header and body
+abbrev pub section_lines : (line_end : List ℕ) → Header → List Item → List ℕ
+section_lines line_end header items =
+    spelled_header header ++ (flat_map spelled_item (behind_header line_end items) ++ items_text true line_end Closed items)
+
+-- a section with this header and body, with its own line end
+abbrev pub section_text : Header → List Item → List ℕ
+section_text header items = section_lines (line_end_of (tokens_in items)) header items
+
+-- what is held behind a section with this body
+abbrev pub held_text : (line_end : List ℕ) → (items held : List Item) → List ℕ
+held_text line_end items [] = []
+held_text line_end items (i ∷ held) = flat_map spelled_item (unless (ends_line line_end items) line_end) ++ items_text false line_end Closed (i ∷ held)

@@ -2,5 +2,7 @@
 #![tactic(auto)]
 
 pub mod items;
+pub mod laws;
 pub mod line_end;
 mod open;
+pub mod sections;

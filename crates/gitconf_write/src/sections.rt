@@ -1,0 +1,168 @@
+//! Headers and sections, written as they are printed.
+ghost use Rattle.std.specs.Prelude.{◌≡◌, ℕ, List, true, false, flat_map};
+ghost use Rattle.gitconf_text.specs.Header.{spelled_header};
+ghost use Rattle.gitconf_text.specs.Part.{spelled_item};
+ghost use Rattle.gitconf_parse.specs.Sink.{Writes, Counts};
+ghost use Rattle.gitconf_parse.specs.Events.{header_of};
+ghost use Rattle.gitconf_state.specs.Printing as spec;
+ghost use Rattle.gitconf_state.specs.Printing.{Closed, unless};
+ghost use Rattle.gitconf_write.specs.Bodies.{items_of};
+ghost use Rattle.gitconf_write.specs.LineEnds.{bytes_of_line_end};
+ghost use Rattle.gitconf_write.specs.Texts.{items_text, subsection_text, section_text, held_text};
+
+use crate::items::write_items;
+use crate::line_end::{LineEnd, body_line_end, ends_line};
+use gitconf_parse::event::Header;
+use gitconf_parse::items::Item;
+use gitconf_parse::sink::{Sink, SinkFault, write_all};
+
+/// Writes a header as it is spelled: in brackets the name, and the subsection behind a dot or, in quotes, behind blanks.
+///
+/// It takes no memory of its own.
+///
+/// # Errors
+///
+/// A write failed, or took nothing. It is not tried again, and a beginning of the header was written.
+#[tactic(auto, using(gitconf_parse::proofs::SinkLaws::in_turn, crate::proofs::Headers::header_parts))]
+pub fn write_header<W: Sink>(out: &mut W, buffer: &[u8], header: &Header) -> Result<(), SinkFault>
+    ensures written { Writes result (spelled_header (header_of buffer.now header.now)) (W.told out.old) (W.told out.new) }
+    ensures counted { Counts result (W.faults out.old) (W.faults out.new) }
+{
+    write_all(out, b"[")?;
+    write_all(out, header.name.bytes_in(buffer))?;
+    if let (Some(separator), Some(subsection)) = (header.separator, header.subsection) {
+        write_subsection(out, separator.bytes_in(buffer), subsection.bytes_in(buffer))?;
+    }
+    write_all(out, b"]")
+}
+
+/// Writes a subsection behind its separator: behind a dot as it is, and else in quotes.
+#[tactic(auto, using(gitconf_parse::proofs::SinkLaws::in_turn))]
+fn write_subsection<W: Sink>(
+    out: &mut W,
+    separator: &[u8],
+    subsection: &[u8],
+) -> Result<(), SinkFault>
+    ensures written { Writes result (subsection_text separator.now subsection.now) (W.told out.old) (W.told out.new) }
+    ensures counted { Counts result (W.faults out.old) (W.faults out.new) }
+{
+    write_all(out, separator)?;
+    if separator == b".".as_slice() {
+        return write_all(out, subsection);
+    }
+    write_all(out, b"\"")?;
+    write_all(out, subsection)?;
+    write_all(out, b"\"")
+}
+
+/// Writes a line end, where what stands before doesn't end with one.
+///
+/// # Errors
+///
+/// A write failed, or took nothing. It is not tried again, and a beginning of the line end was written.
+#[tactic(auto, using(gitconf_parse::proofs::SinkLaws::in_turn))]
+pub fn write_line_end_unless<W: Sink>(
+    out: &mut W,
+    ended: bool,
+    line_end: LineEnd,
+) -> Result<(), SinkFault>
+    ensures written { Writes result (flat_map spelled_item (unless ended (bytes_of_line_end line_end))) (W.told out.old) (W.told out.new) }
+    ensures counted { Counts result (W.faults out.old) (W.faults out.new) }
+{
+    if ended {
+        Ok(())
+    } else {
+        write_all(out, line_end.as_bytes())
+    }
+}
+
+/// Whether a line end stands before the first entry, or, without an entry, anywhere.
+fn begins_on_a_line(items: &[Item]) -> bool
+    ensures { (buffer : List ℕ) → result ≡ spec.begins_on_a_line (items_of buffer items.now) }
+{
+    let mut rest = items;
+    while let Some((item, behind)) = rest.split_first() {
+        match item {
+            Item::LineEnds(_) => return true,
+            Item::Entry(_) => return false,
+            Item::Blanks(_) | Item::Comment { .. } => rest = behind,
+        }
+    }
+    false
+}
+
+/// Whether items stand behind a header with no line end between.
+fn stand_behind_header(items: &[Item]) -> bool
+    ensures { (buffer line_end : List ℕ) → spec.behind_header line_end (items_of buffer items.now) ≡ unless result line_end }
+{
+    items.is_empty() || begins_on_a_line(items)
+}
+
+/// Writes a section: its header, and its body as it is printed, with the line end that the body tells.
+///
+/// A line end stands behind the header where the body's first entry stands on no line of its own. One pass, which takes
+/// no memory of its own.
+///
+/// # Errors
+///
+/// A write failed, or took nothing. It is not tried again, and a beginning of the section was written.
+#[tactic(auto, using(gitconf_parse::proofs::SinkLaws::in_turn))]
+pub fn write_section<W: Sink>(
+    out: &mut W,
+    buffer: &[u8],
+    header: &Header,
+    items: &[Item],
+) -> Result<(), SinkFault>
+    ensures written { Writes result (section_text (header_of buffer.now header.now) (items_of buffer.now items.now)) (W.told out.old) (W.told out.new) }
+    ensures counted { Counts result (W.faults out.old) (W.faults out.new) }
+{
+    let line_end = body_line_end(buffer, items);
+    write_header(out, buffer, header)?;
+    write_line_end_unless(out, stand_behind_header(items), line_end)?;
+    write_items(out, buffer, items, true, line_end)
+}
+
+/// Writes what is held behind a section with this body, on a line of its own.
+///
+/// One pass, which takes no memory of its own.
+///
+/// # Errors
+///
+/// A write failed, or took nothing. It is not tried again, and a beginning of the text was written.
+#[tactic(auto, using(gitconf_parse::proofs::SinkLaws::in_turn))]
+pub fn write_held<W: Sink>(
+    out: &mut W,
+    buffer: &[u8],
+    items: &[Item],
+    held: &[Item],
+    line_end: LineEnd,
+) -> Result<(), SinkFault>
+    ensures written { Writes result (held_text (bytes_of_line_end line_end) (items_of buffer.now items.now) (items_of buffer.now held.now)) (W.told out.old) (W.told out.new) }
+    ensures counted { Counts result (W.faults out.old) (W.faults out.new) }
+{
+    if held.is_empty() {
+        return Ok(());
+    }
+    let ended = ends_line(buffer, items, line_end);
+    write_line_end_unless(out, ended, line_end)?;
+    write_items(out, buffer, held, false, line_end)
+}
+
+/// Writes what stands before the first section.
+///
+/// One pass, which takes no memory of its own.
+///
+/// # Errors
+///
+/// A write failed, or took nothing. It is not tried again, and a beginning of the text was written.
+pub fn write_front<W: Sink>(
+    out: &mut W,
+    buffer: &[u8],
+    front: &[Item],
+    line_end: LineEnd,
+) -> Result<(), SinkFault>
+    ensures written { Writes result (items_text false (bytes_of_line_end line_end) Closed (items_of buffer.now front.now)) (W.told out.old) (W.told out.new) }
+    ensures counted { Counts result (W.faults out.old) (W.faults out.new) }
+{
+    write_items(out, buffer, front, false, line_end)
+}
