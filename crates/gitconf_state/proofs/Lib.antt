@@ -6,3 +6,5 @@ pub mod LoadingClean
 pub mod LoadingDocument
 pub mod InsertingTexts
 pub mod InsertingLineEnds
+pub mod ExactEnds
+pub mod ExactItems

@@ -9,6 +9,7 @@ use Rattle.gitconf_parse.specs.EventRef.{Shown}
 use Rattle.gitconf_parse.specs.EventList.{keeps_token, keeps_entry_token}
 use Rattle.gitconf_parse.specs.TokenDocument.{keeps_meaning}
 use Rattle.gitconf_parse.proofs.ValueAgain.{both_true}
+use Rattle.gitconf_parse.proofs.RunLaws.{false_not}
 use Rattle.gitconf_state.specs.State.{SectionState, State, entries_of, HasSectionItems, HasItems}
 use Rattle.gitconf_state.specs.Printing.{Closed}
 use Rattle.gitconf_state.specs.Clean.{is_nameless, has_blanks, is_entry, stand_apart, IsCleanSection, IsClean}
@@ -83,11 +84,7 @@ sections_are_clean [] held all = tt
 sections_are_clean (s ∷ sections) held all =
     let b = all_parts is_clean_part (own_section_parts s) (flat_map own_section_parts sections) all in
     let c = both_true (is_clean_part (HeaderPart s.header)) (list_all is_clean_part (map ItemPart s.items)) b.0 in
-    (record { named = false_of_not (is_nameless s.header) c.0; blanks = items_pass is_clean_part s.items c.1; held_blanks = rw held.0 refl; held = rw held.0 refl }, sections_are_clean sections held.1 b.1)
-  where
-    false_of_not : (a : Bool) → not a ≡ true → a ≡ false
-    false_of_not true h = absurd (cc)
-    false_of_not false h = refl
+    (record { named = false_not (is_nameless s.header) c.0; blanks = items_pass is_clean_part s.items c.1; held_blanks = rw held.0 refl; held = rw held.0 refl }, sections_are_clean sections held.1 b.1)
 
 -- a state of clean parts, which holds none and whose names stand where they may
 state_is_clean : (state : State) → AllByRecursion (λ s. s.held ≡ []) state.sections → list_all is_clean_part (own_parts state) ≡ true → stand_apart Closed state.front ≡ true → IsClean state
