@@ -8,3 +8,4 @@ pub mod InsertingTexts
 pub mod InsertingLineEnds
 pub mod ExactEnds
 pub mod ExactItems
+pub mod ExactLineEnds
