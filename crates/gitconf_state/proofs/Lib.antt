@@ -9,3 +9,4 @@ pub mod InsertingLineEnds
 pub mod ExactEnds
 pub mod ExactItems
 pub mod ExactLineEnds
+pub mod ExactBodies
