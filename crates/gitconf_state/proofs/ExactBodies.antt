@@ -106,7 +106,7 @@ items_same in_body line_end before taken (i ∷ items) tail fits follows is keys
     let none = no_break in_body before taken i (spelled parts) parts fits_first follows is keys in
     let first = item_same line_end i (spelled parts) fits_first line in
     let rest = items_same in_body line_end (after before i) (taken_after taken i) items tail fits.1 (behind_item before i (spelled parts) fits_first follows).1
-        (taken_item in_body before taken i is) (keys_after taken i parts keys) (rest_ends_line (spelled_item i) (spelled parts) line) in
+    (taken_item in_body before taken i is) (keys_after taken i parts keys) (rest_ends_line (spelled_item i) (spelled parts) line) in
     rw (none, printed_items) (ap (λ (x : Item). x ∷ printed_items in_body line_end (after before i) items) first ∙ ap (λ xs. i ∷ xs) rest)
 
 -- the last item is line ends; fresh: or there is none

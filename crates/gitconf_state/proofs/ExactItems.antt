@@ -36,10 +36,10 @@ pieces_same : (line_end : List ℕ) (pieces : List Piece) (last rest : List ℕ)
 pieces_same line_end [] last rest ended line = refl
 pieces_same line_end (p ∷ pieces) last rest ended line = elim ended [
   | inl more ↦
-    let text = p.text ++ 92 ∷ p.line_end in
-    let later = flat_map (λ (p : Piece). p.text ++ 92 ∷ p.line_end) pieces in
-    let line_later : EndsLine ((later ++ last) ++ rest) = rest_ends_line text ((later ++ last) ++ rest) (subst EndsLine (regroup text later last rest) line) in
-    ap (λ (x : Piece). x ∷ map (closed_piece line_end) pieces) (piece_same line_end p more.0) ∙ ap (λ xs. p ∷ xs) (pieces_same line_end pieces last rest more.1 line_later)
+      let text = p.text ++ 92 ∷ p.line_end in
+      let later = flat_map (λ (p : Piece). p.text ++ 92 ∷ p.line_end) pieces in
+      let line_later : EndsLine ((later ++ last) ++ rest) = rest_ends_line text ((later ++ last) ++ rest) (subst EndsLine (regroup text later last rest) line) in
+      ap (λ (x : Piece). x ∷ map (closed_piece line_end) pieces) (piece_same line_end p more.0) ∙ ap (λ xs. p ∷ xs) (pieces_same line_end pieces last rest more.1 line_later)
   | inr bare ↦ absurd (bare_backslash p pieces last rest bare.0 bare.1 bare.2 bare.3 line)
 ]
   where

@@ -33,7 +33,7 @@ is_told_line_end (ValueDoneToken bytes ∷ tokens) = is_told_line_end tokens
 is_told_line_end (WhitespaceToken bytes ∷ tokens) = is_told_line_end tokens
 is_told_line_end (SeparatorToken ∷ tokens) = is_told_line_end tokens
 
-spelled-append : (parts others : List Part) → spelled (parts ++ others) ≡ spelled parts ++ spelled others
+pub spelled-append : (parts others : List Part) → spelled (parts ++ others) ≡ spelled parts ++ spelled others
 spelled-append parts others = flat_map-append spelled_part parts others
 
 -- the text of items

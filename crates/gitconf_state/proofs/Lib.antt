@@ -10,3 +10,4 @@ pub mod ExactEnds
 pub mod ExactItems
 pub mod ExactLineEnds
 pub mod ExactBodies
+pub mod ExactPrinting
