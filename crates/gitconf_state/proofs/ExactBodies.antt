@@ -159,17 +159,17 @@ ended_after line_end ended i = elim i [
   | _ ↦ false
 ]
 
+pub last_holds : (a b : Bool) → b ≡ true → (a || b) ≡ true
+last_holds true b h = refl
+last_holds false b h = h
+
 ended_from : (line_end : List ℕ) (fresh ended : Bool) (items : List Item) (tail : List Part) → (fresh ≡ true → ended ≡ true)
     → list_all (holds_line_end line_end) (map ItemPart items ++ tail) ≡ true → ends_fresh fresh items ≡ true → fold (ended_after line_end) ended items ≡ true
 ended_from line_end fresh ended [] tail so all is = so is
 ended_from line_end fresh ended (BlanksItem run ∷ items) tail so all is = ended_from line_end false ended items tail (λ h. absurd (cc)) all is
 ended_from line_end fresh ended (LineEndsItem run ∷ items) tail so all is =
     let b = both_true (holds line_end run) (list_all (holds_line_end line_end) (map ItemPart items ++ tail)) all in
-    ended_from line_end true (ended || holds line_end run) items tail (λ h. last ended (holds line_end run) b.0) b.1 is
-  where
-    last : (a b : Bool) → b ≡ true → (a || b) ≡ true
-    last true b h = refl
-    last false b h = h
+    ended_from line_end true (ended || holds line_end run) items tail (λ h. last_holds ended (holds line_end run) b.0) b.1 is
 ended_from line_end fresh ended (CommentItem tag text ∷ items) tail so all is = ended_from line_end false false items tail (λ h. absurd (cc)) all is
 ended_from line_end fresh ended (EntryItem e ∷ items) tail so all is = ended_from line_end false false items tail (λ h. absurd (cc)) all is
 

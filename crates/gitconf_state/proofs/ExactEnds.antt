@@ -8,7 +8,7 @@ use Rattle.gitconf_text.specs.Text.{ends}
 use Rattle.gitconf_text.specs.Unit.{Class, LineFeed, Quote, Mark, Backslash, White, Other, class_of, TextUnit, Escape, OpenEscape, Plain, units_behind, units_of}
 use Rattle.gitconf_text.specs.Value.{Piece, is_value_escape, are_paired}
 use Rattle.gitconf_parse.proofs.ValueAgain.{both_true, apart}
-use Rattle.gitconf_state.proofs.LoadingItems.{both_hold}
+use Rattle.gitconf_state.proofs.LoadingFilters.{both_hold}
 
 -- LF
 abbrev pub is_feed : ℕ → Bool

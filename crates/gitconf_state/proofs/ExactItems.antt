@@ -13,7 +13,7 @@ use Rattle.gitconf_parse.proofs.ValueAgain.{both_true, apart}
 use Rattle.gitconf_parse.proofs.RunLaws.{false_not}
 use Rattle.gitconf_state.specs.Printing.{closed_piece, closed_assigned, closed_item}
 use Rattle.gitconf_state.specs.Inserted.{ends_empty, values_are_closed}
-use Rattle.gitconf_state.proofs.LoadingItems.{both_hold}
+use Rattle.gitconf_state.proofs.LoadingFilters.{both_hold}
 use Rattle.gitconf_state.proofs.ExactEnds.{is_no_feed, EndsLine, rest_ends_line, no_line_ends, none_feeds, no_feeds, last_piece}
 
 -- a piece that has a line end gets none

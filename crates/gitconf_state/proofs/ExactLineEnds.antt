@@ -14,8 +14,7 @@ use Rattle.gitconf_state.specs.State.{SectionState, State}
 use Rattle.gitconf_state.specs.LineEnds.{line_end_of, file_line_end, holds}
 use Rattle.gitconf_state.specs.Inserted.{are_pairs, newline_passes, are_of_one_kind}
 use Rattle.gitconf_state.specs.Loads.{section_tokens}
-use Rattle.gitconf_state.proofs.LoadingFilters.{all_parts}
-use Rattle.gitconf_state.proofs.LoadingItems.{both_hold}
+use Rattle.gitconf_state.proofs.LoadingFilters.{all_parts, both_hold}
 use Rattle.gitconf_state.proofs.LoadingTokens.{own_parts, own_tokens}
 use Rattle.gitconf_state.proofs.ExactEnds.{is_feed}
 

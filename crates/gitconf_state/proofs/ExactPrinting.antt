@@ -16,11 +16,11 @@ use Rattle.gitconf_state.specs.Loads.{IsFullLoad}
 use Rattle.gitconf_state.proofs.LoadingTokens.{own_section_parts, own_parts}
 use Rattle.gitconf_state.proofs.LoadingFilters.{all_parts}
 use Rattle.gitconf_state.proofs.LoadingClean.{full_load_parts}
-use Rattle.gitconf_state.proofs.InsertingLineEnds.{spelled-append}
+use Rattle.gitconf_state.proofs.InsertingLineEnds.{spelled-append, all_sections}
 use Rattle.gitconf_state.proofs.ExactEnds.{EndsLine, rest_ends_line}
 use Rattle.gitconf_state.proofs.ExactItems.{header_ends_no_line}
 use Rattle.gitconf_state.proofs.ExactLineEnds.{holds_line_end, one_kind_holds, file_tells}
-use Rattle.gitconf_state.proofs.ExactBodies.{items_same, ends_fresh, fresh_again, headers_past, keys_past, values_past, begins_same, ends_same, last_fresh}
+use Rattle.gitconf_state.proofs.ExactBodies.{items_same, last_holds, ends_fresh, fresh_again, headers_past, keys_past, values_past, begins_same, ends_same, last_fresh}
 
 -- what holds of the parts from here on, of a text that needs no line end
 record IsExact (line_end : List ℕ) (fresh taken open_value : Bool) (parts : List Part) : Type 0 where
@@ -103,10 +103,7 @@ section_same line_end fresh taken open_value s sections is =
     ap (λ t. t ++ printed_items true (section_line_end s) Closed s.items) (header_same (section_line_end s) s.items begins)
     ∙ items_same true (section_line_end s) Closed true s.items tail body.fits tt tt body.keys body.line
 
--- the sections are all printed
-abbrev all_sections : SectionState → Bool
-all_sections s = true
-
+-- Sections are printed as they are.
 sections_same : (line_end : List ℕ) (taken open_value : Bool) (sections : List SectionState) → AllByRecursion (λ s. s.held ≡ []) sections
     → IsExact line_end true taken open_value (flat_map own_section_parts sections) → sections_parts all_sections line_end true sections ≡ flat_map own_section_parts sections
 sections_same line_end taken open_value [] held is = refl
@@ -127,11 +124,7 @@ sections_same line_end taken open_value (s ∷ sections) held is =
 front_end : (line_end : List ℕ) (fresh taken open_value : Bool) (i : Item) (front : List Item) (sections : List SectionState)
     → IsExact line_end fresh taken open_value (map ItemPart (i ∷ front) ++ flat_map own_section_parts sections)
     → (ends_line line_end (i ∷ front) || not (list_any all_sections sections)) ≡ true
-front_end line_end fresh taken open_value i front [] is = last (ends_line line_end (i ∷ front))
-  where
-    last : (a : Bool) → (a || true) ≡ true
-    last true = refl
-    last false = refl
+front_end line_end fresh taken open_value i front [] is = last_holds (ends_line line_end (i ∷ front)) true refl
 front_end line_end fresh taken open_value i front (s ∷ sections) is =
     let is_fresh = fresh_again false fresh i front ∙ ends_before line_end fresh taken open_value (i ∷ front) s sections is in
     rw (ends_same line_end (i ∷ front) (flat_map own_section_parts (s ∷ sections)) is.holds is_fresh) refl

@@ -1,9 +1,9 @@
 -- The state that a text's tokens make has items of a text; a whole one is clean, and so is a lossy one whose front has no entry.
-use Rattle.std.proofs.Common.{◌≡◌, ℕ, ◌<◌, Bool, true, false, not, List, [], ◌∷◌, ◌++◌, flat_map, map, refl, ap, sym, subst, ◌∙◌, arith}
+use Rattle.std.proofs.Common.{◌≡◌, ℕ, ◌<◌, Bool, true, not, List, [], ◌∷◌, flat_map, map, refl, ap, sym, subst, ◌∙◌, arith}
 use Rattle.std.specs.List.{list_all, AllByRecursion}
-use Rattle.std.proofs.lemmas.List.Folds.{list_all-append, list_all-map}
+use Rattle.std.proofs.lemmas.List.Folds.{list_all-map}
 use Rattle.gitconf_text.specs.Header.{Header, PlainHeader, DottedHeader, QuotedHeader, FitsHeader}
-use Rattle.gitconf_text.specs.Part.{Item, BlanksItem, LineEndsItem, CommentItem, EntryItem, Part, ItemPart, HeaderPart, FitsPart, spelled, AreFit}
+use Rattle.gitconf_text.specs.Part.{Item, BlanksItem, LineEndsItem, CommentItem, EntryItem, Part, ItemPart, HeaderPart, FitsPart, AreFit}
 use Rattle.gitconf_text.specs.Token.{Token, CommentToken, HeaderToken, NameToken, ValueToken, NewlineToken, ValueNotDoneToken, ValueDoneToken, WhitespaceToken, SeparatorToken, tokens_of}
 use Rattle.gitconf_parse.specs.EventRef.{Shown}
 use Rattle.gitconf_parse.specs.EventList.{keeps_token, keeps_entry_token}
@@ -15,8 +15,8 @@ use Rattle.gitconf_state.specs.Printing.{Closed}
 use Rattle.gitconf_state.specs.Clean.{is_nameless, has_blanks, is_entry, stand_apart, IsCleanSection, IsClean}
 use Rattle.gitconf_state.specs.Loads.{IsLoad, IsFullLoad}
 use Rattle.gitconf_state.proofs.LoadingTokens.{same_parts, own_section_parts, own_parts, own_tokens}
-use Rattle.gitconf_state.proofs.LoadingFilters.{all_parts, where_kept, kept_part, kept_parts, kept_tokens}
-use Rattle.gitconf_state.proofs.LoadingItems.{both_hold, is_part, parts_are, kept_parts_are}
+use Rattle.gitconf_state.proofs.LoadingFilters.{both_hold, where_kept_passes, kept_parts_pass, fit_parts_pass, all_parts, kept_part, kept_parts, kept_tokens}
+use Rattle.gitconf_state.proofs.LoadingItems.{is_part, parts_are, kept_parts_are}
 use Rattle.gitconf_state.proofs.LoadingNames.{names_stand}
 
 -- The state has exactly the parts that the filter leaves.
@@ -75,8 +75,7 @@ part_is_clean (ItemPart (EntryItem e)) rest fits = refl
 part_is_clean (HeaderPart h) rest fits = header_is_named h fits
 
 parts_are_clean : (parts : List Part) → AreFit parts [] → list_all is_clean_part parts ≡ true
-parts_are_clean [] fits = refl
-parts_are_clean (p ∷ parts) fits = both_hold (is_clean_part p) (list_all is_clean_part parts) (part_is_clean p (spelled parts ++ []) fits.0) (parts_are_clean parts fits.1)
+parts_are_clean = fit_parts_pass is_clean_part part_is_clean
 
 sections_are_clean : (sections : List SectionState) → AllByRecursion (λ s. s.held ≡ []) sections → list_all is_clean_part (flat_map own_section_parts sections) ≡ true
     → AllByRecursion IsCleanSection sections
@@ -100,22 +99,15 @@ full_is_clean parts state fits load =
     state_is_clean state load.held (ap (list_all is_clean_part) same ∙ parts_are_clean parts fits)
     (names_stand Closed state.front (flat_map own_section_parts state.sections) own_fit tt)
 
-where_kept_clean : (t : Bool) (p : Part) → is_clean_part p ≡ true → list_all is_clean_part (where_kept t p) ≡ true
-where_kept_clean true p is = rw is refl
-where_kept_clean false p is = refl
-
 kept_part_clean : (q : Token → Bool) (p : Part) → is_clean_part p ≡ true → list_all is_clean_part (kept_part q p) ≡ true
 kept_part_clean q (HeaderPart h) is = rw is refl
-kept_part_clean q (ItemPart (BlanksItem run)) is = where_kept_clean _ (ItemPart (BlanksItem run)) is
-kept_part_clean q (ItemPart (LineEndsItem run)) is = where_kept_clean _ (ItemPart (LineEndsItem run)) is
-kept_part_clean q (ItemPart (CommentItem tag text)) is = where_kept_clean _ (ItemPart (CommentItem tag text)) is
+kept_part_clean q (ItemPart (BlanksItem run)) is = where_kept_passes is_clean_part _ (ItemPart (BlanksItem run)) is
+kept_part_clean q (ItemPart (LineEndsItem run)) is = where_kept_passes is_clean_part _ (ItemPart (LineEndsItem run)) is
+kept_part_clean q (ItemPart (CommentItem tag text)) is = where_kept_passes is_clean_part _ (ItemPart (CommentItem tag text)) is
 kept_part_clean q (ItemPart (EntryItem e)) is = refl
 
 kept_parts_clean : (q : Token → Bool) (parts : List Part) → list_all is_clean_part parts ≡ true → list_all is_clean_part (kept_parts q parts) ≡ true
-kept_parts_clean q [] all = refl
-kept_parts_clean q (p ∷ parts) all =
-    let b = both_true (is_clean_part p) (list_all is_clean_part parts) all in
-    list_all-append is_clean_part (kept_part q p) (kept_parts q parts) ∙ both_hold _ _ (kept_part_clean q p b.0) (kept_parts_clean q parts b.1)
+kept_parts_clean q = kept_parts_pass is_clean_part is_clean_part q (kept_part_clean q)
 
 -- an entry or a header
 abbrev is_meant : Part → Bool
@@ -130,11 +122,8 @@ lossy_part_is_meant (ItemPart (LineEndsItem run)) = refl
 lossy_part_is_meant (ItemPart (CommentItem tag text)) = refl
 lossy_part_is_meant (ItemPart (EntryItem e)) = refl
 
-lossy_parts_are_meant : (parts : List Part) → list_all is_meant (kept_parts (keeps_token keeps_meaning) parts) ≡ true
-lossy_parts_are_meant [] = refl
-lossy_parts_are_meant (p ∷ parts) =
-    list_all-append is_meant (kept_part (keeps_token keeps_meaning) p) (kept_parts (keeps_token keeps_meaning) parts)
-    ∙ both_hold _ _ (lossy_part_is_meant p) (lossy_parts_are_meant parts)
+lossy_parts_are_meant : (parts : List Part) → AreFit parts [] → list_all is_meant (kept_parts (keeps_token keeps_meaning) parts) ≡ true
+lossy_parts_are_meant parts fits = kept_parts_pass is_clean_part is_meant (keeps_token keeps_meaning) (λ p is. lossy_part_is_meant p) parts (parts_are_clean parts fits)
 
 -- a lossy load keeps each name, separator and value
 pub lossy_keeps_entries : (tokens : List Token) → list_all (keeps_entry_token keeps_meaning) tokens ≡ true
@@ -164,6 +153,6 @@ no_entries (CommentItem tag text ∷ items) all none = absurd (cc)
 pub lossy_is_clean : (parts : List Part) (state : State) → AreFit parts [] → IsLoad keeps_meaning parts state → entries_of state.front ≡ [] → IsClean state
 lossy_is_clean parts state fits load none =
     let same = load_parts keeps_meaning parts state (lossy_keeps_entries (tokens_of parts)) load in
-    let meant = all_parts is_meant (map ItemPart state.front) (flat_map own_section_parts state.sections) (ap (list_all is_meant) same ∙ lossy_parts_are_meant parts) in
+    let meant = all_parts is_meant (map ItemPart state.front) (flat_map own_section_parts state.sections) (ap (list_all is_meant) same ∙ lossy_parts_are_meant parts fits) in
     let empty = no_entries state.front (items_pass is_meant state.front meant.0) none in
     state_is_clean state load.held (ap (list_all is_clean_part) same ∙ kept_parts_clean (keeps_token keeps_meaning) parts (parts_are_clean parts fits)) (rw empty refl)

@@ -2,26 +2,21 @@
 use Rattle.std.proofs.Common.{◌≡◌, ℕ, ◌<◌, Bool, true, false, not, List, [], ◌∷◌, ◌++◌, length, flat_map, map, Option, Some, None, refl, ap, ◌∙◌, arith, inl, inr}
 use Rattle.std.specs.Prelude.{◌&&◌}
 use Rattle.std.specs.List.{list_all}
-use Rattle.std.proofs.lemmas.List.Folds.{list_all-append}
 use Rattle.gitconf_text.specs.Bytes.{is_blank}
 use Rattle.gitconf_text.specs.Text.{begins, ends, is_line_end}
 use Rattle.gitconf_text.specs.Unit.{TextUnit, is_white, units_of}
 use Rattle.gitconf_text.specs.Value.{Piece, Value, spelled_value, value_units, are_paired, IsEnded, FitsValue}
 use Rattle.gitconf_text.specs.Header.{Header, PlainHeader, DottedHeader, QuotedHeader, FitsHeader}
-use Rattle.gitconf_text.specs.Part.{Assigned, BlanksItem, LineEndsItem, CommentItem, EntryItem, Part, ItemPart, HeaderPart, FitsAssigned, FitsPart, spelled, AreFit}
+use Rattle.gitconf_text.specs.Part.{Assigned, BlanksItem, LineEndsItem, CommentItem, EntryItem, Part, ItemPart, HeaderPart, FitsAssigned, FitsPart, AreFit}
 use Rattle.gitconf_text.specs.Token.{Token, NewlineToken, WhitespaceToken}
 use Rattle.gitconf_parse.proofs.ValueAgain.{both_true}
 use Rattle.gitconf_state.specs.State.{is_piece, is_value, is_assigned, is_item, is_header}
-use Rattle.gitconf_state.proofs.LoadingFilters.{kept_run, kept_piece, kept_assigned, where_kept, kept_part, kept_parts}
+use Rattle.gitconf_state.proofs.LoadingFilters.{both_hold, where_kept_passes, kept_parts_pass, fit_parts_pass, kept_run, kept_piece, kept_assigned, kept_part, kept_parts}
 
 -- what a part of a state is
 abbrev pub is_part : Part → Bool
 is_part (ItemPart i) = is_item i
 is_part (HeaderPart h) = is_header h
-
-pub both_hold : (a b : Bool) → a ≡ true → b ≡ true → (a && b) ≡ true
-both_hold true b p q = q
-both_hold false b p q = absurd (cc)
 
 filled_begins : (run : List ℕ) → 0 < length run → begins (λ _. true) run ≡ true
 filled_begins [] some = absurd (let h : 0 < 0 = some in omega arith)
@@ -82,8 +77,7 @@ part_is (ItemPart (EntryItem e)) rest fits = both_hold _ _ (both_hold _ _ fits.0
 part_is (HeaderPart h) rest fits = header_is h fits
 
 pub parts_are : (parts : List Part) → AreFit parts [] → list_all is_part parts ≡ true
-parts_are [] fits = refl
-parts_are (p ∷ parts) fits = both_hold (is_part p) (list_all is_part parts) (part_is p (spelled parts ++ []) fits.0) (parts_are parts fits.1)
+parts_are = fit_parts_pass is_part part_is
 
 -- blanks that a filter keeps or drops
 kept_blanks_are : (q : Token → Bool) (run : List ℕ) → list_all is_blank run ≡ true → list_all is_blank (kept_run q WhitespaceToken run) ≡ true
@@ -141,15 +135,11 @@ kept_assigned_is q (Some a) is =
     let b = both_true (list_all is_blank a.blanks) (is_value a.value) is in
     both_hold _ _ (kept_blanks_are q a.blanks b.0) (kept_value_is q a.value b.1)
 
-where_kept_is : (t : Bool) (p : Part) → is_part p ≡ true → list_all is_part (where_kept t p) ≡ true
-where_kept_is true p is = rw is refl
-where_kept_is false p is = refl
-
 kept_part_is : (q : Token → Bool) (p : Part) → is_part p ≡ true → list_all is_part (kept_part q p) ≡ true
 kept_part_is q (HeaderPart h) is = rw is refl
-kept_part_is q (ItemPart (BlanksItem run)) is = where_kept_is _ (ItemPart (BlanksItem run)) is
-kept_part_is q (ItemPart (LineEndsItem run)) is = where_kept_is _ (ItemPart (LineEndsItem run)) is
-kept_part_is q (ItemPart (CommentItem tag text)) is = where_kept_is _ (ItemPart (CommentItem tag text)) is
+kept_part_is q (ItemPart (BlanksItem run)) is = where_kept_passes is_part _ (ItemPart (BlanksItem run)) is
+kept_part_is q (ItemPart (LineEndsItem run)) is = where_kept_passes is_part _ (ItemPart (LineEndsItem run)) is
+kept_part_is q (ItemPart (CommentItem tag text)) is = where_kept_passes is_part _ (ItemPart (CommentItem tag text)) is
 kept_part_is q (ItemPart (EntryItem e)) is =
     let b = both_true _ (is_assigned e.assigned) is in
     let c = both_true _ (list_all is_blank e.blanks) b.0 in
@@ -157,7 +147,4 @@ kept_part_is q (ItemPart (EntryItem e)) is =
 
 -- What a filter leaves of parts of a state are such parts.
 pub kept_parts_are : (q : Token → Bool) (parts : List Part) → list_all is_part parts ≡ true → list_all is_part (kept_parts q parts) ≡ true
-kept_parts_are q [] all = refl
-kept_parts_are q (p ∷ parts) all =
-    let b = both_true (is_part p) (list_all is_part parts) all in
-    list_all-append is_part (kept_part q p) (kept_parts q parts) ∙ both_hold _ _ (kept_part_is q p b.0) (kept_parts_are q parts b.1)
+kept_parts_are q = kept_parts_pass is_part is_part q (kept_part_is q)
