@@ -28,12 +28,14 @@ taken_after taken (LineEndsItem run) = false
 taken_after taken (CommentItem tag text) = taken
 taken_after taken (EntryItem e) = true
 
+-- keys behind an item have lines of their own too
 keys_after : (taken : Bool) (i : Item) (parts : List Part) → keys_have_lines taken (ItemPart i ∷ parts) ≡ true → keys_have_lines (taken_after taken i) parts ≡ true
 keys_after taken (BlanksItem run) parts keys = keys
 keys_after taken (LineEndsItem run) parts keys = keys
 keys_after taken (CommentItem tag text) parts keys = keys
 keys_after taken (EntryItem e) parts keys = (both_true (not taken) (keys_have_lines true parts) keys).1
 
+-- blanks leave a line as it is
 taken_blanks : (in_body : Bool) (before : Open) (taken : Bool) (run : List ℕ) → Taken in_body before taken → Taken in_body (after_blanks run before) taken
 taken_blanks false before taken run is = tt
 taken_blanks true before taken [] is = is
@@ -52,6 +54,7 @@ all_taken true OpenKeyAndBlanks = refl
 all_taken true OpenValue = refl
 all_taken true OpenComment = tt
 
+-- behind each item the line is taken where it has to be
 taken_item : (in_body : Bool) (before : Open) (taken : Bool) (i : Item) → Taken in_body before taken → Taken in_body (after before i) (taken_after taken i)
 taken_item in_body before taken (BlanksItem run) is = taken_blanks in_body before taken run is
 taken_item in_body before taken (LineEndsItem run) is = closed in_body
@@ -132,10 +135,12 @@ headers_past fresh (LineEndsItem run ∷ items) tail = headers_past true items t
 headers_past fresh (CommentItem tag text ∷ items) tail = headers_past false items tail
 headers_past fresh (EntryItem e ∷ items) tail = headers_past false items tail
 
+-- keys behind items have lines of their own too
 pub keys_past : (taken : Bool) (items : List Item) (tail : List Part) → keys_have_lines taken (map ItemPart items ++ tail) ≡ true → (later : Bool) × (keys_have_lines later tail ≡ true)
 keys_past taken [] tail keys = (taken, keys)
 keys_past taken (i ∷ items) tail keys = keys_past (taken_after taken i) items tail (keys_after taken i (map ItemPart items ++ tail) keys)
 
+-- so are values behind items closed
 pub values_past : (ended : Bool) (items : List Item) (tail : List Part) → values_are_closed ended (map ItemPart items ++ tail) ≡ true → (later : Bool) × (values_are_closed later tail ≡ true)
 values_past ended [] tail values = (ended, values)
 values_past ended (BlanksItem run ∷ items) tail values = values_past ended items tail values
@@ -159,10 +164,12 @@ ended_after line_end ended i = elim i [
   | _ ↦ false
 ]
 
+-- where the second holds, one of the two does
 pub last_holds : (a b : Bool) → b ≡ true → (a || b) ≡ true
 last_holds true b h = refl
 last_holds false b h = h
 
+-- items whose last one is line ends end with the line end that these hold, whatever stands before
 ended_from : (line_end : List ℕ) (fresh ended : Bool) (items : List Item) (tail : List Part) → (fresh ≡ true → ended ≡ true)
     → list_all (holds_line_end line_end) (map ItemPart items ++ tail) ≡ true → ends_fresh fresh items ≡ true → fold (ended_after line_end) ended items ≡ true
 ended_from line_end fresh ended [] tail so all is = so is

@@ -44,6 +44,7 @@ none_feeds test (b ∷ text) fails all =
     let p = both_true (test b) (list_all test text) all in
     both_hold (is_no_feed b) (list_all is_no_feed text) (rw (apart test 10 b fails p.0) refl) (none_feeds test text fails p.1)
 
+-- two texts without LF, put together
 pub no_feeds : (front rest : List ℕ) → list_all is_no_feed front ≡ true → list_all is_no_feed rest ≡ true → list_all is_no_feed (front ++ rest) ≡ true
 no_feeds front rest p q = list_all-append is_no_feed front rest ∙ both_hold (list_all is_no_feed front) (list_all is_no_feed rest) p q
 

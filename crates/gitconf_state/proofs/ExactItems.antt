@@ -31,6 +31,7 @@ bare_backslash p pieces last rest bare none empty nothing ended =
     let short : EndsLine (p.text ++ 92 ∷ []) = subst EndsLine (rw (bare, none, empty, nothing) (append-nil _ ∙ append-nil _ ∙ append-nil _)) ended in
     no_line_ends 92 [] refl (rest_ends_line p.text (92 ∷ []) short)
 
+-- the pieces of a value that ends a line, or before which one ends, have their line ends
 pieces_same : (line_end : List ℕ) (pieces : List Piece) (last rest : List ℕ) → IsEnded pieces last rest
     → EndsLine ((flat_map (λ (p : Piece). p.text ++ 92 ∷ p.line_end) pieces ++ last) ++ rest) → map (closed_piece line_end) pieces ≡ pieces
 pieces_same line_end [] last rest ended line = refl

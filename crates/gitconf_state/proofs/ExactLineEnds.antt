@@ -46,12 +46,14 @@ feeds_hold : (run : List ℕ) → list_all is_feed run ≡ true → 0 < length r
 feeds_hold [] all some = absurd (let h : 0 < 0 = some in omega arith)
 feeds_hold (b ∷ run) all some = rw (eqb-true b 10 (both_true (is_feed b) (list_all is_feed run) all).0) refl
 
+-- LFs hold no CR
 no_return : (run : List ℕ) → list_all is_feed run ≡ true → list_any (λ b. b == 13) run ≡ false
 no_return [] all = refl
 no_return (b ∷ run) all =
     let p = both_true (is_feed b) (list_all is_feed run) all in
     rw (apart is_feed 13 b refl p.0) (no_return run p.1)
 
+-- the first of them tells LF, and so does none
 feeds_told : (tokens : List Token) → list_all (newline_passes (list_all is_feed)) tokens ≡ true → line_end_of tokens ≡ 10 ∷ []
 feeds_told [] all = refl
 feeds_told (NewlineToken run ∷ tokens) all = rw (no_return run (both_true (list_all is_feed run) _ all).0) refl
@@ -72,10 +74,12 @@ pairs_begin b (c ∷ run) pairs =
     let q = both_true (b == 13) (c == 10) p.0 in
     (eqb-true b 13 q.0, (run, ap (λ x. x ∷ run) (eqb-true c 10 q.1)))
 
+-- such a run holds one
 pairs_hold : (run : List ℕ) → are_pairs run ≡ true → 0 < length run → holds (13 ∷ 10 ∷ []) run ≡ true
 pairs_hold [] pairs some = absurd (let h : 0 < 0 = some in omega arith)
 pairs_hold (b ∷ run) pairs some = let p = pairs_begin b run pairs in rw (p.0, p.1.1) refl
 
+-- and it holds a CR
 pairs_return : (run : List ℕ) → are_pairs run ≡ true → begins (λ _. true) run ≡ true → list_any (λ b. b == 13) run ≡ true
 pairs_return [] pairs some = absurd (cc)
 pairs_return (b ∷ run) pairs some = let p = pairs_begin b run pairs in rw p.0 refl
@@ -84,6 +88,7 @@ pairs_return (b ∷ run) pairs some = let p = pairs_begin b run pairs in rw p.0 
 abbrev no_newline : Token → Bool
 no_newline t = newline_passes (λ _. false) t
 
+-- the first of them tells CR LF, if there is one
 pairs_told : (tokens : List Token) → list_all (newline_passes are_pairs) tokens ≡ true → list_all (newline_passes (begins (λ _. true))) tokens ≡ true
     → (line_end_of tokens ≡ 13 ∷ 10 ∷ []) ⊎ (list_all no_newline tokens ≡ true)
 pairs_told [] all some = inr refl
@@ -101,13 +106,16 @@ pairs_told (SeparatorToken ∷ tokens) all some = pairs_told tokens all some
 abbrev has_byte : Token → Bool
 has_byte t = newline_passes (begins (λ _. true)) t
 
+-- two lists of tokens, put together
 both_lists : (xs ys : List Token) → list_all has_byte xs ≡ true → list_all has_byte ys ≡ true → list_all has_byte (xs ++ ys) ≡ true
 both_lists xs ys p q = list_all-append has_byte xs ys ∙ both_hold (list_all has_byte xs) (list_all has_byte ys) p q
 
+-- blanks are no newline
 blanks_have : (run : List ℕ) → list_all has_byte (filled WhitespaceToken run) ≡ true
 blanks_have [] = refl
 blanks_have (b ∷ run) = refl
 
+-- a piece has a newline only where there are bytes for it
 pieces_have : (pieces : List Piece) → list_all has_byte (flat_map piece_tokens pieces) ≡ true
 pieces_have [] = refl
 pieces_have (p ∷ pieces) = both_lists (filled NewlineToken p.line_end) (flat_map piece_tokens pieces) (go p.line_end) (pieces_have pieces)
@@ -116,14 +124,17 @@ pieces_have (p ∷ pieces) = both_lists (filled NewlineToken p.line_end) (flat_m
     go [] = refl
     go (b ∷ run) = refl
 
+-- the newlines of a value have bytes
 value_has : (pieces : List Piece) (last : List ℕ) → list_all has_byte (value_tokens pieces last) ≡ true
 value_has [] last = refl
 value_has (p ∷ pieces) last = both_lists (flat_map piece_tokens (p ∷ pieces)) (ValueDoneToken last ∷ []) (pieces_have (p ∷ pieces)) refl
 
+-- so have those of what is assigned
 assigned_has : (assigned : Option Assigned) → list_all has_byte (assigned_tokens assigned) ≡ true
 assigned_has None = refl
 assigned_has (Some a) = both_lists (filled WhitespaceToken a.blanks) (value_tokens a.value.pieces a.value.last) (blanks_have a.blanks) (value_has a.value.pieces a.value.last)
 
+-- the newlines of fitting parts have bytes
 parts_have : (parts : List Part) → AreFit parts [] → list_all has_byte (tokens_of parts) ≡ true
 parts_have [] fits = refl
 parts_have (p ∷ parts) fits = both_lists (part_tokens p) (tokens_of parts) (go p fits.0) (parts_have parts fits.1)
@@ -136,6 +147,7 @@ parts_have (p ∷ parts) fits = both_lists (part_tokens p) (tokens_of parts) (go
     go (ItemPart (EntryItem e)) fits = both_lists (filled WhitespaceToken e.blanks) (assigned_tokens e.assigned) (blanks_have e.blanks) (assigned_has e.assigned)
     go (HeaderPart h) fits = refl
 
+-- where one of two holds, either the first or the second does
 either : (a b : Bool) → (a || b) ≡ true → (a ≡ true) ⊎ (b ≡ true)
 either true b h = inl refl
 either false b h = inr h
@@ -163,6 +175,7 @@ told_behind (ValueDoneToken bytes ∷ front) tokens others same = told_behind fr
 told_behind (WhitespaceToken bytes ∷ front) tokens others same = told_behind front tokens others same
 told_behind (SeparatorToken ∷ front) tokens others same = told_behind front tokens others same
 
+-- the bodies of sections tell the line end that the sections' tokens tell
 sections_tell : (sections : List SectionState) → line_end_of (flat_map item_tokens (flat_map (λ (s : SectionState). s.items) sections)) ≡ line_end_of (flat_map section_tokens sections)
 sections_tell [] = refl
 sections_tell (s ∷ sections) =

@@ -36,6 +36,7 @@ fits_past : (items : List Item) (tail : List Part) → AreFit (map ItemPart item
 fits_past [] tail fits = fits
 fits_past (i ∷ items) tail fits = fits_past items tail fits.1
 
+-- what stands behind items ends the line that all ends
 line_past : (items : List Item) (tail : List Part) → EndsLine (spelled (map ItemPart items ++ tail)) → EndsLine (spelled tail)
 line_past items tail line = rest_ends_line (spelled (map ItemPart items)) (spelled tail) (subst EndsLine (spelled-append (map ItemPart items) tail) line)
 
@@ -76,6 +77,7 @@ ends_before : (line_end : List ℕ) (fresh taken open_value : Bool) (items : Lis
 ends_before line_end fresh taken open_value items s sections is =
     (both_true (ends_fresh fresh items) _ (sym (headers_past fresh items (flat_map own_section_parts (s ∷ sections))) ∙ is.headers)).0
 
+-- a section's last item is line ends: a header stands behind it, or the end of the text, and a header alone ends no line
 body_ends : (line_end : List ℕ) (fresh taken open_value : Bool) (s : SectionState) (sections : List SectionState)
     → IsExact line_end fresh taken open_value (flat_map own_section_parts (s ∷ sections)) → ends_fresh false s.items ≡ true
 body_ends line_end fresh taken open_value s (t ∷ sections) is =

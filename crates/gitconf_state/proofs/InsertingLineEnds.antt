@@ -33,6 +33,7 @@ is_told_line_end (ValueDoneToken bytes ∷ tokens) = is_told_line_end tokens
 is_told_line_end (WhitespaceToken bytes ∷ tokens) = is_told_line_end tokens
 is_told_line_end (SeparatorToken ∷ tokens) = is_told_line_end tokens
 
+-- parts put together are spelled one behind the other
 pub spelled-append : (parts others : List Part) → spelled (parts ++ others) ≡ spelled parts ++ spelled others
 spelled-append parts others = flat_map-append spelled_part parts others
 
@@ -73,6 +74,7 @@ none_first in_body (LineEndsItem run) = refl
 none_first in_body (CommentItem tag text) = refl
 none_first in_body (EntryItem e) = refl
 
+-- the items of a list that is not empty, with no line end before them
 put_first_items : (in_body : Bool) (line_end : List ℕ) (i : Item) (items : List Item) (texts : List (List ℕ)) (whole : List ℕ) → is_line_end line_end ≡ true → Behind texts whole
     → Inserted (texts_before (flat_map item_tokens (i ∷ items)) texts) (items_text (printed_items in_body line_end Closed (i ∷ items)) ++ whole)
 put_first_items in_body line_end i items texts whole is_end is =

@@ -32,6 +32,7 @@ full_load_parts parts state load = same_parts (own_parts state) parts (own_token
 items_pass : (p : Part → Bool) (items : List Item) → list_all p (map ItemPart items) ≡ true → list_all (λ i. p (ItemPart i)) items ≡ true
 items_pass p items all = sym (list_all-map p ItemPart items) ∙ all
 
+-- sections whose parts are those of a state, and which hold none
 sections_have_items : (sections : List SectionState) → AllByRecursion (λ s. s.held ≡ []) sections → list_all is_part (flat_map own_section_parts sections) ≡ true
     → AllByRecursion HasSectionItems sections
 sections_have_items [] held all = tt
@@ -61,12 +62,14 @@ abbrev is_clean_part : Part → Bool
 is_clean_part (ItemPart i) = has_blanks i
 is_clean_part (HeaderPart h) = not (is_nameless h)
 
+-- a header that fits is named
 header_is_named : (h : Header) → FitsHeader h → not (is_nameless h) ≡ true
 header_is_named (PlainHeader []) fits = absurd (let h : 0 < 0 = fits.0 in omega arith)
 header_is_named (PlainHeader (b ∷ name)) fits = refl
 header_is_named (DottedHeader name subsection) fits = refl
 header_is_named (QuotedHeader name blanks spelling) fits = refl
 
+-- a part that fits is clean
 part_is_clean : (p : Part) (rest : List ℕ) → FitsPart p rest → is_clean_part p ≡ true
 part_is_clean (ItemPart (BlanksItem run)) rest fits = fits.1
 part_is_clean (ItemPart (LineEndsItem run)) rest fits = refl
@@ -74,9 +77,11 @@ part_is_clean (ItemPart (CommentItem tag text)) rest fits = refl
 part_is_clean (ItemPart (EntryItem e)) rest fits = refl
 part_is_clean (HeaderPart h) rest fits = header_is_named h fits
 
+-- so are fitting parts
 parts_are_clean : (parts : List Part) → AreFit parts [] → list_all is_clean_part parts ≡ true
 parts_are_clean = fit_parts_pass is_clean_part part_is_clean
 
+-- sections of clean parts, which hold none, are clean
 sections_are_clean : (sections : List SectionState) → AllByRecursion (λ s. s.held ≡ []) sections → list_all is_clean_part (flat_map own_section_parts sections) ≡ true
     → AllByRecursion IsCleanSection sections
 sections_are_clean [] held all = tt
@@ -99,6 +104,7 @@ full_is_clean parts state fits load =
     state_is_clean state load.held (ap (list_all is_clean_part) same ∙ parts_are_clean parts fits)
     (names_stand Closed state.front (flat_map own_section_parts state.sections) own_fit tt)
 
+-- what a filter leaves of a clean part is clean
 kept_part_clean : (q : Token → Bool) (p : Part) → is_clean_part p ≡ true → list_all is_clean_part (kept_part q p) ≡ true
 kept_part_clean q (HeaderPart h) is = rw is refl
 kept_part_clean q (ItemPart (BlanksItem run)) is = where_kept_passes is_clean_part _ (ItemPart (BlanksItem run)) is
@@ -106,6 +112,7 @@ kept_part_clean q (ItemPart (LineEndsItem run)) is = where_kept_passes is_clean_
 kept_part_clean q (ItemPart (CommentItem tag text)) is = where_kept_passes is_clean_part _ (ItemPart (CommentItem tag text)) is
 kept_part_clean q (ItemPart (EntryItem e)) is = refl
 
+-- so is what it leaves of clean parts
 kept_parts_clean : (q : Token → Bool) (parts : List Part) → list_all is_clean_part parts ≡ true → list_all is_clean_part (kept_parts q parts) ≡ true
 kept_parts_clean q = kept_parts_pass is_clean_part is_clean_part q (kept_part_clean q)
 
@@ -122,6 +129,7 @@ lossy_part_is_meant (ItemPart (LineEndsItem run)) = refl
 lossy_part_is_meant (ItemPart (CommentItem tag text)) = refl
 lossy_part_is_meant (ItemPart (EntryItem e)) = refl
 
+-- so it is of all parts
 lossy_parts_are_meant : (parts : List Part) → AreFit parts [] → list_all is_meant (kept_parts (keeps_token keeps_meaning) parts) ≡ true
 lossy_parts_are_meant parts fits = kept_parts_pass is_clean_part is_meant (keeps_token keeps_meaning) (λ p is. lossy_part_is_meant p) parts (parts_are_clean parts fits)
 

@@ -12,6 +12,7 @@ use Rattle.gitconf_parse.specs.EventRef.{Shown}
 use Rattle.gitconf_parse.specs.EventList.{keeps_token, keeps_entry_token}
 use Rattle.gitconf_parse.proofs.ValueAgain.{both_true}
 
+-- two tests that hold, in one
 pub both_hold : (a b : Bool) → a ≡ true → b ≡ true → (a && b) ≡ true
 both_hold true b p q = q
 both_hold false b p q = absurd (cc)
@@ -24,14 +25,17 @@ all_parts p xs ys all = both_true (list_all p xs) (list_all p ys) (sym (list_all
 abbrev pub kept_run : (Token → Bool) → (List ℕ → Token) → List ℕ → List ℕ
 kept_run q token run = elim (q (token run)) [ true ↦ run | false ↦ [] ]
 
+-- a piece, with its line end where that is kept
 abbrev pub kept_piece : (Token → Bool) → Piece → Piece
 kept_piece q p = record { text = p.text; line_end = kept_run q NewlineToken p.line_end }
 
+-- what is assigned, with its blanks and line ends where these are kept
 abbrev pub kept_assigned : (Token → Bool) → Option Assigned → Option Assigned
 kept_assigned q None = None
 kept_assigned q (Some a) =
     Some (record { blanks = kept_run q WhitespaceToken a.blanks; value = record { pieces = map (kept_piece q) a.value.pieces; last = a.value.last } })
 
+-- an entry, with its blanks and line ends where these are kept
 abbrev pub kept_entry : (Token → Bool) → Entry → Entry
 kept_entry q e = record { name = e.name; blanks = kept_run q WhitespaceToken e.blanks; assigned = kept_assigned q e.assigned }
 
@@ -40,6 +44,7 @@ abbrev pub where_kept : Bool → Part → List Part
 where_kept true p = p ∷ []
 where_kept false p = []
 
+-- a part, where it is kept; entries and headers always are
 abbrev pub kept_part : (Token → Bool) → Part → List Part
 kept_part q (HeaderPart h) = HeaderPart h ∷ []
 kept_part q (ItemPart (BlanksItem run)) = where_kept (q (WhitespaceToken run)) (ItemPart (BlanksItem run))
@@ -68,6 +73,7 @@ kept_filled q token (b ∷ run) = go (q (token (b ∷ run))) refl
 kept_first : (q : Token → Bool) (t : Token) (rest others : List Token) → q t ≡ true → filter q rest ≡ others → filter q (t ∷ rest) ≡ t ∷ others
 kept_first q t rest others is same = rw is (ap (λ ts. t ∷ ts) same)
 
+-- the tokens of pieces and the last one
 kept_pieces : (keeps : Shown → Bool) (pieces : List Piece) (last : List ℕ)
     → list_all (keeps_entry_token keeps) (flat_map piece_tokens pieces ++ ValueDoneToken last ∷ []) ≡ true
     → filter (keeps_token keeps) (flat_map piece_tokens pieces ++ ValueDoneToken last ∷ []) ≡ flat_map piece_tokens (map (kept_piece (keeps_token keeps)) pieces) ++ ValueDoneToken last ∷ []
@@ -86,6 +92,7 @@ kept_pieces keeps (p ∷ pieces) last all =
     ∙ ap (λ t. filled NewlineToken (kept_run q NewlineToken p.line_end) ++ t) (kept_pieces keeps pieces last rest)
     ∙ sym (append_assoc (filled NewlineToken (kept_run q NewlineToken p.line_end)) (flat_map piece_tokens (map (kept_piece q) pieces)) done))
 
+-- the tokens of a value
 kept_value : (keeps : Shown → Bool) (pieces : List Piece) (last : List ℕ) → list_all (keeps_entry_token keeps) (value_tokens pieces last) ≡ true
     → filter (keeps_token keeps) (value_tokens pieces last) ≡ value_tokens (map (kept_piece (keeps_token keeps)) pieces) last
 kept_value keeps [] last all = kept_first (keeps_token keeps) (ValueToken last) [] [] (both_true _ true all).0 refl
@@ -101,6 +108,7 @@ kept_behind_blanks keeps run rest others all same =
     ∙ ap (λ t. t ++ filter q rest) (kept_filled q WhitespaceToken run)
     ∙ ap (λ t. filled WhitespaceToken (kept_run q WhitespaceToken run) ++ t) (same (all_parts (keeps_entry_token keeps) (filled WhitespaceToken run) rest all).1)
 
+-- the tokens of what is assigned
 kept_assigned_tokens : (keeps : Shown → Bool) (assigned : Option Assigned) → list_all (keeps_entry_token keeps) (assigned_tokens assigned) ≡ true
     → filter (keeps_token keeps) (assigned_tokens assigned) ≡ assigned_tokens (kept_assigned (keeps_token keeps) assigned)
 kept_assigned_tokens keeps None all = kept_first (keeps_token keeps) (ValueToken []) [] [] (both_true _ true all).0 refl
@@ -118,6 +126,7 @@ kept_token q t p is = go (q t) refl
     go true e = rw (e, is) refl
     go false e = rw e refl
 
+-- the tokens of a part
 kept_part_tokens : (keeps : Shown → Bool) (p : Part) → list_all (keeps_entry_token keeps) (part_tokens p) ≡ true
     → tokens_of (kept_part (keeps_token keeps) p) ≡ filter (keeps_token keeps) (part_tokens p)
 kept_part_tokens keeps (HeaderPart h) all = refl
