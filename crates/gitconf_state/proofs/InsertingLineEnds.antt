@@ -33,12 +33,23 @@ is_told_line_end (ValueDoneToken bytes ∷ tokens) = is_told_line_end tokens
 is_told_line_end (WhitespaceToken bytes ∷ tokens) = is_told_line_end tokens
 is_told_line_end (SeparatorToken ∷ tokens) = is_told_line_end tokens
 
-spelled-append : (parts others : List Part) → spelled (parts ++ others) ≡ spelled parts ++ spelled others
+-- parts put together are spelled one behind the other
+pub spelled-append : (parts others : List Part) → spelled (parts ++ others) ≡ spelled parts ++ spelled others
 spelled-append parts others = flat_map-append spelled_part parts others
 
 -- the text of items
 abbrev items_text : List Item → List ℕ
 items_text items = spelled (map ItemPart items)
+
+-- an item before items as they are printed
+put_item_before : (line_end : List ℕ) (i : Item) (tokens : List Token) (items : List Item) (texts : List (List ℕ)) (whole : List ℕ) → is_line_end line_end ≡ true
+    → Behind (texts_before tokens texts) (items_text items ++ whole)
+    → Inserted (texts_before (item_tokens i ++ tokens) texts) ((spelled_item (closed_item line_end i) ++ items_text items) ++ whole)
+put_item_before line_end i tokens items texts whole is_end is =
+    subst (λ ts. Inserted ts ((spelled_item (closed_item line_end i) ++ items_text items) ++ whole)) (sym (texts_before-append (item_tokens i) tokens texts))
+    (same_whole (texts_before (item_tokens i) (texts_before tokens texts)) _ _
+    (put_item line_end i (texts_before tokens texts) (items_text items ++ whole) is_end is)
+    (sym (append_assoc (spelled_item (closed_item line_end i)) (items_text items) whole)))
 
 -- items as they are printed, before others; before a name or a comment a line end may stand
 put_items : (in_body : Bool) (line_end : List ℕ) (before : Open) (items : List Item) (texts : List (List ℕ)) (whole : List ℕ) → is_line_end line_end ≡ true → Behind texts whole
@@ -47,21 +58,14 @@ put_items in_body line_end before [] texts whole is_end is = is
 put_items in_body line_end before (i ∷ items) texts whole is_end is =
     go (breaks in_body before i) refl (put_items in_body line_end (after Closed i) items texts whole is_end is) (put_items in_body line_end (after before i) items texts whole is_end is)
   where
-    here : (rest : List Item) → Behind (texts_before (flat_map item_tokens items) texts) (items_text rest ++ whole)
-        → Inserted (texts_before (flat_map item_tokens (i ∷ items)) texts) ((spelled_item (closed_item line_end i) ++ items_text rest) ++ whole)
-    here rest is_rest =
-        subst (λ ts. Inserted ts ((spelled_item (closed_item line_end i) ++ items_text rest) ++ whole)) (sym (texts_before-append (item_tokens i) (flat_map item_tokens items) texts))
-        (same_whole (texts_before (item_tokens i) (texts_before (flat_map item_tokens items) texts)) _ _
-        (put_item line_end i (texts_before (flat_map item_tokens items) texts) (items_text rest ++ whole) is_end is_rest)
-        (sym (append_assoc (spelled_item (closed_item line_end i)) (items_text rest) whole)))
-
     go : (t : Bool) → breaks in_body before i ≡ t
         → Behind (texts_before (flat_map item_tokens items) texts) (items_text (printed_items in_body line_end (after Closed i) items) ++ whole)
         → Behind (texts_before (flat_map item_tokens items) texts) (items_text (printed_items in_body line_end (after before i) items) ++ whole)
         → Behind (texts_before (flat_map item_tokens (i ∷ items)) texts) (items_text (printed_items in_body line_end before (i ∷ items)) ++ whole)
     go true e broken same = rw (e, printed_items) (
-        inr (line_end, _, is_end, here (printed_items in_body line_end (after Closed i) items) broken, append_assoc line_end _ whole))
-    go false e broken same = rw (e, printed_items) (inl (here (printed_items in_body line_end (after before i) items) same))
+        inr (line_end, _, is_end, put_item_before line_end i (flat_map item_tokens items) (printed_items in_body line_end (after Closed i) items) texts whole is_end broken, append_assoc line_end _ whole))
+    go false e broken same = rw (e, printed_items) (
+        inl (put_item_before line_end i (flat_map item_tokens items) (printed_items in_body line_end (after before i) items) texts whole is_end same))
 
 -- before the first of items no line end is put
 none_first : (in_body : Bool) (i : Item) → breaks in_body Closed i ≡ false
@@ -70,16 +74,13 @@ none_first in_body (LineEndsItem run) = refl
 none_first in_body (CommentItem tag text) = refl
 none_first in_body (EntryItem e) = refl
 
+-- the items of a list that is not empty, with no line end before them
 put_first_items : (in_body : Bool) (line_end : List ℕ) (i : Item) (items : List Item) (texts : List (List ℕ)) (whole : List ℕ) → is_line_end line_end ≡ true → Behind texts whole
     → Inserted (texts_before (flat_map item_tokens (i ∷ items)) texts) (items_text (printed_items in_body line_end Closed (i ∷ items)) ++ whole)
 put_first_items in_body line_end i items texts whole is_end is =
-    let rest = put_items in_body line_end (after Closed i) items texts whole is_end is in
-    let text = items_text (printed_items in_body line_end (after Closed i) items) in
     rw (none_first in_body i, printed_items) (
-    subst (λ ts. Inserted ts ((spelled_item (closed_item line_end i) ++ text) ++ whole)) (sym (texts_before-append (item_tokens i) (flat_map item_tokens items) texts))
-    (same_whole (texts_before (item_tokens i) (texts_before (flat_map item_tokens items) texts)) _ _
-    (put_item line_end i (texts_before (flat_map item_tokens items) texts) (text ++ whole) is_end rest)
-    (sym (append_assoc (spelled_item (closed_item line_end i)) text whole))))
+    put_item_before line_end i (flat_map item_tokens items) (printed_items in_body line_end (after Closed i) items) texts whole is_end
+    (put_items in_body line_end (after Closed i) items texts whole is_end is))
 
 -- a section's body, behind its header
 put_body : (line_end : List ℕ) (items : List Item) (texts : List (List ℕ)) (whole : List ℕ) → is_line_end line_end ≡ true → Behind texts whole
@@ -102,7 +103,7 @@ put_section s texts whole is =
     (sym (append_assoc (spelled_header s.header) (items_text (printed_body s)) whole))
 
 -- the sections are all printed
-abbrev all_sections : SectionState → Bool
+abbrev pub all_sections : SectionState → Bool
 all_sections s = true
 
 -- a line end before sections, where one is missing

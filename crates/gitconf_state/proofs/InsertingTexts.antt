@@ -17,9 +17,11 @@ Behind texts whole = Inserted texts whole ⊎ ((line_end : List ℕ) × (rest : 
 abbrev pub texts_before : List Token → List (List ℕ) → List (List ℕ)
 texts_before tokens texts = map spelled_token tokens ++ texts
 
+-- tokens put together have their texts one behind the other
 pub texts_before-append : (tokens others : List Token) (texts : List (List ℕ)) → texts_before (tokens ++ others) texts ≡ texts_before tokens (texts_before others texts)
 texts_before-append tokens others texts = ap (λ t. t ++ texts) (map-append spelled_token tokens others) ∙ append_assoc (map spelled_token tokens) (map spelled_token others) texts
 
+-- texts put in a whole are in the same whole, written another way
 pub same_whole : (texts : List (List ℕ)) (whole other : List ℕ) → Inserted texts whole → whole ≡ other → Inserted texts other
 same_whole texts whole other is same = subst (λ w. Inserted texts w) same is
 
@@ -43,6 +45,7 @@ put_blanks : (run : List ℕ) (texts : List (List ℕ)) (whole : List ℕ) → I
 put_blanks [] texts whole is = is
 put_blanks (b ∷ run) texts whole is = put_text (b ∷ run) texts whole (inl is)
 
+-- the text of a value behind its first piece, put together another way
 regroup : (text line_end pieces last whole : List ℕ)
     → (text ++ 92 ∷ []) ++ (line_end ++ ((pieces ++ last) ++ whole)) ≡ (((text ++ 92 ∷ line_end) ++ pieces) ++ last) ++ whole
 regroup text line_end pieces last whole = simp append_assoc
@@ -56,6 +59,7 @@ put_piece line_end p others texts whole is_end is = put_text (p.text ++ 92 ∷ [
     go [] = put_line_end line_end (texts_before others texts) whole is_end is
     go (b ∷ bytes) = inl (put_text (b ∷ bytes) (texts_before others texts) whole (inl is))
 
+-- the text of a piece stays
 closed_text : (line_end : List ℕ) (p : Piece) → (closed_piece line_end p).text ≡ p.text
 closed_text line_end p = go p.line_end
   where
@@ -63,9 +67,11 @@ closed_text line_end p = go p.line_end
     go [] = refl
     go (b ∷ bytes) = refl
 
+-- pieces as they are spelled
 abbrev spelled_pieces : List Piece → List ℕ
 spelled_pieces pieces = flat_map (λ (p : Piece). p.text ++ 92 ∷ p.line_end) pieces
 
+-- pieces and the last one before others
 put_pieces : (line_end : List ℕ) (pieces : List Piece) (last : List ℕ) (texts : List (List ℕ)) (whole : List ℕ) → is_line_end line_end ≡ true → Behind texts whole
     → Inserted (texts_before (flat_map piece_tokens pieces ++ ValueDoneToken last ∷ []) texts) ((spelled_pieces (map (closed_piece line_end) pieces) ++ last) ++ whole)
 put_pieces line_end [] last texts whole is_end is = put_text last texts whole is
@@ -79,11 +85,13 @@ put_pieces line_end (p ∷ pieces) last texts whole is_end is =
     (put_piece line_end p others texts ((more ++ last) ++ whole) is_end (put_pieces line_end pieces last texts whole is_end is))
     (regroup p.text c.line_end more last whole ∙ ap (λ t. (((t ++ 92 ∷ c.line_end) ++ more) ++ last) ++ whole) (sym (closed_text line_end p))))
 
+-- a value before others
 put_value : (line_end : List ℕ) (pieces : List Piece) (last : List ℕ) (texts : List (List ℕ)) (whole : List ℕ) → is_line_end line_end ≡ true → Behind texts whole
     → Inserted (texts_before (value_tokens pieces last) texts) ((spelled_pieces (map (closed_piece line_end) pieces) ++ last) ++ whole)
 put_value line_end [] last texts whole is_end is = put_text last texts whole is
 put_value line_end (p ∷ pieces) last texts whole is_end is = put_pieces line_end (p ∷ pieces) last texts whole is_end is
 
+-- what is assigned, or the empty value without `=`, before others
 put_assigned : (line_end : List ℕ) (assigned : Option Assigned) (texts : List (List ℕ)) (whole : List ℕ) → is_line_end line_end ≡ true → Behind texts whole
     → Inserted (texts_before (assigned_tokens assigned) texts) (spelled_assigned (closed_assigned line_end assigned) ++ whole)
 put_assigned line_end None texts whole is_end is = put_text [] texts whole is

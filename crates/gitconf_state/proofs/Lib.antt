@@ -17,3 +17,8 @@ pub mod SectionsApart
 pub mod PrintedDocument
 pub mod ReadsBack
 pub mod CommentLaws
+pub mod ExactEnds
+pub mod ExactItems
+pub mod ExactLineEnds
+pub mod ExactBodies
+pub mod ExactPrinting

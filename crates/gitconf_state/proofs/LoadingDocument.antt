@@ -15,6 +15,7 @@ use Rattle.gitconf_state.proofs.LoadingTokens.{own_section_parts, own_parts, own
 abbrev before_front : List DocumentEntry → Document → Document
 before_front entries d = record { front = entries ++ d.front; sections = d.sections }
 
+-- items put their entries before the document of what follows
 items_gathered : (items : List Item) (tail : List Part) → gathered (map ItemPart items ++ tail) ≡ before_front (entries_of items) (gathered tail)
 items_gathered [] tail = refl
 items_gathered (BlanksItem run ∷ items) tail = items_gathered items tail
@@ -26,6 +27,7 @@ items_gathered (EntryItem e ∷ items) tail = ap (with_item (EntryItem e)) (item
 abbrev sections_document : List DocumentSection → Document
 sections_document sections = record { front = []; sections = sections }
 
+-- sections have the document that they say
 sections_gathered : (sections : List SectionState) → gathered (flat_map own_section_parts sections) ≡ sections_document (map section_document sections)
 sections_gathered [] = refl
 sections_gathered (s ∷ sections) =

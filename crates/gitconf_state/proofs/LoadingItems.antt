@@ -2,31 +2,28 @@
 use Rattle.std.proofs.Common.{◌≡◌, ℕ, ◌<◌, Bool, true, false, not, List, [], ◌∷◌, ◌++◌, length, flat_map, map, Option, Some, None, refl, ap, ◌∙◌, arith, inl, inr}
 use Rattle.std.specs.Prelude.{◌&&◌}
 use Rattle.std.specs.List.{list_all}
-use Rattle.std.proofs.lemmas.List.Folds.{list_all-append}
 use Rattle.gitconf_text.specs.Bytes.{is_blank}
 use Rattle.gitconf_text.specs.Text.{begins, ends, is_line_end}
 use Rattle.gitconf_text.specs.Unit.{TextUnit, is_white, units_of}
 use Rattle.gitconf_text.specs.Value.{Piece, Value, spelled_value, value_units, are_paired, IsEnded, FitsValue}
 use Rattle.gitconf_text.specs.Header.{Header, PlainHeader, DottedHeader, QuotedHeader, FitsHeader}
-use Rattle.gitconf_text.specs.Part.{Assigned, BlanksItem, LineEndsItem, CommentItem, EntryItem, Part, ItemPart, HeaderPart, FitsAssigned, FitsPart, spelled, AreFit}
+use Rattle.gitconf_text.specs.Part.{Assigned, BlanksItem, LineEndsItem, CommentItem, EntryItem, Part, ItemPart, HeaderPart, FitsAssigned, FitsPart, AreFit}
 use Rattle.gitconf_text.specs.Token.{Token, NewlineToken, WhitespaceToken}
 use Rattle.gitconf_parse.proofs.ValueAgain.{both_true}
 use Rattle.gitconf_state.specs.State.{is_piece, is_value, is_assigned, is_item, is_header}
-use Rattle.gitconf_state.proofs.LoadingFilters.{kept_run, kept_piece, kept_assigned, where_kept, kept_part, kept_parts}
+use Rattle.gitconf_state.proofs.LoadingFilters.{both_hold, where_kept_passes, kept_parts_pass, fit_parts_pass, kept_run, kept_piece, kept_assigned, kept_part, kept_parts}
 
 -- what a part of a state is
 abbrev pub is_part : Part → Bool
 is_part (ItemPart i) = is_item i
 is_part (HeaderPart h) = is_header h
 
-pub both_hold : (a b : Bool) → a ≡ true → b ≡ true → (a && b) ≡ true
-both_hold true b p q = q
-both_hold false b p q = absurd (cc)
-
+-- a run of some bytes begins with one
 filled_begins : (run : List ℕ) → 0 < length run → begins (λ _. true) run ≡ true
 filled_begins [] some = absurd (let h : 0 < 0 = some in omega arith)
 filled_begins (b ∷ run) some = refl
 
+-- what does not hold is denied
 not_of_false : (a : Bool) → a ≡ false → not a ≡ true
 not_of_false true h = absurd (cc)
 not_of_false false h = refl
@@ -36,6 +33,7 @@ begins_front : (test : ℕ → Bool) (front rest : List ℕ) → begins test (fr
 begins_front test [] rest h = refl
 begins_front test (b ∷ front) rest h = h
 
+-- the pieces of a value of a text, and its last one
 pieces_are : (pieces : List Piece) (last rest : List ℕ) → IsEnded pieces last rest → (list_all is_piece pieces ≡ true) × (ends is_white last ≡ false)
 pieces_are [] last rest ended = (refl, ended.0)
 pieces_are (p ∷ pieces) last rest ended = elim ended [
@@ -63,10 +61,12 @@ value_is v rest fits =
     (both_hold (not (begins is_blank (spelled_value v)) && are_paired false (value_units v)) (list_all is_piece v.pieces)
     (both_hold (not (begins is_blank (spelled_value v))) (are_paired false (value_units v)) front fits.units) p.0) last
 
+-- what is assigned in a text may be so in a state
 assigned_is : (blanks : List ℕ) (assigned : Option Assigned) (rest : List ℕ) → FitsAssigned blanks assigned rest → is_assigned assigned ≡ true
 assigned_is blanks None rest fits = refl
 assigned_is blanks (Some a) rest fits = both_hold (list_all is_blank a.blanks) (is_value a.value) fits.0 (value_is a.value rest fits.1)
 
+-- a header that fits is one of a state
 header_is : (h : Header) → FitsHeader h → is_header h ≡ true
 header_is (PlainHeader name) fits = fits.1
 header_is (DottedHeader name subsection) fits = both_hold _ _ fits.0 fits.1
@@ -81,9 +81,9 @@ part_is (ItemPart (CommentItem tag text)) rest fits = both_hold _ _ fits.0 fits.
 part_is (ItemPart (EntryItem e)) rest fits = both_hold _ _ (both_hold _ _ fits.0 fits.1) (assigned_is e.blanks e.assigned rest fits.2)
 part_is (HeaderPart h) rest fits = header_is h fits
 
+-- So are fitting parts.
 pub parts_are : (parts : List Part) → AreFit parts [] → list_all is_part parts ≡ true
-parts_are [] fits = refl
-parts_are (p ∷ parts) fits = both_hold (is_part p) (list_all is_part parts) (part_is p (spelled parts ++ []) fits.0) (parts_are parts fits.1)
+parts_are = fit_parts_pass is_part part_is
 
 -- blanks that a filter keeps or drops
 kept_blanks_are : (q : Token → Bool) (run : List ℕ) → list_all is_blank run ≡ true → list_all is_blank (kept_run q WhitespaceToken run) ≡ true
@@ -93,6 +93,7 @@ kept_blanks_are q run all = go (q (WhitespaceToken run))
     go true = all
     go false = refl
 
+-- a piece whose line end a filter keeps or drops
 kept_piece_is : (q : Token → Bool) (p : Piece) → is_piece p ≡ true → is_piece (kept_piece q p) ≡ true
 kept_piece_is q p is = go (q (NewlineToken p.line_end))
   where
@@ -100,12 +101,14 @@ kept_piece_is q p is = go (q (NewlineToken p.line_end))
     go true = is
     go false = refl
 
+-- pieces whose line ends it keeps or drops
 kept_pieces_are : (q : Token → Bool) (pieces : List Piece) → list_all is_piece pieces ≡ true → list_all is_piece (map (kept_piece q) pieces) ≡ true
 kept_pieces_are q [] all = refl
 kept_pieces_are q (p ∷ pieces) all =
     let b = both_true (is_piece p) (list_all is_piece pieces) all in
     both_hold (is_piece (kept_piece q p)) (list_all is_piece (map (kept_piece q) pieces)) (kept_piece_is q p b.0) (kept_pieces_are q pieces b.1)
 
+-- the units of a value stay
 kept_units : (q : Token → Bool) (pieces : List Piece) (last : List TextUnit)
     → flat_map (λ (p : Piece). units_of p.text) (map (kept_piece q) pieces) ++ last ≡ flat_map (λ (p : Piece). units_of p.text) pieces ++ last
 kept_units q pieces last = ap (λ t. t ++ last) (go pieces)
@@ -125,6 +128,7 @@ kept_front q (p ∷ pieces) last = go p.text (kept_run q NewlineToken p.line_end
     go [] line_end other more others = refl
     go (b ∷ text) line_end other more others = refl
 
+-- a value whose line ends it keeps or drops
 kept_value_is : (q : Token → Bool) (v : Value) → is_value v ≡ true → is_value (record { pieces = map (kept_piece q) v.pieces; last = v.last }) ≡ true
 kept_value_is q v is =
     let last = both_true (not (begins is_blank (spelled_value v)) && are_paired false (value_units v) && list_all is_piece v.pieces) (not (ends is_white v.last)) is in
@@ -135,21 +139,19 @@ kept_value_is q v is =
     (ap (are_paired false) (kept_units q v.pieces (units_of v.last)) ∙ front.1))
     (kept_pieces_are q v.pieces pieces.1)) last.1
 
+-- what is assigned, with blanks and line ends kept or dropped
 kept_assigned_is : (q : Token → Bool) (assigned : Option Assigned) → is_assigned assigned ≡ true → is_assigned (kept_assigned q assigned) ≡ true
 kept_assigned_is q None is = refl
 kept_assigned_is q (Some a) is =
     let b = both_true (list_all is_blank a.blanks) (is_value a.value) is in
     both_hold _ _ (kept_blanks_are q a.blanks b.0) (kept_value_is q a.value b.1)
 
-where_kept_is : (t : Bool) (p : Part) → is_part p ≡ true → list_all is_part (where_kept t p) ≡ true
-where_kept_is true p is = rw is refl
-where_kept_is false p is = refl
-
+-- what a filter leaves of a part of a state
 kept_part_is : (q : Token → Bool) (p : Part) → is_part p ≡ true → list_all is_part (kept_part q p) ≡ true
 kept_part_is q (HeaderPart h) is = rw is refl
-kept_part_is q (ItemPart (BlanksItem run)) is = where_kept_is _ (ItemPart (BlanksItem run)) is
-kept_part_is q (ItemPart (LineEndsItem run)) is = where_kept_is _ (ItemPart (LineEndsItem run)) is
-kept_part_is q (ItemPart (CommentItem tag text)) is = where_kept_is _ (ItemPart (CommentItem tag text)) is
+kept_part_is q (ItemPart (BlanksItem run)) is = where_kept_passes is_part _ (ItemPart (BlanksItem run)) is
+kept_part_is q (ItemPart (LineEndsItem run)) is = where_kept_passes is_part _ (ItemPart (LineEndsItem run)) is
+kept_part_is q (ItemPart (CommentItem tag text)) is = where_kept_passes is_part _ (ItemPart (CommentItem tag text)) is
 kept_part_is q (ItemPart (EntryItem e)) is =
     let b = both_true _ (is_assigned e.assigned) is in
     let c = both_true _ (list_all is_blank e.blanks) b.0 in
@@ -157,7 +159,4 @@ kept_part_is q (ItemPart (EntryItem e)) is =
 
 -- What a filter leaves of parts of a state are such parts.
 pub kept_parts_are : (q : Token → Bool) (parts : List Part) → list_all is_part parts ≡ true → list_all is_part (kept_parts q parts) ≡ true
-kept_parts_are q [] all = refl
-kept_parts_are q (p ∷ parts) all =
-    let b = both_true (is_part p) (list_all is_part parts) all in
-    list_all-append is_part (kept_part q p) (kept_parts q parts) ∙ both_hold _ _ (kept_part_is q p b.0) (kept_parts_are q parts b.1)
+kept_parts_are q = kept_parts_pass is_part is_part q (kept_part_is q)

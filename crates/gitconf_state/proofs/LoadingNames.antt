@@ -34,6 +34,7 @@ Follows OpenComment rest = is_line_closed rest ≡ true
 pub first_fits : (p : Part) (parts : List Part) → AreFit (p ∷ parts) [] → FitsPart p (spelled parts)
 first_fits p parts fits = subst (λ t. FitsPart p t) (append-nil (spelled parts)) fits.0
 
+-- a letter is none of the bytes that stand for something in a value
 letter_is_other : (b : ℕ) → is_ascii_alphabetic b ≡ true → class_of b ≡ Other
 letter_is_other b h = rw (
   apart is_ascii_alphabetic 10 b refl h,
@@ -47,6 +48,7 @@ letter_is_other b h = rw (
     letter_no_whitespace : (b : ℕ) → is_ascii_alphabetic b ≡ true → is_whitespace b ≡ true → ⊥
     letter_no_whitespace b h white = grind (arith, nat_tests)
 
+-- a blank is white space
 blank_is_white : (b : ℕ) → is_blank b ≡ true → class_of b ≡ White
 blank_is_white b h = go (b == 32) refl
   where
@@ -59,6 +61,7 @@ entry_begins : (name rest : List ℕ) → is_value_name name ≡ true → (b : �
 entry_begins [] rest is = absurd (cc)
 entry_begins (b ∷ name) rest is = (b, name ++ rest, refl, (both_true _ _ is).0)
 
+-- a letter may not follow a value
 letter_behind_value : (b : ℕ) (rest : List ℕ) → is_ascii_alphabetic b ≡ true → may_follow_value (b ∷ rest) ≡ true → ⊥
 letter_behind_value b rest letter h = let k = rw (letter_is_other b letter, may_follow_value) at h in cc
 
@@ -69,6 +72,7 @@ past_blanks (b ∷ run) rest all h =
     let p = both_true (is_blank b) (list_all is_blank run) all in
     past_blanks run rest p.1 (rw (blank_is_white b p.0, may_follow_value) at h)
 
+-- what follows a value of a text may follow one
 value_end : (pieces : List Piece) (last rest : List ℕ) → IsEnded pieces last rest → may_follow_value rest ≡ true
 value_end [] last rest ended = ended.1
 value_end (p ∷ pieces) last rest ended = elim ended [
@@ -107,6 +111,7 @@ behind_blanks OpenKeyAndBlanks (b ∷ run) rest some all h = tt
 behind_blanks OpenValue (b ∷ run) rest some all h = past_blanks (b ∷ run) rest all h
 behind_blanks OpenComment (b ∷ run) rest some all h = absurd (let k = line_end_no_blank b (run ++ rest) h in let l = (both_true (is_blank b) _ all).0 in cc)
 
+-- what an entry without `=` leaves open
 behind_key : (blanks rest : List ℕ) → begins is_name_byte (blanks ++ rest) ≡ false → Follows (after_blanks blanks OpenKey) rest
 behind_key [] rest h = h
 behind_key (b ∷ blanks) rest h = tt
@@ -116,6 +121,7 @@ behind_closed : (blanks : List ℕ) (assigned : Option Assigned) (rest : List �
 behind_closed blanks None rest fits = behind_key blanks rest fits.0
 behind_closed blanks (Some a) rest fits = value_end a.value.pieces a.value.last rest fits.1.end
 
+-- the same behind an entry without `=` and blanks
 behind_key_and_blanks : (blanks : List ℕ) (assigned : Option Assigned) (rest : List ℕ) → FitsAssigned blanks assigned rest → Follows (after_entry OpenKeyAndBlanks blanks assigned) rest
 behind_key_and_blanks blanks None rest fits = behind_key blanks rest fits.0
 behind_key_and_blanks blanks (Some a) rest fits = value_end a.value.pieces a.value.last rest fits.1.end

@@ -38,10 +38,12 @@ put (NameToken name) (MadeValue blanks v parts) = MadeParts (ItemPart (EntryItem
 put (NameToken name) (MadeAssigned blanks a parts) = MadeParts (ItemPart (EntryItem (record { name = name; blanks = blanks; assigned = Some a })) ∷ parts)
 put t m = MadeParts []
 
+-- all tokens before what others make
 abbrev made : List Token → Made → Made
 made [] m = m
 made (t ∷ tokens) m = put t (made tokens m)
 
+-- tokens put together make what the first ones make before the others
 made-append : (xs ys : List Token) (m : Made) → made (xs ++ ys) m ≡ made xs (made ys m)
 made-append [] ys m = refl
 made-append (x ∷ xs) ys m = ap (put x) (made-append xs ys m)
@@ -54,6 +56,7 @@ made_piece p v parts = go p.text p.line_end
     go text [] = refl
     go text (b ∷ bytes) = refl
 
+-- pieces with their line ends, and the last one
 made_pieces : (pieces : List Piece) (last : List ℕ) (parts : List Part)
     → made (flat_map piece_tokens pieces ++ ValueDoneToken last ∷ []) (MadeParts parts) ≡ MadeValue [] (record { pieces = pieces; last = last }) parts
 made_pieces [] last parts = refl
@@ -63,15 +66,17 @@ made_pieces (p ∷ pieces) last parts =
     ∙ ap (made (piece_tokens p)) (made_pieces pieces last parts)
     ∙ made_piece p (record { pieces = pieces; last = last }) parts
 
+-- a value
 made_value : (pieces : List Piece) (last : List ℕ) (parts : List Part) → made (value_tokens pieces last) (MadeParts parts) ≡ MadeValue [] (record { pieces = pieces; last = last }) parts
 made_value [] last parts = refl
 made_value (p ∷ pieces) last parts = made_pieces (p ∷ pieces) last parts
 
--- blanks before a value, and before a separator
+-- blanks before a value
 made_value_blanks : (blanks : List ℕ) (v : Value) (parts : List Part) → made (filled WhitespaceToken blanks) (MadeValue [] v parts) ≡ MadeValue blanks v parts
 made_value_blanks [] v parts = refl
 made_value_blanks (b ∷ blanks) v parts = refl
 
+-- blanks before a separator
 made_assigned_blanks : (blanks : List ℕ) (a : Assigned) (parts : List Part) → made (filled WhitespaceToken blanks) (MadeAssigned [] a parts) ≡ MadeAssigned blanks a parts
 made_assigned_blanks [] a parts = refl
 made_assigned_blanks (b ∷ blanks) a parts = refl
@@ -90,6 +95,7 @@ made_entry name blanks (Some a) parts = ap (put (NameToken name)) (
     ∙ made_value_blanks a.blanks a.value parts)
     ∙ made_assigned_blanks blanks a parts)
 
+-- a part before parts
 made_part : (p : Part) (parts : List Part) → made (part_tokens p) (MadeParts parts) ≡ MadeParts (p ∷ parts)
 made_part (ItemPart (BlanksItem run)) parts = refl
 made_part (ItemPart (LineEndsItem run)) parts = refl
@@ -97,6 +103,7 @@ made_part (ItemPart (CommentItem tag text)) parts = refl
 made_part (ItemPart (EntryItem e)) parts = made_entry e.name e.blanks e.assigned parts
 made_part (HeaderPart h) parts = refl
 
+-- The tokens of parts make these parts.
 made_parts : (parts : List Part) → made (tokens_of parts) (MadeParts []) ≡ MadeParts parts
 made_parts [] = refl
 made_parts (p ∷ parts) =
@@ -107,17 +114,20 @@ pub same_parts : (parts others : List Part) → tokens_of parts ≡ tokens_of ot
 same_parts parts others same =
     let e : MadeParts parts ≡ MadeParts others = sym (made_parts parts) ∙ ap (λ t. made t (MadeParts [])) same ∙ made_parts others in cc
 
--- the parts of a section and of a state, but for those that are held
+-- the parts of a section, but for those that are held
 abbrev pub own_section_parts : SectionState → List Part
 own_section_parts s = HeaderPart s.header ∷ map ItemPart s.items
 
+-- the parts of a state, but for those that are held
 abbrev pub own_parts : State → List Part
 own_parts state = map ItemPart state.front ++ flat_map own_section_parts state.sections
 
+-- items as parts have their tokens
 pub items_have_tokens : (items : List Item) → tokens_of (map ItemPart items) ≡ flat_map item_tokens items
 items_have_tokens [] = refl
 items_have_tokens (i ∷ items) = ap (λ t. item_tokens i ++ t) (items_have_tokens items)
 
+-- so have sections
 pub sections_have_tokens : (sections : List SectionState) → tokens_of (flat_map own_section_parts sections) ≡ flat_map section_tokens sections
 sections_have_tokens [] = refl
 sections_have_tokens (s ∷ sections) =

@@ -11,7 +11,7 @@ ghost use Rattle.gitconf_state.specs.State.{State, HasItems, document_of, entrie
 ghost use Rattle.gitconf_state.specs.Printing.{printed, printed_kept, printed_section};
 ghost use Rattle.gitconf_state.specs.Clean.{IsClean};
 ghost use Rattle.gitconf_state.specs.Loads.{IsFullLoad, IsLoad};
-ghost use Rattle.gitconf_state.specs.Inserted.{Inserted};
+ghost use Rattle.gitconf_state.specs.Inserted.{Inserted, IsByteForByte};
 ghost use Rattle.gitconf_state.specs.Comments.{item_comments, comments_of, comments, comments_of_kept};
 
 /// A state loaded from a text has items of a text, also where a filter dropped blanks, line ends and comments. Loaded whole it is
@@ -27,6 +27,12 @@ pub fn loads_are_clean()
 /// Loaded whole and printed, a text keeps the bytes of all its tokens, in order; nothing is put in but a line end behind some of them.
 pub fn full_load_is_inserted()
     ensures { (text : List ℕ) (parts : List Part) (state : State) → IsText text parts → IsFullLoad parts state → Inserted (map spelled_token (tokens_of parts)) (printed state) }
+{}
+
+/// A text is printed byte for byte, but for its mark, where its line ends are of one kind and one ends it, each header stands at the
+/// start of a line, no key stands on a header's line or on another key's, and no value is left open at the end.
+pub fn byte_for_byte()
+    ensures { (text : List ℕ) (parts : List Part) (state : State) → IsText text parts → IsFullLoad parts state → IsByteForByte parts → printed state ≡ unmarked text }
 {}
 
 /// The text of a section alone is read back: its document has the section, and nothing else.
