@@ -1,11 +1,19 @@
 //! Printing a file: its front and its sections, all or those that a filter keeps.
-ghost use Rattle.std.specs.Prelude.{◌≡◌, Bool};
+ghost use Rattle.std.specs.Prelude.{◌≡◌, Bool, true, IfOk};
 ghost use Rattle.std.specs.List.{list_any};
 ghost use Rattle.std.specs.Fn.{ComputesKey};
 ghost use Rattle.gitconf_state.specs.State.{SectionState};
+ghost use Rattle.gitconf_parse.specs.Sink.{Writes, Counts};
+ghost use Rattle.gitconf_write.specs.Bodies.{items_of};
+ghost use Rattle.gitconf_write.specs.LineEnds.{bytes_of_line_end};
+ghost use Rattle.gitconf_store.specs.Texts.{is_front_ended, next_text, ended_behind, sections_text};
 ghost use Rattle.gitconf_store.specs.Views.{shown, sections_left};
 
 use crate::section::{SectionRef, Sections};
+use gitconf_parse::items::Item;
+use gitconf_parse::sink::{Sink, SinkFault};
+use gitconf_write::line_end::{LineEnd, ends_line};
+use gitconf_write::sections::write_line_end_unless;
 
 /// Whether the filter keeps a section. It is asked here alone.
 fn is_kept<F: FnMut(&SectionRef<'_>) -> bool>(filter: &mut F, section: &SectionRef<'_>) -> bool
@@ -30,4 +38,46 @@ fn is_any_kept<F: FnMut(&SectionRef<'_>) -> bool>(filter: &mut F, sections: Sect
         }
     }
     false
+}
+
+/// Whether no line end is missing behind a front: it is empty, or ends with one, or no section is kept.
+pub(crate) fn front_is_ended<F: FnMut(&SectionRef<'_>) -> bool>(
+    buffer: &[u8],
+    front: &[Item],
+    sections: Sections<'_>,
+    line_end: LineEnd,
+    filter: &mut F,
+) -> bool
+    requires { F.IsAlwaysCallable filter.old }
+    ensures callable { F.IsAlwaysCallable filter.new }
+    ensures exact { (keeps : SectionState → Bool) → ComputesKey F.FnMut (λ r. keeps (shown r)) filter.old
+        → ComputesKey F.FnMut (λ r. keeps (shown r)) filter.new
+        × (result ≡ is_front_ended keeps (bytes_of_line_end line_end) (items_of buffer.now front.now) (sections_left sections.entry)) }
+{
+    front.is_empty() || ends_line(buffer, front, line_end) || !is_any_kept(filter, sections)
+}
+
+/// Writes a section that the filter keeps, behind a line end where the last one ended without. Answers whether a line
+/// end stands behind the last section that was written.
+fn write_next<W: Sink, F: FnMut(&SectionRef<'_>) -> bool>(
+    out: &mut W,
+    ended: bool,
+    section: &SectionRef<'_>,
+    line_end: LineEnd,
+    filter: &mut F,
+) -> Result<bool, SinkFault>
+    requires { F.IsAlwaysCallable filter.old }
+    ensures callable { F.IsAlwaysCallable filter.new }
+    ensures exact { (keeps : SectionState → Bool) → ComputesKey F.FnMut (λ r. keeps (shown r)) filter.old
+        → ComputesKey F.FnMut (λ r. keeps (shown r)) filter.new
+        × Writes result (next_text keeps (bytes_of_line_end line_end) ended (shown section.now)) (W.told out.old) (W.told out.new)
+        × IfOk result (λ e. e ≡ ended_behind keeps (bytes_of_line_end line_end) ended (shown section.now)) }
+    ensures counted { Counts result (W.faults out.old) (W.faults out.new) }
+{
+    write_line_end_unless(out, ended, line_end)?;
+    if !is_kept(filter, section) {
+        return Ok(ended);
+    }
+    section.write_whole(out, line_end)?;
+    Ok(section.ends_with_line(line_end))
 }

@@ -3,6 +3,10 @@ use gitconf_base::meta::Metadata;
 use gitconf_base::util::{SectionId, SectionIter};
 use gitconf_parse::event::Header;
 use gitconf_parse::items::Item;
+use gitconf_parse::sink::{Sink, SinkFault};
+use gitconf_write::line_end as items;
+use gitconf_write::line_end::LineEnd;
+use gitconf_write::sections::{write_held, write_section};
 use std::rc::Rc;
 
 /// A section: its header, where it comes from, its body, and the items held behind it.
@@ -24,6 +28,10 @@ pub struct SectionRef<'a> {
 
 impl<'a> SectionRef<'a> {
     ghost use Rattle.std.specs.Prelude.{◌≡◌};
+    ghost use Rattle.gitconf_parse.specs.Sink.{Writes, Counts};
+    ghost use Rattle.gitconf_state.specs.Printing.{printed_section, ends_with_line};
+    ghost use Rattle.gitconf_write.specs.LineEnds.{bytes_of_line_end};
+    ghost use Rattle.gitconf_store.specs.Texts.{whole_text};
     ghost use Rattle.gitconf_store.specs.Views.{shown};
 
     /// The section's number in its file.
@@ -38,6 +46,38 @@ impl<'a> SectionRef<'a> {
         ensures { result.now ≡ (shown self.now).meta }
     {
         &self.section.meta
+    }
+
+    /// Writes the section alone: its header and its body, with a line end put in where two of its parts would else
+    /// run together. What is held behind it isn't written. One pass, which takes no memory of its own.
+    ///
+    /// # Errors
+    ///
+    /// A write failed, or took nothing. It is not tried again, and a beginning of the section was written.
+    #[tactic(auto, using(crate::proofs::Texts::printed_texts))]
+    pub fn write_to<W: Sink>(&self, out: &mut W) -> Result<(), SinkFault>
+        ensures written { Writes result (printed_section (shown self.now)) (W.told out.old) (W.told out.new) }
+        ensures counted { Counts result (W.faults out.old) (W.faults out.new) }
+    {
+        write_section(out, self.buffer, &self.section.header, &self.section.items)
+    }
+
+    /// Writes the section, and what is held behind it.
+    #[tactic(auto, using(gitconf_parse::proofs::SinkLaws::in_turn, crate::proofs::Texts::printed_texts))]
+    pub(crate) fn write_whole<W: Sink>(&self, out: &mut W, line_end: LineEnd) -> Result<(), SinkFault>
+        ensures written { Writes result (whole_text (bytes_of_line_end line_end) (shown self.now)) (W.told out.old) (W.told out.new) }
+        ensures counted { Counts result (W.faults out.old) (W.faults out.new) }
+    {
+        self.write_to(out)?;
+        write_held(out, self.buffer, &self.section.items, &self.section.held, line_end)
+    }
+
+    /// Whether the section ends with a line end, what is held behind it counted in.
+    #[tactic(auto, using(crate::proofs::Texts::printed_texts))]
+    pub(crate) fn ends_with_line(&self, line_end: LineEnd) -> bool
+        ensures { result ≡ ends_with_line (bytes_of_line_end line_end) (shown self.now) }
+    {
+        items::ends_with_line(self.buffer, &self.section.items, &self.section.held, line_end)
     }
 }
 
