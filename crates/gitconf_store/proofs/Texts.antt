@@ -8,6 +8,7 @@ use Rattle.gitconf_parse.proofs.SinkLaws.{begun_behind, begun_before, Writes-fau
 use Rattle.gitconf_state.specs.State.{SectionState, State}
 use Rattle.gitconf_state.specs.LineEnds.{file_line_end}
 use Rattle.gitconf_state.specs.Printing.{Closed, unless, ends_with_line, held_items, section_parts, printed_section, printed_items, sections_parts, behind_front, printed_parts, printed_kept}
+use Rattle.gitconf_write.proofs.Left.{IsLeft, left_all, left_first, left_fault}
 use Rattle.gitconf_write.proofs.Printed.{spelled-items, printed_section-is, held_items-text, ends_with_line-both}
 use Rattle.gitconf_store.specs.Texts.{line_end_unless, whole_text, sections_text, next_text, ended_behind, is_front_ended}
 
@@ -75,6 +76,27 @@ pub kept_fault : {T E : Type 0} (r : Result T E) (keeps : SectionState → Bool)
 kept_fault r keeps line_end ended s old mid new fault kept written begun =
     rw kept (Writes-fault r (line_end_unless ended line_end ++ whole_text line_end s) old new fault
     (begun_behind (line_end_unless ended line_end) (whole_text line_end s) old new (subst (λ m. is_begun (whole_text line_end s) m new ≡ true) written begun)))
+
+-- the front, as it is printed
+abbrev pub front_text : State → List ℕ
+front_text state = flat_map spelled_item (printed_items false (file_line_end state) Closed state.front)
+
+-- what stands behind the front: a line end, if one is missing, and the sections
+abbrev pub behind_text : (keeps : SectionState → Bool) → State → List ℕ
+behind_text keeps state = line_end_unless (is_front_ended keeps (file_line_end state) state.front state.sections) (file_line_end state)
+
+-- a fault in the front
+pub front_fault : {T E : Type 0} (r : Result T E) (keeps : SectionState → Bool) (state : State) (text : List ℕ) (old new : Option (List ℕ))
+    → IsErr r → text ≡ front_text state → is_begun text old new ≡ true → Writes r (printed_kept keeps state) old new
+front_fault r keeps state text old new fault same begun =
+    left_fault r (printed_kept keeps state) (printed_kept keeps state) (front_text state) _ old old new fault (left_all (printed_kept keeps state) old) (whole_file keeps state)
+    (subst (λ t. is_begun t old new ≡ true) same begun)
+
+-- behind the front
+pub front_left : (keeps : SectionState → Bool) (state : State) (text : List ℕ) (old new : Option (List ℕ))
+    → text ≡ front_text state → new ≡ with_text text old
+    → IsLeft (printed_kept keeps state) (behind_text keeps state ++ sections_text keeps (file_line_end state) true state.sections) old new
+front_left keeps state text old new same written = left_first (printed_kept keeps state) (front_text state) _ old new (whole_file keeps state) (written ∙ ap (λ t. with_text t old) same)
 
 -- a refusal says nothing of what would be answered
 pub refused : {T E : Type 0} (r : Result T E) (P : T → Type 0) → IsErr r → IfOk r P

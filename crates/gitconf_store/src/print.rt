@@ -81,3 +81,22 @@ fn write_next<W: Sink, F: FnMut(&SectionRef<'_>) -> bool>(
     section.write_whole(out, line_end)?;
     Ok(section.ends_with_line(line_end))
 }
+
+/// Writes the sections that the filter keeps, and the line ends between them.
+pub(crate) fn write_sections<W: Sink, F: FnMut(&SectionRef<'_>) -> bool>(
+    out: &mut W,
+    sections: Sections<'_>,
+    line_end: LineEnd,
+    filter: &mut F,
+) -> Result<(), SinkFault>
+    requires { F.IsAlwaysCallable filter.old }
+    ensures exact { (keeps : SectionState → Bool) → ComputesKey F.FnMut (λ r. keeps (shown r)) filter.old
+        → Writes result (sections_text keeps (bytes_of_line_end line_end) true (sections_left sections.entry)) (W.told out.old) (W.told out.new) }
+    ensures counted { Counts result (W.faults out.old) (W.faults out.new) }
+{
+    let mut ended = true;
+    for section in sections {
+        ended = write_next(out, ended, &section, line_end, filter)?;
+    }
+    write_line_end_unless(out, ended, line_end)
+}

@@ -5,13 +5,19 @@ ghost use Rattle.gitconf_state.specs.State.{HasItems};
 ghost use Rattle.gitconf_store.specs.Store.{loaded};
 
 use crate::load::load_sections;
-use crate::section::{Section, Sections};
+use crate::print::{front_is_ended, write_sections};
+use crate::section::{Section, SectionRef, Sections};
+use crate::tokens;
+use bstr::BString;
 use gitconf_base::meta::Metadata;
 use gitconf_base::util::SectionTable;
 use gitconf_parse::error::Error;
 use gitconf_parse::events::{Events, keeps_meaning};
 use gitconf_parse::items::{Item, Items};
+use gitconf_parse::sink::{Sink, SinkFault};
 use gitconf_text::NoMemory;
+use gitconf_write::line_end::LineEnd;
+use gitconf_write::sections::{write_front, write_line_end_unless};
 use std::alloc::Global;
 use std::marker::Model;
 use std::rc::Rc;
@@ -55,6 +61,16 @@ impl Store {
     ghost use Rattle.gitconf_parse.specs.EventResult.{IsRefused};
     ghost use Rattle.gitconf_parse.specs.TokenDocument.{keeps_meaning};
     ghost use Rattle.gitconf_store.specs.Made.{IsMade};
+    ghost use Rattle.std.specs.Prelude.{Bool};
+    ghost use Rattle.std.specs.Fn.{ComputesKey};
+    ghost use Rattle.bstr.specs.Owned.{bstring_bytes};
+    ghost use Rattle.gitconf_parse.specs.Sink.{Writes, Counts};
+    ghost use Rattle.gitconf_state.specs.State.{SectionState};
+    ghost use Rattle.gitconf_state.specs.LineEnds.{file_line_end};
+    ghost use Rattle.gitconf_state.specs.Printing.{printed, printed_kept};
+    ghost use Rattle.gitconf_write.specs.LineEnds.{bytes_of_line_end};
+    ghost use Rattle.gitconf_store.specs.Counts.{are_void, section_entries};
+    ghost use Rattle.gitconf_store.specs.Views.{shown};
 
     /// A file without front and sections. Takes no memory.
     pub fn new(alloc: Global, meta: Rc<Metadata>) -> Store
@@ -133,6 +149,99 @@ impl Store {
         ensures { result.now ≡ self.now.meta }
     {
         &self.meta
+    }
+
+    /// The line end that the file uses: that of the first newline of its front, or else of its sections' bodies in
+    /// order, those within values too; LF where there is none. What is held behind sections isn't asked.
+    fn line_end(&self) -> LineEnd
+        ensures { bytes_of_line_end result ≡ file_line_end self.now }
+    {
+        tokens::file_line_end(&self.buffer, &self.front, self.sections())
+    }
+
+    /// The line end that the file uses, LF or CR LF: that of the first newline of its front, or else of its
+    /// sections' bodies in order, those within values too; LF where there is none. Takes no memory.
+    pub fn detect_newline_style(&self) -> &'static [u8]
+        ensures { result.now ≡ file_line_end self.now }
+    {
+        self.line_end().as_bytes()
+    }
+
+    /// Whether no section has anything in its body. Takes no memory.
+    pub fn is_void(&self) -> bool
+        ensures { result ≡ are_void self.now.sections }
+    {
+        tokens::are_void(self.sections())
+    }
+
+    /// How many entries the sections have, those of the front not counted. Takes no memory, and a walk over all.
+    pub fn num_values(&self) -> usize
+        ensures { let n = length (section_entries self.now.sections) in n < 2 ^ 64 → result ≡ n }
+    {
+        tokens::value_count(self.sections())
+    }
+
+    /// Writes the front and the sections that `filter` keeps, with line ends put in where parts would else run
+    /// together. One pass, which takes no memory of its own.
+    ///
+    /// The filter is asked about each section in file order; and before that, where the front isn't empty and doesn't
+    /// end with a line end, about the sections up to the first that it keeps.
+    ///
+    /// # Errors
+    ///
+    /// A write failed, or took nothing. It is not tried again, and a beginning of the text was written.
+    pub fn write_to_filter<W: Sink, F: FnMut(&SectionRef<'_>) -> bool>(
+        &self,
+        out: &mut W,
+        filter: F,
+    ) -> Result<(), SinkFault>
+        requires { F.IsAlwaysCallable filter }
+        // For a filter that answers by what it is shown.
+        ensures exact { (keeps : SectionState → Bool) → ComputesKey F.FnMut (λ r. keeps (shown r)) filter
+            → Writes result (printed_kept keeps self.now) (W.told out.old) (W.told out.new) }
+        ensures counted { Counts result (W.faults out.old) (W.faults out.new) }
+    {
+        let mut filter = filter;
+        let line_end = self.line_end();
+        write_front(out, &self.buffer, &self.front, line_end)?;
+        let ended = front_is_ended(
+            &self.buffer,
+            &self.front,
+            self.sections(),
+            line_end,
+            &mut filter,
+        );
+        write_line_end_unless(out, ended, line_end)?;
+        write_sections(out, self.sections(), line_end, &mut filter)
+    }
+
+    /// Writes the whole file, as [`Store::write_to_filter`] with a filter that keeps all sections.
+    ///
+    /// # Errors
+    ///
+    /// Those of [`Store::write_to_filter`].
+    #[tactic(auto, using(std::proofs::lemmas::Fn::always_returns_same))]
+    pub fn write_to<W: Sink>(&self, out: &mut W) -> Result<(), SinkFault>
+        ensures written { Writes result (printed self.now) (W.told out.old) (W.told out.new) }
+        ensures counted { Counts result (W.faults out.old) (W.faults out.new) }
+    {
+        self.write_to_filter(out, |_| true)
+    }
+
+    /// The text of the whole file, as [`Store::write_to`] writes it. Memory for as many bytes as the file was loaded
+    /// with is taken at once.
+    ///
+    /// # Errors
+    ///
+    /// Want of memory.
+    pub fn to_bstring(&self, alloc: Global) -> Result<BString, NoMemory>
+        ensures { IfOk result (λ text. bstring_bytes text ≡ printed self.now) }
+    {
+        let mut text = Vec::with_capacity(alloc, self.buffer.len())?;
+        match self.write_to(&mut text) {
+            Ok(()) => Ok(BString::new(text)),
+            Err(_) => Err(NoMemory),
+        }
     }
 
     /// The sections in file order.
