@@ -18,7 +18,7 @@ use Rattle.gitconf_state.proofs.ReadsBack.{is_text, filter_all}
 
 -- the comment of a token, if it is one
 abbrev token_comments : Token → List (List ℕ)
-token_comments (CommentToken tag text) = stripped text ∷ []
+token_comments (CommentToken tag text) = (tag ∷ stripped text) ∷ []
 token_comments _ = []
 
 -- blanks are no comment

@@ -65,40 +65,40 @@ put_return rest {document} {comments} f = let c = cut_line_ends f in go c.run c.
 
 -- a comment that ends here
 put_ended : (tag : ℕ) (words : List ℕ) {text : List ℕ} {document : Document} {comments : List (List ℕ)} → is_mark tag ≡ true → list_all (λ b. not (b == 10)) words ≡ true
-    → ends_comment words text ≡ true → Fitted text document comments → Fitted (tag ∷ (words ++ text)) document (stripped words ∷ comments)
+    → ends_comment words text ≡ true → Fitted text document comments → Fitted (tag ∷ (words ++ text)) document ((tag ∷ stripped words) ∷ comments)
 put_ended tag words mark all ended f = put (ItemPart (CommentItem tag words)) (mark, all, ended) f
 
 -- a comment that is all of its line
 put_line : (tag : ℕ) (words : List ℕ) {text : List ℕ} {document : Document} {comments : List (List ℕ)} → is_mark tag ≡ true → list_all (λ b. not (b == 10)) words ≡ true
-    → begins_line_end text ≡ true → Fitted text document comments → Fitted (tag ∷ (words ++ text)) document (stripped words ∷ comments)
+    → begins_line_end text ≡ true → Fitted text document comments → Fitted (tag ∷ (words ++ text)) document ((tag ∷ stripped words) ∷ comments)
 put_line tag words {text} {document} {comments} mark all line = line_end_cases
-    (λ text. Fitted text document comments → Fitted (tag ∷ (words ++ text)) document (stripped words ∷ comments))
+    (λ text. Fitted text document comments → Fitted (tag ∷ (words ++ text)) document ((tag ∷ stripped words) ∷ comments))
     (λ rest f. feed (ends (λ c. c == 13) words) refl rest f)
     (λ rest f. put_ended tag words mark all refl f)
     text line
   where
-    feed : (t : Bool) → ends (λ c. c == 13) words ≡ t → (rest : List ℕ) → Fitted (10 ∷ rest) document comments → Fitted (tag ∷ (words ++ 10 ∷ rest)) document (stripped words ∷ comments)
+    feed : (t : Bool) → ends (λ c. c == 13) words ≡ t → (rest : List ℕ) → Fitted (10 ∷ rest) document comments → Fitted (tag ∷ (words ++ 10 ∷ rest)) document ((tag ∷ stripped words) ∷ comments)
     feed false e rest f = put_ended tag words mark all (rw e refl) f
     feed true e rest f =
         let k = cut_last words e in
         let front_all : list_all (λ b. not (b == 10)) k.0 ≡ true = (both_true _ _ (sym (list_all-append (λ b. not (b == 10)) k.0 (13 ∷ [])) ∙ subst (λ t. list_all (λ b. not (b == 10)) t ≡ true) k.1 all)).0 in
         respelled (ap (λ t. tag ∷ t) (sym (ap (λ t. t ++ 10 ∷ rest) k.1 ∙ append_assoc k.0 (13 ∷ []) (10 ∷ rest))))
-        (recommented (ap (λ t. t ∷ comments) (sym (ap stripped k.1 ∙ stripped-append k.0 (13 ∷ []) refl)))
+        (recommented (ap (λ t. (tag ∷ t) ∷ comments) (sym (ap stripped k.1 ∙ stripped-append k.0 (13 ∷ []) refl)))
         (put_ended tag k.0 mark front_all refl (put_return rest f)))
 
 -- a comment that ends before a line end or at the end
 put_comment_line : (tag : ℕ) (words text : List ℕ) {document : Document} {comments : List (List ℕ)} → is_mark tag ≡ true → list_all (λ b. not (b == 10)) words ≡ true
-    → begins is_blank text ≡ false → may_follow_comment text ≡ true → Fitted text document comments → Fitted (tag ∷ (words ++ text)) document (stripped words ∷ comments)
+    → begins is_blank text ≡ false → may_follow_comment text ≡ true → Fitted text document comments → Fitted (tag ∷ (words ++ text)) document ((tag ∷ stripped words) ∷ comments)
 put_comment_line tag words [] mark all stops follows f = put_ended tag words mark all refl f
 put_comment_line tag words (b ∷ text) mark all stops follows f = put_line tag words mark all (rw (stops, may_follow_comment) at follows) f
 
 -- a comment takes the blanks that follow it
 pub put_comment : (tag : ℕ) (words : List ℕ) {text : List ℕ} {document : Document} {comments : List (List ℕ)} → is_mark tag ≡ true → list_all (λ b. not (b == 10)) words ≡ true
-    → may_follow_comment text ≡ true → Fitted text document comments → Fitted (tag ∷ (words ++ text)) document (stripped words ∷ comments)
+    → may_follow_comment text ≡ true → Fitted text document comments → Fitted (tag ∷ (words ++ text)) document ((tag ∷ stripped words) ∷ comments)
 put_comment tag words {text} {document} {comments} mark all follows f =
     let c = cut_blanks f in
     let joined : list_all (λ b. not (b == 10)) (words ++ c.run) ≡ true = rw (list_all-append (λ b. not (b == 10)) words c.run, all) (blanks_in_line c.run c.passes) in
     let behind : may_follow_comment c.rest ≡ true = sym (comment_skips c.run c.rest c.passes) ∙ ap may_follow_comment (sym c.whole) ∙ follows in
     respelled (ap (λ t. tag ∷ t) (append_assoc words c.run c.rest ∙ ap (λ t. words ++ t) (sym c.whole)))
-    (recommented (ap (λ t. t ∷ comments) (stripped-append words c.run (blanks_stripped c.run c.passes)))
+    (recommented (ap (λ t. (tag ∷ t) ∷ comments) (stripped-append words c.run (blanks_stripped c.run c.passes)))
     (put_comment_line tag (words ++ c.run) c.rest mark joined c.stops behind c.behind))

@@ -1,4 +1,4 @@
--- The comments of a state and of a text.
+-- The comments of a state and of a text, each with its tag.
 use Rattle.std.specs.Prelude.{ℕ, Bool, true, false, List, [], ◌∷◌, ◌++◌, ◌||◌, ◌==◌, flat_map, filter}
 use Rattle.gitconf_text.specs.Bytes.{is_blank}
 use Rattle.gitconf_text.specs.Part.{Item, CommentItem, Part, ItemPart, HeaderPart}
@@ -9,9 +9,9 @@ abbrev pub stripped : List ℕ → List ℕ
 stripped [] = []
 stripped (b ∷ text) = elim (stripped text) [ [] ↦ elim (is_blank b || b == 13) [ true ↦ [] | false ↦ b ∷ [] ] | c ∷ rest ↦ b ∷ c ∷ rest ]
 
--- the comment of an item, if it is one
+-- the comment of an item, if it is one: its tag, and its text without the spaces, tabs and CRs at its end
 abbrev pub item_comments : Item → List (List ℕ)
-item_comments (CommentItem tag text) = stripped text ∷ []
+item_comments (CommentItem tag text) = (tag ∷ stripped text) ∷ []
 item_comments _ = []
 
 abbrev pub part_comments : Part → List (List ℕ)

@@ -49,7 +49,7 @@ pub fn printed_text_reads_back()
     ensures all { (state : State) → HasItems state → IsClean state → Reads (printed state) (document_of state) }
 {}
 
-/// The comments of a printed text are those of what is printed, in order, but for spaces, tabs and CRs at their ends.
+/// The comments of a printed text are those of what is printed, in order, each with its tag, but for spaces, tabs and CRs at their ends.
 pub fn comments_are_kept()
     ensures kept { (keeps : SectionState → Bool) (state : State) → HasItems state → IsClean state
         → (parts : List Part) → IsText (printed_kept keeps state) parts → comments_of parts ≡ comments_of_kept keeps state }
