@@ -1,10 +1,10 @@
 //! Items, written as they are printed.
-ghost use Rattle.std.specs.Prelude.{◌≡◌, ◌++◌, ◌∷◌, map, flat_map, IfOk};
+ghost use Rattle.std.specs.Prelude.{◌≡◌, IfOk};
 ghost use Rattle.gitconf_text.specs.Part.{EntryItem, spelled_item};
 ghost use Rattle.gitconf_text.specs.Value.{spelled_value};
 ghost use Rattle.gitconf_parse.specs.Sink.{Writes, Counts};
-ghost use Rattle.gitconf_parse.specs.Items.{piece_of, value_of, assigned_of, entry_of, item_of};
-ghost use Rattle.gitconf_state.specs.Printing.{closed_piece, closed_assigned, closed_item, Closed};
+ghost use Rattle.gitconf_parse.specs.Items.{piece_of, value_of, entry_of, item_of};
+ghost use Rattle.gitconf_state.specs.Printing.{closed_piece, closed_item, Closed};
 ghost use Rattle.gitconf_write.specs.Bodies.{items_of};
 ghost use Rattle.gitconf_write.specs.LineEnds.{bytes_of_line_end};
 ghost use Rattle.gitconf_write.specs.Texts.{spelled_piece, closed_value, items_text, next_text, behind_next};

@@ -6,3 +6,5 @@ pub mod laws;
 pub mod line_end;
 mod open;
 pub mod sections;
+#[cfg(test)]
+mod tests;

@@ -1,5 +1,5 @@
 //! Line ends: which one a text uses, and where items end with one.
-ghost use Rattle.std.specs.Prelude.{◌≡◌, [], ◌∷◌, map, option_map};
+ghost use Rattle.std.specs.Prelude.{◌≡◌, option_map};
 ghost use Rattle.std.specs.Option.{unwrap_or};
 ghost use Rattle.gitconf_text.specs.Token.{item_tokens};
 ghost use Rattle.gitconf_state.specs.LineEnds as spec;

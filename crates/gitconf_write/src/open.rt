@@ -1,6 +1,6 @@
 //! What a next item would run together with.
 ghost use Rattle.std.specs.Prelude.{◌≡◌, ℕ, List};
-ghost use Rattle.gitconf_parse.specs.Items.{item_of, entry_of, assigned_of};
+ghost use Rattle.gitconf_parse.specs.Items.{item_of, assigned_of};
 ghost use Rattle.gitconf_state.specs.Printing as spec;
 ghost use Rattle.gitconf_parse.specs.Events.{bytes_of};
 ghost use Rattle.gitconf_write.specs.Open.{open_of};

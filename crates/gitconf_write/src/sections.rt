@@ -100,8 +100,8 @@ fn stand_behind_header(items: &[Item]) -> bool
 
 /// Writes a section: its header, and its body as it is printed, with the line end that the body tells.
 ///
-/// A line end stands behind the header where the body's first entry stands on no line of its own. One pass, which takes
-/// no memory of its own.
+/// A line end stands behind the header where the body's first entry stands on no line of its own. The body is looked
+/// through for its first line end, and then read once more; no memory is taken.
 ///
 /// # Errors
 ///
@@ -124,7 +124,7 @@ pub fn write_section<W: Sink>(
 
 /// Writes what is held behind a section with this body, on a line of its own.
 ///
-/// One pass, which takes no memory of its own.
+/// One pass over what is held, and a look at the body's end; no memory is taken.
 ///
 /// # Errors
 ///
