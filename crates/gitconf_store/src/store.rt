@@ -60,6 +60,13 @@ impl Store {
     ghost use Rattle.gitconf_parse.specs.EventList.{keeps_token};
     ghost use Rattle.gitconf_parse.specs.EventResult.{IsRefused};
     ghost use Rattle.gitconf_parse.specs.TokenDocument.{keeps_meaning};
+    ghost use Rattle.std.specs.Prelude.{map};
+    ghost use Rattle.gitconf_text.specs.Document.{Reads, unmarked};
+    ghost use Rattle.gitconf_text.specs.Token.{spelled_token};
+    ghost use Rattle.gitconf_state.specs.State.{document_of, document_of_kept, entries_of};
+    ghost use Rattle.gitconf_state.specs.Clean.{IsClean};
+    ghost use Rattle.gitconf_state.specs.Comments.{comments, comments_of, comments_of_kept};
+    ghost use Rattle.gitconf_state.specs.Inserted.{Inserted, IsByteForByte};
     ghost use Rattle.gitconf_store.specs.Made.{IsMade};
     ghost use Rattle.std.specs.Prelude.{Bool};
     ghost use Rattle.std.specs.Fn.{ComputesKey};
@@ -119,9 +126,20 @@ impl Store {
         Store::from_items(alloc, buffer, items, meta)
     }
 
-    /// The state of a text, all of it.
-    fn whole(alloc: Global, input: &[u8], meta: Rc<Metadata>) -> Result<Store, Error>
+    /// The state of a text, all of it: its front, and its sections under the numbers from 0 on, each from `meta`. One
+    /// pass, which copies the text once.
+    ///
+    /// # Errors
+    ///
+    /// Refusal 1 where the text has no document, with the line and the data from where it can't be read on; refusal 2
+    /// for more than 4294967295 bytes; refusal 27 for want of memory.
+    pub fn from_bytes(alloc: Global, input: &[u8], meta: Rc<Metadata>) -> Result<Store, Error>
         ensures made { IfOk result (λ s. (parts : List Part) × IsText input.now parts × IsMade (tokens_of parts) meta.value (length input.now) s) }
+        ensures document { IfOk result (λ s. Reads input.now (document_of s)) }
+        ensures clean { IfOk result IsClean }
+        // Printed, it is the text with line ends put in, and the text itself, its mark aside, where it needs none.
+        ensures inserted { IfOk result (λ s. (parts : List Part) → IsText input.now parts → Inserted (map spelled_token (tokens_of parts)) (printed s)) }
+        ensures byte_for_byte { IfOk result (λ s. (parts : List Part) → IsText input.now parts → IsByteForByte parts → printed s ≡ unmarked input.now) }
         ensures refused { IfErr result (IsRefused input.now) }
     {
         let events = Events::from_bytes(alloc, input, None)?;
@@ -131,10 +149,18 @@ impl Store {
         }
     }
 
-    /// The state of a text without its blanks, line ends and comments.
-    fn lossy(alloc: Global, input: &[u8], meta: Rc<Metadata>) -> Result<Store, Error>
+    /// The state of a text without its blanks, line ends and comments, which has the same document.
+    ///
+    /// As [`Store::from_bytes`].
+    ///
+    /// # Errors
+    ///
+    /// Those of [`Store::from_bytes`].
+    pub fn from_bytes_lossy(alloc: Global, input: &[u8], meta: Rc<Metadata>) -> Result<Store, Error>
         ensures made { IfOk result (λ s. (parts : List Part) × IsText input.now parts
             × IsMade (filter (keeps_token keeps_meaning) (tokens_of parts)) meta.value (length input.now) s) }
+        ensures document { IfOk result (λ s. Reads input.now (document_of s)) }
+        ensures clean { IfOk result (λ s. entries_of s.front ≡ [] → IsClean s) }
         ensures refused { IfErr result (IsRefused input.now) }
     {
         let events = Events::from_bytes(alloc, input, Some(keeps_meaning))?;
