@@ -4,3 +4,4 @@ pub mod Parsed
 pub mod Filters
 pub mod Counting
 pub mod Texts
+pub mod ReadBack

@@ -1,12 +1,15 @@
 //! Sections as a store keeps them, and views of them.
+use bstr::BString;
 use gitconf_base::meta::Metadata;
 use gitconf_base::util::{SectionId, SectionIter};
 use gitconf_parse::event::Header;
 use gitconf_parse::items::Item;
 use gitconf_parse::sink::{Sink, SinkFault};
+use gitconf_text::NoMemory;
 use gitconf_write::line_end as items;
 use gitconf_write::line_end::LineEnd;
 use gitconf_write::sections::{write_held, write_section};
+use std::alloc::Global;
 use std::rc::Rc;
 
 /// A section: its header, where it comes from, its body, and the items held behind it.
@@ -32,6 +35,11 @@ impl<'a> SectionRef<'a> {
     ghost use Rattle.gitconf_state.specs.Printing.{printed_section, ends_with_line};
     ghost use Rattle.gitconf_write.specs.LineEnds.{bytes_of_line_end};
     ghost use Rattle.gitconf_store.specs.Texts.{whole_text};
+    ghost use Rattle.std.specs.Prelude.{[], ◌∷◌, IfOk};
+    ghost use Rattle.bstr.specs.Owned.{bstring_bytes};
+    ghost use Rattle.gitconf_text.specs.Document.{Reads};
+    ghost use Rattle.gitconf_state.specs.State.{HasSectionItems, section_document};
+    ghost use Rattle.gitconf_state.specs.Clean.{IsCleanSection};
     ghost use Rattle.gitconf_store.specs.Views.{shown};
 
     /// The section's number in its file.
@@ -60,6 +68,24 @@ impl<'a> SectionRef<'a> {
         ensures counted { Counts result (W.faults out.old) (W.faults out.new) }
     {
         write_section(out, self.buffer, &self.section.header, &self.section.items)
+    }
+
+    /// The section alone, as [`SectionRef::write_to`] writes it. Takes memory for the text as it grows.
+    ///
+    /// # Errors
+    ///
+    /// Want of memory.
+    #[tactic(auto, using(crate::proofs::ReadBack::section_text_reads))]
+    pub fn to_bstring(&self, alloc: Global) -> Result<BString, NoMemory>
+        ensures text { IfOk result (λ text. bstring_bytes text ≡ printed_section (shown self.now)) }
+        ensures reads { HasSectionItems (shown self.now) → IsCleanSection (shown self.now)
+            → IfOk result (λ text. Reads (bstring_bytes text) (record { front = []; sections = section_document (shown self.now) ∷ [] })) }
+    {
+        let mut text = Vec::new(alloc);
+        match self.write_to(&mut text) {
+            Ok(()) => Ok(BString::new(text)),
+            Err(_) => Err(NoMemory),
+        }
     }
 
     /// Writes the section, and what is held behind it.

@@ -216,6 +216,7 @@ impl Store {
     /// # Errors
     ///
     /// A write failed, or took nothing. It is not tried again, and a beginning of the text was written.
+    #[tactic(auto, using(gitconf_state::proofs::ReadsBack::kept_reads_back, gitconf_state::proofs::CommentLaws::kept_comments))]
     pub fn write_to_filter<W: Sink, F: FnMut(&SectionRef<'_>) -> bool>(
         &self,
         out: &mut W,
@@ -225,6 +226,9 @@ impl Store {
         // For a filter that answers by what it is shown.
         ensures exact { (keeps : SectionState → Bool) → ComputesKey F.FnMut (λ r. keeps (shown r)) filter
             → Writes result (printed_kept keeps self.now) (W.told out.old) (W.told out.new) }
+        ensures reads { (keeps : SectionState → Bool) → IsClean self.now → Reads (printed_kept keeps self.now) (document_of_kept keeps self.now) }
+        ensures comments { (keeps : SectionState → Bool) → IsClean self.now
+            → (parts : List Part) → IsText (printed_kept keeps self.now) parts → comments_of parts ≡ comments_of_kept keeps self.now }
         ensures counted { Counts result (W.faults out.old) (W.faults out.new) }
     {
         let mut filter = filter;
@@ -246,9 +250,11 @@ impl Store {
     /// # Errors
     ///
     /// Those of [`Store::write_to_filter`].
-    #[tactic(auto, using(std::proofs::lemmas::Fn::always_returns_same))]
+    #[tactic(auto, using(std::proofs::lemmas::Fn::always_returns_same, gitconf_state::proofs::ReadsBack::all_reads_back, gitconf_state::proofs::CommentLaws::all_comments))]
     pub fn write_to<W: Sink>(&self, out: &mut W) -> Result<(), SinkFault>
         ensures written { Writes result (printed self.now) (W.told out.old) (W.told out.new) }
+        ensures reads { IsClean self.now → Reads (printed self.now) (document_of self.now) }
+        ensures comments { IsClean self.now → (parts : List Part) → IsText (printed self.now) parts → comments_of parts ≡ comments self.now }
         ensures counted { Counts result (W.faults out.old) (W.faults out.new) }
     {
         self.write_to_filter(out, |_| true)
@@ -260,8 +266,11 @@ impl Store {
     /// # Errors
     ///
     /// Want of memory.
+    #[tactic(auto, using(crate::proofs::ReadBack::text_reads, crate::proofs::ReadBack::text_comments))]
     pub fn to_bstring(&self, alloc: Global) -> Result<BString, NoMemory>
-        ensures { IfOk result (λ text. bstring_bytes text ≡ printed self.now) }
+        ensures text { IfOk result (λ text. bstring_bytes text ≡ printed self.now) }
+        ensures reads { IsClean self.now → IfOk result (λ text. Reads (bstring_bytes text) (document_of self.now)) }
+        ensures comments { IsClean self.now → IfOk result (λ text. (parts : List Part) → IsText (bstring_bytes text) parts → comments_of parts ≡ comments self.now) }
     {
         let mut text = Vec::with_capacity(alloc, self.buffer.len())?;
         match self.write_to(&mut text) {
@@ -273,7 +282,8 @@ impl Store {
     /// The sections in file order.
     #[tactic(auto, using(crate::proofs::Views::sections_viewed))]
     pub fn sections(&self) -> Sections<'_>
-        ensures { sections_left result ≡ self.now.sections }
+        ensures left { sections_left result ≡ self.now.sections }
+        ensures items { HasItems self.now }
     {
         Sections {
             buffer: &self.buffer,

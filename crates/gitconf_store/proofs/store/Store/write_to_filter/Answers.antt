@@ -2,6 +2,8 @@ use Rattle.std.proofs.Common.{rules, ◌≡◌, Bool, true, false, ◌++◌, ap,
 use Rattle.gitconf_parse.specs.Sink.{Writes, is_begun, with_text}
 use Rattle.gitconf_state.specs.LineEnds.{file_line_end}
 use Rattle.gitconf_state.specs.Printing.{Closed, printed_kept}
+use Rattle.gitconf_state.specs.State.{HasItems}
+use Rattle.gitconf_state.proofs.ReadsBack.{kept_reads_back}
 use Rattle.gitconf_write.specs.Bodies.{items_of}
 use Rattle.gitconf_write.specs.LineEnds.{bytes_of_line_end}
 use Rattle.gitconf_write.specs.Texts.{items_text}
@@ -47,3 +49,12 @@ returns-clause-exact g c = λ keeps h.
     (ap (λ t. t ++ sections_text keeps (file_line_end state) true state.sections) (sym (ap (λ e. line_end_unless e le) ended.1 ∙ behind)))
     c.in_ok-write_line_end_unless.ensures.written)
     others (c.write_sections.ensures.exact keeps ended.0)
+
+pub returns-in_err-write_front-clause-reads : goal.returns-in_err-write_front-clause-reads
+returns-in_err-write_front-clause-reads g c = λ keeps clean. let has : HasItems c.args.self.now = search rules in kept_reads_back keeps c.args.self.now has clean
+
+pub returns-in_err-write_line_end_unless-clause-reads : goal.returns-in_err-write_line_end_unless-clause-reads
+returns-in_err-write_line_end_unless-clause-reads g c = λ keeps clean. let has : HasItems c.args.self.now = search rules in kept_reads_back keeps c.args.self.now has clean
+
+pub returns-clause-reads : goal.returns-clause-reads
+returns-clause-reads g c = λ keeps clean. let has : HasItems c.args.self.now = search rules in kept_reads_back keeps c.args.self.now has clean
