@@ -3,3 +3,4 @@ pub mod Views
 pub mod Parsed
 pub mod Filters
 pub mod Counting
+pub mod ItemEvents

@@ -2,3 +2,4 @@ pub mod Store
 pub mod Views
 pub mod Made
 pub mod Counts
+pub mod ItemEvents
