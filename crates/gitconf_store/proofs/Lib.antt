@@ -5,3 +5,4 @@ pub mod Filters
 pub mod Counting
 pub mod Texts
 pub mod ReadBack
+pub mod ItemEvents

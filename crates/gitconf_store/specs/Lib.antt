@@ -3,3 +3,4 @@ pub mod Views
 pub mod Made
 pub mod Counts
 pub mod Texts
+pub mod ItemEvents

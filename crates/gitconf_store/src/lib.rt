@@ -1,8 +1,9 @@
 //! The state of a git-config file behind one buffer with spans: how it is made, looked at and printed.
 #![tactic(auto)]
 
+pub mod events;
 mod load;
 mod print;
-mod section;
+pub mod section;
 pub mod store;
 mod tokens;

@@ -1,0 +1,46 @@
+-- What an iterator over the events of items has left.
+use Rattle.std.specs.Prelude.{◌≡◌, ℕ, List, [], ◌∷◌, ◌++◌, map, flat_map}
+use Rattle.gitconf_text.specs.Token.{Token, NewlineToken, ValueDoneToken, WhitespaceToken, filled, piece_tokens, assigned_tokens}
+use Rattle.gitconf_parse.specs.declared.event.Span.{Span}
+use Rattle.gitconf_parse.specs.declared.event_ref.EventRef.{EventRef}
+use Rattle.gitconf_parse.specs.declared.items.Piece.{Piece}
+use Rattle.gitconf_parse.specs.declared.items.Assigned.{Assigned}
+use Rattle.gitconf_parse.specs.declared.items.Entry.{Entry}
+use Rattle.gitconf_parse.specs.Events.{bytes_of}
+use Rattle.gitconf_parse.specs.EventRef.{Shown, shown}
+use Rattle.gitconf_parse.specs.Items.{piece_of, assigned_of, tokens_of_value}
+use Rattle.gitconf_parse.specs.ShownEvents.{shown_token}
+use Rattle.gitconf_write.specs.Bodies.{items_of, tokens_in}
+use Rattle.gitconf_store.specs.declared.events.Place.{Place}
+use Rattle.gitconf_store.specs.declared.events.Place.TheVariants as kinds
+use Rattle.gitconf_store.specs.declared.events.ItemEvents.{ItemEvents}
+
+-- the tokens of pieces, and of the last one behind them
+abbrev pub pieces_left : (buffer : List ℕ) → List Piece → (last : Span) → List Token
+pieces_left buffer pieces last = flat_map piece_tokens (map (piece_of buffer) pieces) ++ ValueDoneToken (bytes_of buffer last) ∷ []
+
+-- the tokens behind an entry's name
+abbrev pub named_left : (buffer : List ℕ) → Entry → List Token
+named_left buffer e = filled WhitespaceToken (bytes_of buffer e.blanks) ++ assigned_tokens (assigned_of buffer e.assigned)
+
+-- the tokens behind the separator
+abbrev pub separated_left : (buffer : List ℕ) → Assigned → List Token
+separated_left buffer a = filled WhitespaceToken (bytes_of buffer a.blanks) ++ tokens_of_value buffer a.value
+
+-- the tokens that are left of the entry that a place stands in
+abbrev pub tokens_left : (buffer : List ℕ) → Place → List Token
+tokens_left buffer kinds.Between = []
+tokens_left buffer (kinds.BehindName e) = named_left buffer e.now
+tokens_left buffer (kinds.BehindNameBlanks e) = assigned_tokens (assigned_of buffer e.now.assigned)
+tokens_left buffer (kinds.BehindSeparator a) = separated_left buffer a.now
+tokens_left buffer (kinds.BehindSeparatorBlanks a) = tokens_of_value buffer a.now.value
+tokens_left buffer (kinds.BehindPiece line_end pieces last) = filled NewlineToken (bytes_of buffer line_end) ++ pieces_left buffer pieces.now last
+tokens_left buffer (kinds.BehindPieceEnd pieces last) = pieces_left buffer pieces.now last
+
+-- the event and then what is left behind it are these tokens
+abbrev pub IsFirst : (buffer : List ℕ) → EventRef × Place → List Token → Type 0
+IsFirst buffer r tokens = shown r.0 ∷ map shown_token (tokens_left buffer r.1) ≡ map shown_token tokens
+
+-- the events that are left: those of the entry it stands in, and those of the items behind it
+abbrev pub events_left : ItemEvents → List Shown
+events_left it = map shown_token (tokens_left it.buffer.now it.place ++ tokens_in (items_of it.buffer.now it.items.now))
