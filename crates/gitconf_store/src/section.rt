@@ -1,4 +1,5 @@
 //! Sections as a store keeps them, and views of them.
+use crate::events::ItemEvents;
 use bstr::BString;
 use gitconf_base::meta::Metadata;
 use gitconf_base::util::{SectionId, SectionIter};
@@ -35,7 +36,10 @@ impl<'a> SectionRef<'a> {
     ghost use Rattle.gitconf_state.specs.Printing.{printed_section, ends_with_line};
     ghost use Rattle.gitconf_write.specs.LineEnds.{bytes_of_line_end};
     ghost use Rattle.gitconf_store.specs.Texts.{whole_text};
-    ghost use Rattle.std.specs.Prelude.{[], ◌∷◌, IfOk};
+    ghost use Rattle.std.specs.Prelude.{[], ◌∷◌, map, IfOk};
+    ghost use Rattle.gitconf_parse.specs.ShownEvents.{shown_token};
+    ghost use Rattle.gitconf_write.specs.Bodies.{tokens_in};
+    ghost use Rattle.gitconf_store.specs.ItemEvents.{events_left};
     ghost use Rattle.bstr.specs.Owned.{bstring_bytes};
     ghost use Rattle.gitconf_text.specs.Document.{Reads};
     ghost use Rattle.gitconf_state.specs.State.{HasSectionItems, section_document};
@@ -54,6 +58,20 @@ impl<'a> SectionRef<'a> {
         ensures { result.now ≡ (shown self.now).meta }
     {
         &self.section.meta
+    }
+
+    /// The events of its body, in order.
+    pub fn events(&self) -> ItemEvents<'a>
+        ensures { events_left result ≡ map shown_token (tokens_in (shown self.now).items) }
+    {
+        ItemEvents::over(self.buffer, &self.section.items)
+    }
+
+    /// The events of what is held behind it, in order.
+    pub fn held_events(&self) -> ItemEvents<'a>
+        ensures { events_left result ≡ map shown_token (tokens_in (shown self.now).held) }
+    {
+        ItemEvents::over(self.buffer, &self.section.held)
     }
 
     /// Writes the section alone: its header and its body, with a line end put in where two of its parts would else

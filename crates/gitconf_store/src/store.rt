@@ -4,6 +4,7 @@ ghost use Rattle.gitconf_parse.specs.ItemsFit.{ItemsFit};
 ghost use Rattle.gitconf_state.specs.State.{HasItems};
 ghost use Rattle.gitconf_store.specs.Store.{loaded};
 
+use crate::events::ItemEvents;
 use crate::load::load_sections;
 use crate::print::{front_is_ended, write_sections};
 use crate::section::{Section, SectionRef, Sections};
@@ -76,6 +77,9 @@ impl Store {
     ghost use Rattle.gitconf_state.specs.LineEnds.{file_line_end};
     ghost use Rattle.gitconf_state.specs.Printing.{printed, printed_kept};
     ghost use Rattle.gitconf_write.specs.LineEnds.{bytes_of_line_end};
+    ghost use Rattle.gitconf_parse.specs.ShownEvents.{shown_token};
+    ghost use Rattle.gitconf_write.specs.Bodies.{tokens_in};
+    ghost use Rattle.gitconf_store.specs.ItemEvents.{events_left};
     ghost use Rattle.gitconf_store.specs.Counts.{are_void, section_entries};
     ghost use Rattle.gitconf_store.specs.Views.{shown};
 
@@ -277,6 +281,13 @@ impl Store {
             Ok(()) => Ok(BString::new(text)),
             Err(_) => Err(NoMemory),
         }
+    }
+
+    /// The events of what stands before the first section, in order.
+    pub fn front(&self) -> ItemEvents<'_>
+        ensures { events_left result ≡ map shown_token (tokens_in self.now.front) }
+    {
+        ItemEvents::over(&self.buffer, &self.front)
     }
 
     /// The sections in file order.
