@@ -6,3 +6,4 @@ pub mod Clean
 pub mod Comments
 pub mod Loads
 pub mod Inserted
+pub mod Edit

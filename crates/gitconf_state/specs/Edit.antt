@@ -1,0 +1,183 @@
+-- Edits: each is one update of the list of sections, and its answer.
+-- Source: gix-config; that an entry without `=` gets one is this project's own rule.
+use Rattle.std.specs.Prelude.{ℕ, ◌+◌, Bool, true, false, not, List, [], ◌∷◌, ◌++◌, ◌&&◌, filter, Option, Some, None}
+use Rattle.std.specs.List.{fold, last_or, list_any}
+use Rattle.gitconf_text.specs.Names.{is_made_name, is_same_name, is_valid_or_none, is_value_name}
+use Rattle.gitconf_text.specs.Value.{raw_of, escaped}
+use Rattle.gitconf_text.specs.Header.{Header, PlainHeader, QuotedHeader}
+use Rattle.gitconf_text.specs.Part.{Assigned, Entry, Item, BlanksItem, LineEndsItem, CommentItem, EntryItem}
+use Rattle.gitconf_parse.specs.EventRef.{escaped_subsection}
+use Rattle.gitconf_base.specs.Metadata.{Meta}
+use Rattle.gitconf_state.specs.State.{SectionState, State}
+use Rattle.gitconf_state.specs.LineEnds.{file_line_end}
+use Rattle.gitconf_state.specs.Clean.{is_nameless}
+use Rattle.gitconf_state.specs.Lookup.{is_named}
+
+-- the last element that passes is changed
+abbrev pub update_last : {A : Type 0} → (A → Bool) → (A → A) → List A → List A
+update_last test change [] = []
+update_last test change (x ∷ xs) = elim (list_any test xs) [
+  | true ↦ x ∷ update_last test change xs
+  | false ↦ elim (test x) [ true ↦ change x ∷ xs | false ↦ x ∷ xs ]
+]
+
+-- an entry of the key
+abbrev pub is_entry_of : (key : List ℕ) → Item → Bool
+is_entry_of key (EntryItem e) = is_same_name key e.name
+is_entry_of key _ = false
+
+abbrev pub is_any_entry : Item → Bool
+is_any_entry (EntryItem e) = true
+is_any_entry _ = false
+
+-- the blanks that an editor uses: before a key, and before and behind `=`
+pub record Spacing : Type 0 where
+  pub leading : Option (List ℕ)
+  pub before : List ℕ
+  pub behind : List ℕ
+
+-- the blanks directly before the first entry; last: those directly before these items
+abbrev pub leading_blanks : (last : Option (List ℕ)) → List Item → Option (List ℕ)
+leading_blanks last [] = None
+leading_blanks last (BlanksItem run ∷ items) = leading_blanks (Some run) items
+leading_blanks last (LineEndsItem run ∷ items) = leading_blanks None items
+leading_blanks last (CommentItem tag text ∷ items) = leading_blanks None items
+leading_blanks last (EntryItem e ∷ items) = last
+
+-- the blanks around the first `=`
+abbrev pub separator_blanks : List Item → List ℕ × List ℕ
+separator_blanks [] = ([], [])
+separator_blanks (EntryItem e ∷ items) = elim e.assigned [ None ↦ separator_blanks items | Some a ↦ (e.blanks, a.blanks) ]
+separator_blanks (BlanksItem run ∷ items) = separator_blanks items
+separator_blanks (LineEndsItem run ∷ items) = separator_blanks items
+separator_blanks (CommentItem tag text ∷ items) = separator_blanks items
+
+-- those that a body has; a body without entries gives a tab, a space and a space
+abbrev pub spacing_of : List Item → Spacing
+spacing_of items = elim (list_any is_any_entry items) [
+  | true ↦ record { leading = leading_blanks None items; before = (separator_blanks items).0; behind = (separator_blanks items).1 }
+  | false ↦ record { leading = Some (9 ∷ []); before = 32 ∷ []; behind = 32 ∷ [] }
+]
+
+-- a value as it is written
+abbrev pub assigned_value : (blanks value : List ℕ) → Option Assigned
+assigned_value blanks value = Some (record { blanks = blanks; value = record { pieces = []; last = escaped value } })
+
+-- an entry with another value: where it has `=`, the blanks there stay; else it gets those of the body
+abbrev pub with_value : Spacing → (value : List ℕ) → Item → Item
+with_value spacing value (EntryItem e) = elim e.assigned [
+  | Some a ↦ EntryItem (record { name = e.name; blanks = e.blanks; assigned = assigned_value a.blanks value })
+  | None ↦ EntryItem (record { name = e.name; blanks = spacing.before; assigned = assigned_value spacing.behind value })
+]
+with_value spacing value i = i
+
+-- blanks, if there are any
+abbrev pub leading_item : Option (List ℕ) → List Item
+leading_item None = []
+leading_item (Some run) = BlanksItem run ∷ []
+
+-- a new entry on a line of its own
+abbrev pub new_entry : Spacing → (line_end key value : List ℕ) → List Item
+new_entry spacing line_end key value =
+    leading_item spacing.leading
+    ++ EntryItem (record { name = key; blanks = spacing.before; assigned = assigned_value spacing.behind value })
+    ∷ LineEndsItem line_end ∷ []
+
+-- a body in which the key's last entry has the value, or a new one at the end
+abbrev pub set_value : (line_end key value : List ℕ) → List Item → List Item
+set_value line_end key value items = elim (list_any (is_entry_of key) items) [
+  | true ↦ update_last (is_entry_of key) (with_value (spacing_of items) value) items
+  | false ↦ items ++ new_entry (spacing_of items) line_end key value
+]
+
+-- the raw text that an entry had; no value counts as an empty one
+abbrev pub item_raw : Item → List ℕ
+item_raw (EntryItem e) = elim e.assigned [ None ↦ [] | Some a ↦ raw_of a.value ]
+item_raw _ = []
+
+-- the raw text of the key's last entry
+abbrev pub old_value : (key : List ℕ) → List Item → Option (List ℕ)
+old_value key items = elim (last_or None (filter (is_entry_of key) items)) [ None ↦ None | Some i ↦ Some (item_raw i) ]
+
+-- a header that is made: with a subsection in quotes behind a space
+abbrev pub made_header : (name : List ℕ) → (subsection : Option (List ℕ)) → Header
+made_header name None = PlainHeader name
+made_header name (Some subsection) = QuotedHeader name (32 ∷ []) (escaped_subsection subsection)
+
+-- a new section: its body is one line end, and it comes from where the file does
+abbrev pub new_section : (name : List ℕ) → (subsection : Option (List ℕ)) → State → SectionState
+new_section name subsection state = record {
+  number = state.next;
+  header = made_header name subsection;
+  meta = state.meta;
+  items = LineEndsItem (file_line_end state) ∷ [];
+  held = [];
+}
+
+-- the state with a section more
+abbrev pub with_new_section : (name : List ℕ) → (subsection : Option (List ℕ)) → State → State
+with_new_section name subsection state = record {
+  front = state.front;
+  meta = state.meta;
+  next = state.next + 1;
+  used = state.used;
+  sections = state.sections ++ new_section name subsection state ∷ [];
+}
+
+-- a section that has the name and subsection and passes
+abbrev pub is_target : (name : List ℕ) → (subsection : Option (List ℕ)) → (keeps : Meta → Bool) → SectionState → Bool
+is_target name subsection keeps s = is_named name subsection s && keeps s.meta
+
+-- a section with the value
+abbrev pub section_with : (line_end key value : List ℕ) → SectionState → SectionState
+section_with line_end key value s = record {
+  number = s.number;
+  header = s.header;
+  meta = s.meta;
+  items = set_value line_end key value s.items;
+  held = s.held;
+}
+
+-- the last passing section of the name and subsection with the value, or a new one
+abbrev pub set_raw_value : (name : List ℕ) → (subsection : Option (List ℕ)) → (key : List ℕ) → (keeps : Meta → Bool) → (value : List ℕ) → State → State
+set_raw_value name subsection key keeps value state = elim (list_any (is_target name subsection keeps) state.sections) [
+  | true ↦ record {
+    front = state.front;
+    meta = state.meta;
+    next = state.next;
+    used = state.used;
+    sections = update_last (is_target name subsection keeps) (section_with (file_line_end state) key value) state.sections;
+  }
+  | false ↦ record {
+    front = state.front;
+    meta = state.meta;
+    next = state.next + 1;
+    used = state.used;
+    sections = state.sections ++ section_with (file_line_end state) key value (new_section name subsection state) ∷ [];
+  }
+]
+
+-- what `set_raw_value` answers: the raw text that was there
+abbrev pub replaced_value : (name : List ℕ) → (subsection : Option (List ℕ)) → (key : List ℕ) → (keeps : Meta → Bool) → State → Option (List ℕ)
+replaced_value name subsection key keeps state =
+    elim (last_or None (filter (is_target name subsection keeps) state.sections)) [ None ↦ None | Some s ↦ old_value key s.items ]
+
+-- the edits of a file
+pub data Edit : Type 0 where
+  SetRawValue : (name : List ℕ) (subsection : Option (List ℕ)) (key : List ℕ) (keeps : Meta → Bool) (value : List ℕ) → Edit
+
+-- an edit that was done
+abbrev pub apply : Edit → State → State
+apply (SetRawValue name subsection key keeps value) state = set_raw_value name subsection key keeps value state
+
+-- edits, one behind the other
+abbrev pub apply_all : List Edit → State → State
+apply_all edits state = fold (λ s e. apply e s) state edits
+
+-- the names of an edit are such as a text may have
+abbrev pub is_edit : Edit → Bool
+is_edit (SetRawValue name subsection key keeps value) = is_made_name name && is_valid_or_none subsection && is_value_name key
+
+-- and the section is not one without a name and a subsection
+abbrev pub is_clean_edit : Edit → Bool
+is_clean_edit (SetRawValue name subsection key keeps value) = not (is_nameless (made_header name subsection))
