@@ -6,3 +6,4 @@ pub mod Counting
 pub mod Texts
 pub mod ReadBack
 pub mod ItemEvents
+pub mod Append

@@ -2,6 +2,7 @@
 #![tactic(auto)]
 
 pub mod events;
+pub mod laws;
 mod load;
 mod print;
 pub mod section;

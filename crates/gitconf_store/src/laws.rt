@@ -1,0 +1,14 @@
+//! What holds of buffers and spans, for all of them: each law is a function that does nothing.
+ghost use Rattle.std.specs.Prelude.{◌≡◌, ℕ, List, ◌++◌, length};
+ghost use Rattle.gitconf_parse.specs.declared.event.Header.{Header};
+ghost use Rattle.gitconf_parse.specs.declared.items.Item.{Item};
+ghost use Rattle.gitconf_parse.specs.Events.{header_of, HeaderFits};
+ghost use Rattle.gitconf_parse.specs.ItemsFit.{AreItemsWithin};
+ghost use Rattle.gitconf_write.specs.Bodies.{items_of};
+
+/// Bytes that are appended to a buffer change nothing of what spans within it stand for, and these stand within the longer one.
+pub fn appending_leaves_every_view()
+    ensures items { (buffer more : List ℕ) (items : List Item) → AreItemsWithin (length buffer) items → items_of (buffer ++ more) items ≡ items_of buffer items }
+    ensures headers { (buffer more : List ℕ) (h : Header) → HeaderFits (length buffer) h → header_of (buffer ++ more) h ≡ header_of buffer h }
+    ensures within { (buffer more : List ℕ) (items : List Item) → AreItemsWithin (length buffer) items → AreItemsWithin (length (buffer ++ more)) items }
+{}
