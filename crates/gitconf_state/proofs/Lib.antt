@@ -22,3 +22,4 @@ pub mod ExactItems
 pub mod ExactLineEnds
 pub mod ExactBodies
 pub mod ExactPrinting
+pub mod PrintingRows
