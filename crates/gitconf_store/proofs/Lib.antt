@@ -7,3 +7,5 @@ pub mod Texts
 pub mod ReadBack
 pub mod ItemEvents
 pub mod Append
+pub mod Raw
+pub mod Entries

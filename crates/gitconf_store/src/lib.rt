@@ -4,7 +4,9 @@
 pub mod events;
 pub mod laws;
 mod load;
+mod lookup;
 mod print;
 pub mod section;
 pub mod store;
 mod tokens;
+mod values;

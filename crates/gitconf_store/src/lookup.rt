@@ -1,0 +1,30 @@
+//! What look-ups find in the sections of a store.
+ghost use Rattle.std.specs.Prelude.{◌≡◌, ◌&&◌, Bool, [], None, filter, IfOk, IfErr};
+ghost use Rattle.std.specs.List.{last_or};
+ghost use Rattle.std.specs.Option.{option_map};
+ghost use Rattle.gitconf_text.specs.Names.{is_same_name};
+ghost use Rattle.gitconf_text.specs.Document.{document_entry};
+ghost use Rattle.gitconf_parse.specs.Items.{entry_of};
+ghost use Rattle.gitconf_state.specs.State.{entries_of};
+ghost use Rattle.gitconf_write.specs.Bodies.{items_of};
+
+use gitconf_parse::items::{Entry, Item};
+use gitconf_text::parse::section::bytes::is_same_name;
+
+/// The last entry of a key among items, if there is one. It walks from the end up to that entry.
+#[tactic(auto, using(crate::proofs::Entries::last_entries))]
+pub(crate) fn last_entry<'a>(buffer: &[u8], items: &'a [Item], key: &[u8]) -> Option<&'a Entry>
+    ensures { option_map (λ e. document_entry (entry_of buffer.now e.now)) result
+        ≡ last_or None (filter (λ e. is_same_name key.now e.name) (entries_of (items_of buffer.now items.now))) }
+{
+    let mut rest = items;
+    while let Some((item, before)) = rest.split_last() {
+        if let Item::Entry(entry) = item {
+            if is_same_name(key, entry.name.bytes_in(buffer)) {
+                return Some(entry);
+            }
+        }
+        rest = before;
+    }
+    None
+}
