@@ -4,3 +4,4 @@ pub mod Made
 pub mod Counts
 pub mod Texts
 pub mod ItemEvents
+pub mod Lookups
