@@ -9,3 +9,4 @@ pub mod ItemEvents
 pub mod Append
 pub mod Raw
 pub mod Entries
+pub mod Deciding

@@ -76,8 +76,8 @@ pub(crate) fn last_meaning<F: FnMut(&Metadata) -> bool>(
         → IsFound bstring_bytes result (last_among key.now keeps (named_sections buffer.now sections.entry)) }
 {
     let mut filter = filter;
-    let mut sections = sections;
-    while let Some((_, section)) = sections.next_back() {
+    let mut left = sections;
+    while let Some((_, section)) = left.next_back() {
         if passes(&mut filter, &section.meta) {
             if let Some(assigned) = deciding_value(buffer, section, key) {
                 return Ok(Some(meaning(alloc, buffer, &assigned.value)?));
