@@ -63,6 +63,6 @@ pub last_left : (buffer : List ℕ) (left before : List (ℕ × Section)) (x : �
 last_left buffer left before x is = ap (map (λ (p : ℕ × Section). section_under buffer p.0 p.1)) is ∙ map-append (λ (p : ℕ × Section). section_under buffer p.0 p.1) before (x ∷ [])
 
 -- a refusal where there is a value
-pub refused_found : {T E : Type 0} {bytes : T → List ℕ} (r : Result (Option T) E) (value : Option (List ℕ)) (raw : List ℕ) → IsErr r → value ≡ Some (plain raw) → IsFound bytes r value
-refused_found (Ok t) value raw fault is = absurd (cc)
-refused_found (Err e) value raw fault is = λ none. absurd (let h = sym is ∙ none in cc)
+pub refused_found : {T E : Type 0} (bytes : T → List ℕ) (r : Result (Option T) E) (value : Option (List ℕ)) (raw : List ℕ) → IsErr r → value ≡ Some (plain raw) → IsFound bytes r value
+refused_found bytes (Ok t) value raw fault is = absurd (cc)
+refused_found bytes (Err e) value raw fault is = λ none. absurd (let h = sym is ∙ none in cc)

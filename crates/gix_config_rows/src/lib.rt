@@ -1,8 +1,10 @@
-//! Worked rows of the parser and of the text layer, by their public calls.
+//! Worked rows of the parser, of the text layer and of what stands below files, by their public calls.
 //!
 //! Each expected value is written by hand from the rules of the grammar, and none was taken from a run.
 #![tactic(auto)]
 
+#[cfg(test)]
+mod base;
 #[cfg(test)]
 mod filters;
 #[cfg(test)]
