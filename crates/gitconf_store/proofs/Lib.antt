@@ -10,3 +10,4 @@ pub mod Append
 pub mod Raw
 pub mod Entries
 pub mod Deciding
+pub mod Named

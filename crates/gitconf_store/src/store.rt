@@ -6,6 +6,7 @@ ghost use Rattle.gitconf_store.specs.Store.{loaded};
 
 use crate::events::ItemEvents;
 use crate::load::load_sections;
+use crate::lookup::last_meaning;
 use crate::print::{front_is_ended, write_sections};
 use crate::section::{Section, SectionRef, Sections};
 use crate::tokens;
@@ -68,6 +69,10 @@ impl Store {
     ghost use Rattle.gitconf_state.specs.Clean.{IsClean};
     ghost use Rattle.gitconf_state.specs.Comments.{comments, comments_of, comments_of_kept};
     ghost use Rattle.gitconf_state.specs.Inserted.{Inserted, IsByteForByte};
+    ghost use Rattle.std.specs.Option.{option_copied};
+    ghost use Rattle.gitconf_base.specs.Metadata.{Meta};
+    ghost use Rattle.gitconf_state.specs.Lookup.{last_value};
+    ghost use Rattle.gitconf_store.specs.Lookups.{IsFound};
     ghost use Rattle.gitconf_store.specs.Made.{IsMade};
     ghost use Rattle.std.specs.Prelude.{Bool};
     ghost use Rattle.std.specs.Fn.{ComputesKey};
@@ -281,6 +286,49 @@ impl Store {
             Ok(()) => Ok(BString::new(text)),
             Err(_) => Err(NoMemory),
         }
+    }
+
+    /// The meaning of the last value of a key, or `None` where there is none: that of the last section that has the name,
+    /// without ASCII case, and exactly the subsection, whose metadata passes the filter, and whose last entry of the
+    /// key has a value. No entry of the front is found.
+    ///
+    /// It walks over the sections from the last one on, up to that one. A miss takes no memory.
+    ///
+    /// # Errors
+    ///
+    /// Want of memory for the answer.
+    pub fn string_filter_by<F: FnMut(&Metadata) -> bool>(
+        &self,
+        section_name: &str,
+        subsection_name: Option<&[u8]>,
+        value_name: &str,
+        filter: F,
+    ) -> Result<Option<BString>, NoMemory>
+        requires { F.IsAlwaysCallable filter }
+        // For a filter that answers by what it is shown.
+        ensures { (keeps : Meta → Bool) → ComputesKey F.FnMut keeps filter
+            → IsFound bstring_bytes result (last_value section_name.now (option_copied subsection_name.entry) value_name.now keeps self.now) }
+    {
+        let sections = self.sections.named(section_name, subsection_name);
+        let alloc = *self.buffer.allocator();
+        last_meaning(alloc, &self.buffer, sections, value_name.as_bytes(), filter)
+    }
+
+    /// [`Store::string_filter_by`] with a filter that all metadata passes.
+    ///
+    /// # Errors
+    ///
+    /// Those of [`Store::string_filter_by`].
+    #[tactic(auto, using(std::proofs::lemmas::Fn::always_returns_same))]
+    pub fn string_by(
+        &self,
+        section_name: &str,
+        subsection_name: Option<&[u8]>,
+        value_name: &str,
+    ) -> Result<Option<BString>, NoMemory>
+        ensures { IsFound bstring_bytes result (last_value section_name.now (option_copied subsection_name.entry) value_name.now (λ _. true) self.now) }
+    {
+        self.string_filter_by(section_name, subsection_name, value_name, |_| true)
     }
 
     /// The events of what stands before the first section, in order.
