@@ -57,7 +57,11 @@ impl Model for Events {
 }
 
 /// Refuses an input of more than 4294967295 bytes.
-fn check_len(len: usize) -> Result<(), Error>
+///
+/// # Errors
+///
+/// Refusal 2, with that length.
+pub fn check_len(len: usize) -> Result<(), Error>
     ensures large { IfErr result (λ e. e ≡ too_large_input len) }
     ensures fits { IsOk result ↔ (len < 2 ^ 32) }
 {

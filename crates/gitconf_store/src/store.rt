@@ -276,11 +276,12 @@ impl Store {
     ///
     /// Want of memory.
     #[tactic(auto, using(crate::proofs::ReadBack::text_reads, crate::proofs::ReadBack::text_comments))]
-    pub fn to_bstring(&self, alloc: Global) -> Result<BString, NoMemory>
+    pub fn to_bstring(&self) -> Result<BString, NoMemory>
         ensures text { IfOk result (λ text. bstring_bytes text ≡ printed self.now) }
         ensures reads { IsClean self.now → IfOk result (λ text. Reads (bstring_bytes text) (document_of self.now)) }
         ensures comments { IsClean self.now → IfOk result (λ text. (parts : List Part) → IsText (bstring_bytes text) parts → comments_of parts ≡ comments self.now) }
     {
+        let alloc = *self.buffer.allocator();
         let mut text = Vec::with_capacity(alloc, self.buffer.len())?;
         match self.write_to(&mut text) {
             Ok(()) => Ok(BString::new(text)),

@@ -1,0 +1,9 @@
+use Rattle.std.proofs.Common.{Bool, subst}
+use Rattle.gitconf_text.specs.Document.{Reads}
+use Rattle.gitconf_state.specs.State.{SectionState, document_of_kept}
+use Rattle.gitconf_state.specs.Clean.{IsClean}
+use Rattle.gitconf_state.specs.Printing.{printed_kept}
+use Rattle.gix_config.proofs.file.File.write_to_filter.Goals as goal
+
+pub returns-clause-reads : goal.returns-clause-reads
+returns-clause-reads g c = λ keeps. subst (λ s. IsClean s → Reads (printed_kept keeps s) (document_of_kept keeps s)) c.self.view_is (c.write_to_filter.ensures.reads keeps)

@@ -1,0 +1,251 @@
+//! A file of git's configuration in memory.
+ghost use Rattle.std.specs.Prelude.{◌≡◌};
+
+use bstr::BString;
+use gitconf_base::key::AsKey;
+use gitconf_base::meta::Metadata;
+use gitconf_parse::error::Error;
+use gitconf_parse::events::check_len;
+use gitconf_parse::sink::{Sink, SinkFault};
+use gitconf_store::section::{SectionRef, Sections};
+use gitconf_store::store::Store;
+use gitconf_text::NoMemory;
+use std::alloc::Global;
+use std::marker::Model;
+use std::rc::Rc;
+
+/// A file of git's configuration: what stands before its first section, and its sections in order.
+#[derive(Drop)]
+pub struct File {
+    store: Store,
+}
+
+impl Model for File {
+    ghost use Rattle.gitconf_state.specs.State.{State};
+
+    ghost Value = { State };
+
+    ghost view = { λ f. f.store };
+}
+
+impl File {
+    ghost use Rattle.std.specs.Prelude.{◌≡◌, ◌<◌, ◌^◌, Bool, [], List, true, length, IfOk, IfErr};
+    ghost use Rattle.std.specs.Fn.{ComputesKey};
+    ghost use Rattle.std.specs.Option.{option_copied};
+    ghost use Rattle.bstr.specs.Owned.{bstring_bytes};
+    ghost use Rattle.gitconf_text.specs.Part.{Part};
+    ghost use Rattle.gitconf_text.specs.Document.{IsText, Reads, unmarked};
+    ghost use Rattle.gitconf_text.specs.Token.{tokens_of};
+    ghost use Rattle.gitconf_base.specs.Metadata.{Meta, api_meta};
+    ghost use Rattle.gitconf_parse.specs.EventResult.{IsRefused};
+    ghost use Rattle.gitconf_parse.specs.Sink.{Writes, Counts};
+    ghost use Rattle.gitconf_state.specs.State.{SectionState, document_of, document_of_kept};
+    ghost use Rattle.gitconf_state.specs.Clean.{IsClean};
+    ghost use Rattle.gitconf_state.specs.Comments.{comments, comments_of};
+    ghost use Rattle.gitconf_state.specs.Inserted.{IsByteForByte};
+    ghost use Rattle.gitconf_state.specs.LineEnds.{file_line_end};
+    ghost use Rattle.gitconf_state.specs.Lookup.{last_value};
+    ghost use Rattle.gitconf_state.specs.Printing.{printed, printed_kept};
+    ghost use Rattle.gitconf_store.specs.Counts.{are_void, section_entries};
+    ghost use Rattle.gitconf_store.specs.Lookups.{IsFound};
+    ghost use Rattle.gitconf_store.specs.Made.{IsMade};
+    ghost use Rattle.gitconf_store.specs.Views.{shown, sections_left};
+    ghost use Rattle.gix_config.specs.Keys.{value_of_key};
+
+    /// A file without front and sections. Takes no memory.
+    pub fn new(alloc: Global, meta: Rc<Metadata>) -> File
+        ensures { result ≡ record { front = []; meta = meta.value; next = 0; used = 0; sections = [] } }
+    {
+        File {
+            store: Store::new(alloc, meta),
+        }
+    }
+
+    /// The file that a text is, all of it, as a calling program hands it in ([`Metadata::api`]). One pass, which copies
+    /// the text once.
+    ///
+    /// # Errors
+    ///
+    /// Refusal 1 where the text has no document, with the line and the data from where it can't be read on; refusal 2
+    /// for more than 4294967295 bytes; refusal 27 for want of memory.
+    pub fn try_from_bytes(alloc: Global, input: &[u8]) -> Result<File, Error>
+        ensures made { IfOk result (λ f. (parts : List Part) × IsText input.now parts × IsMade (tokens_of parts) api_meta (length input.now) f) }
+        ensures document { IfOk result (λ f. Reads input.now (document_of f)) }
+        ensures clean { IfOk result IsClean }
+        ensures byte_for_byte { IfOk result (λ f. (parts : List Part) → IsText input.now parts → IsByteForByte parts → printed f ≡ unmarked input.now) }
+        ensures refused { IfErr result (IsRefused input.now) }
+    {
+        check_len(input.len())?;
+        let meta = match Rc::new(alloc, Metadata::api()) {
+            Ok(meta) => meta,
+            Err(_) => return Err(Error::memory()),
+        };
+        let store = Store::from_bytes(alloc, input, meta)?;
+        Ok(File { store })
+    }
+
+    /// Where the file comes from.
+    pub fn meta(&self) -> &Metadata
+        ensures { result.now ≡ self.now.meta }
+    {
+        self.store.meta()
+    }
+
+    /// The sections in file order.
+    pub fn sections(&self) -> Sections<'_>
+        ensures { sections_left result ≡ self.now.sections }
+    {
+        self.store.sections()
+    }
+
+    /// The line end that the file uses, LF or CR LF: that of the first newline of its front, or else of its
+    /// sections' bodies in order; LF where there is none. Takes no memory.
+    pub fn detect_newline_style(&self) -> &'static [u8]
+        ensures { result.now ≡ file_line_end self.now }
+    {
+        self.store.detect_newline_style()
+    }
+
+    /// Whether no section has anything in its body. Takes no memory.
+    pub fn is_void(&self) -> bool
+        ensures { result ≡ are_void self.now.sections }
+    {
+        self.store.is_void()
+    }
+
+    /// How many entries the sections have, those of the front not counted. Takes no memory, and a walk over all.
+    pub fn num_values(&self) -> usize
+        ensures { let n = length (section_entries self.now.sections) in n < 2 ^ 64 → result ≡ n }
+    {
+        self.store.num_values()
+    }
+
+    /// The meaning of the last value of a key such as `remote.origin.url`, or `None` where there is none or where
+    /// the key can't be parsed: that of the last section of the key's name and subsection whose last entry of the
+    /// name has a value. A miss takes no memory.
+    ///
+    /// # Errors
+    ///
+    /// Want of memory for the answer.
+    #[tactic(auto, using(std::proofs::lemmas::Fn::always_returns_same))]
+    pub fn string<K: AsKey>(&self, key: K) -> Result<Option<BString>, NoMemory>
+        ensures { IsFound bstring_bytes result (value_of_key (K.key key) (λ _. true) self.now) }
+    {
+        match key.try_as_key() {
+            Some(key) => {
+                self.string_by(key.section_name, key.subsection_name, key.value_name)
+            }
+            None => Ok(None),
+        }
+    }
+
+    /// As [`File::string`], by the names of the section, the subsection and the value.
+    ///
+    /// # Errors
+    ///
+    /// Those of [`File::string`].
+    pub fn string_by(
+        &self,
+        section_name: &str,
+        subsection_name: Option<&[u8]>,
+        value_name: &str,
+    ) -> Result<Option<BString>, NoMemory>
+        ensures { IsFound bstring_bytes result (last_value section_name.now (option_copied subsection_name.entry) value_name.now (λ _. true) self.now) }
+    {
+        self.store.string_by(section_name, subsection_name, value_name)
+    }
+
+    /// As [`File::string`], of the sections whose metadata passes the filter.
+    ///
+    /// # Errors
+    ///
+    /// Those of [`File::string`].
+    pub fn string_filter<K: AsKey, F: FnMut(&Metadata) -> bool>(
+        &self,
+        key: K,
+        filter: F,
+    ) -> Result<Option<BString>, NoMemory>
+        requires { F.IsAlwaysCallable filter }
+        // For a filter that answers by what it is shown.
+        ensures { (keeps : Meta → Bool) → ComputesKey F.FnMut keeps filter
+            → IsFound bstring_bytes result (value_of_key (K.key key) keeps self.now) }
+    {
+        match key.try_as_key() {
+            Some(key) => self.string_filter_by(
+                key.section_name,
+                key.subsection_name,
+                key.value_name,
+                filter,
+            ),
+            None => Ok(None),
+        }
+    }
+
+    /// As [`File::string_filter`], by the names of the section, the subsection and the value.
+    ///
+    /// # Errors
+    ///
+    /// Those of [`File::string`].
+    pub fn string_filter_by<F: FnMut(&Metadata) -> bool>(
+        &self,
+        section_name: &str,
+        subsection_name: Option<&[u8]>,
+        value_name: &str,
+        filter: F,
+    ) -> Result<Option<BString>, NoMemory>
+        requires { F.IsAlwaysCallable filter }
+        // For a filter that answers by what it is shown.
+        ensures { (keeps : Meta → Bool) → ComputesKey F.FnMut keeps filter
+            → IsFound bstring_bytes result (last_value section_name.now (option_copied subsection_name.entry) value_name.now keeps self.now) }
+    {
+        self.store.string_filter_by(section_name, subsection_name, value_name, filter)
+    }
+
+    /// Writes the front and the sections that `filter` keeps, with line ends put in where parts would else run
+    /// together. One pass, which takes no memory of its own.
+    ///
+    /// # Errors
+    ///
+    /// A write failed, or took nothing. It is not tried again, and a beginning of the text was written.
+    pub fn write_to_filter<W: Sink, F: FnMut(&SectionRef<'_>) -> bool>(
+        &self,
+        out: &mut W,
+        filter: F,
+    ) -> Result<(), SinkFault>
+        requires { F.IsAlwaysCallable filter }
+        // For a filter that answers by what it is shown.
+        ensures exact { (keeps : SectionState → Bool) → ComputesKey F.FnMut (λ r. keeps (shown r)) filter
+            → Writes result (printed_kept keeps self.now) (W.told out.old) (W.told out.new) }
+        ensures reads { (keeps : SectionState → Bool) → IsClean self.now → Reads (printed_kept keeps self.now) (document_of_kept keeps self.now) }
+        ensures counted { Counts result (W.faults out.old) (W.faults out.new) }
+    {
+        self.store.write_to_filter(out, filter)
+    }
+
+    /// Writes the whole file.
+    ///
+    /// # Errors
+    ///
+    /// Those of [`File::write_to_filter`].
+    pub fn write_to<W: Sink>(&self, out: &mut W) -> Result<(), SinkFault>
+        ensures written { Writes result (printed self.now) (W.told out.old) (W.told out.new) }
+        ensures reads { IsClean self.now → Reads (printed self.now) (document_of self.now) }
+        ensures counted { Counts result (W.faults out.old) (W.faults out.new) }
+    {
+        self.store.write_to(out)
+    }
+
+    /// The text of the whole file, as [`File::write_to`] writes it. Memory for as many bytes as the file was loaded
+    /// with is taken at once.
+    ///
+    /// # Errors
+    ///
+    /// Want of memory.
+    pub fn to_bstring(&self) -> Result<BString, NoMemory>
+        ensures text { IfOk result (λ text. bstring_bytes text ≡ printed self.now) }
+        ensures reads { IsClean self.now → IfOk result (λ text. Reads (bstring_bytes text) (document_of self.now)) }
+        ensures comments { IsClean self.now → IfOk result (λ text. (parts : List Part) → IsText (bstring_bytes text) parts → comments_of parts ≡ comments self.now) }
+    {
+        self.store.to_bstring()
+    }
+}

@@ -1,0 +1,8 @@
+//! Git's configuration files: read, looked up and written, as the Rust crate gix-config does it, and proved to do so.
+#![tactic(auto)]
+
+pub mod file;
+
+pub use file::File;
+pub use gitconf_base::key::{AsKey, KeyRef};
+pub use gitconf_base::source::Source;
