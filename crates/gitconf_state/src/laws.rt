@@ -12,6 +12,7 @@ ghost use Rattle.gitconf_state.specs.Printing.{printed, printed_kept, printed_se
 ghost use Rattle.gitconf_state.specs.Clean.{IsClean};
 ghost use Rattle.gitconf_state.specs.Loads.{IsFullLoad, IsLoad};
 ghost use Rattle.gitconf_state.specs.Inserted.{Inserted, IsByteForByte};
+ghost use Rattle.gitconf_state.specs.Edit.{Edit, apply, apply_all, is_edit, is_clean_edit};
 ghost use Rattle.gitconf_state.specs.Comments.{item_comments, comments_of, comments, comments_of_kept};
 
 /// A state loaded from a text has items of a text, also where a filter dropped blanks, line ends and comments. Loaded whole it is
@@ -57,4 +58,18 @@ pub fn comments_are_kept()
         → (parts : List Part) → IsText (printed state) parts → comments_of parts ≡ comments state }
     ensures section { (state : State) → HasItems state → IsClean state
         → AllByRecursion (λ s. (parts : List Part) → IsText (printed_section s) parts → comments_of parts ≡ flat_map item_comments s.items) state.sections }
+{}
+
+/// An edit leaves a state that has items, and a clean one where its section has a name or a subsection. So do edits, one behind the other.
+pub fn edits_keep_states()
+    ensures items { (edit : Edit) (state : State) → is_edit edit ≡ true → HasItems state → HasItems (apply edit state) }
+    ensures clean { (edit : Edit) (state : State) → is_clean_edit edit ≡ true → IsClean state → IsClean (apply edit state) }
+    ensures all_items { (edits : List Edit) (state : State) → list_all is_edit edits ≡ true → HasItems state → HasItems (apply_all edits state) }
+    ensures all_clean { (edits : List Edit) (state : State) → list_all is_clean_edit edits ≡ true → IsClean state → IsClean (apply_all edits state) }
+{}
+
+/// The text of an edited state is read back: it has the document that the edits leave.
+pub fn edited_text_reads_back()
+    ensures { (edits : List Edit) (state : State) → list_all is_edit edits ≡ true → list_all is_clean_edit edits ≡ true → HasItems state → IsClean state
+        → Reads (printed (apply_all edits state)) (document_of (apply_all edits state)) }
 {}
