@@ -83,3 +83,17 @@ replaced_value_at name subsection key keeps state before s behind is passes none
 pub replaced_value_none : (name : List ℕ) (subsection : Option (List ℕ)) (key : List ℕ) (keeps : Meta → Bool) (state : State)
     → list_any (is_target name subsection keeps) state.sections ≡ false → replaced_value name subsection key keeps state ≡ None
 replaced_value_none name subsection key keeps state none = rw (filter_none (is_target name subsection keeps) state.sections none, replaced_value) refl
+
+-- The front, where the file comes from and the bytes of its buffer stay.
+pub set_raw_value_file : (name : List ℕ) (subsection : Option (List ℕ)) (key : List ℕ) (keeps : Meta → Bool) (value : List ℕ) (state : State)
+    → ((set_raw_value name subsection key keeps value state).front ≡ state.front)
+    × ((set_raw_value name subsection key keeps value state).meta ≡ state.meta)
+    × ((set_raw_value name subsection key keeps value state).used ≡ state.used)
+set_raw_value_file name subsection key keeps value state = go (list_any (is_target name subsection keeps) state.sections) refl
+  where
+    go : (t : Bool) → list_any (is_target name subsection keeps) state.sections ≡ t
+        → ((set_raw_value name subsection key keeps value state).front ≡ state.front)
+        × ((set_raw_value name subsection key keeps value state).meta ≡ state.meta)
+        × ((set_raw_value name subsection key keeps value state).used ≡ state.used)
+    go true e = rw (e, set_raw_value) (refl, refl, refl)
+    go false e = rw (e, set_raw_value) (refl, refl, refl)

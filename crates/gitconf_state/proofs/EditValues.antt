@@ -56,11 +56,12 @@ of_key-last key o (EntryItem d ∷ before) e behind same none = go (is_same_name
     go true is later = rw is (later (Some (document_entry d)))
     go false is later = rw is (later o)
 
--- an entry of this name whose raw text is what was written
+-- an entry of this name whose value is what was written
 record Written (name value : List ℕ) (i : Item) : Type 0 where
   entry : Entry
   is : i ≡ EntryItem entry
   same_name : entry.name ≡ name
+  assigned : option_map (λ (a : Assigned). a.value) entry.assigned ≡ Some (record { pieces = []; last = escaped value })
   raw : (document_entry entry).raw ≡ Some (escaped value)
 
 with_value_written : (spacing : Spacing) (value : List ℕ) (e : Entry) → Written e.name value (with_value spacing value (EntryItem e))
@@ -71,14 +72,25 @@ with_value_written spacing value e = go e.assigned refl
       entry = record { name = e.name; blanks = spacing.before; assigned = assigned_value spacing.behind value };
       is = rw (at, with_value) refl;
       same_name = refl;
+      assigned = refl;
       raw = refl;
     }
     go (Some a) at = record {
       entry = record { name = e.name; blanks = e.blanks; assigned = assigned_value a.blanks value };
       is = rw (at, with_value) refl;
       same_name = refl;
+      assigned = refl;
       raw = refl;
     }
+
+-- The key's last entry keeps its name, and has the value.
+pub set_value_entry : (line_end key value : List ℕ) (items before : List Item) (e : Entry) (behind : List Item) → items ≡ before ++ EntryItem e ∷ behind
+    → is_same_name key e.name ≡ true → list_any (is_entry_of key) behind ≡ false
+    → (d : Entry) × (d.name ≡ e.name) × (option_map (λ (a : Assigned). a.value) d.assigned ≡ Some (record { pieces = []; last = escaped value }))
+    × (set_value line_end key value items ≡ before ++ EntryItem d ∷ behind)
+set_value_entry line_end key value items before e behind is same none =
+    let w = with_value_written (spacing_of items) value e in
+    (w.entry, w.same_name, w.assigned, set_value_at line_end key value items before (EntryItem e) behind is same none ∙ ap (λ i. before ++ i ∷ behind) w.is)
 
 -- what decides in items, as in a section
 abbrev pub decides : (key : List ℕ) → List Item → Option (List ℕ)

@@ -27,3 +27,4 @@ pub mod EditLists
 pub mod EditItems
 pub mod EditPlaces
 pub mod EditValues
+pub mod EditRows
