@@ -23,3 +23,8 @@ pub mod ExactLineEnds
 pub mod ExactBodies
 pub mod ExactPrinting
 pub mod PrintingRows
+pub mod EditLists
+pub mod EditItems
+pub mod EditPlaces
+pub mod EditValues
+pub mod EditRows

@@ -1,9 +1,13 @@
 //! What holds of the definitions, for all states: each law is a function that does nothing.
-ghost use Rattle.std.specs.Prelude.{◌≡◌, Bool, true, List, [], ℕ, map, ◌∷◌};
-ghost use Rattle.std.specs.List.{list_all, AllByRecursion, flat_map};
-ghost use Rattle.gitconf_text.specs.Part.{Part};
+ghost use Rattle.std.specs.Prelude.{◌≡◌, Bool, true, false, List, [], ℕ, map, ◌∷◌, ◌++◌, ◌+◌, Option, Some};
+ghost use Rattle.std.specs.Option.{option_map};
+ghost use Rattle.std.specs.List.{list_all, list_any, AllByRecursion, flat_map};
+ghost use Rattle.gitconf_text.specs.Value.{escaped};
+ghost use Rattle.gitconf_text.specs.Names.{is_same_name, is_valid_or_none};
+ghost use Rattle.gitconf_text.specs.Part.{Assigned, Entry, Item, EntryItem, Part};
 ghost use Rattle.gitconf_text.specs.Document.{IsText, gathered, unmarked, Reads};
 ghost use Rattle.gitconf_text.specs.Token.{spelled_token, tokens_of};
+ghost use Rattle.gitconf_base.specs.Metadata.{Meta};
 ghost use Rattle.gitconf_parse.specs.EventRef.{Shown};
 ghost use Rattle.gitconf_parse.specs.EventList.{keeps_entry_token};
 ghost use Rattle.gitconf_parse.specs.TokenDocument.{keeps_meaning};
@@ -12,6 +16,9 @@ ghost use Rattle.gitconf_state.specs.Printing.{printed, printed_kept, printed_se
 ghost use Rattle.gitconf_state.specs.Clean.{IsClean};
 ghost use Rattle.gitconf_state.specs.Loads.{IsFullLoad, IsLoad};
 ghost use Rattle.gitconf_state.specs.Inserted.{Inserted, IsByteForByte};
+ghost use Rattle.gitconf_state.specs.LineEnds.{file_line_end};
+ghost use Rattle.gitconf_state.specs.Lookup.{last_value};
+ghost use Rattle.gitconf_state.specs.Edit.{is_entry_of, spacing_of, new_entry, set_value, new_section, is_target, section_with, set_raw_value, Edit, apply, apply_all, is_edit, is_clean_edit};
 ghost use Rattle.gitconf_state.specs.Comments.{item_comments, comments_of, comments, comments_of_kept};
 
 /// A state loaded from a text has items of a text, also where a filter dropped blanks, line ends and comments. Loaded whole it is
@@ -57,4 +64,61 @@ pub fn comments_are_kept()
         → (parts : List Part) → IsText (printed state) parts → comments_of parts ≡ comments state }
     ensures section { (state : State) → HasItems state → IsClean state
         → AllByRecursion (λ s. (parts : List Part) → IsText (printed_section s) parts → comments_of parts ≡ flat_map item_comments s.items) state.sections }
+{}
+
+/// An edit leaves a state that has items, and a clean one where its section has a name or a subsection. So do edits, one behind the other.
+pub fn edits_keep_states()
+    ensures items { (edit : Edit) (state : State) → is_edit edit ≡ true → HasItems state → HasItems (apply edit state) }
+    ensures clean { (edit : Edit) (state : State) → is_clean_edit edit ≡ true → IsClean state → IsClean (apply edit state) }
+    ensures all_items { (edits : List Edit) (state : State) → list_all is_edit edits ≡ true → HasItems state → HasItems (apply_all edits state) }
+    ensures all_clean { (edits : List Edit) (state : State) → list_all is_clean_edit edits ≡ true → IsClean state → IsClean (apply_all edits state) }
+{}
+
+/// The text of an edited state is read back: it has the document that the edits leave.
+pub fn edited_text_reads_back()
+    ensures { (edits : List Edit) (state : State) → list_all is_edit edits ≡ true → list_all is_clean_edit edits ≡ true → HasItems state → IsClean state
+        → Reads (printed (apply_all edits state)) (document_of (apply_all edits state)) }
+{}
+
+/// A value that was set is found by its name, subsection and key, where the look-up keeps the sections that the edit keeps and
+/// would keep a new one.
+pub fn set_value_is_found()
+    ensures found { (name : List ℕ) (subsection : Option (List ℕ)) (key value : List ℕ) (state : State) → is_valid_or_none subsection ≡ true
+        → last_value name subsection key (λ _. true) (set_raw_value name subsection key (λ _. true) value state) ≡ Some value }
+    ensures filtered { (name : List ℕ) (subsection : Option (List ℕ)) (key : List ℕ) (keeps : Meta → Bool) (value : List ℕ) (state : State)
+        → is_valid_or_none subsection ≡ true → keeps state.meta ≡ true
+        → last_value name subsection key keeps (set_raw_value name subsection key keeps value state) ≡ Some value }
+{}
+
+/// Setting a value changes the last section of the name and subsection that passes, and of it the items alone. Where none passes, a
+/// new section stands behind all others.
+pub fn set_value_changes_one_section()
+    ensures file { (name : List ℕ) (subsection : Option (List ℕ)) (key : List ℕ) (keeps : Meta → Bool) (value : List ℕ) (state : State)
+        → ((set_raw_value name subsection key keeps value state).front ≡ state.front)
+        × ((set_raw_value name subsection key keeps value state).meta ≡ state.meta)
+        × ((set_raw_value name subsection key keeps value state).used ≡ state.used) }
+    ensures found { (name : List ℕ) (subsection : Option (List ℕ)) (key : List ℕ) (keeps : Meta → Bool) (value : List ℕ) (state : State)
+        → (before : List SectionState) (s : SectionState) (behind : List SectionState) → state.sections ≡ before ++ s ∷ behind
+        → is_target name subsection keeps s ≡ true → list_any (is_target name subsection keeps) behind ≡ false
+        → ((set_raw_value name subsection key keeps value state).next ≡ state.next)
+        × ((set_raw_value name subsection key keeps value state).sections ≡ before ++ section_with (file_line_end state) key value s ∷ behind) }
+    ensures made { (name : List ℕ) (subsection : Option (List ℕ)) (key : List ℕ) (keeps : Meta → Bool) (value : List ℕ) (state : State)
+        → list_any (is_target name subsection keeps) state.sections ≡ false
+        → ((set_raw_value name subsection key keeps value state).next ≡ state.next + 1)
+        × ((set_raw_value name subsection key keeps value state).sections
+        ≡ state.sections ++ section_with (file_line_end state) key value (new_section name subsection state) ∷ []) }
+    ensures section { (line_end key value : List ℕ) (s : SectionState)
+        → ((section_with line_end key value s).number ≡ s.number) × ((section_with line_end key value s).header ≡ s.header)
+        × ((section_with line_end key value s).meta ≡ s.meta) × ((section_with line_end key value s).held ≡ s.held) }
+{}
+
+/// Of a section's items, setting a value changes the key's last entry alone, and keeps its name as spelled. Without an entry of the key,
+/// a new one stands behind all others.
+pub fn set_value_changes_one_entry()
+    ensures found { (line_end key value : List ℕ) (items before : List Item) (e : Entry) (behind : List Item) → items ≡ before ++ EntryItem e ∷ behind
+        → is_same_name key e.name ≡ true → list_any (is_entry_of key) behind ≡ false
+        → (d : Entry) × (d.name ≡ e.name) × (option_map (λ (a : Assigned). a.value) d.assigned ≡ Some (record { pieces = []; last = escaped value }))
+        × (set_value line_end key value items ≡ before ++ EntryItem d ∷ behind) }
+    ensures made { (line_end key value : List ℕ) (items : List Item) → list_any (is_entry_of key) items ≡ false
+        → set_value line_end key value items ≡ items ++ new_entry (spacing_of items) line_end key value }
 {}
