@@ -1,39 +1,185 @@
 //! What the program does with its words and its streams, whatever these are.
-ghost use Rattle.std.specs.Prelude.{◌≡◌};
+ghost use Rattle.std.specs.Prelude.{◌≡◌, ◌≤◌};
+ghost use Rattle.gixcfg.specs.Status.{status_of};
 
-use std::alloc::Global;
-use std::io::{Read, Write};
+use bstr::BString;
+use gitconf_base::key::KeyRef;
+use gitconf_parse::error::Error;
+use gitconf_text::NoMemory;
+use gix_config::File;
+use std::alloc::{AllocError, AllocFailed, Global};
+use std::io::{ErrorKind, Read, Write};
 
 #[cfg(test)]
 mod tests;
 
-/// The status of a call that isn't understood.
-const USAGE: u8 = 2;
-
 /// The status where memory was wanting.
 pub const MEMORY: u8 = 5;
 
-/// Runs the program with the words behind its name, standard input, standard output and standard error, and answers
-/// its exit status.
-///
-/// No command is there yet, so each call is a usage fault: the usage line goes to standard error, and nothing is read
-/// or written elsewhere.
-pub fn run<R: Read + Drop, W: Write + Drop, E: Write + Drop>(
-    _alloc: Global,
-    _args: &[&str],
-    _input: R,
-    _out: W,
-    mut err: E,
-) -> u8
-    ensures { result ≡ 2 }
-{
-    usage_fault(&mut err)
+/// What the program is asked to do.
+#[derive(Clone, Copy)]
+enum Command<'a> {
+    /// Prints the last value of a key.
+    Get(KeyRef<'a>),
+    /// Prints the file.
+    Print,
 }
 
-/// Tells how the program is called. A failed write changes no status.
-fn usage_fault<E: Write>(err: &mut E) -> u8
-    ensures { result ≡ 2 }
+/// Why the program did not do it.
+#[derive(Drop)]
+enum Fault {
+    /// It was called in a way that isn't understood.
+    Usage,
+    /// What was looked for is not there.
+    Missing,
+    /// Standard input is refused, or too large.
+    Refused(Error),
+    /// Standard input can't be read.
+    Input,
+    /// Standard output failed.
+    Output,
+    /// Memory was wanting.
+    Memory,
+}
+
+impl Fault {
+    ghost use Rattle.gixcfg.specs.Status.{status_of};
+
+    /// The exit status: 1 for missing, 2 for usage, 3 for a refusal, 4 for a stream that failed, 5 for memory.
+    fn status(&self) -> u8
+        ensures { result ≡ status_of self.now }
+    {
+        match self {
+            Fault::Missing => 1,
+            Fault::Usage => 2,
+            Fault::Refused(_) => 3,
+            Fault::Input | Fault::Output => 4,
+            Fault::Memory => MEMORY,
+        }
+    }
+}
+
+impl From<NoMemory> for Fault {
+    fn from(_: NoMemory) -> Fault {
+        Fault::Memory
+    }
+}
+
+impl From<AllocError> for Fault {
+    fn from(_: AllocError) -> Fault {
+        Fault::Memory
+    }
+}
+
+impl<T> From<AllocFailed<T>> for Fault
+where
+    T: Drop,
 {
-    let _ = err.write_all(b"usage: gixcfg COMMAND [ARGS]\n");
-    USAGE
+    fn from(_: AllocFailed<T>) -> Fault {
+        Fault::Memory
+    }
+}
+
+impl From<Error> for Fault {
+    fn from(refusal: Error) -> Fault {
+        if refusal.number() == 27 {
+            Fault::Memory
+        } else {
+            Fault::Refused(refusal)
+        }
+    }
+}
+
+/// Runs the program with the words behind its name, standard input, standard output and standard error, and answers
+/// its exit status: 0 done, 1 missing, 2 usage, 3 refused, 4 input or output, 5 memory.
+///
+/// `get KEY` prints the last value of a key and a line feed, `print` the file that standard input is. Standard input is
+/// read whole, and only where the words are understood.
+pub fn run<R: Read + Drop, W: Write + Drop, E: Write + Drop>(
+    alloc: Global,
+    args: &[&str],
+    mut input: R,
+    mut out: W,
+    mut err: E,
+) -> u8
+    ensures { result ≤ 5 }
+{
+    match execute(alloc, args, &mut input, &mut out) {
+        Ok(()) => 0,
+        Err(fault) => {
+            let _ = tell(alloc, &fault, &mut err);
+            fault.status()
+        }
+    }
+}
+
+/// Does what the words ask for.
+fn execute<R: Read, W: Write>(
+    alloc: Global,
+    args: &[&str],
+    input: &mut R,
+    out: &mut W,
+) -> Result<(), Fault> {
+    let command = command_of(args)?;
+    let text = read_all(alloc, input)?;
+    let file = File::try_from_bytes(alloc, &text)?;
+    let answer = answer_of(command, &file)?;
+    match out.write_all(&answer) {
+        Ok(()) => Ok(()),
+        Err(_) => Err(Fault::Output),
+    }
+}
+
+/// The command that the words are. A key without a dot is no key.
+fn command_of<'a>(args: &[&'a str]) -> Result<Command<'a>, Fault> {
+    match args {
+        [word, key] if *word == "get" => match KeyRef::parse_unvalidated(key.as_bytes()) {
+            Some(key) => Ok(Command::Get(key)),
+            None => Err(Fault::Usage),
+        },
+        [word] if *word == "print" => Ok(Command::Print),
+        _ => Err(Fault::Usage),
+    }
+}
+
+/// All of standard input.
+fn read_all<R: Read>(alloc: Global, input: &mut R) -> Result<Vec<u8>, Fault> {
+    let mut text = Vec::new(alloc);
+    match input.read_to_end(&mut text) {
+        Ok(_) => Ok(text),
+        Err(fault) if fault.kind() == ErrorKind::OutOfMemory => Err(Fault::Memory),
+        Err(_) => Err(Fault::Input),
+    }
+}
+
+/// What is printed.
+fn answer_of(command: Command<'_>, file: &File) -> Result<BString, Fault> {
+    match command {
+        Command::Get(key) => match file.string(key)? {
+            Some(mut value) => {
+                value.push(b'\n')?;
+                Ok(value)
+            }
+            None => Err(Fault::Missing),
+        },
+        Command::Print => Ok(file.to_bstring()?),
+    }
+}
+
+/// Tells a fault on standard error: how the program is called, or which refusal it was. Nothing is told of what is
+/// missing. A failed write changes no status.
+fn tell<E: Write>(alloc: Global, fault: &Fault, err: &mut E) -> Result<(), NoMemory> {
+    let _ = match fault {
+        Fault::Missing => Ok(()),
+        Fault::Usage => err.write_all(b"usage: gixcfg COMMAND [ARGS]\n"),
+        Fault::Input => err.write_all(b"gixcfg: input\n"),
+        Fault::Output => err.write_all(b"gixcfg: E28\n"),
+        Fault::Memory => err.write_all(b"gixcfg: E27\n"),
+        Fault::Refused(refusal) => {
+            let number = refusal.number();
+            let line = format!(in alloc; "gixcfg: E{number}: {refusal}\n")?;
+            err.write_all(line.as_bytes())
+        }
+    };
+    Ok(())
 }
