@@ -105,7 +105,7 @@ decides-last key value before e behind same raw none = found (last_or None (of_k
     found o is = rw is raw
 
 -- an entry of the key is an entry
-entry_of_key : (key : List ℕ) (i : Item) → is_entry_of key i ≡ true → (e : Entry) × (i ≡ EntryItem e) × (is_same_name key e.name ≡ true)
+pub entry_of_key : (key : List ℕ) (i : Item) → is_entry_of key i ≡ true → (e : Entry) × (i ≡ EntryItem e) × (is_same_name key e.name ≡ true)
 entry_of_key key (BlanksItem run) is = absurd (cc)
 entry_of_key key (LineEndsItem run) is = absurd (cc)
 entry_of_key key (CommentItem tag text) is = absurd (cc)

@@ -27,4 +27,5 @@ pub mod EditLists
 pub mod EditItems
 pub mod EditPlaces
 pub mod EditValues
+pub mod EditOthers
 pub mod EditRows

@@ -1,5 +1,5 @@
 //! What holds of the definitions, for all states: each law is a function that does nothing.
-ghost use Rattle.std.specs.Prelude.{◌≡◌, Bool, true, false, List, [], ℕ, map, ◌∷◌, ◌++◌, ◌+◌, Option, Some};
+ghost use Rattle.std.specs.Prelude.{◌≡◌, ◌⊎◌, Bool, true, false, List, [], ℕ, map, ◌∷◌, ◌++◌, ◌+◌, Option, Some};
 ghost use Rattle.std.specs.Option.{option_map};
 ghost use Rattle.std.specs.List.{list_all, list_any, AllByRecursion, flat_map};
 ghost use Rattle.gitconf_text.specs.Value.{escaped};
@@ -17,7 +17,7 @@ ghost use Rattle.gitconf_state.specs.Clean.{IsClean};
 ghost use Rattle.gitconf_state.specs.Loads.{IsFullLoad, IsLoad};
 ghost use Rattle.gitconf_state.specs.Inserted.{Inserted, IsByteForByte};
 ghost use Rattle.gitconf_state.specs.LineEnds.{file_line_end};
-ghost use Rattle.gitconf_state.specs.Lookup.{last_value};
+ghost use Rattle.gitconf_state.specs.Lookup.{passing, last_value, all_values};
 ghost use Rattle.gitconf_state.specs.Edit.{is_entry_of, spacing_of, new_entry, set_value, new_section, is_target, section_with, set_raw_value, Edit, apply, apply_all, is_edit, is_clean_edit};
 ghost use Rattle.gitconf_state.specs.Comments.{item_comments, comments_of, comments, comments_of_kept};
 
@@ -121,4 +121,19 @@ pub fn set_value_changes_one_entry()
         × (set_value line_end key value items ≡ before ++ EntryItem d ∷ behind) }
     ensures made { (line_end key value : List ℕ) (items : List Item) → list_any (is_entry_of key) items ≡ false
         → set_value line_end key value items ≡ items ++ new_entry (spacing_of items) line_end key value }
+{}
+
+/// Setting a value leaves the values of every other key, whatever the section and the filter, and the sections of every other name
+/// or subsection, whatever the filter.
+pub fn set_value_leaves_others()
+    ensures keys { (name : List ℕ) (subsection : Option (List ℕ)) (key : List ℕ) (keeps : Meta → Bool) (value : List ℕ) (state : State)
+        → (other_name : List ℕ) (other_subsection : Option (List ℕ)) (other : List ℕ) (other_keeps : Meta → Bool) → is_same_name key other ≡ false
+        → (last_value other_name other_subsection other other_keeps (set_raw_value name subsection key keeps value state)
+        ≡ last_value other_name other_subsection other other_keeps state)
+        × (all_values other_name other_subsection other other_keeps (set_raw_value name subsection key keeps value state)
+        ≡ all_values other_name other_subsection other other_keeps state) }
+    ensures sections { (name : List ℕ) (subsection : Option (List ℕ)) (key : List ℕ) (keeps : Meta → Bool) (value : List ℕ) (state : State)
+        → (other_name : List ℕ) (other_subsection : Option (List ℕ)) (other_keeps : Meta → Bool) → is_valid_or_none subsection ≡ true
+        → (is_same_name name other_name ≡ false) ⊎ (subsection ≡ other_subsection → ⊥)
+        → passing other_name other_subsection other_keeps (set_raw_value name subsection key keeps value state) ≡ passing other_name other_subsection other_keeps state }
 {}
