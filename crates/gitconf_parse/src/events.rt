@@ -19,14 +19,14 @@ use crate::event::Event;
 use crate::event_ref::EventRef;
 use crate::items::{Items, grouped};
 use crate::reading::{Fault, ReadError, read};
-pub use decode::decoded_header;
 use decode::decode_headers;
+pub use decode::decoded_header;
 pub use filter::keeps_meaning;
 use filter::kept_events;
 use gitconf_text::NoMemory;
 use iters::front_len;
-pub use lend::subsection_name;
 pub use iters::{EventIter, SectionIter, SectionRef};
+pub use lend::subsection_name;
 use std::alloc::Global;
 use std::marker::Model;
 

@@ -5,7 +5,7 @@ use Rattle.std.specs.List.{fold, last_or, list_any}
 use Rattle.gitconf_text.specs.Names.{is_made_name, is_same_name, is_valid_or_none, is_value_name}
 use Rattle.gitconf_text.specs.Value.{raw_of, escaped}
 use Rattle.gitconf_text.specs.Header.{Header, PlainHeader, QuotedHeader}
-use Rattle.gitconf_text.specs.Part.{Assigned, Entry, Item, BlanksItem, LineEndsItem, CommentItem, EntryItem}
+use Rattle.gitconf_text.specs.Part.{Assigned, Item, BlanksItem, LineEndsItem, CommentItem, EntryItem}
 use Rattle.gitconf_parse.specs.EventRef.{escaped_subsection}
 use Rattle.gitconf_base.specs.Metadata.{Meta}
 use Rattle.gitconf_state.specs.State.{SectionState, State}

@@ -1,6 +1,6 @@
 -- Bytes appended to the buffer leave every view as it is.
-use Rattle.std.proofs.Common.{◌≡◌, ℕ, ◌+◌, ◌<◌, ◌≤◌, Bool, List, [], ◌∷◌, ◌++◌, length, map, take, drop, Option, Some, None, refl, ap, sym, subst, ◌∙◌, arith, length-append}
-use Rattle.std.specs.Prelude.{is_some, if◌then◌else◌}
+use Rattle.std.proofs.Common.{◌≡◌, ℕ, List, [], ◌∷◌, ◌++◌, length, map, take, drop, Option, Some, None, refl, ap, sym, ◌∙◌, arith, length-append}
+use Rattle.std.specs.Prelude.{if◌then◌else◌}
 use Rattle.std.specs.List.{AllByRecursion}
 use Rattle.std.specs.Option.{option_map}
 use Rattle.std.specs.Str.{bytes_eq}
@@ -9,9 +9,7 @@ use Rattle.gitconf_text.specs.Header as grammar
 use Rattle.gitconf_text.specs.Bytes.{fold}
 use Rattle.gitconf_text.specs.Token.{HeaderToken}
 use Rattle.gitconf_text.specs.Part as parts
-use Rattle.gitconf_text.specs.Value as values
-use Rattle.gitconf_base.specs.Metadata.{Meta}
-use Rattle.gitconf_base.specs.Sections.{SectionEntry, Sections}
+use Rattle.gitconf_base.specs.Sections.{SectionEntry}
 use Rattle.gitconf_parse.specs.declared.event.Span.{Span}
 use Rattle.gitconf_parse.specs.declared.event.Header.{Header}
 use Rattle.gitconf_parse.specs.declared.event.Event.TheVariants as kinds
@@ -19,15 +17,14 @@ use Rattle.gitconf_parse.specs.declared.items.Piece.{Piece}
 use Rattle.gitconf_parse.specs.declared.items.Assigned.{Assigned}
 use Rattle.gitconf_parse.specs.declared.items.Item.{Item}
 use Rattle.gitconf_parse.specs.declared.items.Item.TheVariants as items
-use Rattle.gitconf_parse.specs.Events.{bytes_of, header_of, header_form, token_of, SpanFits, OptionFits, HeaderFits}
+use Rattle.gitconf_parse.specs.Events.{bytes_of, header_of, header_form, SpanFits, OptionFits, HeaderFits}
 use Rattle.gitconf_parse.specs.EventRef.{ShownHeader}
 use Rattle.gitconf_parse.specs.Items.{piece_of, assigned_of, item_of}
-use Rattle.gitconf_parse.specs.ItemsFit.{PieceFits, ValueFits, AssignedFits, EntryFits, ItemFits, AreItemsWithin}
-use Rattle.gitconf_parse.specs.ShownEvents.{decoded_or, shown_event, shown_token, IsShown}
+use Rattle.gitconf_parse.specs.ItemsFit.{PieceFits, AssignedFits, ItemFits, AreItemsWithin}
+use Rattle.gitconf_parse.specs.ShownEvents.{decoded_or, shown_token, IsShown}
 use Rattle.gitconf_write.specs.Bodies.{items_of}
-use Rattle.gitconf_state.specs.State.{SectionState, State}
 use Rattle.gitconf_store.specs.declared.section.Section.{Section}
-use Rattle.gitconf_store.specs.Store.{section_state, state_of, SectionFits, AllSectionsFit}
+use Rattle.gitconf_store.specs.Store.{section_state, SectionFits}
 
 bytes_more : (buffer more : List ℕ) (s : Span) → SpanFits (length buffer) s → bytes_of (buffer ++ more) s ≡ bytes_of buffer s
 bytes_more buffer more s fits =

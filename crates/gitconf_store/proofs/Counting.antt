@@ -1,11 +1,9 @@
 -- Newlines and entries, counted section by section.
-use Rattle.std.proofs.Common.{◌≡◌, ℕ, suc, min, arith, ◌+◌, ◌<◌, ◌^◌, Bool, true, false, List, [], ◌∷◌, ◌++◌, length, map, refl, ap, sym, ◌∙◌, length-append}
-use Rattle.std.specs.List.{flat_map, count_by}
+use Rattle.std.proofs.Common.{◌≡◌, ℕ, suc, min, arith, ◌+◌, ◌<◌, ◌^◌, List, [], ◌∷◌, length, refl, ap, sym, ◌∙◌, length-append}
+use Rattle.std.specs.List.{count_by}
 use Rattle.std.specs.Prelude.{filter}
 use Rattle.std.proofs.lemmas.List.Sums.{length-filter}
 use Rattle.std.proofs.lemmas.Grind.{flat_map-append}
-use Rattle.gitconf_text.specs.Token.{item_tokens}
-use Rattle.gitconf_text.specs.Part as parts
 use Rattle.gitconf_parse.specs.declared.items.Item.{Item}
 use Rattle.gitconf_parse.specs.declared.items.Item.TheVariants as kinds
 use Rattle.gitconf_state.specs.State.{SectionState, entries_of}
@@ -31,7 +29,7 @@ pub section_counted : (s : SectionState) (left next : List SectionState) (buffer
 section_counted s left next buffer items seen count entries sum all stands is lent counted added before fits =
     let here : entries ≡ length (entries_of s.items) = counted ∙ (ap (count_by is_entry) lent ∙ (entries_counted buffer items ∙ ap (λ is. length (entries_of is)) (sym stands))) in
     let both : length (section_entries left) ≡ length (entries_of s.items) + length (section_entries next) =
-        ap (λ ss. length (section_entries ss)) is ∙ length-append (entries_of s.items) (section_entries next) in
+    ap (λ ss. length (section_entries ss)) is ∙ length-append (entries_of s.items) (section_entries next) in
     omega (arith, here, both, added, before, fits)
 
 pub ruleset among = (first_newline-append, line_end_of-first, flat_map-append)

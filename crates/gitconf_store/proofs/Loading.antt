@@ -14,9 +14,9 @@ use Rattle.gitconf_parse.specs.Items.{item_of, tokens_of_items, tokens_of_sectio
 use Rattle.gitconf_state.specs.Loads.{section_tokens}
 use Rattle.gitconf_parse.specs.declared.event.Event.TheVariants as kinds
 use Rattle.gitconf_parse.specs.Events.{bytes_of, header_of}
-use Rattle.gitconf_parse.specs.EventRef.{Shown, ShownHeader}
+use Rattle.gitconf_parse.specs.EventRef.{ShownHeader}
 use Rattle.gitconf_parse.specs.ItemsFit.{AreItemsWithin}
-use Rattle.gitconf_parse.specs.ShownEvents.{decoded_or, separator_of, shown_header, IsShown, IsExtended}
+use Rattle.gitconf_parse.specs.ShownEvents.{decoded_or, separator_of, IsShown, IsExtended}
 use Rattle.gitconf_parse.proofs.Shown.{is_shown_more, all_push}
 use Rattle.gitconf_store.specs.declared.section.Section.{Section}
 use Rattle.gitconf_write.specs.Bodies.{items_of}

@@ -1,10 +1,10 @@
 -- The sections that the table finds by name are those of the state.
-use Rattle.std.proofs.Common.{◌≡◌, ℕ, Bool, true, false, List, [], ◌∷◌, ◌++◌, map, Option, Some, None, refl, ap, sym, ◌∙◌}
+use Rattle.std.proofs.Common.{◌≡◌, ℕ, Bool, true, false, List, [], ◌∷◌, map, Option, None, refl, ap, sym, ◌∙◌}
 use Rattle.std.specs.Prelude.{filter, ◌&&◌}
 use Rattle.std.specs.List.{AllByRecursion}
 use Rattle.std.specs.Option.{option_eq}
 use Rattle.std.specs.Str.{bytes_eq}
-use Rattle.gitconf_text.specs.Header.{name_of, subsection_of}
+use Rattle.gitconf_text.specs.Header.{name_of}
 use Rattle.gitconf_text.specs.Names.{is_same_name}
 use Rattle.gitconf_base.specs.Sections.{SectionEntry}
 use Rattle.gitconf_base.specs.Sections as table
@@ -14,7 +14,7 @@ use Rattle.gitconf_base.specs.Metadata.{Meta}
 use Rattle.gitconf_base.specs.SectionIters.{named_left}
 use Rattle.gitconf_base.specs.declared.util.by_name.Named.{Named}
 use Rattle.gitconf_parse.specs.declared.items.Item.{Item}
-use Rattle.gitconf_state.specs.State.{SectionState, State}
+use Rattle.gitconf_state.specs.State.{State}
 use Rattle.gitconf_store.specs.Lookups.{named_sections}
 use Rattle.gitconf_state.specs.Lookup as state
 use Rattle.gitconf_store.specs.declared.section.Section.{Section}

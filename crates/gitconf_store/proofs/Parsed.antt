@@ -1,10 +1,10 @@
 -- What is loaded of the events of a text.
-use Rattle.std.proofs.Common.{◌≡◌, ℕ, true, List, length, map, filter, [], refl, subst, sym, ◌∙◌}
+use Rattle.std.proofs.Common.{◌≡◌, ℕ, true, List, map, [], refl, subst, ◌∙◌}
 use Rattle.gitconf_text.specs.Part.{Part}
 use Rattle.gitconf_text.specs.Document.{IsText, Reads, unmarked}
 use Rattle.gitconf_text.specs.Token.{Token, spelled_token, tokens_of}
 use Rattle.gitconf_base.specs.Metadata.{Meta}
-use Rattle.gitconf_parse.specs.EventList.{EventList, IsParsed, IsWhole, keeps_token}
+use Rattle.gitconf_parse.specs.EventList.{EventList, IsParsed, IsWhole}
 use Rattle.gitconf_parse.specs.Items.{Between, are_items}
 use Rattle.gitconf_parse.specs.TokenDocument.{keeps_meaning}
 use Rattle.gitconf_parse.proofs.Filtering.{whole_parsed}

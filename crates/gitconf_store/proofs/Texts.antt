@@ -1,5 +1,5 @@
 -- The text of a file, part by part.
-use Rattle.std.proofs.Common.{◌≡◌, ℕ, Bool, true, false, List, [], ◌∷◌, ◌++◌, map, Option, Result, Ok, Err, refl, ap, sym, subst, ◌∙◌, append_assoc, append-nil}
+use Rattle.std.proofs.Common.{◌≡◌, ℕ, Bool, true, false, List, [], ◌∷◌, ◌++◌, map, Option, Result, Ok, Err, refl, ap, subst, ◌∙◌, append_assoc, append-nil}
 use Rattle.std.specs.Prelude.{flat_map, if◌then◌else◌, IsErr, IfOk}
 use Rattle.std.proofs.lemmas.Grind.{flat_map-append}
 use Rattle.gitconf_text.specs.Part.{Item, Part, ItemPart, spelled_item, spelled_part, spelled}
@@ -7,7 +7,7 @@ use Rattle.gitconf_parse.specs.Sink.{with_text, is_begun, Writes}
 use Rattle.gitconf_parse.proofs.SinkLaws.{begun_behind, begun_before, Writes-fault}
 use Rattle.gitconf_state.specs.State.{SectionState, State}
 use Rattle.gitconf_state.specs.LineEnds.{file_line_end}
-use Rattle.gitconf_state.specs.Printing.{Closed, unless, ends_with_line, held_items, section_parts, printed_section, printed_items, sections_parts, behind_front, printed_parts, printed_kept}
+use Rattle.gitconf_state.specs.Printing.{Closed, unless, ends_with_line, held_items, section_parts, printed_section, printed_items, sections_parts, behind_front, printed_kept}
 use Rattle.gitconf_write.proofs.Left.{IsLeft, left_all, left_first, left_fault}
 use Rattle.gitconf_write.proofs.Printed.{spelled-items, printed_section-is, held_items-text, ends_with_line-both}
 use Rattle.gitconf_store.specs.Texts.{line_end_unless, whole_text, sections_text, next_text, ended_behind, is_front_ended}

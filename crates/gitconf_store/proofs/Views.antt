@@ -1,7 +1,6 @@
 -- What views show.
 use Rattle.std.proofs.Common.{◌≡◌, ℕ, List, [], ◌∷◌, map, refl, ap}
-use Rattle.gitconf_base.specs.Sections.{SectionEntry, Sections, sections_of}
-use Rattle.gitconf_state.specs.State.{SectionState}
+use Rattle.gitconf_base.specs.Sections.{SectionEntry}
 use Rattle.gitconf_store.specs.declared.section.Section.{Section}
 use Rattle.gitconf_store.specs.Store.{section_under, section_state}
 

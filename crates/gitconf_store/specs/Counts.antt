@@ -1,5 +1,5 @@
 -- What is counted of a state.
-use Rattle.std.specs.Prelude.{ℕ, Bool, true, false, List, [], ◌∷◌, flat_map}
+use Rattle.std.specs.Prelude.{Bool, true, false, List, [], ◌∷◌, flat_map}
 use Rattle.std.specs.List.{list_all}
 use Rattle.gitconf_text.specs.Part as parts
 use Rattle.gitconf_text.specs.Document.{DocumentEntry}

@@ -108,12 +108,22 @@ impl<'a> SectionRef<'a> {
 
     /// Writes the section, and what is held behind it.
     #[tactic(auto, using(gitconf_parse::proofs::SinkLaws::in_turn, crate::proofs::Texts::printed_texts))]
-    pub(crate) fn write_whole<W: Sink>(&self, out: &mut W, line_end: LineEnd) -> Result<(), SinkFault>
+    pub(crate) fn write_whole<W: Sink>(
+        &self,
+        out: &mut W,
+        line_end: LineEnd,
+    ) -> Result<(), SinkFault>
         ensures written { Writes result (whole_text (bytes_of_line_end line_end) (shown self.now)) (W.told out.old) (W.told out.new) }
         ensures counted { Counts result (W.faults out.old) (W.faults out.new) }
     {
         self.write_to(out)?;
-        write_held(out, self.buffer, &self.section.items, &self.section.held, line_end)
+        write_held(
+            out,
+            self.buffer,
+            &self.section.items,
+            &self.section.held,
+            line_end,
+        )
     }
 
     /// Whether the section ends with a line end, what is held behind it counted in.
@@ -121,7 +131,12 @@ impl<'a> SectionRef<'a> {
     pub(crate) fn ends_with_line(&self, line_end: LineEnd) -> bool
         ensures { result ≡ ends_with_line (bytes_of_line_end line_end) (shown self.now) }
     {
-        items::ends_with_line(self.buffer, &self.section.items, &self.section.held, line_end)
+        items::ends_with_line(
+            self.buffer,
+            &self.section.items,
+            &self.section.held,
+            line_end,
+        )
     }
 }
 

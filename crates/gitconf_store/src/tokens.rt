@@ -45,7 +45,10 @@ pub(crate) fn are_void(sections: Sections<'_>) -> bool
 fn entry_count(items: &[Item]) -> usize
     ensures { result ≡ count_by is_entry items.now }
 {
-    items.iter().filter(|item| matches!(item, Item::Entry(_))).count()
+    items
+        .iter()
+        .filter(|item| matches!(item, Item::Entry(_)))
+        .count()
 }
 
 /// How many entries the sections have; the greatest number where they are more.

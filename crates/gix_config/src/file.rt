@@ -132,9 +132,7 @@ impl File {
         ensures { IsFound bstring_bytes result (value_of_key (K.key key) (λ _. true) self.now) }
     {
         match key.try_as_key() {
-            Some(key) => {
-                self.string_by(key.section_name, key.subsection_name, key.value_name)
-            }
+            Some(key) => { self.string_by(key.section_name, key.subsection_name, key.value_name) }
             None => Ok(None),
         }
     }
@@ -152,7 +150,8 @@ impl File {
     ) -> Result<Option<BString>, NoMemory>
         ensures { IsFound bstring_bytes result (last_value section_name.now (option_copied subsection_name.entry) value_name.now (λ _. true) self.now) }
     {
-        self.store.string_by(section_name, subsection_name, value_name)
+        self.store
+            .string_by(section_name, subsection_name, value_name)
     }
 
     /// As [`File::string`], of the sections whose metadata passes the filter.
@@ -198,7 +197,8 @@ impl File {
         ensures { (keeps : Meta → Bool) → ComputesKey F.FnMut keeps filter
             → IsFound bstring_bytes result (last_value section_name.now (option_copied subsection_name.entry) value_name.now keeps self.now) }
     {
-        self.store.string_filter_by(section_name, subsection_name, value_name, filter)
+        self.store
+            .string_filter_by(section_name, subsection_name, value_name, filter)
     }
 
     /// Writes the front and the sections that `filter` keeps, with line ends put in where parts would else run

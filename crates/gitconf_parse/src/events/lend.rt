@@ -17,11 +17,7 @@ fn copy(copies: &[u8], copied: Copied) -> &[u8]
 }
 
 /// The decoded subsection of a header, if it has one; `copies` has the decoded subsections.
-pub fn subsection_name<'a>(
-    buffer: &'a [u8],
-    copies: &'a [u8],
-    header: &Header,
-) -> Option<&'a [u8]>
+pub fn subsection_name<'a>(buffer: &'a [u8], copies: &'a [u8], header: &Header) -> Option<&'a [u8]>
     requires { CopyFits (length copies.now) header.now.decoded }
     ensures { option_copied result ≡ decoded_or copies.now header.now.decoded (option_map (bytes_of buffer.now) header.now.subsection) }
 {

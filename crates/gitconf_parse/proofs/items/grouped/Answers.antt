@@ -1,4 +1,4 @@
-use Rattle.std.proofs.Common.{◌≡◌, arith, length, map, ap}
+use Rattle.std.proofs.Common.{arith, length, map, ap}
 use Rattle.std.proofs.lemmas.List.{length-append, length-map}
 use Rattle.gitconf_parse.specs.Events.{token_of}
 use Rattle.gitconf_parse.specs.Items.{tokens_of_items}

@@ -1,7 +1,7 @@
 use Rattle.std.proofs.Common.{rules, ◌≡◌, true, [], ◌∷◌, ◌++◌, Some, None, sym, ap, ◌∙◌}
 use Rattle.std.specs.Option.{option_map}
 use Rattle.bstr.specs.Owned.{bstring_bytes}
-use Rattle.gitconf_text.specs.Value.{plain, raw_of}
+use Rattle.gitconf_text.specs.Value.{raw_of}
 use Rattle.gitconf_parse.specs.Items.{value_of}
 use Rattle.gitconf_base.specs.SectionIters.{named_left}
 use Rattle.gitconf_state.specs.Lookup.{deciding}
@@ -24,7 +24,7 @@ returns-in_err-meaning g c = λ keeps h.
     let passed = (c.passes.ensures.exact keeps told.0).1 in
     let kept : keeps s.meta ≡ true = search rules in
     let gives : deciding c.args.key.now s ≡ Some raw =
-        sym (c.deciding_value.ensures id) ∙ ap (λ o. option_map (λ a. raw_of (value_of b a.now.value)) o) c.in-Some-deciding_value.is in
+    sym (c.deciding_value.ensures id) ∙ ap (λ o. option_map (λ a. raw_of (value_of b a.now.value)) o) c.in-Some-deciding_value.is in
     refused_found bstring_bytes c.from_residual.result _ raw c.from_residual.ensures.0
     (told.1 ∙ decides c.args.key.now keeps (named_sections b left) (named_sections b next) s raw (last_left b (named_left left) (named_left next) (id, section) is) kept gives)
 
@@ -42,7 +42,7 @@ returns-in-Some-deciding_value g c = λ keeps h.
     let passed = (c.passes.ensures.exact keeps told.0).1 in
     let kept : keeps s.meta ≡ true = search rules in
     let gives : deciding c.args.key.now s ≡ Some raw =
-        sym (c.deciding_value.ensures id) ∙ ap (λ o. option_map (λ a. raw_of (value_of b a.now.value)) o) c.in-Some-deciding_value.is in
+    sym (c.deciding_value.ensures id) ∙ ap (λ o. option_map (λ a. raw_of (value_of b a.now.value)) o) c.in-Some-deciding_value.is in
     ap Some c.in_ok-meaning.ensures
     ∙ sym (told.1 ∙ decides c.args.key.now keeps (named_sections b left) (named_sections b next) s raw (last_left b (named_left left) (named_left next) (id, section) is) kept gives)
 
@@ -63,7 +63,8 @@ loop-section-preserved-in_default-deciding_value g c = record {
       let kept : keeps s.meta ≡ true = search rules in
       let none : c.deciding_value.result ≡ None = search rules in
       let gives : deciding c.args.key.now s ≡ None =
-          sym (c.deciding_value.ensures id) ∙ ap (λ o. option_map (λ a. raw_of (value_of b a.now.value)) o) none in
-      (passed.0,
-      told.1 ∙ undecided c.args.key.now keeps (named_sections b left) (named_sections b next) s (last_left b (named_left left) (named_left next) (id, section) is) kept gives);
+      sym (c.deciding_value.ensures id) ∙ ap (λ o. option_map (λ a. raw_of (value_of b a.now.value)) o) none in (
+        passed.0,
+        told.1 ∙ undecided c.args.key.now keeps (named_sections b left) (named_sections b next) s (last_left b (named_left left) (named_left next) (id, section) is) kept gives,
+      );
 }

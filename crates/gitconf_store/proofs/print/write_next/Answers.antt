@@ -1,4 +1,4 @@
-use Rattle.std.proofs.Common.{sym, ◌∙◌, ◌≡◌, true}
+use Rattle.std.proofs.Common.{◌≡◌, true}
 use Rattle.gitconf_write.specs.LineEnds.{bytes_of_line_end}
 use Rattle.gitconf_store.specs.Views.{shown}
 use Rattle.gitconf_store.proofs.Texts.{next_fault, kept_fault, refused}
@@ -6,17 +6,19 @@ use Rattle.gitconf_store.proofs.print.write_next.Goals as goal
 
 pub returns-in_err-write_line_end_unless-clause-exact : goal.returns-in_err-write_line_end_unless-clause-exact
 returns-in_err-write_line_end_unless-clause-exact g c = λ keeps h.
-    let fault = c.from_residual.ensures.0 in
-    (h,
-    next_fault c.from_residual.result keeps (bytes_of_line_end c.args.line_end) c.args.ended (shown c.args.section.now) _ _ fault c.in_err-write_line_end_unless.ensures.written,
-    refused c.from_residual.result _ fault)
+    let fault = c.from_residual.ensures.0 in (
+      h,
+      next_fault c.from_residual.result keeps (bytes_of_line_end c.args.line_end) c.args.ended (shown c.args.section.now) _ _ fault c.in_err-write_line_end_unless.ensures.written,
+      refused c.from_residual.result _ fault,
+    )
 
 pub returns-in_err-write_whole-clause-exact : goal.returns-in_err-write_whole-clause-exact
 returns-in_err-write_whole-clause-exact g c = λ keeps h.
     let fault = c.from_residual-in_err-write_whole.ensures.0 in
     let k = c.is_kept.ensures.exact keeps h in
-    let kept : keeps (shown c.args.section.now) ≡ true = let e = k.1 in let b = c.if-not-is_kept.false in cc in
-    (k.0,
-    kept_fault c.from_residual-in_err-write_whole.result keeps (bytes_of_line_end c.args.line_end) c.args.ended (shown c.args.section.now) _ _ _ fault kept
-    c.in_ok-write_line_end_unless.ensures.written c.in_err-write_whole.ensures.written,
-    refused c.from_residual-in_err-write_whole.result _ fault)
+    let kept : keeps (shown c.args.section.now) ≡ true = let e = k.1 in let b = c.if-not-is_kept.false in cc in (
+      k.0,
+      kept_fault c.from_residual-in_err-write_whole.result keeps (bytes_of_line_end c.args.line_end) c.args.ended (shown c.args.section.now) _ _ _ fault kept
+          c.in_ok-write_line_end_unless.ensures.written c.in_err-write_whole.ensures.written,
+      refused c.from_residual-in_err-write_whole.result _ fault,
+    )

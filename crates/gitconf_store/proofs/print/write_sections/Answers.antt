@@ -32,10 +32,11 @@ loop-section-preserved g c = record {
       let told = c.loop-section.invariant.told keeps h in
       let written = c.in_ok-ended.ensures.exact keeps told.0 in
       let next = ap (sections_text keeps le ended) is ∙ next_section keeps le ended s (sections_left c.next.new.self)
-          ∙ ap (λ e. next_text keeps le ended s ++ sections_text keeps le e (sections_left c.next.new.self)) (sym written.2) in
-      (written.0,
-      left_behind (sections_text keeps le true (sections_left c.args.sections)) (sections_text keeps le ended (sections_left it)) (next_text keeps le ended s)
-      (sections_text keeps le c.in_ok-ended.ended (sections_left c.next.new.self)) _ _ _ told.1 next written.1);
+      ∙ ap (λ e. next_text keeps le ended s ++ sections_text keeps le e (sections_left c.next.new.self)) (sym written.2) in (
+        written.0,
+        left_behind (sections_text keeps le true (sections_left c.args.sections)) (sections_text keeps le ended (sections_left it)) (next_text keeps le ended s)
+            (sections_text keeps le c.in_ok-ended.ended (sections_left c.next.new.self)) _ _ _ told.1 next written.1,
+      );
   quiet = c.in_ok-ended.ensures.counted ∙ c.loop-section.invariant.quiet;
 }
 

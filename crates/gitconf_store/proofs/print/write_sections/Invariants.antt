@@ -16,7 +16,7 @@ invariant-loop-section g l = record {
   told : (keeps : SectionState → Bool) → ComputesKey g.F.FnMut (λ r. keeps (shown r)) l.fn.filter
       → ComputesKey g.F.FnMut (λ r. keeps (shown r)) l.filter
       × IsLeft (sections_text keeps (bytes_of_line_end l.line_end) true (sections_left l.fn.sections))
-        (sections_text keeps (bytes_of_line_end l.line_end) l.ended (sections_left l.section-iterator))
-        (g.W.Sink.told l.fn.out) (g.W.Sink.told l.out);
+      (sections_text keeps (bytes_of_line_end l.line_end) l.ended (sections_left l.section-iterator))
+      (g.W.Sink.told l.fn.out) (g.W.Sink.told l.out);
   quiet : g.W.Sink.faults l.out ≡ g.W.Sink.faults l.fn.out;
 }

@@ -1,5 +1,4 @@
-use Rattle.std.proofs.Common.{rules, ◌≡◌, ◌++◌, ap, ◌∙◌}
-use Rattle.std.specs.List.{flat_map}
+use Rattle.std.proofs.Common.{rules, ◌++◌, ap, ◌∙◌}
 use Rattle.gitconf_parse.specs.Events.{bytes_of}
 use Rattle.gitconf_store.proofs.Raw.{pieces_joined}
 use Rattle.gitconf_store.proofs.values.raw_text.Goals as goal

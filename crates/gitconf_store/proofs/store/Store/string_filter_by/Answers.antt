@@ -9,8 +9,8 @@ pub returns : goal.returns
 returns g c = λ keeps h.
     let inside = c.self.inside in
     let named = found_in inside.buffer.items inside.copies.items inside.front.items inside.meta.value inside.sections c.args.self.now
-        c.args.section_name.now (option_copied c.args.subsection_name) c.deref.result.now c.named-sections.result
-        c.deref.ensures.value c.self.invariant.sections_within c.named-sections.ensures.left c.self.view_is in
+    c.args.section_name.now (option_copied c.args.subsection_name) c.deref.result.now c.named-sections.result
+    c.deref.ensures.value c.self.invariant.sections_within c.named-sections.ensures.left c.self.view_is in
     subst (IsFound bstring_bytes c.last_meaning.result)
     (ap (λ k. last_among k keeps (named_sections c.deref.result.now c.named-sections.result)) c.as_bytes.ensures.value
     ∙ ap (last_among c.args.value_name.now keeps) named)

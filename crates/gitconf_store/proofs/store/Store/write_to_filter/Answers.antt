@@ -1,5 +1,4 @@
-use Rattle.std.proofs.Common.{rules, ◌≡◌, Bool, true, false, ◌++◌, ap, sym, ◌∙◌}
-use Rattle.gitconf_parse.specs.Sink.{Writes, is_begun, with_text}
+use Rattle.std.proofs.Common.{rules, ◌≡◌, true, false, ◌++◌, ap, sym, ◌∙◌}
 use Rattle.gitconf_state.specs.LineEnds.{file_line_end}
 use Rattle.gitconf_state.specs.Printing.{Closed, printed_kept}
 use Rattle.gitconf_state.specs.State.{HasItems}

@@ -1,8 +1,6 @@
-use Rattle.std.proofs.Common.{Bool, subst}
-use Rattle.std.specs.Fn.{ComputesKey}
+use Rattle.std.proofs.Common.{subst}
 use Rattle.std.specs.Option.{option_copied}
 use Rattle.bstr.specs.Owned.{bstring_bytes}
-use Rattle.gitconf_base.specs.Metadata.{Meta}
 use Rattle.gitconf_state.specs.Lookup.{last_value}
 use Rattle.gitconf_store.specs.Lookups.{IsFound}
 use Rattle.gix_config.proofs.file.File.string_filter_by.Goals as goal

@@ -1,6 +1,6 @@
-use Rattle.std.proofs.Common.{Bool, subst}
+use Rattle.std.proofs.Common.{subst}
 use Rattle.gitconf_text.specs.Document.{Reads}
-use Rattle.gitconf_state.specs.State.{SectionState, document_of_kept}
+use Rattle.gitconf_state.specs.State.{document_of_kept}
 use Rattle.gitconf_state.specs.Clean.{IsClean}
 use Rattle.gitconf_state.specs.Printing.{printed_kept}
 use Rattle.gix_config.proofs.file.File.write_to_filter.Goals as goal
