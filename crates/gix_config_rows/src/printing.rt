@@ -108,6 +108,8 @@ fn sections_alone(rt: HostRuntime) -> Result<(), Fail> {
             return Ok(());
         };
         assert!(rt; section.as_slice() == *expected, "'{shown}'");
+        let events = Events::from_bytes(rt.alloc(), &section, None);
+        assert!(rt; events.is_ok(), "'{shown}'");
     }
     Ok(())
 }
