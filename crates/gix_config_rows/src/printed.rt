@@ -1,7 +1,10 @@
 //! Loaded texts and what is written of them, by hand from the rules of printing.
 
-/// A text, and its text as it is printed.
-pub static PRINTED: [(&[u8], &[u8]); 100] = [
+/// Texts, each with what is printed of it.
+pub type Rows = &'static [(&'static [u8], &'static [u8])];
+
+/// A text, and what is printed of it: marks, headers, and what stands behind a header.
+static HEADERS: [(&[u8], &[u8]); 31] = [
     // Nothing, and marks.
     (b"", b""),
     (b"\xef\xbb\xbf", b""),
@@ -48,6 +51,10 @@ pub static PRINTED: [(&[u8], &[u8]); 100] = [
         b"[core] key=plain-1\n[core \"a\"] key=a-1\n[other] key=other\n[core] key=plain-2\n[core \"b\"] key=b\n[core \"a\"] key=a-2\n",
         b"[core]\n key=plain-1\n[core \"a\"]\n key=a-1\n[other]\n key=other\n[core]\n key=plain-2\n[core \"b\"]\n key=b\n[core \"a\"]\n key=a-2\n",
     ),
+];
+
+/// The same: names on one line, what stands before a header and at the end, and values that go on.
+static LINES: [(&[u8], &[u8]); 34] = [
     // A line end before a name.
     (b"[a] b c=d", b"[a]\n b \nc=d\n"),
     (b"[a]b c=d;x", b"[a]\nb \nc=d;x\n"),
@@ -92,6 +99,10 @@ pub static PRINTED: [(&[u8], &[u8]); 100] = [
         b"[section \"a\"]\n b =\"\\\n;\";a\n",
     ),
     (b"[a] k = x \\\n y # c\n", b"[a]\n k = x \\\n y # c\n"),
+];
+
+/// The same: what stands before the first section, and CR LF.
+static FRONTS: [(&[u8], &[u8]); 35] = [
     // Fronts.
     (b"# c", b"# c"),
     (b"  # c", b"  # c"),
@@ -131,6 +142,23 @@ pub static PRINTED: [(&[u8], &[u8]); 100] = [
     (b"k=x\\\r\ny [a]\n[b]", b"k=x\\\r\ny [a]\n\r\n[b]\r\n"),
     (b"[a]\r\n[b]\nk=x\\", b"[a]\r\n[b]\nk=x\\\n\r\n"),
 ];
+
+fn headers() -> Rows {
+    &HEADERS
+}
+
+fn lines() -> Rows {
+    &LINES
+}
+
+fn fronts() -> Rows {
+    &FRONTS
+}
+
+/// All texts of the three tables.
+pub fn printed() -> [Rows; 3] {
+    [headers(), lines(), fronts()]
+}
 
 /// What git writes for a user: comments, indented keys, and a section for each remote.
 pub const GLOBAL: &[u8] =

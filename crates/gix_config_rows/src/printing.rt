@@ -1,13 +1,14 @@
 //! Texts that are loaded and printed.
 
 use super::loads::{loaded, loaded_lossy};
-use super::printed::{EXACT, LOSSY, PRINTED, SECTIONS, TOLD};
+use super::printed::{EXACT, LOSSY, Rows, SECTIONS, TOLD, printed};
 use super::rendering::unmarked;
 use bstr::BStr;
 use gitconf_base::meta::Metadata;
 use gitconf_parse::events::Events;
 use gitconf_store::store::Store;
 use std::alloc::{AllocError, Global};
+use std::process::Abort;
 use std::rc::Rc;
 use std::test::Fail;
 
@@ -26,9 +27,8 @@ fn has_entries_again(alloc: Global, store: &Store, printed: &[u8]) -> Result<boo
     Ok(again.num_values() == store.num_values())
 }
 
-#[test]
-fn printed_texts(rt: HostRuntime) -> Result<(), Fail> {
-    for (text, expected) in &PRINTED {
+fn check_printed<R: Abort + AllocGlobal>(rt: &R, rows: Rows) -> Result<(), Fail> {
+    for (text, expected) in rows {
         let shown = BStr::new(text);
         let store = loaded(rt.alloc(), text)?;
         assert!(rt; prints(rt.alloc(), &store, expected)?, "'{shown}'");
@@ -36,6 +36,14 @@ fn printed_texts(rt: HostRuntime) -> Result<(), Fail> {
             has_entries_again(rt.alloc(), &store, expected)?,
             "'{shown}'"
         );
+    }
+    Ok(())
+}
+
+#[test]
+fn printed_texts(rt: HostRuntime) -> Result<(), Fail> {
+    for rows in printed() {
+        check_printed(&rt, rows)?;
     }
     Ok(())
 }
@@ -163,12 +171,19 @@ fn is_kept(alloc: Global, front: &[u8]) -> Result<bool, Fail> {
     Ok(back == wanted && has_entries_again(alloc, &store, text.as_bytes())?)
 }
 
+fn check_broken_off<R: Abort + AllocGlobal>(rt: &R, text: &[u8]) -> Result<(), Fail> {
+    for len in 0..=text.len() {
+        let front = text.get(..len).unwrap_or(text);
+        assert!(rt; is_kept(rt.alloc(), front)?, "'{}'", BStr::new(front));
+    }
+    Ok(())
+}
+
 #[test]
 fn broken_off_texts(rt: HostRuntime) -> Result<(), Fail> {
-    for (text, _) in &PRINTED {
-        for len in 0..=text.len() {
-            let front = text.get(..len).unwrap_or(text);
-            assert!(rt; is_kept(rt.alloc(), front)?, "'{}'", BStr::new(front));
+    for rows in printed() {
+        for (text, _) in rows {
+            check_broken_off(&rt, text)?;
         }
     }
     Ok(())
