@@ -6,5 +6,3 @@ pub mod laws;
 pub mod line_end;
 mod open;
 pub mod sections;
-#[cfg(test)]
-mod tests;

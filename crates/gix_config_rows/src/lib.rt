@@ -12,7 +12,13 @@ mod fronts;
 #[cfg(test)]
 mod items;
 #[cfg(test)]
+mod loads;
+#[cfg(test)]
 mod names;
+#[cfg(test)]
+mod printed;
+#[cfg(test)]
+mod printing;
 #[cfg(test)]
 mod refusals;
 #[cfg(test)]
@@ -20,6 +26,10 @@ mod rendering;
 #[cfg(test)]
 mod rows;
 #[cfg(test)]
+mod sections;
+#[cfg(test)]
 mod texts;
 #[cfg(test)]
 mod values;
+#[cfg(test)]
+mod writers;
