@@ -117,13 +117,8 @@ impl<'a> SectionRef<'a> {
         ensures counted { Counts result (W.faults out.old) (W.faults out.new) }
     {
         self.write_to(out)?;
-        write_held(
-            out,
-            self.buffer,
-            &self.section.items,
-            &self.section.held,
-            line_end,
-        )
+        let section = self.section;
+        write_held(out, self.buffer, &section.items, &section.held, line_end)
     }
 
     /// Whether the section ends with a line end, what is held behind it counted in.
@@ -131,12 +126,8 @@ impl<'a> SectionRef<'a> {
     pub(crate) fn ends_with_line(&self, line_end: LineEnd) -> bool
         ensures { result ≡ ends_with_line (bytes_of_line_end line_end) (shown self.now) }
     {
-        items::ends_with_line(
-            self.buffer,
-            &self.section.items,
-            &self.section.held,
-            line_end,
-        )
+        let section = self.section;
+        items::ends_with_line(self.buffer, &section.items, &section.held, line_end)
     }
 }
 
