@@ -1,19 +1,19 @@
 //! What look-ups find in the sections of a store.
-ghost use Rattle.std.specs.Prelude.{◌≡◌, ◌&&◌, Bool, [], None, filter, IfOk, IfErr};
+ghost use Rattle.std.specs.Fn.{ComputesKey};
 ghost use Rattle.std.specs.List.{last_or};
 ghost use Rattle.std.specs.Option.{option_map};
-ghost use Rattle.gitconf_text.specs.Names.{is_same_name};
+ghost use Rattle.std.specs.Prelude.{◌≡◌, ◌&&◌, Bool, [], None, filter};
+ghost use Rattle.bstr.specs.Owned.{bstring_bytes};
 ghost use Rattle.gitconf_text.specs.Document.{document_entry};
-ghost use Rattle.gitconf_parse.specs.Items.{entry_of, value_of};
-ghost use Rattle.gitconf_state.specs.State.{entries_of};
-ghost use Rattle.gitconf_write.specs.Bodies.{items_of};
-ghost use Rattle.std.specs.Fn.{ComputesKey};
+ghost use Rattle.gitconf_text.specs.Names.{is_same_name};
 ghost use Rattle.gitconf_text.specs.Value.{raw_of};
 ghost use Rattle.gitconf_base.specs.Metadata.{Meta};
+ghost use Rattle.gitconf_parse.specs.Items.{entry_of, value_of};
 ghost use Rattle.gitconf_state.specs.Lookup.{deciding};
-ghost use Rattle.gitconf_store.specs.Store.{section_under};
-ghost use Rattle.bstr.specs.Owned.{bstring_bytes};
+ghost use Rattle.gitconf_state.specs.State.{entries_of};
+ghost use Rattle.gitconf_write.specs.Bodies.{items_of};
 ghost use Rattle.gitconf_store.specs.Lookups.{IsFound, last_among, named_sections};
+ghost use Rattle.gitconf_store.specs.Store.{section_under};
 
 use crate::section::Section;
 use crate::values::meaning;

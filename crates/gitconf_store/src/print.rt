@@ -1,9 +1,9 @@
 //! Printing a file: its front and its sections, all or those that a filter keeps.
-ghost use Rattle.std.specs.Prelude.{◌≡◌, Bool, true, IfOk};
-ghost use Rattle.std.specs.List.{list_any};
 ghost use Rattle.std.specs.Fn.{ComputesKey};
-ghost use Rattle.gitconf_state.specs.State.{SectionState};
+ghost use Rattle.std.specs.List.{list_any};
+ghost use Rattle.std.specs.Prelude.{◌≡◌, Bool, true, IfOk};
 ghost use Rattle.gitconf_parse.specs.Sink.{Writes, Counts};
+ghost use Rattle.gitconf_state.specs.State.{SectionState};
 ghost use Rattle.gitconf_write.specs.Bodies.{items_of};
 ghost use Rattle.gitconf_write.specs.LineEnds.{bytes_of_line_end};
 ghost use Rattle.gitconf_store.specs.Texts.{is_front_ended, next_text, ended_behind, sections_text};

@@ -31,19 +31,18 @@ pub struct SectionRef<'a> {
 }
 
 impl<'a> SectionRef<'a> {
-    ghost use Rattle.std.specs.Prelude.{◌≡◌};
-    ghost use Rattle.gitconf_parse.specs.Sink.{Writes, Counts};
-    ghost use Rattle.gitconf_state.specs.Printing.{printed_section, ends_with_line};
-    ghost use Rattle.gitconf_write.specs.LineEnds.{bytes_of_line_end};
-    ghost use Rattle.gitconf_store.specs.Texts.{whole_text};
-    ghost use Rattle.std.specs.Prelude.{[], ◌∷◌, map, IfOk};
-    ghost use Rattle.gitconf_parse.specs.ShownEvents.{shown_token};
-    ghost use Rattle.gitconf_write.specs.Bodies.{tokens_in};
-    ghost use Rattle.gitconf_store.specs.ItemEvents.{events_left};
+    ghost use Rattle.std.specs.Prelude.{◌≡◌, [], ◌∷◌, map, IfOk};
     ghost use Rattle.bstr.specs.Owned.{bstring_bytes};
     ghost use Rattle.gitconf_text.specs.Document.{Reads};
-    ghost use Rattle.gitconf_state.specs.State.{HasSectionItems, section_document};
+    ghost use Rattle.gitconf_parse.specs.ShownEvents.{shown_token};
+    ghost use Rattle.gitconf_parse.specs.Sink.{Writes, Counts};
     ghost use Rattle.gitconf_state.specs.Clean.{IsCleanSection};
+    ghost use Rattle.gitconf_state.specs.Printing.{printed_section, ends_with_line};
+    ghost use Rattle.gitconf_state.specs.State.{HasSectionItems, section_document};
+    ghost use Rattle.gitconf_write.specs.Bodies.{tokens_in};
+    ghost use Rattle.gitconf_write.specs.LineEnds.{bytes_of_line_end};
+    ghost use Rattle.gitconf_store.specs.ItemEvents.{events_left};
+    ghost use Rattle.gitconf_store.specs.Texts.{whole_text};
     ghost use Rattle.gitconf_store.specs.Views.{shown};
 
     /// The section's number in its file.

@@ -1,9 +1,4 @@
 //! The state of a file behind one buffer.
-ghost use Rattle.std.specs.Prelude.{◌≡◌, ◌<◌, ◌^◌, [], length, IfOk};
-ghost use Rattle.gitconf_parse.specs.ItemsFit.{ItemsFit};
-ghost use Rattle.gitconf_state.specs.State.{HasItems};
-ghost use Rattle.gitconf_store.specs.Store.{loaded};
-
 use crate::events::ItemEvents;
 use crate::load::load_sections;
 use crate::lookup::last_meaning;
@@ -47,46 +42,36 @@ impl Model for Store {
 }
 
 impl Store {
-    ghost use Rattle.std.specs.Prelude.{◌≡◌, ◌<◌, ◌^◌, [], length, IfOk};
-    ghost use Rattle.gitconf_parse.specs.ItemsFit.{ItemsFit};
-    ghost use Rattle.gitconf_state.specs.State.{HasItems};
-    ghost use Rattle.gitconf_store.specs.Store.{loaded};
-    ghost use Rattle.gitconf_store.specs.Views.{sections_left};
-    ghost use Rattle.std.specs.Prelude.{true};
-    ghost use Rattle.gitconf_parse.specs.Items.{Between, are_items};
-    ghost use Rattle.gitconf_state.specs.State.{State};
-    ghost use Rattle.std.specs.Prelude.{List, filter, IfErr};
+    ghost use Rattle.std.specs.Fn.{ComputesKey};
+    ghost use Rattle.std.specs.Option.{option_copied};
+    ghost use Rattle.std.specs.Prelude.{◌≡◌, ◌<◌, ◌^◌, [], length, IfOk, true, List, filter, IfErr, map, Bool};
+    ghost use Rattle.bstr.specs.Owned.{bstring_bytes};
+    ghost use Rattle.gitconf_text.specs.Document.{IsText, Reads, unmarked};
     ghost use Rattle.gitconf_text.specs.Part.{Part};
-    ghost use Rattle.gitconf_text.specs.Document.{IsText};
-    ghost use Rattle.gitconf_text.specs.Token.{tokens_of};
+    ghost use Rattle.gitconf_text.specs.Token.{tokens_of, spelled_token};
+    ghost use Rattle.gitconf_base.specs.Metadata.{Meta};
     ghost use Rattle.gitconf_parse.specs.EventList.{keeps_token};
     ghost use Rattle.gitconf_parse.specs.EventResult.{IsRefused};
+    ghost use Rattle.gitconf_parse.specs.Items.{Between, are_items};
+    ghost use Rattle.gitconf_parse.specs.ItemsFit.{ItemsFit};
+    ghost use Rattle.gitconf_parse.specs.ShownEvents.{shown_token};
+    ghost use Rattle.gitconf_parse.specs.Sink.{Writes, Counts};
     ghost use Rattle.gitconf_parse.specs.TokenDocument.{keeps_meaning};
-    ghost use Rattle.std.specs.Prelude.{map};
-    ghost use Rattle.gitconf_text.specs.Document.{Reads, unmarked};
-    ghost use Rattle.gitconf_text.specs.Token.{spelled_token};
-    ghost use Rattle.gitconf_state.specs.State.{document_of, document_of_kept, entries_of};
     ghost use Rattle.gitconf_state.specs.Clean.{IsClean};
     ghost use Rattle.gitconf_state.specs.Comments.{comments, comments_of, comments_of_kept};
     ghost use Rattle.gitconf_state.specs.Inserted.{Inserted, IsByteForByte};
-    ghost use Rattle.std.specs.Option.{option_copied};
-    ghost use Rattle.gitconf_base.specs.Metadata.{Meta};
+    ghost use Rattle.gitconf_state.specs.LineEnds.{file_line_end};
     ghost use Rattle.gitconf_state.specs.Lookup.{last_value};
+    ghost use Rattle.gitconf_state.specs.Printing.{printed, printed_kept};
+    ghost use Rattle.gitconf_state.specs.State.{HasItems, State, document_of, document_of_kept, entries_of, SectionState};
+    ghost use Rattle.gitconf_write.specs.Bodies.{tokens_in};
+    ghost use Rattle.gitconf_write.specs.LineEnds.{bytes_of_line_end};
+    ghost use Rattle.gitconf_store.specs.Counts.{are_void, section_entries};
+    ghost use Rattle.gitconf_store.specs.ItemEvents.{events_left};
     ghost use Rattle.gitconf_store.specs.Lookups.{IsFound};
     ghost use Rattle.gitconf_store.specs.Made.{IsMade};
-    ghost use Rattle.std.specs.Prelude.{Bool};
-    ghost use Rattle.std.specs.Fn.{ComputesKey};
-    ghost use Rattle.bstr.specs.Owned.{bstring_bytes};
-    ghost use Rattle.gitconf_parse.specs.Sink.{Writes, Counts};
-    ghost use Rattle.gitconf_state.specs.State.{SectionState};
-    ghost use Rattle.gitconf_state.specs.LineEnds.{file_line_end};
-    ghost use Rattle.gitconf_state.specs.Printing.{printed, printed_kept};
-    ghost use Rattle.gitconf_write.specs.LineEnds.{bytes_of_line_end};
-    ghost use Rattle.gitconf_parse.specs.ShownEvents.{shown_token};
-    ghost use Rattle.gitconf_write.specs.Bodies.{tokens_in};
-    ghost use Rattle.gitconf_store.specs.ItemEvents.{events_left};
-    ghost use Rattle.gitconf_store.specs.Counts.{are_void, section_entries};
-    ghost use Rattle.gitconf_store.specs.Views.{shown};
+    ghost use Rattle.gitconf_store.specs.Store.{loaded};
+    ghost use Rattle.gitconf_store.specs.Views.{sections_left, shown};
 
     /// A file without front and sections. Takes no memory.
     pub fn new(alloc: Global, meta: Rc<Metadata>) -> Store

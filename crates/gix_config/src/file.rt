@@ -1,6 +1,4 @@
 //! A file of git's configuration in memory.
-ghost use Rattle.std.specs.Prelude.{◌≡◌};
-
 use bstr::BString;
 use gitconf_base::key::AsKey;
 use gitconf_base::meta::Metadata;
@@ -29,23 +27,23 @@ impl Model for File {
 }
 
 impl File {
-    ghost use Rattle.std.specs.Prelude.{◌≡◌, ◌<◌, ◌^◌, Bool, [], List, true, length, IfOk, IfErr};
     ghost use Rattle.std.specs.Fn.{ComputesKey};
     ghost use Rattle.std.specs.Option.{option_copied};
+    ghost use Rattle.std.specs.Prelude.{◌≡◌, ◌<◌, ◌^◌, Bool, [], List, true, length, IfOk, IfErr};
     ghost use Rattle.bstr.specs.Owned.{bstring_bytes};
-    ghost use Rattle.gitconf_text.specs.Part.{Part};
     ghost use Rattle.gitconf_text.specs.Document.{IsText, Reads, unmarked};
+    ghost use Rattle.gitconf_text.specs.Part.{Part};
     ghost use Rattle.gitconf_text.specs.Token.{tokens_of};
     ghost use Rattle.gitconf_base.specs.Metadata.{Meta, api_meta};
     ghost use Rattle.gitconf_parse.specs.EventResult.{IsRefused};
     ghost use Rattle.gitconf_parse.specs.Sink.{Writes, Counts};
-    ghost use Rattle.gitconf_state.specs.State.{SectionState, document_of, document_of_kept};
     ghost use Rattle.gitconf_state.specs.Clean.{IsClean};
     ghost use Rattle.gitconf_state.specs.Comments.{comments, comments_of};
     ghost use Rattle.gitconf_state.specs.Inserted.{IsByteForByte};
     ghost use Rattle.gitconf_state.specs.LineEnds.{file_line_end};
     ghost use Rattle.gitconf_state.specs.Lookup.{last_value};
     ghost use Rattle.gitconf_state.specs.Printing.{printed, printed_kept};
+    ghost use Rattle.gitconf_state.specs.State.{SectionState, document_of, document_of_kept};
     ghost use Rattle.gitconf_store.specs.Counts.{are_void, section_entries};
     ghost use Rattle.gitconf_store.specs.Lookups.{IsFound};
     ghost use Rattle.gitconf_store.specs.Made.{IsMade};
