@@ -171,6 +171,24 @@ impl Store {
         &self.meta
     }
 
+    /// The same metadata as [`Store::meta`], shared.
+    ///
+    /// # Errors
+    ///
+    /// No other owner can be counted any more.
+    pub fn meta_owned(&self) -> Result<Rc<Metadata>, NoMemory>
+        ensures { IfOk result (λ m. m.value ≡ self.now.meta) }
+    {
+        Ok(self.meta.clone()?)
+    }
+
+    /// Says where the file comes from, and each section that is made from now on. Those that stand keep theirs.
+    pub fn set_meta(&mut self, meta: Rc<Metadata>)
+        ensures { self.new ≡ record self.old { meta = meta.value } }
+    {
+        self.meta = meta;
+    }
+
     /// The line end that the file uses: that of the first newline of its front, or else of its sections' bodies in
     /// order, those within values too; LF where there is none. What is held behind sections isn't asked.
     fn line_end(&self) -> LineEnd

@@ -89,6 +89,26 @@ impl File {
         self.store.meta()
     }
 
+    /// The same metadata as [`File::meta`], shared.
+    ///
+    /// # Errors
+    ///
+    /// No other owner can be counted any more.
+    pub fn meta_owned(&self) -> Result<Rc<Metadata>, NoMemory>
+        ensures { IfOk result (λ m. m.value ≡ self.now.meta) }
+    {
+        self.store.meta_owned()
+    }
+
+    /// Says where the file comes from, and each section that is made from now on. Those that stand keep theirs.
+    pub fn set_meta(&mut self, meta: Rc<Metadata>) -> &mut File
+        ensures same { result.ghost_name ≡ self.entry.ghost_name }
+        ensures value { result.now ≡ record self.old { meta = meta.value } }
+    {
+        self.store.set_meta(meta);
+        self
+    }
+
     /// The sections in file order.
     pub fn sections(&self) -> Sections<'_>
         ensures { sections_left result ≡ self.now.sections }
