@@ -10,7 +10,6 @@ use gitconf_text::NoMemory;
 use gitconf_write::line_end as items;
 use gitconf_write::line_end::LineEnd;
 use gitconf_write::sections::{write_held, write_section};
-use std::alloc::Global;
 use std::rc::Rc;
 
 /// A section: its header, where it comes from, its body, and the items held behind it.
@@ -93,12 +92,12 @@ impl<'a> SectionRef<'a> {
     ///
     /// Want of memory.
     #[tactic(auto, using(crate::proofs::ReadBack::section_text_reads))]
-    pub fn to_bstring(&self, alloc: Global) -> Result<BString, NoMemory>
+    pub fn to_bstring(&self) -> Result<BString, NoMemory>
         ensures text { IfOk result (λ text. bstring_bytes text ≡ printed_section (shown self.now)) }
         ensures reads { HasSectionItems (shown self.now) → IsCleanSection (shown self.now)
             → IfOk result (λ text. Reads (bstring_bytes text) (record { front = []; sections = section_document (shown self.now) ∷ [] })) }
     {
-        let mut text = Vec::new(alloc);
+        let mut text = Vec::new(*self.section.items.allocator());
         match self.write_to(&mut text) {
             Ok(()) => Ok(BString::new(text)),
             Err(_) => Err(NoMemory),

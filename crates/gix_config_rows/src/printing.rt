@@ -14,7 +14,7 @@ use std::test::Fail;
 
 /// The store is printed as this text, in one piece and to a writer, and the text has events.
 fn prints(alloc: Global, store: &Store, expected: &[u8]) -> Result<bool, Fail> {
-    let text = store.to_bstring(alloc)?;
+    let text = store.to_bstring()?;
     let mut out = Vec::from_slice(alloc, b">")?;
     store.write_to(&mut out)?;
     let events = Events::from_bytes(alloc, expected, None);
@@ -165,7 +165,7 @@ fn is_kept(alloc: Global, front: &[u8]) -> Result<bool, Fail> {
     let Ok(store) = Store::from_bytes(alloc, front, meta) else {
         return Ok(Events::from_bytes(alloc, front, None).is_err());
     };
-    let text = store.to_bstring(alloc)?;
+    let text = store.to_bstring()?;
     let back = without_line_ends(alloc, text.as_bytes())?;
     let wanted = without_line_ends(alloc, unmarked(front))?;
     Ok(back == wanted && has_entries_again(alloc, &store, text.as_bytes())?)
