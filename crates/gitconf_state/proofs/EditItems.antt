@@ -17,10 +17,11 @@ use Rattle.gitconf_parse.proofs.ByteLaws.{name_byte_header}
 use Rattle.gitconf_parse.proofs.ValueAgain.{both_true, line_end_is}
 use Rattle.gitconf_parse.proofs.RunLaws.{false_not}
 use Rattle.gitconf_parse.proofs.Shown.{all_push}
+use Rattle.gitconf_base.specs.Metadata.{Meta}
 use Rattle.gitconf_state.specs.State.{SectionState, State, is_value, is_assigned, is_item, is_header, HasSectionItems, HasItems}
 use Rattle.gitconf_state.specs.LineEnds.{file_line_end}
 use Rattle.gitconf_state.specs.Clean.{is_nameless, has_blanks, IsCleanSection, IsClean}
-use Rattle.gitconf_state.specs.Edit.{is_entry_of, is_any_entry, Spacing, leading_blanks, separator_blanks, spacing_of, assigned_value, with_value, new_entry, set_value, made_header, new_section, is_target, section_with, set_raw_value, Edit, SetRawValue, apply, apply_all, is_edit, is_clean_edit}
+use Rattle.gitconf_state.specs.Edit.{is_entry_of, is_any_entry, Spacing, leading_blanks, separator_blanks, spacing_of, assigned_value, with_value, new_entry, set_value, made_header, new_section, is_target, section_with, set_raw_value, Edit, SetRawValue, apply, apply_all, may_stand, is_edit, are_edits, is_clean_edit}
 use Rattle.gitconf_state.proofs.LoadingFilters.{both_hold}
 use Rattle.gitconf_state.proofs.InsertingLineEnds.{is_told_line_end}
 use Rattle.gitconf_state.proofs.EditLists.{update_last_all, update_last_holds}
@@ -156,34 +157,32 @@ new_section_is : (name : List ℕ) (subsection : Option (List ℕ)) (state : Sta
 new_section_is name subsection state made valid =
     record { header = made_header_is name subsection made valid; items = rw (one_line_end (file_line_end state) (file_line_end_is state)) refl; held = refl }
 
--- what an edit says of its names
-record EditParts (name : List ℕ) (subsection : Option (List ℕ)) (key : List ℕ) : Type 0 where
-  made : is_made_name name ≡ true
-  valid : is_valid_or_none subsection ≡ true
-  named : is_value_name key ≡ true
-
-edit_parts : (name : List ℕ) (subsection : Option (List ℕ)) (key : List ℕ) → (is_made_name name && is_valid_or_none subsection && is_value_name key) ≡ true → EditParts name subsection key
-edit_parts name subsection key is =
-    let a = both_true (is_made_name name && is_valid_or_none subsection) (is_value_name key) is in
-    let b = both_true (is_made_name name) (is_valid_or_none subsection) a.0 in
-    record { made = b.0; valid = b.1; named = a.1 }
+-- where none stands, the names are such as a header may have
+pub may_be_made : (name : List ℕ) (subsection : Option (List ℕ)) (keeps : Meta → Bool) (state : State) → may_stand name subsection keeps state ≡ true
+    → list_any (is_target name subsection keeps) state.sections ≡ false → (is_made_name name ≡ true) × (is_valid_or_none subsection ≡ true)
+may_be_made name subsection keeps state may none =
+    both_true (is_made_name name) (is_valid_or_none subsection) (let h : may_stand name subsection keeps state ≡ true = may in rw (none, may_stand) at h)
 
 -- An edit leaves a state with items.
-pub apply_items : (edit : Edit) (state : State) → is_edit edit ≡ true → HasItems state → HasItems (apply edit state)
+pub apply_items : (edit : Edit) (state : State) → is_edit edit state ≡ true → HasItems state → HasItems (apply edit state)
 apply_items (SetRawValue name subsection key keeps value) state is has =
-    go (list_any (is_target name subsection keeps) state.sections) refl (edit_parts name subsection key is)
+    let b = both_true (is_value_name key) (may_stand name subsection keeps state) is in
+    go (list_any (is_target name subsection keeps) state.sections) refl b.0 b.1
   where
-    go : (t : Bool) → list_any (is_target name subsection keeps) state.sections ≡ t → EditParts name subsection key → HasItems (set_raw_value name subsection key keeps value state)
-    go true e parts = rw (e, set_raw_value) (record {
+    go : (t : Bool) → list_any (is_target name subsection keeps) state.sections ≡ t → is_value_name key ≡ true → may_stand name subsection keeps state ≡ true
+        → HasItems (set_raw_value name subsection key keeps value state)
+    go true e named may = rw (e, set_raw_value) (record {
       front = has.front;
       sections = update_last_holds (is_target name subsection keeps) (section_with (file_line_end state) key value) HasSectionItems
-          (λ s one. section_with_is (file_line_end state) key value s parts.named (file_line_end_is state) one) state.sections has.sections;
+          (λ s one. section_with_is (file_line_end state) key value s named (file_line_end_is state) one) state.sections has.sections;
     })
-    go false e parts = rw (e, set_raw_value) (record {
-      front = has.front;
-      sections = all_push HasSectionItems state.sections (section_with (file_line_end state) key value (new_section name subsection state)) has.sections
-          (section_with_is (file_line_end state) key value (new_section name subsection state) parts.named (file_line_end_is state) (new_section_is name subsection state parts.made parts.valid));
-    })
+    go false e named may =
+        let made = may_be_made name subsection keeps state may e in
+        rw (e, set_raw_value) (record {
+          front = has.front;
+          sections = all_push HasSectionItems state.sections (section_with (file_line_end state) key value (new_section name subsection state)) has.sections
+              (section_with_is (file_line_end state) key value (new_section name subsection state) named (file_line_end_is state) (new_section_is name subsection state made.0 made.1));
+        })
 
 -- blanks, if there are any, are spaces and tabs
 abbrev are_blanks : Option (List ℕ) → Bool
@@ -259,10 +258,10 @@ apply_clean (SetRawValue name subsection key keeps value) state is clean = go (l
     })
 
 -- Edits, one behind the other, leave a state with items.
-pub apply_all_items : (edits : List Edit) (state : State) → list_all is_edit edits ≡ true → HasItems state → HasItems (apply_all edits state)
+pub apply_all_items : (edits : List Edit) (state : State) → are_edits edits state ≡ true → HasItems state → HasItems (apply_all edits state)
 apply_all_items [] state all has = has
 apply_all_items (edit ∷ edits) state all has =
-    let b = both_true (is_edit edit) (list_all is_edit edits) all in
+    let b = both_true (is_edit edit state) (are_edits edits (apply edit state)) all in
     apply_all_items edits (apply edit state) b.1 (apply_items edit state b.0 has)
 
 -- and a clean one

@@ -8,16 +8,17 @@ use Rattle.std.specs.Cmp.Lexicographic.{bytes_decides}
 use Rattle.gitconf_text.specs.Bytes.{fold}
 use Rattle.gitconf_text.specs.Value.{plain}
 use Rattle.gitconf_text.specs.Header.{name_of, subsection_of}
-use Rattle.gitconf_text.specs.Names.{is_same_name, is_valid_or_none}
+use Rattle.gitconf_text.specs.Names.{is_same_name}
 use Rattle.gitconf_text.specs.Part.{Entry, Item, BlanksItem, LineEndsItem, CommentItem, EntryItem}
 use Rattle.gitconf_text.specs.Document.{DocumentEntry, document_entry}
 use Rattle.gitconf_base.specs.Metadata.{Meta}
 use Rattle.gitconf_state.specs.State.{SectionState, State}
 use Rattle.gitconf_state.specs.LineEnds.{file_line_end}
 use Rattle.gitconf_state.specs.Lookup.{is_named, passing, entries_of_key, deciding, last_value, meaning, all_values}
-use Rattle.gitconf_state.specs.Edit.{is_entry_of, spacing_of, new_entry, set_value, new_section, is_target, section_with, set_raw_value}
+use Rattle.gitconf_state.specs.Edit.{is_entry_of, spacing_of, new_entry, set_value, new_section, is_target, section_with, set_raw_value, may_stand}
 use Rattle.gitconf_parse.proofs.ValueAgain.{both_true}
 use Rattle.gitconf_parse.proofs.ByteLaws.{refuted}
+use Rattle.gitconf_state.proofs.EditItems.{may_be_made}
 use Rattle.gitconf_state.proofs.EditLists.{last_at, filter_both}
 use Rattle.gitconf_state.proofs.EditPlaces.{set_raw_value_at, set_raw_value_new}
 use Rattle.gitconf_state.proofs.EditValues.{of_key, set_value_entry, entry_of_key, same_name, new_section_named}
@@ -244,10 +245,10 @@ named_once name other_name subsection other_subsection s differ is = refuted (is
 
 -- The sections of another name or subsection stay, whatever the filter.
 pub set_value_leaves_sections : (name : List ℕ) (subsection : Option (List ℕ)) (key : List ℕ) (keeps : Meta → Bool) (value : List ℕ) (state : State)
-    → (other_name : List ℕ) (other_subsection : Option (List ℕ)) (other_keeps : Meta → Bool) → is_valid_or_none subsection ≡ true
+    → (other_name : List ℕ) (other_subsection : Option (List ℕ)) (other_keeps : Meta → Bool) → may_stand name subsection keeps state ≡ true
     → (is_same_name name other_name ≡ false) ⊎ (subsection ≡ other_subsection → ⊥)
     → passing other_name other_subsection other_keeps (set_raw_value name subsection key keeps value state) ≡ passing other_name other_subsection other_keeps state
-set_value_leaves_sections name subsection key keeps value state other_name other_subsection other_keeps valid differ = go (list_any (is_target name subsection keeps) state.sections) refl
+set_value_leaves_sections name subsection key keeps value state other_name other_subsection other_keeps may differ = go (list_any (is_target name subsection keeps) state.sections) refl
   where
     kept : List SectionState → List SectionState
     kept sections = filter (λ s. other_keeps s.meta) sections
@@ -261,6 +262,6 @@ set_value_leaves_sections name subsection key keeps value state other_name other
         ∙ ap kept (filter_same (is_named other_name other_subsection) l.before (section_with (file_line_end state) key value l.found) l.found l.behind named named)
         ∙ ap (λ sections. kept (filter (is_named other_name other_subsection) sections)) (sym l.is)
     go false none =
-        let named = named_once name other_name subsection other_subsection (new_section name subsection state) differ (new_section_named name subsection state valid) in
+        let named = named_once name other_name subsection other_subsection (new_section name subsection state) differ (new_section_named name subsection state (may_be_made name subsection keeps state may none).1) in
         ap (passing other_name other_subsection other_keeps) (set_raw_value_new name subsection key keeps value state none)
         ∙ ap kept (filter_behind (is_named other_name other_subsection) state.sections (section_with (file_line_end state) key value (new_section name subsection state)) named)

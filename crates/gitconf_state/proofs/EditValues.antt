@@ -18,10 +18,10 @@ use Rattle.gitconf_parse.proofs.Subsections.{reads_back}
 use Rattle.gitconf_state.specs.State.{SectionState, State, entries_of}
 use Rattle.gitconf_state.specs.LineEnds.{file_line_end}
 use Rattle.gitconf_state.specs.Lookup.{is_named, passing, deciding, last_value}
-use Rattle.gitconf_state.specs.Edit.{is_entry_of, Spacing, spacing_of, assigned_value, with_value, leading_item, set_value, made_header, new_section, is_target, section_with, set_raw_value}
+use Rattle.gitconf_state.specs.Edit.{is_entry_of, Spacing, spacing_of, assigned_value, with_value, leading_item, set_value, made_header, new_section, is_target, section_with, set_raw_value, may_stand}
 use Rattle.gitconf_state.proofs.LoadingFilters.{both_hold}
 use Rattle.gitconf_state.proofs.EditLists.{last_at, last_given, filter_both}
-use Rattle.gitconf_state.proofs.EditItems.{valid_no_feed}
+use Rattle.gitconf_state.proofs.EditItems.{valid_no_feed, may_be_made}
 use Rattle.gitconf_state.proofs.EditPlaces.{set_value_at, set_value_new, set_raw_value_at, set_raw_value_new}
 
 -- a name is the same as itself
@@ -173,9 +173,9 @@ found_last name subsection key keeps value state line_end before s behind is tar
 
 -- A value that was set is found with the same filter.
 pub set_value_is_found : (name : List ℕ) (subsection : Option (List ℕ)) (key : List ℕ) (keeps : Meta → Bool) (value : List ℕ) (state : State)
-    → is_valid_or_none subsection ≡ true → keeps state.meta ≡ true
+    → may_stand name subsection keeps state ≡ true → keeps state.meta ≡ true
     → last_value name subsection key keeps (set_raw_value name subsection key keeps value state) ≡ Some value
-set_value_is_found name subsection key keeps value state valid kept = go (list_any (is_target name subsection keeps) state.sections) refl
+set_value_is_found name subsection key keeps value state may kept = go (list_any (is_target name subsection keeps) state.sections) refl
   where
     go : (t : Bool) → list_any (is_target name subsection keeps) state.sections ≡ t → last_value name subsection key keeps (set_raw_value name subsection key keeps value state) ≡ Some value
     go true some =
@@ -185,4 +185,4 @@ set_value_is_found name subsection key keeps value state valid kept = go (list_a
     go false none =
         found_last name subsection key keeps value (set_raw_value name subsection key keeps value state) (file_line_end state) state.sections (new_section name subsection state) []
         (ap (λ state. state.sections) (set_raw_value_new name subsection key keeps value state none))
-        (both_hold (is_named name subsection (new_section name subsection state)) (keeps state.meta) (new_section_named name subsection state valid) kept) refl
+        (both_hold (is_named name subsection (new_section name subsection state)) (keeps state.meta) (new_section_named name subsection state (may_be_made name subsection keeps state may none).1) kept) refl

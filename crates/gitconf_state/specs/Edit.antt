@@ -1,11 +1,12 @@
 -- Edits: each is one update of the list of sections, and its answer.
 -- Source: gix-config; that an entry without `=` gets one is this project's own rule.
-use Rattle.std.specs.Prelude.{ℕ, ◌+◌, Bool, true, false, not, List, [], ◌∷◌, ◌++◌, ◌&&◌, filter, Option, Some, None}
+use Rattle.std.specs.Prelude.{ℕ, ◌+◌, Bool, true, false, not, List, [], ◌∷◌, ◌++◌, ◌&&◌, ◌||◌, filter, Option, Some, None, length, flat_map}
 use Rattle.std.specs.List.{fold, last_or, list_any}
 use Rattle.gitconf_text.specs.Names.{is_made_name, is_same_name, is_valid_or_none, is_value_name}
 use Rattle.gitconf_text.specs.Value.{raw_of, escaped}
 use Rattle.gitconf_text.specs.Header.{Header, PlainHeader, QuotedHeader}
 use Rattle.gitconf_text.specs.Part.{Assigned, Item, BlanksItem, LineEndsItem, CommentItem, EntryItem}
+use Rattle.gitconf_text.specs.Token.{Token, HeaderToken, NewlineToken, ValueToken, WhitespaceToken, item_tokens, assigned_tokens, filled, spelled_token}
 use Rattle.gitconf_parse.specs.EventRef.{escaped_subsection}
 use Rattle.gitconf_base.specs.Metadata.{Meta}
 use Rattle.gitconf_state.specs.State.{SectionState, State}
@@ -162,21 +163,64 @@ abbrev pub replaced_value : (name : List ℕ) → (subsection : Option (List ℕ
 replaced_value name subsection key keeps state =
     elim (last_or None (filter (is_target name subsection keeps) state.sections)) [ None ↦ None | Some s ↦ old_value key s.items ]
 
+-- the tokens of a value that is set: those of `=` and its blanks too, where there is no `=`
+abbrev pub value_tokens_of : Spacing → (value : List ℕ) → Item → List Token
+value_tokens_of spacing value (EntryItem e) = elim e.assigned [
+  | Some a ↦ ValueToken (escaped value) ∷ []
+  | None ↦ filled WhitespaceToken spacing.before ++ assigned_tokens (assigned_value spacing.behind value)
+]
+value_tokens_of spacing value i = []
+
+-- the tokens that setting a value makes in a body
+abbrev pub set_tokens : (line_end key value : List ℕ) → List Item → List Token
+set_tokens line_end key value items = elim (last_or None (filter (is_entry_of key) items)) [
+  | None ↦ flat_map item_tokens (new_entry (spacing_of items) line_end key value)
+  | Some i ↦ value_tokens_of (spacing_of items) value i
+]
+
+-- the tokens that setting a value makes
+abbrev pub set_raw_value_tokens : (name : List ℕ) → (subsection : Option (List ℕ)) → (key : List ℕ) → (keeps : Meta → Bool) → (value : List ℕ) → State → List Token
+set_raw_value_tokens name subsection key keeps value state = elim (last_or None (filter (is_target name subsection keeps) state.sections)) [
+  | None ↦ HeaderToken (made_header name subsection) ∷ NewlineToken (file_line_end state) ∷ set_tokens (file_line_end state) key value (LineEndsItem (file_line_end state) ∷ [])
+  | Some s ↦ set_tokens (file_line_end state) key value s.items
+]
+
+-- the bytes of tokens
+abbrev pub token_bytes : List Token → ℕ
+token_bytes tokens = length (flat_map spelled_token tokens)
+
 -- the edits of a file
 pub data Edit : Type 0 where
   SetRawValue : (name : List ℕ) (subsection : Option (List ℕ)) (key : List ℕ) (keeps : Meta → Bool) (value : List ℕ) → Edit
+
+-- the tokens that an edit makes
+abbrev pub new_tokens : Edit → State → List Token
+new_tokens (SetRawValue name subsection key keeps value) state = set_raw_value_tokens name subsection key keeps value state
 
 -- an edit that was done
 abbrev pub apply : Edit → State → State
 apply (SetRawValue name subsection key keeps value) state = set_raw_value name subsection key keeps value state
 
+-- a state whose buffer has so many bytes
+abbrev pub with_used : (used : ℕ) → State → State
+with_used used state = record { front = state.front; meta = state.meta; next = state.next; used = used; sections = state.sections }
+
 -- edits, one behind the other
 abbrev pub apply_all : List Edit → State → State
 apply_all edits state = fold (λ s e. apply e s) state edits
 
--- the names of an edit are such as a text may have
-abbrev pub is_edit : Edit → Bool
-is_edit (SetRawValue name subsection key keeps value) = is_made_name name && is_valid_or_none subsection && is_value_name key
+-- a section that passes stands, or one may be made of these names
+abbrev pub may_stand : (name : List ℕ) → (subsection : Option (List ℕ)) → (keeps : Meta → Bool) → State → Bool
+may_stand name subsection keeps state = list_any (is_target name subsection keeps) state.sections || (is_made_name name && is_valid_or_none subsection)
+
+-- the names that an edit writes are such as a text may have
+abbrev pub is_edit : Edit → State → Bool
+is_edit (SetRawValue name subsection key keeps value) state = is_value_name key && may_stand name subsection keeps state
+
+-- those of edits, one behind the other
+abbrev pub are_edits : List Edit → State → Bool
+are_edits [] state = true
+are_edits (edit ∷ edits) state = is_edit edit state && are_edits edits (apply edit state)
 
 -- and the section is not one without a name and a subsection
 abbrev pub is_clean_edit : Edit → Bool

@@ -3,7 +3,7 @@ ghost use Rattle.std.specs.Prelude.{◌≡◌, ◌⊎◌, Bool, true, false, Lis
 ghost use Rattle.std.specs.Option.{option_map};
 ghost use Rattle.std.specs.List.{list_all, list_any, AllByRecursion, flat_map};
 ghost use Rattle.gitconf_text.specs.Value.{escaped};
-ghost use Rattle.gitconf_text.specs.Names.{is_same_name, is_valid_or_none};
+ghost use Rattle.gitconf_text.specs.Names.{is_same_name};
 ghost use Rattle.gitconf_text.specs.Part.{Assigned, Entry, Item, EntryItem, Part};
 ghost use Rattle.gitconf_text.specs.Document.{IsText, gathered, unmarked, Reads};
 ghost use Rattle.gitconf_text.specs.Token.{spelled_token, tokens_of};
@@ -18,7 +18,7 @@ ghost use Rattle.gitconf_state.specs.Loads.{IsFullLoad, IsLoad};
 ghost use Rattle.gitconf_state.specs.Inserted.{Inserted, IsByteForByte};
 ghost use Rattle.gitconf_state.specs.LineEnds.{file_line_end};
 ghost use Rattle.gitconf_state.specs.Lookup.{passing, last_value, all_values};
-ghost use Rattle.gitconf_state.specs.Edit.{is_entry_of, spacing_of, new_entry, set_value, new_section, is_target, section_with, set_raw_value, Edit, apply, apply_all, is_edit, is_clean_edit};
+ghost use Rattle.gitconf_state.specs.Edit.{is_entry_of, spacing_of, new_entry, set_value, new_section, is_target, section_with, set_raw_value, Edit, apply, apply_all, may_stand, is_edit, are_edits, is_clean_edit};
 ghost use Rattle.gitconf_state.specs.Comments.{item_comments, comments_of, comments, comments_of_kept};
 
 /// A state loaded from a text has items of a text, also where a filter dropped blanks, line ends and comments. Loaded whole it is
@@ -68,25 +68,25 @@ pub fn comments_are_kept()
 
 /// An edit leaves a state that has items, and a clean one where its section has a name or a subsection. So do edits, one behind the other.
 pub fn edits_keep_states()
-    ensures items { (edit : Edit) (state : State) → is_edit edit ≡ true → HasItems state → HasItems (apply edit state) }
+    ensures items { (edit : Edit) (state : State) → is_edit edit state ≡ true → HasItems state → HasItems (apply edit state) }
     ensures clean { (edit : Edit) (state : State) → is_clean_edit edit ≡ true → IsClean state → IsClean (apply edit state) }
-    ensures all_items { (edits : List Edit) (state : State) → list_all is_edit edits ≡ true → HasItems state → HasItems (apply_all edits state) }
+    ensures all_items { (edits : List Edit) (state : State) → are_edits edits state ≡ true → HasItems state → HasItems (apply_all edits state) }
     ensures all_clean { (edits : List Edit) (state : State) → list_all is_clean_edit edits ≡ true → IsClean state → IsClean (apply_all edits state) }
 {}
 
 /// The text of an edited state is read back: it has the document that the edits leave.
 pub fn edited_text_reads_back()
-    ensures { (edits : List Edit) (state : State) → list_all is_edit edits ≡ true → list_all is_clean_edit edits ≡ true → HasItems state → IsClean state
+    ensures { (edits : List Edit) (state : State) → are_edits edits state ≡ true → list_all is_clean_edit edits ≡ true → HasItems state → IsClean state
         → Reads (printed (apply_all edits state)) (document_of (apply_all edits state)) }
 {}
 
 /// A value that was set is found by its name, subsection and key, where the look-up keeps the sections that the edit keeps and
 /// would keep a new one.
 pub fn set_value_is_found()
-    ensures found { (name : List ℕ) (subsection : Option (List ℕ)) (key value : List ℕ) (state : State) → is_valid_or_none subsection ≡ true
+    ensures found { (name : List ℕ) (subsection : Option (List ℕ)) (key value : List ℕ) (state : State) → may_stand name subsection (λ _. true) state ≡ true
         → last_value name subsection key (λ _. true) (set_raw_value name subsection key (λ _. true) value state) ≡ Some value }
     ensures filtered { (name : List ℕ) (subsection : Option (List ℕ)) (key : List ℕ) (keeps : Meta → Bool) (value : List ℕ) (state : State)
-        → is_valid_or_none subsection ≡ true → keeps state.meta ≡ true
+        → may_stand name subsection keeps state ≡ true → keeps state.meta ≡ true
         → last_value name subsection key keeps (set_raw_value name subsection key keeps value state) ≡ Some value }
 {}
 
@@ -133,7 +133,7 @@ pub fn set_value_leaves_others()
         × (all_values other_name other_subsection other other_keeps (set_raw_value name subsection key keeps value state)
         ≡ all_values other_name other_subsection other other_keeps state) }
     ensures sections { (name : List ℕ) (subsection : Option (List ℕ)) (key : List ℕ) (keeps : Meta → Bool) (value : List ℕ) (state : State)
-        → (other_name : List ℕ) (other_subsection : Option (List ℕ)) (other_keeps : Meta → Bool) → is_valid_or_none subsection ≡ true
+        → (other_name : List ℕ) (other_subsection : Option (List ℕ)) (other_keeps : Meta → Bool) → may_stand name subsection keeps state ≡ true
         → (is_same_name name other_name ≡ false) ⊎ (subsection ≡ other_subsection → ⊥)
         → passing other_name other_subsection other_keeps (set_raw_value name subsection key keeps value state) ≡ passing other_name other_subsection other_keeps state }
 {}
