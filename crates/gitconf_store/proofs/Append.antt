@@ -4,79 +4,19 @@ use Rattle.std.specs.Prelude.{if◌then◌else◌}
 use Rattle.std.specs.List.{AllByRecursion}
 use Rattle.std.specs.Option.{option_map}
 use Rattle.std.specs.Str.{bytes_eq}
-use Rattle.std.proofs.lemmas.List.{drop-append-le, take-append-le, length-drop}
 use Rattle.gitconf_text.specs.Header as grammar
 use Rattle.gitconf_text.specs.Bytes.{fold}
 use Rattle.gitconf_text.specs.Token.{HeaderToken}
-use Rattle.gitconf_text.specs.Part as parts
 use Rattle.gitconf_base.specs.Sections.{SectionEntry}
 use Rattle.gitconf_parse.specs.declared.event.Span.{Span}
 use Rattle.gitconf_parse.specs.declared.event.Header.{Header}
 use Rattle.gitconf_parse.specs.declared.event.Event.TheVariants as kinds
-use Rattle.gitconf_parse.specs.declared.items.Piece.{Piece}
-use Rattle.gitconf_parse.specs.declared.items.Assigned.{Assigned}
-use Rattle.gitconf_parse.specs.declared.items.Item.{Item}
-use Rattle.gitconf_parse.specs.declared.items.Item.TheVariants as items
 use Rattle.gitconf_parse.specs.Events.{bytes_of, header_of, header_form, SpanFits, OptionFits, HeaderFits}
 use Rattle.gitconf_parse.specs.EventRef.{ShownHeader}
-use Rattle.gitconf_parse.specs.Items.{piece_of, assigned_of, item_of}
-use Rattle.gitconf_parse.specs.ItemsFit.{PieceFits, AssignedFits, ItemFits, AreItemsWithin}
 use Rattle.gitconf_parse.specs.ShownEvents.{decoded_or, shown_token, IsShown}
-use Rattle.gitconf_write.specs.Bodies.{items_of}
+use Rattle.gitconf_body.proofs.Append.{bytes_more, span_more, items_more, items_fit_more}
 use Rattle.gitconf_store.specs.declared.section.Section.{Section}
 use Rattle.gitconf_store.specs.Store.{section_state, SectionFits}
-
-bytes_more : (buffer more : List ℕ) (s : Span) → SpanFits (length buffer) s → bytes_of (buffer ++ more) s ≡ bytes_of buffer s
-bytes_more buffer more s fits =
-    ap (take s.len) (drop-append-le s.start buffer more (omega (arith, fits)))
-    ∙ take-append-le s.len (drop s.start buffer) more (let l = length-drop s.start buffer in omega (arith, fits, l))
-
-span_more : (buffer more : List ℕ) (s : Span) → SpanFits (length buffer) s → SpanFits (length (buffer ++ more)) s
-span_more buffer more s fits = let l = length-append buffer more in omega (arith, fits, l)
-
-pieces_more : (buffer more : List ℕ) (ps : List Piece) → AllByRecursion (PieceFits (length buffer)) ps → map (piece_of (buffer ++ more)) ps ≡ map (piece_of buffer) ps
-pieces_more buffer more [] fits = refl
-pieces_more buffer more (p ∷ ps) fits = λ i. record { text = bytes_more buffer more p.text fits.0.0 i; line_end = bytes_more buffer more p.line_end fits.0.1 i } ∷ pieces_more buffer more ps fits.1 i
-
-pieces_fit_more : (buffer more : List ℕ) (ps : List Piece) → AllByRecursion (PieceFits (length buffer)) ps → AllByRecursion (PieceFits (length (buffer ++ more))) ps
-pieces_fit_more buffer more [] fits = tt
-pieces_fit_more buffer more (p ∷ ps) fits = ((span_more buffer more p.text fits.0.0, span_more buffer more p.line_end fits.0.1), pieces_fit_more buffer more ps fits.1)
-
-assigned_more : (buffer more : List ℕ) (a : Option Assigned) → AssignedFits (length buffer) a → assigned_of (buffer ++ more) a ≡ assigned_of buffer a
-assigned_more buffer more None fits = refl
-assigned_more buffer more (Some a) fits = λ i. Some (record {
-  blanks = bytes_more buffer more a.blanks fits.0 i;
-  value = record { pieces = pieces_more buffer more a.value.pieces.items fits.1.0 i; last = bytes_more buffer more a.value.last fits.1.1 i };
-})
-
-assigned_fits_more : (buffer more : List ℕ) (a : Option Assigned) → AssignedFits (length buffer) a → AssignedFits (length (buffer ++ more)) a
-assigned_fits_more buffer more None fits = tt
-assigned_fits_more buffer more (Some a) fits = (span_more buffer more a.blanks fits.0, (pieces_fit_more buffer more a.value.pieces.items fits.1.0, span_more buffer more a.value.last fits.1.1))
-
-item_more : (buffer more : List ℕ) (i : Item) → ItemFits (length buffer) i → item_of (buffer ++ more) i ≡ item_of buffer i
-item_more buffer more (items.Blanks run) fits = ap parts.BlanksItem (bytes_more buffer more run fits)
-item_more buffer more (items.LineEnds run) fits = ap parts.LineEndsItem (bytes_more buffer more run fits)
-item_more buffer more (items.Comment tag text) fits = ap (parts.CommentItem tag) (bytes_more buffer more text fits)
-item_more buffer more (items.Entry e) fits = λ i. parts.EntryItem (record {
-  name = bytes_more buffer more e.name fits.0 i;
-  blanks = bytes_more buffer more e.blanks fits.1 i;
-  assigned = assigned_more buffer more e.assigned fits.2 i;
-})
-
-item_fits_more : (buffer more : List ℕ) (i : Item) → ItemFits (length buffer) i → ItemFits (length (buffer ++ more)) i
-item_fits_more buffer more (items.Blanks run) fits = span_more buffer more run fits
-item_fits_more buffer more (items.LineEnds run) fits = span_more buffer more run fits
-item_fits_more buffer more (items.Comment tag text) fits = span_more buffer more text fits
-item_fits_more buffer more (items.Entry e) fits = (span_more buffer more e.name fits.0, span_more buffer more e.blanks fits.1, assigned_fits_more buffer more e.assigned fits.2)
-
--- items stand for the same, and stand within the longer buffer
-pub items_more : (buffer more : List ℕ) (is : List Item) → AreItemsWithin (length buffer) is → items_of (buffer ++ more) is ≡ items_of buffer is
-items_more buffer more [] fits = refl
-items_more buffer more (x ∷ is) fits = λ i. item_more buffer more x fits.0 i ∷ items_more buffer more is fits.1 i
-
-pub items_fit_more : (buffer more : List ℕ) (is : List Item) → AreItemsWithin (length buffer) is → AreItemsWithin (length (buffer ++ more)) is
-items_fit_more buffer more [] fits = tt
-items_fit_more buffer more (x ∷ is) fits = (item_fits_more buffer more x fits.0, items_fit_more buffer more is fits.1)
 
 form_more : (buffer more name : List ℕ) (separator subsection : Option Span) → OptionFits (length buffer) separator → OptionFits (length buffer) subsection
     → header_form (buffer ++ more) name separator subsection ≡ header_form buffer name separator subsection

@@ -7,7 +7,6 @@ pub mod Texts
 pub mod ReadBack
 pub mod ItemEvents
 pub mod Append
-pub mod Raw
 pub mod Entries
 pub mod Deciding
 pub mod Named

@@ -1,26 +1,15 @@
-//! The values of entries: their raw text, and what it means.
-ghost use Rattle.std.specs.Prelude.{◌≡◌, ◌++◌, IfOk, flat_map, take};
+//! What the values of entries mean.
+ghost use Rattle.std.specs.Prelude.{◌≡◌, IfOk};
 ghost use Rattle.bstr.specs.Owned.{bstring_bytes};
 ghost use Rattle.gitconf_text.specs.Value.{raw_of, plain};
 ghost use Rattle.gitconf_parse.specs.Items.{value_of};
 
 use bstr::BString;
+use gitconf_body::values::raw_text;
 use gitconf_parse::items::Value;
 use gitconf_text::NoMemory;
 use gitconf_text::value::normalize;
 use std::alloc::Global;
-
-/// The raw text of a value: its pieces put together.
-pub(crate) fn raw_text(alloc: Global, buffer: &[u8], value: &Value) -> Result<Vec<u8>, NoMemory>
-    ensures { IfOk result (λ raw. raw.items ≡ raw_of (value_of buffer.now value.now)) }
-{
-    let mut raw = Vec::new(alloc);
-    for piece in &value.pieces {
-        raw.extend_from_slice(piece.text.bytes_in(buffer))?;
-    }
-    raw.extend_from_slice(value.last.bytes_in(buffer))?;
-    Ok(raw)
-}
 
 /// What a raw text means.
 fn decoded(alloc: Global, raw: &[u8]) -> Result<BString, NoMemory>

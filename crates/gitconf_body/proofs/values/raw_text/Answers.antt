@@ -1,7 +1,7 @@
 use Rattle.std.proofs.Common.{rules, ◌++◌, ap, ◌∙◌}
 use Rattle.gitconf_parse.specs.Events.{bytes_of}
-use Rattle.gitconf_store.proofs.Raw.{pieces_joined}
-use Rattle.gitconf_store.proofs.values.raw_text.Goals as goal
+use Rattle.gitconf_body.proofs.Raw.{pieces_joined}
+use Rattle.gitconf_body.proofs.values.raw_text.Goals as goal
 
 pub returns : goal.returns
 returns c =

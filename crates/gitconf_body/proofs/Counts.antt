@@ -1,0 +1,91 @@
+-- How many bytes the tokens of a new value have.
+use Rattle.std.proofs.Common.{◌≡◌, ℕ, ◌+◌, ◌≤◌, Bool, true, false, List, [], ◌∷◌, ◌++◌, length, map, Option, Some, None, refl, ap, sym, ◌∙◌, arith, append-nil, length-append}
+use Rattle.std.specs.Prelude.{flat_map, filter}
+use Rattle.std.specs.List.{list_any, last_or}
+use Rattle.std.proofs.lemmas.Grind.{flat_map-append}
+use Rattle.gitconf_text.specs.Part.{Assigned, Item, BlanksItem, LineEndsItem, CommentItem, EntryItem}
+use Rattle.gitconf_text.specs.Token.{Token, WhitespaceToken, NewlineToken, ValueToken, NameToken, SeparatorToken, item_tokens, assigned_tokens, filled, spelled_token}
+use Rattle.gitconf_text.specs.Value.{escaped}
+use Rattle.gitconf_state.specs.Edit.{Spacing, is_entry_of, spacing_of, leading_item, new_entry, value_tokens_of, set_tokens, token_bytes}
+use Rattle.gitconf_state.proofs.EditLists.{filter_none, last_passing}
+use Rattle.gitconf_body.specs.Places.{IsLastAt}
+use Rattle.gitconf_body.specs.Spacings.{option_bytes, spacing_bytes}
+
+blank_bytes : (run : List ℕ) → token_bytes (filled WhitespaceToken run) ≡ length run
+blank_bytes [] = refl
+blank_bytes (b ∷ run) = ap length (append-nil (b ∷ run))
+
+both_bytes : (a b : List Token) → token_bytes (a ++ b) ≡ token_bytes a + token_bytes b
+both_bytes a b = ap length (flat_map-append spelled_token a b) ∙ length-append (flat_map spelled_token a) (flat_map spelled_token b)
+
+one_bytes : (t : Token) (ts : List Token) → token_bytes (t ∷ ts) ≡ length (spelled_token t) + token_bytes ts
+one_bytes t ts = length-append (spelled_token t) (flat_map spelled_token ts)
+
+-- those of `=`, the blanks behind it and the value
+assigned_bytes : (blanks value : List ℕ) → token_bytes (SeparatorToken ∷ (filled WhitespaceToken blanks ++ ValueToken (escaped value) ∷ [])) ≡ 1 + length blanks + length (escaped value)
+assigned_bytes blanks value =
+    let a = one_bytes SeparatorToken (filled WhitespaceToken blanks ++ ValueToken (escaped value) ∷ []) in
+    let b = both_bytes (filled WhitespaceToken blanks) (ValueToken (escaped value) ∷ []) in
+    let d = blank_bytes blanks in
+    let e = one_bytes (ValueToken (escaped value)) [] in
+    omega (arith, a, b, d, e)
+
+-- A new value is no longer than its tokens.
+pub value_within : (spacing : Spacing) (key value : List ℕ) (i : Item) → is_entry_of key i ≡ true → length (escaped value) ≤ token_bytes (value_tokens_of spacing value i)
+value_within spacing key value (BlanksItem run) is = absurd (cc)
+value_within spacing key value (LineEndsItem run) is = absurd (cc)
+value_within spacing key value (CommentItem tag text) is = absurd (cc)
+value_within spacing key value (EntryItem e) is = go e.assigned refl
+  where
+    go : (o : Option Assigned) → e.assigned ≡ o → length (escaped value) ≤ token_bytes (value_tokens_of spacing value (EntryItem e))
+    go (Some a) at = rw at (let l = one_bytes (ValueToken (escaped value)) [] in omega (arith, l))
+    go None at =
+        let b = both_bytes (filled WhitespaceToken spacing.before) (SeparatorToken ∷ (filled WhitespaceToken spacing.behind ++ ValueToken (escaped value) ∷ [])) in
+        let d = assigned_bytes spacing.behind value in
+        rw at (omega (arith, b, d))
+
+-- A new entry is no longer than its tokens.
+pub entry_within : (s : Spacing) (line_end key value : List ℕ)
+    → spacing_bytes s + (length key + length (escaped value) + length line_end) ≤ token_bytes (flat_map item_tokens (new_entry s line_end key value))
+entry_within s line_end key value =
+    let a = ap token_bytes (flat_map-append item_tokens (leading_item s.leading) behind_items) in
+    let b = both_bytes (flat_map item_tokens (leading_item s.leading)) (flat_map item_tokens behind_items) in
+    let d = leading s.leading in
+    let e = one_bytes (NameToken key) ((filled WhitespaceToken s.before ++ (SeparatorToken ∷ (filled WhitespaceToken s.behind ++ ValueToken (escaped value) ∷ []))) ++ (NewlineToken line_end ∷ [])) in
+    let f = both_bytes (filled WhitespaceToken s.before ++ (SeparatorToken ∷ (filled WhitespaceToken s.behind ++ ValueToken (escaped value) ∷ []))) (NewlineToken line_end ∷ []) in
+    let g = both_bytes (filled WhitespaceToken s.before) (SeparatorToken ∷ (filled WhitespaceToken s.behind ++ ValueToken (escaped value) ∷ [])) in
+    let h = assigned_bytes s.behind value in
+    let i = blank_bytes s.before in
+    let j = one_bytes (NewlineToken line_end) [] in
+    omega (arith, a, b, d, e, f, g, h, i, j)
+  where
+    behind_items : List Item
+    behind_items = EntryItem (record { name = key; blanks = s.before; assigned = Some (record { blanks = s.behind; value = record { pieces = []; last = escaped value } }) }) ∷ LineEndsItem line_end ∷ []
+
+    leading : (o : Option (List ℕ)) → token_bytes (flat_map item_tokens (leading_item o)) ≡ option_bytes o
+    leading None = refl
+    leading (Some run) = ap length (append-nil run)
+
+-- The tokens of a value that is set in an entry, and of one in a new entry.
+pub set_tokens_at : (line_end key value : List ℕ) (items before : List Item) (i : Item) (behind : List Item) → items ≡ before ++ i ∷ behind
+    → is_entry_of key i ≡ true → list_any (is_entry_of key) behind ≡ false → set_tokens line_end key value items ≡ value_tokens_of (spacing_of items) value i
+set_tokens_at line_end key value items before i behind is passes none =
+    found (last_or None (filter (is_entry_of key) items)) (ap (λ xs. last_or None (filter (is_entry_of key) xs)) is ∙ last_passing (is_entry_of key) None before i behind passes none)
+  where
+    found : (o : Option Item) → o ≡ Some i
+        → elim o as (λ _. List Token) [ None ↦ flat_map item_tokens (new_entry (spacing_of items) line_end key value) | Some i ↦ value_tokens_of (spacing_of items) value i ] ≡ value_tokens_of (spacing_of items) value i
+    found o e = rw e refl
+
+pub set_tokens_new : (line_end key value : List ℕ) (items : List Item) → list_any (is_entry_of key) items ≡ false
+    → set_tokens line_end key value items ≡ flat_map item_tokens (new_entry (spacing_of items) line_end key value)
+set_tokens_new line_end key value items none = rw (filter_none (is_entry_of key) items none, set_tokens) refl
+
+-- What is put into the buffer is no longer than these tokens.
+pub set_bytes_at : (line_end key value : List ℕ) (items : List Item) (at : ℕ) → IsLastAt (is_entry_of key) items at
+    → length (escaped value) ≤ token_bytes (set_tokens line_end key value items)
+set_bytes_at line_end key value items at l =
+    rw (set_tokens_at line_end key value items l.before l.found l.behind l.is l.passes l.none) (value_within (spacing_of items) key value l.found l.passes)
+
+pub set_bytes_new : (line_end key value : List ℕ) (items : List Item) → list_any (is_entry_of key) items ≡ false
+    → spacing_bytes (spacing_of items) + (length key + length (escaped value) + length line_end) ≤ token_bytes (set_tokens line_end key value items)
+set_bytes_new line_end key value items none = rw (set_tokens_new line_end key value items none) (entry_within (spacing_of items) line_end key value)

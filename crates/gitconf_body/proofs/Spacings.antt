@@ -1,0 +1,93 @@
+-- The blanks of items are those that their spans have.
+use Rattle.std.proofs.Common.{◌≡◌, ℕ, Bool, true, false, List, [], ◌∷◌, ◌++◌, length, map, Option, Some, None, refl, ap, sym, subst, arith, ◌∙◌}
+use Rattle.std.specs.List.{list_any}
+use Rattle.std.specs.Option.{option_map}
+use Rattle.gitconf_parse.specs.declared.event.Span.{Span}
+use Rattle.gitconf_parse.specs.declared.items.Assigned.{Assigned}
+use Rattle.gitconf_parse.specs.declared.items.Item.{Item}
+use Rattle.gitconf_parse.specs.declared.items.Item.TheVariants as items
+use Rattle.gitconf_parse.specs.Events.{bytes_of, SpanFits, OptionFits}
+use Rattle.gitconf_parse.specs.ItemsFit.{AreItemsWithin}
+use Rattle.gitconf_state.specs.Edit as state
+use Rattle.gitconf_write.specs.Bodies.{items_of}
+use Rattle.gitconf_body.specs.Buffers.{StandsAt}
+use Rattle.gitconf_body.specs.declared.spacing.Spacing.{Spacing}
+use Rattle.gitconf_body.specs.Spacings.{LeadingStands, SpacingStands, default_blanks, is_entry, leading_span, nothing, separator_spans}
+
+-- whether there is an entry
+pub any_entry_shown : (buffer : List ℕ) (is : List Item) → list_any state.is_any_entry (items_of buffer is) ≡ list_any is_entry is
+any_entry_shown buffer [] = refl
+any_entry_shown buffer (items.Blanks run ∷ is) = any_entry_shown buffer is
+any_entry_shown buffer (items.LineEnds run ∷ is) = any_entry_shown buffer is
+any_entry_shown buffer (items.Comment tag text ∷ is) = any_entry_shown buffer is
+any_entry_shown buffer (items.Entry e ∷ is) = refl
+
+leading_shown : (buffer : List ℕ) (last : Option Span) (is : List Item) → list_any is_entry is ≡ true
+    → option_map (bytes_of buffer) (leading_span last is) ≡ state.leading_blanks (option_map (bytes_of buffer) last) (items_of buffer is)
+leading_shown buffer last [] some = refl
+leading_shown buffer last (items.Blanks run ∷ is) some = leading_shown buffer (Some run) is some
+leading_shown buffer last (items.LineEnds run ∷ is) some = leading_shown buffer None is some
+leading_shown buffer last (items.Comment tag text ∷ is) some = leading_shown buffer None is some
+leading_shown buffer last (items.Entry e ∷ is) some = refl
+
+leading_fits : (limit : ℕ) (last : Option Span) (is : List Item) → OptionFits limit last → AreItemsWithin limit is → OptionFits limit (leading_span last is)
+leading_fits limit last [] fits all = tt
+leading_fits limit last (items.Blanks run ∷ is) fits all = leading_fits limit (Some run) is all.0 all.1
+leading_fits limit last (items.LineEnds run ∷ is) fits all = leading_fits limit None is tt all.1
+leading_fits limit last (items.Comment tag text ∷ is) fits all = leading_fits limit None is tt all.1
+leading_fits limit last (items.Entry e ∷ is) fits all = fits
+
+nothing_shown : (buffer : List ℕ) → bytes_of buffer nothing ≡ []
+nothing_shown buffer = refl
+
+pub before_shown : (buffer : List ℕ) (is : List Item)
+    → (bytes_of buffer (separator_spans is).0, bytes_of buffer (separator_spans is).1) ≡ state.separator_blanks (items_of buffer is)
+before_shown buffer [] = refl
+before_shown buffer (items.Blanks run ∷ is) = before_shown buffer is
+before_shown buffer (items.LineEnds run ∷ is) = before_shown buffer is
+before_shown buffer (items.Comment tag text ∷ is) = before_shown buffer is
+before_shown buffer (items.Entry e ∷ is) = go e.assigned refl (before_shown buffer is)
+  where
+    go : (o : Option Assigned) → e.assigned ≡ o → (bytes_of buffer (separator_spans is).0, bytes_of buffer (separator_spans is).1) ≡ state.separator_blanks (items_of buffer is)
+        → (bytes_of buffer (separator_spans (items.Entry e ∷ is)).0, bytes_of buffer (separator_spans (items.Entry e ∷ is)).1) ≡ state.separator_blanks (items_of buffer (items.Entry e ∷ is))
+    go None at later = rw at later
+    go (Some a) at later = rw at refl
+
+pub separator_fits : (limit : ℕ) (is : List Item) → AreItemsWithin limit is → SpanFits limit (separator_spans is).0 × SpanFits limit (separator_spans is).1
+separator_fits limit [] all = (omega arith, omega arith)
+separator_fits limit (items.Blanks run ∷ is) all = separator_fits limit is all.1
+separator_fits limit (items.LineEnds run ∷ is) all = separator_fits limit is all.1
+separator_fits limit (items.Comment tag text ∷ is) all = separator_fits limit is all.1
+separator_fits limit (items.Entry e ∷ is) all = go e.assigned refl (separator_fits limit is all.1)
+  where
+    go : (o : Option Assigned) → e.assigned ≡ o → SpanFits limit (separator_spans is).0 × SpanFits limit (separator_spans is).1
+        → SpanFits limit (separator_spans (items.Entry e ∷ is)).0 × SpanFits limit (separator_spans (items.Entry e ∷ is)).1
+    go None at later = rw at later
+    go (Some a) at later = rw at (all.0.1, (let f = all.0.2 in rw at at f).0)
+
+-- the blanks that a body with entries has
+pub found_spacing : (buffer : List ℕ) (is : List Item) (s : Spacing) → list_any is_entry is ≡ true → s.leading ≡ leading_span None is
+    → s.before ≡ (separator_spans is).0 → s.behind ≡ (separator_spans is).1 → AreItemsWithin (length buffer) is
+    → SpacingStands buffer s (state.spacing_of (items_of buffer is))
+found_spacing buffer is s some leading before behind within =
+    let any : list_any state.is_any_entry (items_of buffer is) ≡ true = any_entry_shown buffer is ∙ some in
+    let f = separator_fits (length buffer) is within in
+    rw (any, state.spacing_of) (record {
+      leading = subst (λ l. LeadingStands buffer l (state.leading_blanks None (items_of buffer is))) (sym leading)
+          (stands (leading_span None is) (state.leading_blanks None (items_of buffer is)) (leading_shown buffer None is some) (leading_fits (length buffer) None is tt within));
+      before = record { fits = subst (SpanFits (length buffer)) (sym before) f.0; is = ap (bytes_of buffer) before ∙ ap (λ p. p.0) (before_shown buffer is) };
+      behind = record { fits = subst (SpanFits (length buffer)) (sym behind) f.1; is = ap (bytes_of buffer) behind ∙ ap (λ p. p.1) (before_shown buffer is) };
+    })
+  where
+    stands : (o : Option Span) (run : Option (List ℕ)) → option_map (bytes_of buffer) o ≡ run → OptionFits (length buffer) o → LeadingStands buffer o run
+    stands None run shown fits = sym shown
+    stands (Some s) None shown fits = absurd (cc)
+    stands (Some s) (Some run) shown fits = record { fits = fits; is = cc }
+
+-- those of a body without entries
+pub default_spacing : (buffer : List ℕ) (is : List Item) → list_any is_entry is ≡ false → state.spacing_of (items_of buffer is) ≡ default_blanks
+default_spacing buffer is none =
+    let any : list_any state.is_any_entry (items_of buffer is) ≡ false = any_entry_shown buffer is ∙ none in
+    rw (any, state.spacing_of) refl
+
+pub ruleset spacings = (found_spacing, default_spacing)

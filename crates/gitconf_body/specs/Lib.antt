@@ -1,0 +1,4 @@
+pub mod Buffers
+pub mod Places
+pub mod Lines
+pub mod Spacings

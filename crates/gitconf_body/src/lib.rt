@@ -1,0 +1,7 @@
+//! The items of a body: what their values are, and how they are edited in a buffer that only grows.
+#![tactic(auto)]
+
+pub mod buffer;
+pub mod entry;
+pub mod spacing;
+pub mod values;

@@ -1,0 +1,37 @@
+//! The raw texts of values.
+ghost use Rattle.std.specs.Prelude.{◌≡◌, ◌++◌, IfOk, flat_map, take};
+ghost use Rattle.gitconf_text.specs.Value.{raw_of};
+ghost use Rattle.gitconf_parse.specs.Items.{value_of, item_of};
+ghost use Rattle.gitconf_state.specs.Edit.{item_raw};
+
+use gitconf_parse::items::{Item, Value};
+use gitconf_text::NoMemory;
+use std::alloc::Global;
+
+/// The raw text of a value: its pieces put together. One pass; memory is taken for the text as it grows.
+///
+/// # Errors
+///
+/// Want of memory.
+pub fn raw_text(alloc: Global, buffer: &[u8], value: &Value) -> Result<Vec<u8>, NoMemory>
+    ensures { IfOk result (λ raw. raw.items ≡ raw_of (value_of buffer.now value.now)) }
+{
+    let mut raw = Vec::new(alloc);
+    for piece in &value.pieces {
+        raw.extend_from_slice(piece.text.bytes_in(buffer))?;
+    }
+    raw.extend_from_slice(value.last.bytes_in(buffer))?;
+    Ok(raw)
+}
+
+/// The raw text of an item's value; nothing where it has none.
+pub(crate) fn item_text(alloc: Global, buffer: &[u8], item: &Item) -> Result<Vec<u8>, NoMemory>
+    ensures { IfOk result (λ raw. raw.items ≡ item_raw (item_of buffer.now item.now)) }
+{
+    if let Item::Entry(entry) = item {
+        if let Some(assigned) = &entry.assigned {
+            return raw_text(alloc, buffer, &assigned.value);
+        }
+    }
+    Ok(Vec::new(alloc))
+}
