@@ -3,7 +3,8 @@ use Rattle.std.proofs.Common.{◌≡◌, ℕ, ◌+◌, ◌<◌, ◌≤◌, ◌^�
 use Rattle.std.proofs.lemmas.List.{drop_at, take_all}
 use Rattle.gitconf_parse.specs.declared.event.Span.{Span}
 use Rattle.gitconf_parse.specs.Events.{bytes_of, SpanFits}
-use Rattle.gitconf_body.specs.Buffers.{IsExtended, StandsAt, Grows}
+use Rattle.gitconf_parse.specs.ShownEvents.{IsExtended}
+use Rattle.gitconf_body.specs.Buffers.{StandsAt, Grows}
 use Rattle.gitconf_parse.specs.declared.items.Item.{Item}
 use Rattle.gitconf_parse.specs.ItemsFit.{AreItemsWithin}
 use Rattle.gitconf_write.specs.Bodies.{items_of}
@@ -19,27 +20,27 @@ stands_last old bytes new s is start len = record {
 -- what stood there stands there still
 pub stands_more : (old new : List ℕ) (s : Span) (bytes : List ℕ) → IsExtended old new → StandsAt old s bytes → StandsAt new s bytes
 stands_more old new s bytes e stands = record {
-  fits = subst (λ b. SpanFits (length b) s) (sym e.is) (span_more old e.more s stands.fits);
-  is = ap (λ b. bytes_of b s) e.is ∙ bytes_more old e.more s stands.fits ∙ stands.is;
+  fits = subst (λ b. SpanFits (length b) s) (sym e.1) (span_more old e.0 s stands.fits);
+  is = ap (λ b. bytes_of b s) e.1 ∙ bytes_more old e.0 s stands.fits ∙ stands.is;
 }
 
 -- bytes put behind others
 pub extended_by : (old new bytes : List ℕ) → new ≡ old ++ bytes → IsExtended old new
-extended_by old new bytes is = record { more = bytes; is = is }
+extended_by old new bytes is = (bytes, is)
 
 pub same_extended : (old new : List ℕ) → new ≡ old → IsExtended old new
-same_extended old new is = record { more = []; is = is ∙ sym (append-nil old) }
+same_extended old new is = ([], is ∙ sym (append-nil old))
 
 pub twice_extended : (a b c : List ℕ) → IsExtended a b → IsExtended b c → IsExtended a c
 twice_extended a b c first second =
-    record { more = first.more ++ second.more; is = second.is ∙ ap (λ t. t ++ second.more) first.is ∙ append_assoc a first.more second.more }
+    (first.0 ++ second.0, second.1 ∙ ap (λ t. t ++ second.0) first.1 ∙ append_assoc a first.0 second.0)
 
 -- items stay within, and stand for the same
 pub extended_fit : (old new : List ℕ) (is : List Item) → IsExtended old new → AreItemsWithin (length old) is → AreItemsWithin (length new) is
-extended_fit old new is e within = subst (λ b. AreItemsWithin (length b) is) (sym e.is) (items_fit_more old e.more is within)
+extended_fit old new is e within = subst (λ b. AreItemsWithin (length b) is) (sym e.1) (items_fit_more old e.0 is within)
 
 pub extended_items : (old new : List ℕ) (is : List Item) → IsExtended old new → AreItemsWithin (length old) is → items_of new is ≡ items_of old is
-extended_items old new is e within = ap (λ b. items_of b is) e.is ∙ items_more old e.more is within
+extended_items old new is e within = ap (λ b. items_of b is) e.1 ∙ items_more old e.0 is within
 
 -- where nothing was put
 pub grows_none : {T : Type 0} (t : T) (n : ℕ) (old new : List ℕ) → length old < 2 ^ 32 → new ≡ old → Grows (Ok t) n old new

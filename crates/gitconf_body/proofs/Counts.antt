@@ -1,10 +1,10 @@
 -- How many bytes the tokens of a new value have.
-use Rattle.std.proofs.Common.{◌≡◌, ℕ, ◌+◌, ◌≤◌, Bool, true, false, List, [], ◌∷◌, ◌++◌, length, map, Option, Some, None, refl, ap, sym, ◌∙◌, arith, append-nil, length-append}
+use Rattle.std.proofs.Common.{◌≡◌, ℕ, ◌+◌, ◌≤◌, true, false, List, [], ◌∷◌, ◌++◌, length, Option, Some, None, refl, ap, ◌∙◌, arith, append-nil, length-append}
 use Rattle.std.specs.Prelude.{flat_map, filter}
 use Rattle.std.specs.List.{list_any, last_or}
 use Rattle.std.proofs.lemmas.Grind.{flat_map-append}
 use Rattle.gitconf_text.specs.Part.{Assigned, Item, BlanksItem, LineEndsItem, CommentItem, EntryItem}
-use Rattle.gitconf_text.specs.Token.{Token, WhitespaceToken, NewlineToken, ValueToken, NameToken, SeparatorToken, item_tokens, assigned_tokens, filled, spelled_token}
+use Rattle.gitconf_text.specs.Token.{Token, WhitespaceToken, NewlineToken, ValueToken, NameToken, SeparatorToken, item_tokens, filled, spelled_token}
 use Rattle.gitconf_text.specs.Value.{escaped}
 use Rattle.gitconf_state.specs.Edit.{Spacing, is_entry_of, spacing_of, leading_item, new_entry, value_tokens_of, set_tokens, token_bytes}
 use Rattle.gitconf_state.proofs.EditLists.{filter_none, last_passing}

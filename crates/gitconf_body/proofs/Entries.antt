@@ -1,9 +1,8 @@
 -- Entries as they are set and made.
-use Rattle.std.proofs.Common.{◌≡◌, ℕ, ◌<◌, ◌^◌, Bool, true, false, List, [], ◌∷◌, ◌++◌, length, map, get_or, slice_set, Option, Some, None, refl, ap, sym, subst, append_assoc, ◌∙◌}
+use Rattle.std.proofs.Common.{◌≡◌, ℕ, Bool, true, List, [], ◌∷◌, ◌++◌, length, map, get_or, slice_set, Option, Some, None, refl, ap, sym, subst, append_assoc, ◌∙◌}
 use Rattle.std.specs.List.{list_any, AllByRecursion}
 use Rattle.std.proofs.lemmas.List.{map-append, length-map}
 use Rattle.gitconf_text.specs.Part as parts
-use Rattle.gitconf_text.specs.Value as grammar
 use Rattle.gitconf_text.specs.Value.{escaped}
 use Rattle.gitconf_parse.specs.declared.event.Span.{Span}
 use Rattle.gitconf_parse.specs.declared.items.Assigned.{Assigned}
@@ -16,7 +15,8 @@ use Rattle.gitconf_parse.specs.Items.{piece_of, value_of, entry_of, item_of}
 use Rattle.gitconf_parse.specs.ItemsFit.{AreItemsWithin, ItemFits, EntryFits, PieceFits, ValueFits}
 use Rattle.gitconf_state.specs.Edit as state
 use Rattle.gitconf_write.specs.Bodies.{items_of}
-use Rattle.gitconf_body.specs.Buffers.{IsExtended, StandsAt}
+use Rattle.gitconf_parse.specs.ShownEvents.{IsExtended}
+use Rattle.gitconf_body.specs.Buffers.{StandsAt}
 use Rattle.gitconf_state.proofs.EditPlaces.{set_value_at}
 use Rattle.gitconf_body.specs.Lines.{LineStands}
 use Rattle.gitconf_body.specs.Places.{IsLastAt}
@@ -46,12 +46,12 @@ entry_with old new is e d blanks behind v value grown within fits some first sec
     let name = stands_more old new e.name _ grown (record { fits = fits.0; is = refl }) in
     let f = separator_fits (length old) (kinds.Entry e ∷ is) (fits, within) in
     let b = stands_more old new blanks (state.separator_blanks (items_of old (kinds.Entry e ∷ is))).0 grown
-        (record { fits = subst (SpanFits (length old)) (sym first) f.0; is = ap (bytes_of old) first ∙ ap (λ p. p.0) (before_shown old (kinds.Entry e ∷ is)) }) in
+    (record { fits = subst (SpanFits (length old)) (sym first) f.0; is = ap (bytes_of old) first ∙ ap (λ p. p.0) (before_shown old (kinds.Entry e ∷ is)) }) in
     let c = stands_more old new behind (state.separator_blanks (items_of old (kinds.Entry e ∷ is))).1 grown
-        (record { fits = subst (SpanFits (length old)) (sym second) f.1; is = ap (bytes_of old) second ∙ ap (λ p. p.1) (before_shown old (kinds.Entry e ∷ is)) }) in
+    (record { fits = subst (SpanFits (length old)) (sym second) f.1; is = ap (bytes_of old) second ∙ ap (λ p. p.1) (before_shown old (kinds.Entry e ∷ is)) }) in
     let shown : parts.EntryItem (entry_of new d) ≡ made_of (state.separator_blanks (items_of old (kinds.Entry e ∷ is))) =
     ap (λ d. parts.EntryItem (entry_of new d)) made
-        ∙ (λ i. parts.EntryItem (record { name = name.is i; blanks = b.is i; assigned = Some (record { blanks = c.is i; value = value_shown new v (escaped value) none last i }) })) in
+    ∙ (λ i. parts.EntryItem (record { name = name.is i; blanks = b.is i; assigned = Some (record { blanks = c.is i; value = value_shown new v (escaped value) none last i }) })) in
     (shown ∙ go e.assigned refl, subst (EntryFits (length new)) (sym made) (name.fits, b.fits, (c.fits, value_fits new v (escaped value) none last)))
   where
     made_of : List ℕ × List ℕ → parts.Item
@@ -84,7 +84,7 @@ entry_pushed old mid new is js s blanks l v line_end key value first second with
     let entry : Entry = record { name = l.name; blanks = s.before; assigned = Some (record { blanks = s.behind; value = v }) } in
     let shown : items_of new (kinds.Entry entry ∷ kinds.LineEnds l.line_end ∷ []) ≡ entry_items =
     λ i. parts.EntryItem (record { name = line.name.is i; blanks = before.is i; assigned = Some (record { blanks = behind.is i; value = value_shown new v (escaped value) none put i }) })
-        ∷ parts.LineEndsItem (line.line_end.is i) ∷ [] in
+    ∷ parts.LineEndsItem (line.line_end.is i) ∷ [] in
     let fits : AreItemsWithin (length new) (kinds.Entry entry ∷ kinds.LineEnds l.line_end ∷ []) =
     ((line.name.fits, before.fits, (behind.fits, value_fits new v (escaped value) none put)), (line.line_end.fits, tt)) in
     let lead = leading s.leading blanks.leading spacing.leading in

@@ -5,3 +5,4 @@ pub mod Raw
 pub mod Spacings
 pub mod Entries
 pub mod Counts
+pub mod Headers

@@ -1,5 +1,5 @@
 -- The blanks of items are those that their spans have.
-use Rattle.std.proofs.Common.{◌≡◌, ℕ, Bool, true, false, List, [], ◌∷◌, ◌++◌, length, map, Option, Some, None, refl, ap, sym, subst, arith, ◌∙◌}
+use Rattle.std.proofs.Common.{◌≡◌, ℕ, true, false, List, [], ◌∷◌, length, Option, Some, None, refl, ap, sym, subst, arith, ◌∙◌}
 use Rattle.std.specs.List.{list_any}
 use Rattle.std.specs.Option.{option_map}
 use Rattle.gitconf_parse.specs.declared.event.Span.{Span}
@@ -10,7 +10,6 @@ use Rattle.gitconf_parse.specs.Events.{bytes_of, SpanFits, OptionFits}
 use Rattle.gitconf_parse.specs.ItemsFit.{AreItemsWithin}
 use Rattle.gitconf_state.specs.Edit as state
 use Rattle.gitconf_write.specs.Bodies.{items_of}
-use Rattle.gitconf_body.specs.Buffers.{StandsAt}
 use Rattle.gitconf_body.specs.declared.spacing.Spacing.{Spacing}
 use Rattle.gitconf_body.specs.Spacings.{LeadingStands, SpacingStands, default_blanks, is_entry, leading_span, nothing, separator_spans}
 

@@ -1,12 +1,8 @@
 -- A buffer that only grows, and what stands in it.
-use Rattle.std.specs.Prelude.{◌≡◌, ℕ, ◌+◌, ◌<◌, ◌≤◌, ◌^◌, List, ◌++◌, length, Result, IsErrOf}
+use Rattle.std.specs.Prelude.{◌≡◌, ℕ, ◌+◌, ◌<◌, ◌≤◌, ◌^◌, List, length, Result, IsErrOf}
 use Rattle.gitconf_parse.specs.declared.event.Span.{Span}
 use Rattle.gitconf_parse.specs.Events.{bytes_of, SpanFits}
-
--- bytes were put behind those that stood there
-pub record IsExtended (old new : List ℕ) : Type 0 where
-  pub more : List ℕ
-  pub is : new ≡ old ++ more
+use Rattle.gitconf_parse.specs.ShownEvents.{IsExtended}
 
 -- these bytes stand at the span
 pub record StandsAt (buffer : List ℕ) (s : Span) (bytes : List ℕ) : Type 0 where

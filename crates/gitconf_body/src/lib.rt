@@ -3,5 +3,6 @@
 
 pub mod buffer;
 pub mod entry;
+pub mod section;
 pub mod spacing;
 pub mod values;

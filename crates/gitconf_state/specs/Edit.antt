@@ -178,10 +178,15 @@ set_tokens line_end key value items = elim (last_or None (filter (is_entry_of ke
   | Some i ↦ value_tokens_of (spacing_of items) value i
 ]
 
+-- the tokens of a new section with the value
+abbrev pub section_tokens : (line_end name : List ℕ) → (subsection : Option (List ℕ)) → (key value : List ℕ) → List Token
+section_tokens line_end name subsection key value =
+    HeaderToken (made_header name subsection) ∷ NewlineToken line_end ∷ set_tokens line_end key value (LineEndsItem line_end ∷ [])
+
 -- the tokens that setting a value makes
 abbrev pub set_raw_value_tokens : (name : List ℕ) → (subsection : Option (List ℕ)) → (key : List ℕ) → (keeps : Meta → Bool) → (value : List ℕ) → State → List Token
 set_raw_value_tokens name subsection key keeps value state = elim (last_or None (filter (is_target name subsection keeps) state.sections)) [
-  | None ↦ HeaderToken (made_header name subsection) ∷ NewlineToken (file_line_end state) ∷ set_tokens (file_line_end state) key value (LineEndsItem (file_line_end state) ∷ [])
+  | None ↦ section_tokens (file_line_end state) name subsection key value
   | Some s ↦ set_tokens (file_line_end state) key value s.items
 ]
 

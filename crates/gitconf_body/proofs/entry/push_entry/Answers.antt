@@ -1,10 +1,9 @@
-use Rattle.std.proofs.Common.{rules, ◌≡◌, [], ◌∷◌, ◌++◌, Some, refl, subst}
-use Rattle.gitconf_parse.specs.declared.items.Item.TheVariants as kinds
+use Rattle.std.proofs.Common.{rules, ◌≡◌, [], refl, subst}
 use Rattle.gitconf_parse.specs.declared.items.Value.{Value}
 use Rattle.gitconf_state.specs.Edit.{spacing_of}
 use Rattle.gitconf_write.specs.Bodies.{items_of}
 use Rattle.gitconf_write.specs.LineEnds.{bytes_of_line_end}
-use Rattle.gitconf_body.specs.Spacings.{SpacingStands, leading_items}
+use Rattle.gitconf_body.specs.Spacings.{SpacingStands}
 use Rattle.gitconf_body.proofs.Buffers.{twice_extended, extended_fit}
 use Rattle.gitconf_body.proofs.Entries.{entry_pushed}
 use Rattle.gitconf_body.proofs.entry.push_entry.Goals as goal

@@ -1,4 +1,4 @@
-use Rattle.std.proofs.Common.{rules, ◌≡◌, ◌≤◌, ◌+◌, false, length, ap, sym, Some, ◌∙◌}
+use Rattle.std.proofs.Common.{rules, ◌≡◌, false, ap, sym, Some, ◌∙◌}
 use Rattle.std.specs.List.{list_any}
 use Rattle.gitconf_parse.specs.Items.{item_of}
 use Rattle.gitconf_state.specs.Edit.{is_entry_of, item_raw}

@@ -1,8 +1,6 @@
 use Rattle.std.proofs.Common.{rules, ◌≡◌, true, false, sym, subst}
 use Rattle.std.specs.List.{list_any}
 use Rattle.std.specs.Prelude.{IfOk}
-use Rattle.gitconf_state.specs.Edit as state
-use Rattle.gitconf_write.specs.Bodies.{items_of}
 use Rattle.gitconf_body.specs.Buffers.{Grows}
 use Rattle.gitconf_body.specs.Spacings.{SpacingStands, is_entry, spacing_bytes}
 use Rattle.gitconf_body.proofs.Spacings.{found_spacing, default_spacing}

@@ -1,0 +1,181 @@
+//! Sections that are made.
+ghost use Rattle.std.specs.Prelude.{◌≡◌, ℕ, ◌+◌, ◌<◌, ◌^◌, true, ◌∷◌, [], List, length, Some, None, IfOk};
+ghost use Rattle.std.specs.Option.{option_copied};
+ghost use Rattle.gitconf_text.specs.Header.{spelled_header};
+ghost use Rattle.gitconf_text.specs.Names.{is_valid_or_none};
+ghost use Rattle.gitconf_text.specs.Part as parts;
+ghost use Rattle.gitconf_parse.specs.declared.event.Event.TheVariants as events;
+ghost use Rattle.gitconf_parse.specs.EventRef.{escaped_subsection};
+ghost use Rattle.gitconf_parse.specs.Events.{header_of};
+ghost use Rattle.gitconf_parse.specs.ItemsFit.{AreItemsWithin};
+ghost use Rattle.gitconf_parse.specs.ShownEvents.{decoded_or, CopyFits, IsExtended, IsShown};
+ghost use Rattle.gitconf_state.specs.Edit.{made_header, section_tokens, set_value, token_bytes};
+ghost use Rattle.gitconf_write.specs.Bodies.{items_of};
+ghost use Rattle.gitconf_write.specs.LineEnds.{bytes_of_line_end};
+ghost use Rattle.gitconf_body.specs.Buffers.{Grows};
+ghost use Rattle.gitconf_body.specs.Lines.{QuotedStands};
+
+use crate::buffer::append;
+use crate::entry::set_value;
+use gitconf_parse::event::{Copied, Header, Span};
+use gitconf_parse::event_ref::write_escaped_subsection;
+use gitconf_parse::items::{Item, Section};
+use gitconf_text::NoMemory;
+use gitconf_text::parse::span;
+use gitconf_write::line_end::LineEnd;
+use std::alloc::Global;
+
+/// A subsection as it is spelled in quotes.
+fn spelled(alloc: Global, subsection: &[u8]) -> Result<Vec<u8>, NoMemory>
+    ensures { IfOk result (λ text. text.items ≡ escaped_subsection subsection.now) }
+{
+    let mut text = Vec::new(alloc);
+    match write_escaped_subsection(&mut text, subsection) {
+        Ok(()) => Ok(text),
+        Err(_) => Err(NoMemory),
+    }
+}
+
+/// The copy of a subsection that is spelled otherwise.
+fn copy_of(
+    copies: &mut Vec<u8>,
+    spelling: &[u8],
+    subsection: &[u8],
+) -> Result<Option<Copied>, NoMemory>
+    ensures decoded { IfOk result (λ copy. decoded_or copies.new.items copy (Some spelling.now) ≡ Some subsection.now) }
+    ensures fits { IfOk result (λ copy. CopyFits (length copies.new.items) copy) }
+    ensures extended { IsExtended copies.old.items copies.new.items }
+{
+    if spelling == subsection {
+        return Ok(None);
+    }
+    let start = copies.len();
+    copies.extend_from_slice(subsection)?;
+    Ok(Some(Copied {
+        start,
+        len: subsection.len(),
+    }))
+}
+
+/// Puts the text of a header without a subsection into the buffer.
+#[tactic(auto, using(crate::proofs::Buffers::extending, crate::proofs::Headers::plain_shown))]
+fn append_plain(buffer: &mut Vec<u8>, name: &[u8]) -> Result<Header, span::Error>
+    requires room { length buffer.old.items < 2 ^ 32 }
+    ensures header { IfOk result (λ h. header_of buffer.new.items h ≡ made_header name.now None) }
+    ensures shown { (copies : List ℕ) → IfOk result (λ h. IsShown buffer.new.items copies (events.SectionHeader h)) }
+    ensures grows { Grows result (length name.now) buffer.old.items buffer.new.items }
+{
+    let name = append(buffer, name)?;
+    Ok(Header {
+        name,
+        separator: None,
+        subsection: None,
+        decoded: None,
+    })
+}
+
+/// Where the parts of a header with a subsection in quotes stand.
+#[derive(Clone, Copy)]
+struct Quoted {
+    name: Span,
+    separator: Span,
+    subsection: Span,
+}
+
+/// Puts the name, the blank and the spelled subsection of a header into the buffer.
+#[tactic(auto, using(crate::proofs::Buffers::extending))]
+fn append_quoted(buffer: &mut Vec<u8>, name: &[u8], spelling: &[u8]) -> Result<Quoted, span::Error>
+    requires room { length buffer.old.items < 2 ^ 32 }
+    ensures stands { IfOk result (λ q. QuotedStands buffer.new.items q name.now spelling.now) }
+    ensures grows { Grows result (length name.now + 1 + length spelling.now) buffer.old.items buffer.new.items }
+{
+    let name = append(buffer, name)?;
+    let separator = append(buffer, b" ")?;
+    let subsection = append(buffer, spelling)?;
+    Ok(Quoted {
+        name,
+        separator,
+        subsection,
+    })
+}
+
+/// Puts the text of a header into the buffer, and a copy of its subsection, where that isn't what is spelled, behind the others.
+///
+/// # Errors
+///
+/// A [`span::Error`]: number 3 where the buffer would be longer than 4294967295 bytes, and else 27 for want of memory. The buffer and
+/// the copies may have grown.
+#[tactic(auto, using(crate::proofs::Buffers::extending))]
+fn append_header(
+    buffer: &mut Vec<u8>,
+    copies: &mut Vec<u8>,
+    name: &[u8],
+    subsection: Option<&[u8]>,
+) -> Result<Header, span::Error>
+    requires room { length buffer.old.items < 2 ^ 32 }
+    requires valid { is_valid_or_none (option_copied subsection) ≡ true }
+    ensures header { IfOk result (λ h. header_of buffer.new.items h ≡ made_header name.now (option_copied subsection.entry)) }
+    ensures shown { IfOk result (λ h. IsShown buffer.new.items copies.new.items (events.SectionHeader h)) }
+    ensures grows { Grows result (length (spelled_header (made_header name.now (option_copied subsection.entry)))) buffer.old.items buffer.new.items }
+    ensures extended { IsExtended copies.old.items copies.new.items }
+{
+    let Some(subsection) = subsection else {
+        return append_plain(buffer, name);
+    };
+    let spelling = spelled(*buffer.allocator(), subsection)?;
+    let quoted = append_quoted(buffer, name, &spelling)?;
+    let decoded = copy_of(copies, &spelling, subsection)?;
+    Ok(Header {
+        name: quoted.name,
+        separator: Some(quoted.separator),
+        subsection: Some(quoted.subsection),
+        decoded,
+    })
+}
+
+/// The items of a body that is one line end, put into the buffer; with room for an entry.
+#[tactic(auto, using(crate::proofs::Buffers::extending))]
+fn one_line(buffer: &mut Vec<u8>, line_end: LineEnd) -> Result<Vec<Item>, span::Error>
+    requires room { length buffer.old.items < 2 ^ 32 }
+    ensures items { IfOk result (λ is. items_of buffer.new.items is.items ≡ parts.LineEndsItem (bytes_of_line_end line_end) ∷ []) }
+    ensures within { IfOk result (λ is. AreItemsWithin (length buffer.new.items) is.items) }
+    ensures grows { Grows result (length (bytes_of_line_end line_end)) buffer.old.items buffer.new.items }
+{
+    let run = append(buffer, line_end.as_bytes())?;
+    let mut items = Vec::with_capacity(*buffer.allocator(), 4)?;
+    items.push(Item::LineEnds(run))?;
+    Ok(items)
+}
+
+/// A section that is made, its body one line end, with one entry behind that. Takes memory for what is put into the buffer, and for
+/// the items.
+///
+/// # Errors
+///
+/// A [`span::Error`]: number 3 where the buffer would be longer than 4294967295 bytes, and else 27 for want of memory. The buffer and
+/// the copies may have grown.
+#[tactic(auto, using(crate::proofs::Buffers::extending))]
+pub fn section_with(
+    buffer: &mut Vec<u8>,
+    copies: &mut Vec<u8>,
+    line_end: LineEnd,
+    name: &[u8],
+    subsection: Option<&[u8]>,
+    key: &[u8],
+    value: &[u8],
+) -> Result<Section, span::Error>
+    requires room { length buffer.old.items < 2 ^ 32 }
+    requires valid { is_valid_or_none (option_copied subsection) ≡ true }
+    ensures header { IfOk result (λ s. header_of buffer.new.items s.header ≡ made_header name.now (option_copied subsection.entry)) }
+    ensures shown { IfOk result (λ s. IsShown buffer.new.items copies.new.items (events.SectionHeader s.header)) }
+    ensures items { IfOk result (λ s. items_of buffer.new.items s.items.items
+        ≡ set_value (bytes_of_line_end line_end) key.now value.now (parts.LineEndsItem (bytes_of_line_end line_end) ∷ [])) }
+    ensures within { IfOk result (λ s. AreItemsWithin (length buffer.new.items) s.items.items) }
+    ensures grows { Grows result (token_bytes (section_tokens (bytes_of_line_end line_end) name.now (option_copied subsection.entry) key.now value.now)) buffer.old.items buffer.new.items }
+    ensures extended { IsExtended copies.old.items copies.new.items }
+{
+    let mut items = one_line(buffer, line_end)?;
+    set_value(buffer, &mut items, line_end, key, value)?;
+    let header = append_header(buffer, copies, name, subsection)?;
+    Ok(Section { header, items })
+}
