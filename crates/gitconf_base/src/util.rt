@@ -1,6 +1,6 @@
 //! The table of a file's sections and their numbers. Its contracts speak of the plain list in file order, so
 //! that a look-up by a hashed index can take the place of the walk without a change of them.
-ghost use Rattle.std.specs.Prelude.{◌≡◌, ◌+◌, ◌^◌, ◌<◌, ◌≤◌, ◌==◌, ◌↔◌, [], ◌++◌, drop, find, length, position, take, vec_len, IfErr, IfOk, IfSome, OnOk, OnErr, IsErrOf};
+ghost use Rattle.std.specs.Prelude.{◌≡◌, ◌+◌, ◌^◌, ◌<◌, ◌≤◌, ◌==◌, ◌↔◌, [], ◌++◌, drop, find, length, position, slice_get, take, vec_len, IfErr, IfOk, IfSome, OnOk, OnErr, IsErrOf};
 ghost use Rattle.std.specs.Iterator.{item_count, YieldsFirst, YieldsFirstBy, YieldsLast, YieldsLastBy};
 ghost use Rattle.std.specs.List.{list_any};
 ghost use Rattle.std.specs.Option.{option_copied, option_eq, option_map};
@@ -202,6 +202,15 @@ impl<T> SectionTable<T> {
     {
         let row = &self.rows[position];
         row.id
+    }
+
+    /// Whether the section at a place has that name, without ASCII case, and exactly that subsection.
+    pub fn is_named_at(&self, position: usize, name: &str, subsection: Option<&[u8]>) -> bool
+        requires { position < length self.now.entries }
+        ensures { option_map (is_named name.now (option_copied subsection.entry)) (slice_get self.now.entries position) ≡ Some result }
+    {
+        let row = &self.rows[position];
+        is_named(row, name, subsection)
     }
 
     /// What the section at a place holds.

@@ -143,7 +143,7 @@ made_header_is name None made valid = made
 made_header_is name (Some s) made valid = rw (names_stand name made, (reads_back s (valid_no_feed s valid)).fits) refl
 
 -- a section with the value has items of a state
-section_with_is : (line_end key value : List ℕ) (s : SectionState) → is_value_name key ≡ true → is_line_end line_end ≡ true → HasSectionItems s
+pub section_with_is : (line_end key value : List ℕ) (s : SectionState) → is_value_name key ≡ true → is_line_end line_end ≡ true → HasSectionItems s
     → HasSectionItems (section_with line_end key value s)
 section_with_is line_end key value s named closes has =
     record { header = has.header; items = set_value_is line_end key value s.items named closes has.items; held = has.held }

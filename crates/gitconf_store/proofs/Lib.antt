@@ -10,3 +10,5 @@ pub mod Append
 pub mod Entries
 pub mod Deciding
 pub mod Named
+pub mod Targets
+pub mod Setting

@@ -5,3 +5,4 @@ pub mod Counts
 pub mod Texts
 pub mod ItemEvents
 pub mod Lookups
+pub mod Edits

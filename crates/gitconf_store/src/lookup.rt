@@ -44,7 +44,7 @@ pub(crate) fn last_entry<'a>(buffer: &[u8], items: &'a [Item], key: &[u8]) -> Op
 }
 
 /// Whether the metadata passes the filter. It is asked here alone.
-fn passes<F: FnMut(&Metadata) -> bool>(filter: &mut F, meta: &Metadata) -> bool
+pub(crate) fn passes<F: FnMut(&Metadata) -> bool>(filter: &mut F, meta: &Metadata) -> bool
     requires { F.IsAlwaysCallable filter.old }
     ensures callable { F.IsAlwaysCallable filter.new }
     ensures exact { (keeps : Meta → Bool) → ComputesKey F.FnMut keeps filter.old

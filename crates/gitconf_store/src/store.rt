@@ -8,11 +8,13 @@ use crate::tokens;
 use bstr::BString;
 use gitconf_base::meta::Metadata;
 use gitconf_base::util::SectionTable;
+use gitconf_body::entry::set_value;
 use gitconf_parse::error::Error;
 use gitconf_parse::events::{Events, keeps_meaning};
 use gitconf_parse::items::{Item, Items};
 use gitconf_parse::sink::{Sink, SinkFault};
 use gitconf_text::NoMemory;
+use gitconf_text::parse::span;
 use gitconf_write::line_end::LineEnd;
 use gitconf_write::sections::{write_front, write_line_end_unless};
 use std::alloc::Global;
@@ -44,9 +46,10 @@ impl Model for Store {
 impl Store {
     ghost use Rattle.std.specs.Fn.{ComputesKey};
     ghost use Rattle.std.specs.Option.{option_copied};
-    ghost use Rattle.std.specs.Prelude.{◌≡◌, ◌<◌, ◌^◌, [], length, IfOk, true, List, filter, IfErr, map, Bool};
+    ghost use Rattle.std.specs.Prelude.{◌≡◌, ◌<◌, ◌^◌, [], length, IfOk, IfSome, OnOk, OnErr, option_map, slice_get, true, List, filter, IfErr, map, Bool};
     ghost use Rattle.bstr.specs.Owned.{bstring_bytes};
     ghost use Rattle.gitconf_text.specs.Document.{IsText, Reads, unmarked};
+    ghost use Rattle.gitconf_text.specs.Names.{is_value_name};
     ghost use Rattle.gitconf_text.specs.Part.{Part};
     ghost use Rattle.gitconf_text.specs.Token.{tokens_of, spelled_token};
     ghost use Rattle.gitconf_base.specs.Metadata.{Meta};
@@ -59,6 +62,7 @@ impl Store {
     ghost use Rattle.gitconf_parse.specs.TokenDocument.{keeps_meaning};
     ghost use Rattle.gitconf_state.specs.Clean.{IsClean};
     ghost use Rattle.gitconf_state.specs.Comments.{comments, comments_of, comments_of_kept};
+    ghost use Rattle.gitconf_state.specs.Edit.{old_value, set_tokens, token_bytes, with_used};
     ghost use Rattle.gitconf_state.specs.Inserted.{Inserted, IsByteForByte};
     ghost use Rattle.gitconf_state.specs.LineEnds.{file_line_end};
     ghost use Rattle.gitconf_state.specs.Lookup.{last_value};
@@ -67,6 +71,8 @@ impl Store {
     ghost use Rattle.gitconf_write.specs.Bodies.{tokens_in};
     ghost use Rattle.gitconf_write.specs.LineEnds.{bytes_of_line_end};
     ghost use Rattle.gitconf_store.specs.Counts.{are_void, section_entries};
+    ghost use Rattle.gitconf_store.specs.Edits as edits;
+    ghost use Rattle.gitconf_store.specs.Edits.{UsedGrows};
     ghost use Rattle.gitconf_store.specs.ItemEvents.{events_left};
     ghost use Rattle.gitconf_store.specs.Lookups.{IsFound};
     ghost use Rattle.gitconf_store.specs.Made.{IsMade};
@@ -352,5 +358,24 @@ impl Store {
             buffer: &self.buffer,
             sections: self.sections.iter(),
         }
+    }
+
+    /// Sets the value in the section at a place.
+    fn set_at(
+        &mut self,
+        at: usize,
+        key: &[u8],
+        value: &[u8],
+    ) -> Result<Option<Vec<u8>>, span::Error>
+        requires at { at < length self.old.sections }
+        requires key { is_value_name key.now ≡ true }
+        ensures ok { OnOk result (self.new ≡ with_used self.new.used (edits.set_at at key.now value.now self.old)) }
+        ensures old { IfOk result (λ o. IfSome (slice_get self.old.sections at) (λ s. option_map (λ v. v.items) o ≡ old_value key.now s.items)) }
+        ensures err { OnErr result (self.new ≡ with_used self.new.used self.old) }
+        ensures used { IfSome (slice_get self.old.sections at) (λ s. UsedGrows result (token_bytes (set_tokens (file_line_end self.old) key.now value.now s.items)) self.old.used self.new.used) }
+    {
+        let line_end = self.line_end();
+        let section = self.sections.at_mut(at);
+        set_value(&mut self.buffer, &mut section.items, line_end, key, value)
     }
 }

@@ -1,0 +1,26 @@
+-- What edits of a store change, by a section's place.
+use Rattle.std.specs.Prelude.{ℕ, zero, suc, ◌+◌, ◌≤◌, ◌^◌, List, [], ◌∷◌, Result, IsErrOf}
+use Rattle.gitconf_state.specs.Edit.{section_with}
+use Rattle.gitconf_state.specs.LineEnds.{file_line_end}
+use Rattle.gitconf_state.specs.State.{SectionState, State}
+
+-- the list with a change of the element at the place
+abbrev pub update_at : {A : Type 0} → ℕ → (A → A) → List A → List A
+update_at at change [] = []
+update_at zero change (x ∷ xs) = change x ∷ xs
+update_at (suc at) change (x ∷ xs) = x ∷ update_at at change xs
+
+-- the state with the value in the section at the place
+abbrev pub set_at : (at : ℕ) → (key value : List ℕ) → State → State
+set_at at key value state = record {
+  front = state.front;
+  meta = state.meta;
+  next = state.next;
+  used = state.used;
+  sections = update_at at (section_with (file_line_end state) key value) state.sections;
+}
+
+-- At most so many bytes more are used, and too large is answered only where they would pass the limit.
+pub record UsedGrows {T : Type 0} (result : Result T ℕ) (count old new : ℕ) : Type 0 where
+  pub grown : new ≤ old + count
+  pub too_large : IsErrOf result 3 → 2 ^ 32 ≤ old + count
