@@ -153,7 +153,7 @@ pub file_line_end_is : (state : State) → is_line_end (file_line_end state) ≡
 file_line_end_is state = is_told_line_end (flat_map item_tokens (state.front ++ flat_map (λ s. s.items) state.sections))
 
 -- a new section has
-new_section_is : (name : List ℕ) (subsection : Option (List ℕ)) (state : State) → is_made_name name ≡ true → is_valid_or_none subsection ≡ true → HasSectionItems (new_section name subsection state)
+pub new_section_is : (name : List ℕ) (subsection : Option (List ℕ)) (state : State) → is_made_name name ≡ true → is_valid_or_none subsection ≡ true → HasSectionItems (new_section name subsection state)
 new_section_is name subsection state made valid =
     record { header = made_header_is name subsection made valid; items = rw (one_line_end (file_line_end state) (file_line_end_is state)) refl; held = refl }
 

@@ -143,7 +143,7 @@ pub made_subsection : (name : List ℕ) (subsection : Option (List ℕ)) → is_
 made_subsection name None valid = refl
 made_subsection name (Some s) valid = ap (λ t. Some t) (reads_back s (valid_no_feed s valid)).same
 
-made_name : (name : List ℕ) (subsection : Option (List ℕ)) → name_of (made_header name subsection) ≡ name
+pub made_name : (name : List ℕ) (subsection : Option (List ℕ)) → name_of (made_header name subsection) ≡ name
 made_name name None = refl
 made_name name (Some s) = refl
 

@@ -12,3 +12,4 @@ pub mod Deciding
 pub mod Named
 pub mod Targets
 pub mod Setting
+pub mod Making

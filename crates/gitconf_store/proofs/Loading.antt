@@ -38,7 +38,7 @@ section_fits_more buffer copies more e s = record {
 }
 
 -- more copies leave the sections as they are
-sections_fit_more : (buffer copies new : List ℕ) (es : List (SectionEntry Section)) → IsExtended copies new
+pub sections_fit_more : (buffer copies new : List ℕ) (es : List (SectionEntry Section)) → IsExtended copies new
     → AllByRecursion (SectionFits buffer copies) es → AllByRecursion (SectionFits buffer new) es
 sections_fit_more buffer copies new es e all = subst (λ t. AllByRecursion (SectionFits buffer t) es) (sym e.1) (go es all)
   where

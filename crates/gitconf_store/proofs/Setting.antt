@@ -188,3 +188,7 @@ either_way (Err e) p q = inr q
 pub if_ok : {T E : Type 0} {P Q : T → Type 0} (r : Result T E) → ((t : T) → P t → Q t) → IfOk r P → IfOk r Q
 if_ok (Ok t) f p = f t p
 if_ok (Err e) f p = p
+
+pub if_err_at_all : {T E : Type 0} {P : Type 0} (r : Result T E) → P → OnErr r P
+if_err_at_all (Ok t) p = tt
+if_err_at_all (Err e) p = p

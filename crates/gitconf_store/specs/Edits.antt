@@ -1,6 +1,6 @@
 -- What edits of a store change, by a section's place.
-use Rattle.std.specs.Prelude.{ℕ, zero, suc, ◌+◌, ◌≤◌, ◌^◌, List, [], ◌∷◌, Result, IsErrOf}
-use Rattle.gitconf_state.specs.Edit.{section_with}
+use Rattle.std.specs.Prelude.{ℕ, zero, suc, ◌+◌, ◌≤◌, ◌^◌, List, [], ◌∷◌, ◌++◌, Option, Result, IsErrOf}
+use Rattle.gitconf_state.specs.Edit.{new_section, section_with}
 use Rattle.gitconf_state.specs.LineEnds.{file_line_end}
 use Rattle.gitconf_state.specs.State.{SectionState, State}
 
@@ -24,3 +24,13 @@ set_at at key value state = record {
 pub record UsedGrows {T : Type 0} (result : Result T ℕ) (count old new : ℕ) : Type 0 where
   pub grown : new ≤ old + count
   pub too_large : IsErrOf result 3 → 2 ^ 32 ≤ old + count
+
+-- the state with a section more that has the value
+abbrev pub set_new : (name : List ℕ) → (subsection : Option (List ℕ)) → (key value : List ℕ) → State → State
+set_new name subsection key value state = record {
+  front = state.front;
+  meta = state.meta;
+  next = state.next + 1;
+  used = state.used;
+  sections = state.sections ++ section_with (file_line_end state) key value (new_section name subsection state) ∷ [];
+}

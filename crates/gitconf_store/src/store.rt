@@ -9,11 +9,13 @@ use bstr::BString;
 use gitconf_base::meta::Metadata;
 use gitconf_base::util::SectionTable;
 use gitconf_body::entry::set_value;
+use gitconf_body::section::section_with;
 use gitconf_parse::error::Error;
 use gitconf_parse::events::{Events, keeps_meaning};
 use gitconf_parse::items::{Item, Items};
 use gitconf_parse::sink::{Sink, SinkFault};
 use gitconf_text::NoMemory;
+use gitconf_text::parse::section::header::{Error as HeaderError, validate};
 use gitconf_text::parse::span;
 use gitconf_write::line_end::LineEnd;
 use gitconf_write::sections::{write_front, write_line_end_unless};
@@ -46,10 +48,10 @@ impl Model for Store {
 impl Store {
     ghost use Rattle.std.specs.Fn.{ComputesKey};
     ghost use Rattle.std.specs.Option.{option_copied};
-    ghost use Rattle.std.specs.Prelude.{◌≡◌, ◌<◌, ◌^◌, [], length, IfOk, IfSome, OnOk, OnErr, option_map, slice_get, true, List, filter, IfErr, map, Bool};
+    ghost use Rattle.std.specs.Prelude.{◌≡◌, ◌<◌, ◌^◌, ◌↔◌, [], length, false, IfOk, IsErrOf, IfSome, OnOk, OnErr, option_map, slice_get, true, List, filter, IfErr, map, Bool};
     ghost use Rattle.bstr.specs.Owned.{bstring_bytes};
     ghost use Rattle.gitconf_text.specs.Document.{IsText, Reads, unmarked};
-    ghost use Rattle.gitconf_text.specs.Names.{is_value_name};
+    ghost use Rattle.gitconf_text.specs.Names.{is_made_name, is_valid_or_none, is_value_name};
     ghost use Rattle.gitconf_text.specs.Part.{Part};
     ghost use Rattle.gitconf_text.specs.Token.{tokens_of, spelled_token};
     ghost use Rattle.gitconf_base.specs.Metadata.{Meta};
@@ -377,5 +379,42 @@ impl Store {
         let line_end = self.line_end();
         let section = self.sections.at_mut(at);
         set_value(&mut self.buffer, &mut section.items, line_end, key, value)
+    }
+
+    /// Makes a section with the value, behind all others.
+    fn set_in_new(
+        &mut self,
+        section_name: &str,
+        subsection_name: Option<&[u8]>,
+        key: &[u8],
+        value: &[u8],
+    ) -> Result<(), HeaderError>
+        requires key { is_value_name key.now ≡ true }
+        ensures name { IsErrOf result HeaderError.InvalidName ↔ (is_made_name section_name.now ≡ false) }
+        ensures subsection { IsErrOf result HeaderError.InvalidSubSection
+            ↔ ((is_made_name section_name.now ≡ true) × (is_valid_or_none (option_copied subsection_name.entry) ≡ false)) }
+        ensures ok { OnOk result (self.new ≡ with_used self.new.used (edits.set_new section_name.now (option_copied subsection_name.entry) key.now value.now self.old)) }
+        ensures err { OnErr result (self.new ≡ with_used self.new.used self.old) }
+    {
+        validate(section_name.as_bytes(), subsection_name)?;
+        let line_end = self.line_end();
+        let section = section_with(
+            &mut self.buffer,
+            &mut self.copies,
+            line_end,
+            section_name.as_bytes(),
+            subsection_name,
+            key,
+            value,
+        )?;
+        let section = Section {
+            header: section.header,
+            meta: self.meta.clone()?,
+            items: section.items,
+            held: Vec::new(*self.buffer.allocator()),
+        };
+        self.sections
+            .push(section_name.as_bytes(), subsection_name, section)?;
+        Ok(())
     }
 }

@@ -1,0 +1,97 @@
+use Rattle.std.proofs.Common.{rules, ◌≡◌, true, [], refl, sym, ap, subst, ◌∙◌}
+use Rattle.std.specs.Option.{option_copied}
+use Rattle.gitconf_text.specs.Names.{is_made_name, is_valid_or_none}
+use Rattle.gitconf_base.specs.Sections.{with_last}
+use Rattle.gitconf_parse.specs.Events.{header_of}
+use Rattle.gitconf_state.specs.Edit.{made_header, section_tokens, token_bytes}
+use Rattle.gitconf_state.specs.LineEnds.{file_line_end}
+use Rattle.gitconf_write.specs.LineEnds.{bytes_of_line_end}
+use Rattle.gitconf_store.specs.declared.section.Section.{Section}
+use Rattle.gitconf_store.specs.Store.{state_of}
+use Rattle.gitconf_store.proofs.Setting.{if_err_at_all}
+use Rattle.gitconf_store.proofs.Making.{IsMadeWith, longer_state, longer_fits, made_state, made_fits}
+use Rattle.gitconf_store.proofs.store.Store.set_in_new.Goals as goal
+
+pub invariant_of-self : goal.invariant_of-self
+invariant_of-self c =
+    longer_fits c.self.inside.buffer.items c.section_with.new.buffer.items c.self.inside.copies.items c.section_with.new.copies.items c.self.inside.front.items c.self.inside.meta.value c.self.inside.sections
+    c.section_with.ensures.grows.extended c.section_with.ensures.extended c.section_with.ensures.grows.room c.self.invariant
+
+pub returns-in_err-section-clause-err : goal.returns-in_err-section-clause-err
+returns-in_err-section-clause-err c =
+    rw (← c.self.view_is) (if_err_at_all c.from_residual-in_err-section.result
+    (longer_state c.self.inside.buffer.items c.section_with.new.buffer.items c.self.inside.copies.items c.self.inside.front.items c.self.inside.meta.value c.self.inside.sections
+    c.section_with.ensures.grows.extended c.self.invariant))
+
+pub invariant_of-self-in_err-clone : goal.invariant_of-self-in_err-clone
+invariant_of-self-in_err-clone c =
+    longer_fits c.self.inside.buffer.items c.section_with.new.buffer.items c.self.inside.copies.items c.section_with.new.copies.items c.self.inside.front.items c.self.inside.meta.value c.self.inside.sections
+    c.section_with.ensures.grows.extended c.section_with.ensures.extended c.section_with.ensures.grows.room c.self.invariant
+
+pub returns-in_err-clone-clause-err : goal.returns-in_err-clone-clause-err
+returns-in_err-clone-clause-err c =
+    rw (← c.self.view_is) (if_err_at_all c.from_residual-in_err-clone.result
+    (longer_state c.self.inside.buffer.items c.section_with.new.buffer.items c.self.inside.copies.items c.self.inside.front.items c.self.inside.meta.value c.self.inside.sections
+    c.section_with.ensures.grows.extended c.self.invariant))
+
+pub invariant_of-self-in_err-push : goal.invariant_of-self-in_err-push
+invariant_of-self-in_err-push c =
+    let same : c.push.new.self ≡ c.self.inside.sections = search rules in
+    rw same (longer_fits c.self.inside.buffer.items c.section_with.new.buffer.items c.self.inside.copies.items c.section_with.new.copies.items c.self.inside.front.items c.self.inside.meta.value c.self.inside.sections
+    c.section_with.ensures.grows.extended c.section_with.ensures.extended c.section_with.ensures.grows.room c.self.invariant)
+
+pub returns-in_err-push-clause-err : goal.returns-in_err-push-clause-err
+returns-in_err-push-clause-err c =
+    let same : c.push.new.self ≡ c.self.inside.sections = search rules in
+    rw (← c.self.view_is) (if_err_at_all c.from_residual-in_err-push.result
+    (ap (state_of c.section_with.new.buffer.items c.self.inside.front.items c.self.inside.meta.value) same
+    ∙ longer_state c.self.inside.buffer.items c.section_with.new.buffer.items c.self.inside.copies.items c.self.inside.front.items c.self.inside.meta.value c.self.inside.sections
+    c.section_with.ensures.grows.extended c.self.invariant))
+
+pub invariant_of-self-2 : goal.invariant_of-self-2
+invariant_of-self-2 c =
+    let name = c.args.section_name.now in
+    let subsection = option_copied c.args.subsection_name in
+    let s : Section = record { header = c.in_ok-section.section.header; meta = c.in_ok-clone.field-0; items = c.in_ok-section.section.items; held = c.new.result } in
+    let line_end : bytes_of_line_end c.line_end-line_end.result ≡ file_line_end (state_of c.self.inside.buffer.items c.self.inside.front.items c.self.inside.meta.value c.self.inside.sections) =
+    c.line_end-line_end.ensures ∙ ap file_line_end (sym c.self.view_is) in
+    let header : header_of c.section_with.new.buffer.items s.header ≡ made_header name subsection = search rules in
+    let meta : s.meta.value ≡ c.self.inside.meta.value = search rules in
+    let held : s.held.items ≡ [] = search rules in
+    let named : is_made_name name ≡ true = search rules in
+    let valid : is_valid_or_none subsection ≡ true = search rules in
+    let made : IsMadeWith c.section_with.new.buffer.items c.section_with.new.copies.items s c.self.inside.meta.value (bytes_of_line_end c.line_end-line_end.result) name subsection c.args.key.now c.args.value.now = record {
+      header = header;
+      shown = c.in_ok-section.ensures.shown;
+      meta_is = meta;
+      items = c.in_ok-section.ensures.items;
+      within = c.in_ok-section.ensures.within;
+      held = held;
+    } in
+    let after : c.push.new.self ≡ with_last name subsection s c.self.inside.sections = search rules in
+    made_fits c.self.inside.buffer.items c.section_with.new.buffer.items c.self.inside.copies.items c.section_with.new.copies.items c.self.inside.front.items c.self.inside.meta.value c.self.inside.sections c.push.new.self
+    s (bytes_of_line_end c.line_end-line_end.result) name subsection c.args.key.now c.args.value.now
+    c.section_with.ensures.grows.extended c.section_with.ensures.extended c.section_with.ensures.grows.room c.self.invariant made line_end after named valid c.requires.key
+
+pub returns-clause-ok : goal.returns-clause-ok
+returns-clause-ok c =
+    let name = c.args.section_name.now in
+    let subsection = option_copied c.args.subsection_name in
+    let s : Section = record { header = c.in_ok-section.section.header; meta = c.in_ok-clone.field-0; items = c.in_ok-section.section.items; held = c.new.result } in
+    let line_end : bytes_of_line_end c.line_end-line_end.result ≡ file_line_end (state_of c.self.inside.buffer.items c.self.inside.front.items c.self.inside.meta.value c.self.inside.sections) =
+    c.line_end-line_end.ensures ∙ ap file_line_end (sym c.self.view_is) in
+    let header : header_of c.section_with.new.buffer.items s.header ≡ made_header name subsection = search rules in
+    let meta : s.meta.value ≡ c.self.inside.meta.value = search rules in
+    let held : s.held.items ≡ [] = search rules in
+    let made : IsMadeWith c.section_with.new.buffer.items c.section_with.new.copies.items s c.self.inside.meta.value (bytes_of_line_end c.line_end-line_end.result) name subsection c.args.key.now c.args.value.now = record {
+      header = header;
+      shown = c.in_ok-section.ensures.shown;
+      meta_is = meta;
+      items = c.in_ok-section.ensures.items;
+      within = c.in_ok-section.ensures.within;
+      held = held;
+    } in
+    let after : c.push.new.self ≡ with_last name subsection s c.self.inside.sections = search rules in
+    rw (← c.self.view_is) (made_state c.self.inside.buffer.items c.section_with.new.buffer.items c.self.inside.copies.items c.section_with.new.copies.items c.self.inside.front.items c.self.inside.meta.value c.self.inside.sections c.push.new.self
+    s (bytes_of_line_end c.line_end-line_end.result) name subsection c.args.key.now c.args.value.now
+    c.section_with.ensures.grows.extended c.self.invariant made line_end after)
