@@ -1,5 +1,6 @@
 -- What edits of a store change, by a section's place.
-use Rattle.std.specs.Prelude.{ℕ, zero, suc, ◌+◌, ◌≤◌, ◌^◌, List, [], ◌∷◌, ◌++◌, Option, Result, IsErrOf}
+use Rattle.std.specs.Prelude.{ℕ, zero, suc, ◌+◌, ◌≤◌, ◌^◌, List, [], ◌∷◌, ◌++◌, Option, Result, IsErrOf, IfErr, ◌≡◌, ◌⊎◌}
+use Rattle.gitconf_base.specs.Sections.{no_number}
 use Rattle.gitconf_state.specs.Edit.{new_section, section_with}
 use Rattle.gitconf_state.specs.LineEnds.{file_line_end}
 use Rattle.gitconf_state.specs.State.{SectionState, State}
@@ -34,3 +35,8 @@ set_new name subsection key value state = record {
   used = state.used;
   sections = state.sections ++ section_with (file_line_end state) key value (new_section name subsection state) ∷ [];
 }
+
+-- At most so many bytes more are used, and refusal 3 is answered only where they would pass the limit, or no number is left.
+pub record EditGrows {T E : Type 0} (result : Result T E) (number : E → ℕ) (count : ℕ) (old new : State) : Type 0 where
+  pub grown : new.used ≤ old.used + count
+  pub too_large : IfErr result (λ e. number e ≡ 3 → (2 ^ 32 ≤ old.used + count) ⊎ (old.next ≡ no_number))

@@ -6,3 +6,4 @@ pub mod Texts
 pub mod ItemEvents
 pub mod Lookups
 pub mod Edits
+pub mod SetErrors

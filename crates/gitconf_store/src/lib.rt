@@ -9,6 +9,7 @@ mod load;
 mod lookup;
 mod print;
 pub mod section;
+pub mod set_raw_value;
 pub mod store;
 mod tokens;
 mod values;

@@ -51,6 +51,7 @@ impl Store {
     ghost use Rattle.std.specs.Prelude.{◌≡◌, ◌<◌, ◌^◌, ◌↔◌, [], length, false, IfOk, IsErrOf, IfSome, OnOk, OnErr, option_map, slice_get, true, List, filter, IfErr, map, Bool};
     ghost use Rattle.bstr.specs.Owned.{bstring_bytes};
     ghost use Rattle.gitconf_text.specs.Document.{IsText, Reads, unmarked};
+    ghost use Rattle.gitconf_text.specs.HeaderErrors.{header_number};
     ghost use Rattle.gitconf_text.specs.Names.{is_made_name, is_valid_or_none, is_value_name};
     ghost use Rattle.gitconf_text.specs.Part.{Part};
     ghost use Rattle.gitconf_text.specs.Token.{tokens_of, spelled_token};
@@ -64,7 +65,7 @@ impl Store {
     ghost use Rattle.gitconf_parse.specs.TokenDocument.{keeps_meaning};
     ghost use Rattle.gitconf_state.specs.Clean.{IsClean};
     ghost use Rattle.gitconf_state.specs.Comments.{comments, comments_of, comments_of_kept};
-    ghost use Rattle.gitconf_state.specs.Edit.{old_value, set_tokens, token_bytes, with_used};
+    ghost use Rattle.gitconf_state.specs.Edit.{old_value, section_tokens, set_tokens, token_bytes, with_used};
     ghost use Rattle.gitconf_state.specs.Inserted.{Inserted, IsByteForByte};
     ghost use Rattle.gitconf_state.specs.LineEnds.{file_line_end};
     ghost use Rattle.gitconf_state.specs.Lookup.{last_value};
@@ -74,7 +75,7 @@ impl Store {
     ghost use Rattle.gitconf_write.specs.LineEnds.{bytes_of_line_end};
     ghost use Rattle.gitconf_store.specs.Counts.{are_void, section_entries};
     ghost use Rattle.gitconf_store.specs.Edits as edits;
-    ghost use Rattle.gitconf_store.specs.Edits.{UsedGrows};
+    ghost use Rattle.gitconf_store.specs.Edits.{EditGrows, UsedGrows};
     ghost use Rattle.gitconf_store.specs.ItemEvents.{events_left};
     ghost use Rattle.gitconf_store.specs.Lookups.{IsFound};
     ghost use Rattle.gitconf_store.specs.Made.{IsMade};
@@ -395,6 +396,8 @@ impl Store {
             ↔ ((is_made_name section_name.now ≡ true) × (is_valid_or_none (option_copied subsection_name.entry) ≡ false)) }
         ensures ok { OnOk result (self.new ≡ with_used self.new.used (edits.set_new section_name.now (option_copied subsection_name.entry) key.now value.now self.old)) }
         ensures err { OnErr result (self.new ≡ with_used self.new.used self.old) }
+        ensures used { EditGrows result header_number
+            (token_bytes (section_tokens (file_line_end self.old) section_name.now (option_copied subsection_name.entry) key.now value.now)) self.old self.new }
     {
         validate(section_name.as_bytes(), subsection_name)?;
         let line_end = self.line_end();

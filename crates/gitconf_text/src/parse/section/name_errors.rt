@@ -93,7 +93,7 @@ impl Model for ValueNameError {
 
 impl ValueNameError {
     /// The refusal of bytes that are no name.
-    pub(super) fn invalid() -> ValueNameError
+    pub fn invalid() -> ValueNameError
         ensures { result ≡ 6 }
     {
         ValueNameError {
