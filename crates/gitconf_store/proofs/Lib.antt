@@ -13,3 +13,4 @@ pub mod Named
 pub mod Targets
 pub mod Setting
 pub mod Making
+pub mod Sets

@@ -21,7 +21,7 @@ use Rattle.gitconf_store.specs.declared.section.Section.{Section}
 use Rattle.gitconf_store.specs.Store.{section_under, section_state, state_of, SectionFits, AllSectionsFit}
 
 -- a section of the table has a name where its header does
-named_so : (buffer copies name : List ℕ) (subsection : Option (List ℕ)) (e : SectionEntry Section) → SectionFits buffer copies e
+pub named_so : (buffer copies name : List ℕ) (subsection : Option (List ℕ)) (e : SectionEntry Section) → SectionFits buffer copies e
     → table.is_named name subsection e ≡ state.is_named name subsection (section_state buffer e)
 named_so buffer copies name subsection e fits =
     let h = header_of buffer e.section.header in

@@ -1,14 +1,18 @@
 -- The last section of a name and subsection that passes, looked for from the end.
-use Rattle.std.proofs.Common.{◌≡◌, ℕ, ◌+◌, ◌<◌, ◌≤◌, Bool, true, false, List, [], ◌∷◌, ◌++◌, length, take, zero, suc, Option, Some, None, refl, ap, sym, subst, ◌∙◌, arith}
-use Rattle.std.specs.List.{slice_get, list_any}
+use Rattle.std.proofs.Common.{◌≡◌, ℕ, ◌+◌, ◌<◌, ◌≤◌, Bool, true, false, List, [], ◌∷◌, ◌++◌, length, map, take, zero, suc, Option, Some, None, refl, ap, sym, subst, ◌∙◌, arith}
+use Rattle.std.specs.List.{slice_get, list_any, AllByRecursion}
 use Rattle.std.specs.Option.{option_map}
-use Rattle.std.specs.Prelude.{◌&&◌}
+use Rattle.std.specs.Prelude.{◌&&◌, ◌||◌}
 use Rattle.std.proofs.lemmas.Option.{slice_get_within}
-use Rattle.std.proofs.lemmas.List.{take_all, length-take-le}
-use Rattle.gitconf_base.specs.Sections.{SectionEntry}
-use Rattle.gitconf_body.specs.Places.{IsFront, IsLastAt}
+use Rattle.std.proofs.lemmas.List.{take_all, length-take-le, map-append, length-map}
+use Rattle.gitconf_base.specs.Metadata.{Meta}
+use Rattle.gitconf_base.specs.Sections.{SectionEntry, is_named}
+use Rattle.gitconf_state.specs.Edit.{is_target}
+use Rattle.gitconf_body.specs.Places.{IsFront, IsLastAt, IsLastPlace}
 use Rattle.gitconf_body.proofs.Places.{front_all, front_less, front_last, front_none}
 use Rattle.gitconf_store.specs.declared.section.Section.{Section}
+use Rattle.gitconf_store.specs.Store.{section_state, SectionFits}
+use Rattle.gitconf_store.proofs.Named.{named_so}
 
 -- the entry at a place, of which this is known
 record There (entries : List (SectionEntry Section)) (at : ℕ) (named : SectionEntry Section → Bool) (is_named : Bool) : Type 0 where
@@ -84,3 +88,28 @@ pub target_none : (test : SectionEntry Section → Bool) (entries : List (Sectio
 target_none test entries end f is = front_none test entries (subst (IsFront test entries) (ap (λ n. take n entries) is) f)
 
 
+
+-- The places in the table are those in the state.
+any_target : (b copies name : List ℕ) (subsection : Option (List ℕ)) (keeps : Meta → Bool) (es : List (SectionEntry Section)) → AllByRecursion (SectionFits b copies) es
+    → list_any (is_target name subsection keeps) (map (section_state b) es) ≡ list_any (λ e. is_named name subsection e && keeps e.section.meta.value) es
+any_target b copies name subsection keeps [] fits = refl
+any_target b copies name subsection keeps (e ∷ es) fits = λ i. (sym (named_so b copies name subsection e fits.0) i && keeps e.section.meta.value) || any_target b copies name subsection keeps es fits.1 i
+
+parts_fit : {A : Type 0} (P : A → Type 0) (before : List A) (x : A) (behind : List A) → AllByRecursion P (before ++ x ∷ behind) → P x × AllByRecursion P behind
+parts_fit P [] x behind all = all
+parts_fit P (y ∷ before) x behind all = parts_fit P before x behind all.1
+
+pub targets_shown : (b copies name : List ℕ) (subsection : Option (List ℕ)) (keeps : Meta → Bool) (es : List (SectionEntry Section)) (o : Option ℕ) → AllByRecursion (SectionFits b copies) es
+    → IsLastPlace (λ e. is_named name subsection e && keeps e.section.meta.value) es o → IsLastPlace (is_target name subsection keeps) (map (section_state b) es) o
+targets_shown b copies name subsection keeps es None fits none = any_target b copies name subsection keeps es fits ∙ none
+targets_shown b copies name subsection keeps es (Some at) fits l =
+    let f = parts_fit (SectionFits b copies) l.before l.found l.behind (subst (AllByRecursion (SectionFits b copies)) l.is fits) in
+    record {
+      before = map (section_state b) l.before;
+      found = section_state b l.found;
+      behind = map (section_state b) l.behind;
+      is = ap (map (section_state b)) l.is ∙ map-append (section_state b) l.before (l.found ∷ l.behind);
+      place = length-map l.before (section_state b) ∙ l.place;
+      passes = ap (λ t. t && keeps l.found.section.meta.value) (sym (named_so b copies name subsection l.found f.0)) ∙ l.passes;
+      none = any_target b copies name subsection keeps l.behind f.1 ∙ l.none;
+    }

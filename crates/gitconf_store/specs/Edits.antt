@@ -1,9 +1,19 @@
 -- What edits of a store change, by a section's place.
-use Rattle.std.specs.Prelude.{ℕ, zero, suc, ◌+◌, ◌≤◌, ◌^◌, List, [], ◌∷◌, ◌++◌, Option, Result, IsErrOf, IfErr, ◌≡◌, ◌⊎◌}
+use Rattle.std.specs.Prelude.{◌≡◌, ◌⊎◌, ◌↔◌, ℕ, zero, suc, ◌+◌, ◌≤◌, ◌^◌, Bool, true, false, List, [], ◌∷◌, ◌++◌, Option, Result, IsErrOf, IsErrAnd, IfErr, IfOk, OnOk}
+use Rattle.std.specs.List.{list_any}
+use Rattle.std.specs.Option.{option_map}
+use Rattle.bstr.specs.declared.bstring.BString.{BString}
+use Rattle.bstr.specs.Owned.{bstring_bytes}
+use Rattle.gitconf_text.specs.Names.{is_made_name, is_valid_or_none, is_value_name}
+use Rattle.gitconf_base.specs.Metadata.{Meta}
 use Rattle.gitconf_base.specs.Sections.{no_number}
-use Rattle.gitconf_state.specs.Edit.{new_section, section_with}
+use Rattle.gitconf_state.specs.Edit.{SetRawValue, apply, is_target, new_section, new_tokens, replaced_value, section_with, token_bytes, with_used}
 use Rattle.gitconf_state.specs.LineEnds.{file_line_end}
 use Rattle.gitconf_state.specs.State.{SectionState, State}
+use Rattle.gitconf_text.specs.declared.parse.section.header.Error.TheVariants.{InvalidName, InvalidSubSection}
+use Rattle.gitconf_store.specs.declared.set_raw_value.Error.{Error}
+use Rattle.gitconf_store.specs.declared.set_raw_value.Error.TheVariants.{Header}
+use Rattle.gitconf_store.specs.SetErrors.{set_number}
 
 -- the list with a change of the element at the place
 abbrev pub update_at : {A : Type 0} → ℕ → (A → A) → List A → List A
@@ -40,3 +50,17 @@ set_new name subsection key value state = record {
 pub record EditGrows {T E : Type 0} (result : Result T E) (number : E → ℕ) (count : ℕ) (old new : State) : Type 0 where
   pub grown : new.used ≤ old.used + count
   pub too_large : IfErr result (λ e. number e ≡ 3 → (2 ^ 32 ≤ old.used + count) ⊎ (old.next ≡ no_number))
+
+-- the refusal of the number
+abbrev pub IsRefusal : {T : Type 0} → Result T Error → ℕ → Type 0
+IsRefusal result number = IsErrAnd result (λ e. set_number e ≡ number)
+
+-- How a value is set: as the edit says, with the raw text that it replaced. Refusals 4 and 5 are of a section that has to be made.
+pub record IsSet (name : List ℕ) (subsection : Option (List ℕ)) (key : List ℕ) (keeps : Meta → Bool) (value : List ℕ) (result : Result (Option BString) Error) (old new : State) : Type 0 where
+  pub invalid_name : IsErrOf result (Header InvalidName)
+      ↔ ((is_value_name key ≡ true) × (list_any (is_target name subsection keeps) old.sections ≡ false) × (is_made_name name ≡ false))
+  pub invalid_subsection : IsErrOf result (Header InvalidSubSection)
+      ↔ ((is_value_name key ≡ true) × (list_any (is_target name subsection keeps) old.sections ≡ false) × (is_made_name name ≡ true) × (is_valid_or_none subsection ≡ false))
+  pub ok : OnOk result (new ≡ with_used new.used (apply (SetRawValue name subsection key keeps value) old))
+  pub answer : IfOk result (λ o. option_map bstring_bytes o ≡ replaced_value name subsection key keeps old)
+  pub used : EditGrows result set_number (token_bytes (new_tokens (SetRawValue name subsection key keeps value) old)) old new

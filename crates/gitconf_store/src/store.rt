@@ -1,9 +1,11 @@
 //! The state of a file behind one buffer.
 use crate::events::ItemEvents;
 use crate::load::load_sections;
+use crate::edit::last_place;
 use crate::lookup::last_meaning;
 use crate::print::{front_is_ended, write_sections};
 use crate::section::{Section, SectionRef, Sections};
+use crate::set_raw_value;
 use crate::tokens;
 use bstr::BString;
 use gitconf_base::meta::Metadata;
@@ -15,6 +17,8 @@ use gitconf_parse::events::{Events, keeps_meaning};
 use gitconf_parse::items::{Item, Items};
 use gitconf_parse::sink::{Sink, SinkFault};
 use gitconf_text::NoMemory;
+use gitconf_text::parse::section::ValueNameError;
+use gitconf_text::parse::section::bytes::is_value_name;
 use gitconf_text::parse::section::header::{Error as HeaderError, validate};
 use gitconf_text::parse::span;
 use gitconf_write::line_end::LineEnd;
@@ -63,9 +67,10 @@ impl Store {
     ghost use Rattle.gitconf_parse.specs.ShownEvents.{shown_token};
     ghost use Rattle.gitconf_parse.specs.Sink.{Writes, Counts};
     ghost use Rattle.gitconf_parse.specs.TokenDocument.{keeps_meaning};
+    ghost use Rattle.gitconf_body.specs.Places.{IsLastPlace};
     ghost use Rattle.gitconf_state.specs.Clean.{IsClean};
     ghost use Rattle.gitconf_state.specs.Comments.{comments, comments_of, comments_of_kept};
-    ghost use Rattle.gitconf_state.specs.Edit.{old_value, section_tokens, set_tokens, token_bytes, with_used};
+    ghost use Rattle.gitconf_state.specs.Edit.{is_target, old_value, section_tokens, set_tokens, token_bytes, with_used};
     ghost use Rattle.gitconf_state.specs.Inserted.{Inserted, IsByteForByte};
     ghost use Rattle.gitconf_state.specs.LineEnds.{file_line_end};
     ghost use Rattle.gitconf_state.specs.Lookup.{last_value};
@@ -75,7 +80,7 @@ impl Store {
     ghost use Rattle.gitconf_write.specs.LineEnds.{bytes_of_line_end};
     ghost use Rattle.gitconf_store.specs.Counts.{are_void, section_entries};
     ghost use Rattle.gitconf_store.specs.Edits as edits;
-    ghost use Rattle.gitconf_store.specs.Edits.{EditGrows, UsedGrows};
+    ghost use Rattle.gitconf_store.specs.Edits.{EditGrows, IsRefusal, IsSet, UsedGrows};
     ghost use Rattle.gitconf_store.specs.ItemEvents.{events_left};
     ghost use Rattle.gitconf_store.specs.Lookups.{IsFound};
     ghost use Rattle.gitconf_store.specs.Made.{IsMade};
@@ -363,6 +368,21 @@ impl Store {
         }
     }
 
+    /// The place of the last section of the name and subsection whose metadata passes, if there is one.
+    fn last_target<F: FnMut(&Metadata) -> bool>(
+        &self,
+        section_name: &str,
+        subsection_name: Option<&[u8]>,
+        filter: F,
+    ) -> Option<usize>
+        requires { F.IsAlwaysCallable filter }
+        ensures within { IfSome result (λ at. at < length self.now.sections) }
+        ensures exact { (keeps : Meta → Bool) → ComputesKey F.FnMut keeps filter
+            → IsLastPlace (is_target section_name.now (option_copied subsection_name.entry) keeps) self.now.sections result }
+    {
+        last_place(&self.sections, section_name, subsection_name, filter)
+    }
+
     /// Sets the value in the section at a place.
     fn set_at(
         &mut self,
@@ -419,5 +439,49 @@ impl Store {
         self.sections
             .push(section_name.as_bytes(), subsection_name, section)?;
         Ok(())
+    }
+
+    /// Gives a key a value: in the last section that has the name, without ASCII case, and exactly the subsection, and whose metadata
+    /// passes the filter. Its last entry of the key gets the value, spelled as a file has it; `=` is put in where the entry has none. A
+    /// section without an entry of the key gets one behind all others, with the blanks that it uses. Where no section passes, one is made
+    /// behind all others, with the file's line end and metadata.
+    ///
+    /// Answers the raw text of the value that was there: its pieces joined, not decoded; nothing for an entry without `=`; `None` where
+    /// there was no entry. All other sections, entries and comments stay as they are.
+    ///
+    /// Takes a walk over the sections, and one over the section's items. New bytes are put behind the buffer's.
+    ///
+    /// # Errors
+    ///
+    /// Refusal 6 for a name of a value that is none, before anything else; 4 and 5 where a section has to be made of a name or a
+    /// subsection that can't be; 3 where the buffer would be longer than 4294967295 bytes, or there is no number for a section; 27 for
+    /// want of memory. The file is then as it was, but that its buffer may have grown.
+    pub fn set_raw_value_filter_by<F: FnMut(&Metadata) -> bool>(
+        &mut self,
+        section_name: &str,
+        subsection_name: Option<&[u8]>,
+        value_name: &str,
+        new_value: &[u8],
+        filter: F,
+    ) -> Result<Option<BString>, set_raw_value::Error>
+        requires { F.IsAlwaysCallable filter }
+        ensures value_name { IsRefusal result 6 ↔ (is_value_name value_name.now ≡ false) }
+        // For a filter that answers by what it is shown.
+        ensures exact { (keeps : Meta → Bool) → ComputesKey F.FnMut keeps filter
+            → IsSet section_name.now (option_copied subsection_name.entry) value_name.now keeps new_value.now result self.old self.new }
+        ensures err { OnErr result (self.new ≡ with_used self.new.used self.old) }
+    {
+        let key = value_name.as_bytes();
+        if !is_value_name(key) {
+            return Err(set_raw_value::Error::ValueName(ValueNameError::invalid()));
+        }
+        let Some(at) = self.last_target(section_name, subsection_name, filter) else {
+            self.set_in_new(section_name, subsection_name, key, new_value)?;
+            return Ok(None);
+        };
+        match self.set_at(at, key, new_value)? {
+            Some(old) => Ok(Some(BString::new(old))),
+            None => Ok(None),
+        }
     }
 }

@@ -1,0 +1,152 @@
+-- A value that is set by its names.
+use Rattle.std.proofs.Common.{◌≡◌, ◌⊎◌, ℕ, ◌+◌, ◌≤◌, ◌^◌, Bool, true, false, List, [], ◌∷◌, ◌++◌, length, zero, suc, Option, Some, None, Result, Ok, Err, inl, refl, ap, sym, subst, ◌∙◌}
+use Rattle.std.specs.List.{list_any, last_or, slice_get}
+use Rattle.std.specs.Option.{option_map}
+use Rattle.std.specs.Prelude.{filter, IfErr, IfOk, IfSome, IsErrOf, ◌↔◌}
+use Rattle.bstr.specs.declared.bstring.BString.{BString}
+use Rattle.bstr.specs.Owned.{bstring_bytes}
+use Rattle.gitconf_text.specs.HeaderErrors.{header_number}
+use Rattle.gitconf_text.specs.Names.{is_made_name, is_valid_or_none, is_value_name}
+use Rattle.gitconf_text.specs.Token.{Token}
+use Rattle.gitconf_text.specs.declared.parse.section.header.Error.{Error as HeaderError}
+use Rattle.gitconf_text.specs.declared.parse.section.header.Error.TheVariants.{InvalidName, InvalidSubSection}
+use Rattle.gitconf_base.specs.Metadata.{Meta}
+use Rattle.gitconf_base.specs.Sections.{no_number}
+use Rattle.gitconf_body.specs.Places.{IsLastAt}
+use Rattle.gitconf_state.specs.Edit.{SetRawValue, is_target, new_tokens, old_value, replaced_value, section_tokens, section_with, set_raw_value, set_raw_value_tokens, set_tokens, token_bytes, with_used}
+use Rattle.gitconf_state.specs.LineEnds.{file_line_end}
+use Rattle.gitconf_state.specs.State.{SectionState, State}
+use Rattle.gitconf_state.proofs.EditLists.{any_at, filter_none, last_passing}
+use Rattle.gitconf_state.proofs.EditPlaces.{set_raw_value_at, set_raw_value_new, replaced_value_at, replaced_value_none}
+use Rattle.gitconf_store.specs.declared.set_raw_value.Error.{Error}
+use Rattle.gitconf_store.specs.declared.set_raw_value.Error.TheVariants.{Header, Span}
+use Rattle.gitconf_store.specs.SetErrors.{set_number}
+use Rattle.gitconf_store.specs.Edits.{update_at, set_at, set_new, EditGrows, IsSet, UsedGrows}
+
+-- the tokens of a section that is made
+tokens_new : (name : List ℕ) (subsection : Option (List ℕ)) (key : List ℕ) (keeps : Meta → Bool) (value : List ℕ) (state : State)
+    → list_any (is_target name subsection keeps) state.sections ≡ false
+    → set_raw_value_tokens name subsection key keeps value state ≡ section_tokens (file_line_end state) name subsection key value
+tokens_new name subsection key keeps value state none = rw (filter_none (is_target name subsection keeps) state.sections none, set_raw_value_tokens) refl
+
+-- those in one that stands
+tokens_at : (name : List ℕ) (subsection : Option (List ℕ)) (key : List ℕ) (keeps : Meta → Bool) (value : List ℕ) (state : State) (at : ℕ)
+    (l : IsLastAt (is_target name subsection keeps) state.sections at)
+    → set_raw_value_tokens name subsection key keeps value state ≡ set_tokens (file_line_end state) key value l.found.items
+tokens_at name subsection key keeps value state at l =
+    found (last_or None (filter (is_target name subsection keeps) state.sections))
+    (ap (λ ss. last_or None (filter (is_target name subsection keeps) ss)) l.is ∙ last_passing (is_target name subsection keeps) None l.before l.found l.behind l.passes l.none)
+  where
+    found : (o : Option SectionState) → o ≡ Some l.found → elim o as (λ _. List Token) [
+      | None ↦ section_tokens (file_line_end state) name subsection key value
+      | Some s ↦ set_tokens (file_line_end state) key value s.items
+    ] ≡ set_tokens (file_line_end state) key value l.found.items
+    found o is = rw is refl
+
+-- A section was made.
+pub made_ok : (name : List ℕ) (subsection : Option (List ℕ)) (key : List ℕ) (keeps : Meta → Bool) (value : List ℕ) (old new : State) (r : Result (Unit {0}) HeaderError)
+    → r ≡ Ok tt → list_any (is_target name subsection keeps) old.sections ≡ false
+    → (IsErrOf r InvalidName ↔ (is_made_name name ≡ false)) → (IsErrOf r InvalidSubSection ↔ ((is_made_name name ≡ true) × (is_valid_or_none subsection ≡ false)))
+    → new ≡ with_used new.used (set_new name subsection key value old)
+    → EditGrows r header_number (token_bytes (section_tokens (file_line_end old) name subsection key value)) old new
+    → IsSet name subsection key keeps value (Ok None) old new
+made_ok name subsection key keeps value old new r done none named valid made grows = record {
+  invalid_name = (λ fault. absurd (cc), λ all. absurd (let h = sym done ∙ named.1 all.2 in cc));
+  invalid_subsection = (λ fault. absurd (cc), λ all. absurd (let h = sym done ∙ valid.1 (all.2, all.3) in cc));
+  ok = made ∙ ap (with_used new.used) (sym (set_raw_value_new name subsection key keeps value old none));
+  answer = sym (replaced_value_none name subsection key keeps old none);
+  used = record {
+    grown = subst (λ ts. new.used ≤ old.used + token_bytes ts) (sym (tokens_new name subsection key keeps value old none)) grows.grown;
+    too_large = tt;
+  };
+}
+
+-- None could be made.
+pub made_err : (name : List ℕ) (subsection : Option (List ℕ)) (key : List ℕ) (keeps : Meta → Bool) (value : List ℕ) (old new : State) (r : Result (Unit {0}) HeaderError) (e : HeaderError) (result : Result (Option BString) Error)
+    → r ≡ Err e → result ≡ Err (Header e) → is_value_name key ≡ true → list_any (is_target name subsection keeps) old.sections ≡ false
+    → (IsErrOf r InvalidName ↔ (is_made_name name ≡ false)) → (IsErrOf r InvalidSubSection ↔ ((is_made_name name ≡ true) × (is_valid_or_none subsection ≡ false)))
+    → EditGrows r header_number (token_bytes (section_tokens (file_line_end old) name subsection key value)) old new
+    → IsSet name subsection key keeps value result old new
+made_err name subsection key keeps value old new r e result fault is keyed none named valid grows = subst (λ t. IsSet name subsection key keeps value t old new) (sym is) (record {
+  invalid_name = (λ same. (keyed, none, named.0 (fault ∙ (let h : e ≡ InvalidName = cc in ap Err h))), λ all. ap (λ e. Err (Header e)) (let h = sym fault ∙ named.1 all.2 in let g : e ≡ InvalidName = cc in g));
+  invalid_subsection = (
+    λ same. let v = valid.0 (fault ∙ (let h : e ≡ InvalidSubSection = cc in ap Err h)) in (keyed, none, v.0, v.1),
+    λ all. ap (λ e. Err (Header e)) (let h = sym fault ∙ valid.1 (all.2, all.3) in let g : e ≡ InvalidSubSection = cc in g)
+  );
+  ok = tt;
+  answer = tt;
+  used = record {
+    grown = subst (λ ts. new.used ≤ old.used + token_bytes ts) (sym (tokens_new name subsection key keeps value old none)) grows.grown;
+    too_large = subst (λ ts. header_number e ≡ 3 → (2 ^ 32 ≤ old.used + token_bytes ts) ⊎ (old.next ≡ no_number)) (sym (tokens_new name subsection key keeps value old none))
+        (subst (λ r. IfErr r (λ e. header_number e ≡ 3 → (2 ^ 32 ≤ old.used + token_bytes (section_tokens (file_line_end old) name subsection key value)) ⊎ (old.next ≡ no_number))) fault grows.too_large);
+  };
+})
+
+-- what stands at the place
+there : {A : Type 0} (before : List A) (x : A) (behind : List A) → slice_get (before ++ x ∷ behind) (length before) ≡ Some x
+there [] x behind = refl
+there (y ∷ before) x behind = there before x behind
+
+updated : {A : Type 0} (change : A → A) (before : List A) (x : A) (behind : List A) → update_at (length before) change (before ++ x ∷ behind) ≡ before ++ change x ∷ behind
+updated change [] x behind = refl
+updated change (y ∷ before) x behind = ap (λ ys. y ∷ ys) (updated change before x behind)
+
+at_last : (name : List ℕ) (subsection : Option (List ℕ)) (keeps : Meta → Bool) (state : State) (at : ℕ) (l : IsLastAt (is_target name subsection keeps) state.sections at) → slice_get state.sections at ≡ Some l.found
+at_last name subsection keeps state at l = ap (λ ss. slice_get ss at) l.is ∙ ap (slice_get (l.before ++ l.found ∷ l.behind)) (sym l.place) ∙ there l.before l.found l.behind
+
+set_last : (name : List ℕ) (subsection : Option (List ℕ)) (key : List ℕ) (keeps : Meta → Bool) (value : List ℕ) (state : State) (at : ℕ) (l : IsLastAt (is_target name subsection keeps) state.sections at)
+    → set_at at key value state ≡ set_raw_value name subsection key keeps value state
+set_last name subsection key keeps value state at l =
+    (λ i. record {
+      front = state.front;
+      meta = state.meta;
+      next = state.next;
+      used = state.used;
+      sections = (ap (update_at at (section_with (file_line_end state) key value)) l.is
+          ∙ ap (λ n. update_at n (section_with (file_line_end state) key value) (l.before ++ l.found ∷ l.behind)) (sym l.place)
+          ∙ updated (section_with (file_line_end state) key value) l.before l.found l.behind) i;
+    })
+    ∙ sym (set_raw_value_at name subsection key keeps value state l.before l.found l.behind l.is l.passes l.none)
+
+grown_at : {T : Type 0} (name : List ℕ) (subsection : Option (List ℕ)) (key : List ℕ) (keeps : Meta → Bool) (value : List ℕ) (old new : State) (at : ℕ) (r : Result T ℕ)
+    (l : IsLastAt (is_target name subsection keeps) old.sections at)
+    → IfSome (slice_get old.sections at) (λ s. UsedGrows r (token_bytes (set_tokens (file_line_end old) key value s.items)) old.used new.used)
+    → UsedGrows r (token_bytes (set_raw_value_tokens name subsection key keeps value old)) old.used new.used
+grown_at name subsection key keeps value old new at r l used =
+    subst (λ ts. UsedGrows r (token_bytes ts) old.used new.used) (sym (tokens_at name subsection key keeps value old at l))
+    (subst (λ o. IfSome o (λ s. UsedGrows r (token_bytes (set_tokens (file_line_end old) key value s.items)) old.used new.used)) (at_last name subsection keeps old at l) used)
+
+-- A section stood.
+pub found_ok : {T : Type 0} (name : List ℕ) (subsection : Option (List ℕ)) (key : List ℕ) (keeps : Meta → Bool) (value : List ℕ) (old new : State) (at : ℕ) (t : T) (o : Option BString) (bytes : Option (List ℕ))
+    → IsLastAt (is_target name subsection keeps) old.sections at → new ≡ with_used new.used (set_at at key value old)
+    → IfSome (slice_get old.sections at) (λ s. bytes ≡ old_value key s.items) → option_map bstring_bytes o ≡ bytes
+    → IfSome (slice_get old.sections at) (λ s. UsedGrows {T = T} (Ok t) (token_bytes (set_tokens (file_line_end old) key value s.items)) old.used new.used)
+    → IsSet name subsection key keeps value (Ok o) old new
+found_ok {T} name subsection key keeps value old new at t o bytes l set was same used = record {
+  invalid_name = (λ fault. absurd (cc), λ all. absurd (stands all.1));
+  invalid_subsection = (λ fault. absurd (cc), λ all. absurd (stands all.1));
+  ok = set ∙ ap (with_used new.used) (set_last name subsection key keeps value old at l);
+  answer = same ∙ subst (λ s. IfSome s (λ s. bytes ≡ old_value key s.items)) (at_last name subsection keeps old at l) was
+      ∙ sym (replaced_value_at name subsection key keeps old l.before l.found l.behind l.is l.passes l.none);
+  used = let g = grown_at name subsection key keeps value old new at (Ok t) l used in record { grown = g.grown; too_large = tt };
+}
+  where
+    stands : list_any (is_target name subsection keeps) old.sections ≡ false → ⊥
+    stands none = let h = sym none ∙ ap (list_any (is_target name subsection keeps)) l.is ∙ any_at (is_target name subsection keeps) l.before l.found l.behind l.passes in absurd (cc)
+
+-- It stays as it was.
+pub found_err : {T : Type 0} (name : List ℕ) (subsection : Option (List ℕ)) (key : List ℕ) (keeps : Meta → Bool) (value : List ℕ) (old new : State) (at : ℕ) (r : Result T ℕ) (e : ℕ) (result : Result (Option BString) Error)
+    → IsLastAt (is_target name subsection keeps) old.sections at → r ≡ Err e → result ≡ Err (Span e)
+    → IfSome (slice_get old.sections at) (λ s. UsedGrows {T = T} r (token_bytes (set_tokens (file_line_end old) key value s.items)) old.used new.used)
+    → IsSet name subsection key keeps value result old new
+found_err {T} name subsection key keeps value old new at r e result l fault is used = subst (λ t. IsSet name subsection key keeps value t old new) (sym is) (record {
+  invalid_name = (λ same. absurd (cc), λ all. absurd (stands all.1));
+  invalid_subsection = (λ same. absurd (cc), λ all. absurd (stands all.1));
+  ok = tt;
+  answer = tt;
+  used = let g = grown_at name subsection key keeps value old new at r l used in
+      record { grown = g.grown; too_large = λ number. inl (g.too_large (fault ∙ ap Err number)) };
+})
+  where
+    stands : list_any (is_target name subsection keeps) old.sections ≡ false → ⊥
+    stands none = let h = sym none ∙ ap (list_any (is_target name subsection keeps)) l.is ∙ any_at (is_target name subsection keeps) l.before l.found l.behind l.passes in absurd (cc)
