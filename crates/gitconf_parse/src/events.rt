@@ -195,8 +195,10 @@ impl Events {
     /// # Errors
     ///
     /// Those of `from_bytes`.
+    #[tactic(auto, using(crate::proofs::Selections::whole_selected))]
     pub fn from_str(alloc: Global, input: &str) -> Result<Events, Error>
         ensures parsed { IfOk result (IsWhole input.now) }
+        ensures selected { IfOk result (IsSelected input.now) }
         ensures refused { IfErr result (IsRefused input.now) }
     {
         Events::whole(alloc, input.as_bytes())
