@@ -112,7 +112,7 @@ impl Store {
     /// numbers from 0 on, each from `meta`. What the filter dropped is not in it.
     ///
     /// It asks that all names, separators and values were kept ([`Events::keeps_entries`]). One pass; the text is handed
-    /// over, and no byte of it is copied.
+    /// over, and of it only the names and subsections of sections are copied.
     ///
     /// # Errors
     ///

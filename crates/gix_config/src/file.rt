@@ -87,7 +87,8 @@ impl File {
     /// and no include is followed. What the filter dropped is not in it.
     ///
     /// It asks that all names, separators and values were kept ([`Events::keeps_entries`]); so the file has the text's
-    /// document, whatever else was dropped. One pass; the text is handed over, and no byte of it is copied.
+    /// document, whatever else was dropped. One pass; the text is handed over, and of it only the
+    /// names and subsections of sections are copied.
     ///
     /// # Errors
     ///
