@@ -15,7 +15,7 @@ and_last true true = refl
 and_last true false = refl
 and_last false b = refl
 
-one_kept : (buffer : List ℕ) (e : Event) (keep : Bool) → map (token_of buffer) (if keep then e ∷ [] else []) ≡ (if keep then token_of buffer e ∷ [] else [])
+pub one_kept : (buffer : List ℕ) (e : Event) (keep : Bool) → map (token_of buffer) (if keep then e ∷ [] else []) ≡ (if keep then token_of buffer e ∷ [] else [])
 one_kept buffer e true = refl
 one_kept buffer e false = refl
 

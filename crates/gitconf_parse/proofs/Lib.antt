@@ -21,6 +21,7 @@ pub mod Subsections
 pub mod Copies
 pub mod Shown
 pub mod Kept
+pub mod Selections
 pub mod Filtering
 pub mod Cuts
 pub mod EscapedRuns

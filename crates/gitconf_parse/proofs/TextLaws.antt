@@ -1,12 +1,13 @@
 -- Laws of tokens: joined they give the text, and a lossy load keeps the document.
-use Rattle.std.proofs.Common.{◌≡◌, ℕ, List, [], ◌∷◌, ◌++◌, Option, Some, None, refl, ap, ◌∙◌, append_assoc, append-nil}
+use Rattle.std.proofs.Common.{◌≡◌, ℕ, true, List, [], ◌∷◌, ◌++◌, Option, Some, None, refl, ap, sym, ◌∙◌, append_assoc, inl, inr, append-nil}
 use Rattle.std.specs.Prelude.{filter}
-use Rattle.std.specs.List.{flat_map}
+use Rattle.std.specs.List.{flat_map, list_all}
 use Rattle.std.proofs.lemmas.Grind.{flat_map-append}
 use Rattle.gitconf_text.specs.Value.{Piece}
 use Rattle.gitconf_text.specs.Part.{Assigned, BlanksItem, LineEndsItem, CommentItem, EntryItem, Part, ItemPart, HeaderPart, spelled_assigned, spelled_part, spelled}
 use Rattle.gitconf_text.specs.Token.{Token, CommentToken, HeaderToken, NameToken, ValueToken, NewlineToken, ValueNotDoneToken, ValueDoneToken, WhitespaceToken, SeparatorToken, spelled_token, filled, piece_tokens, value_tokens, assigned_tokens, part_tokens, tokens_of}
-use Rattle.gitconf_parse.specs.EventList.{keeps_token}
+use Rattle.gitconf_parse.specs.EventList.{keeps_token, keeps_entry_token, may_miss, IsSelection}
+use Rattle.gitconf_parse.proofs.Selections.{filter_selection}
 use Rattle.gitconf_parse.specs.TokenDocument.{nothing, before, told, keeps_meaning}
 
 -- a token that stands only where there are bytes
@@ -57,15 +58,38 @@ joined_parts (p ∷ parts) =
     ∙ ap (λ t. t ++ flat_map spelled_token (tokens_of parts)) (joined_part p)
     ∙ ap (λ t. spelled_part p ++ t) (joined_parts parts)
 
+-- a token before others, or one that is missing and says nothing
+token_told : (t : Token) (all tokens : List Token) → IsSelection true (t ∷ all) tokens
+    → ((rest : List Token) → IsSelection true all rest → told rest nothing ≡ told all nothing) → (may_miss true t ≡ true → before t (told all nothing) ≡ told all nothing)
+    → told tokens nothing ≡ before t (told all nothing)
+token_told t all tokens s later silent = elim s [ inl k ↦ rw k.1 (ap (before t) (later k.0 k.2)) | inr m ↦ later tokens m.1 ∙ sym (silent m.0) ]
+
+-- Some of the tokens, with all that make entries, have the document of all.
+pub selected_document : (all tokens : List Token) → IsSelection true all tokens → told tokens nothing ≡ told all nothing
+selected_document [] tokens s = rw s refl
+selected_document (CommentToken tag text ∷ all) tokens s = token_told _ all tokens s (selected_document all) (λ m. refl)
+selected_document (NewlineToken run ∷ all) tokens s = token_told _ all tokens s (selected_document all) (λ m. refl)
+selected_document (WhitespaceToken run ∷ all) tokens s = token_told _ all tokens s (selected_document all) (λ m. refl)
+selected_document (HeaderToken h ∷ all) tokens s = token_told _ all tokens s (selected_document all) (λ m. absurd (cc))
+selected_document (NameToken name ∷ all) tokens s = token_told _ all tokens s (selected_document all) (λ m. absurd (cc))
+selected_document (ValueToken text ∷ all) tokens s = token_told _ all tokens s (selected_document all) (λ m. absurd (cc))
+selected_document (ValueNotDoneToken text ∷ all) tokens s = token_told _ all tokens s (selected_document all) (λ m. absurd (cc))
+selected_document (ValueDoneToken text ∷ all) tokens s = token_told _ all tokens s (selected_document all) (λ m. absurd (cc))
+selected_document (SeparatorToken ∷ all) tokens s = token_told _ all tokens s (selected_document all) (λ m. absurd (cc))
+
+-- a lossy load keeps each name, separator and value
+pub lossy_keeps_entries : (tokens : List Token) → list_all (keeps_entry_token keeps_meaning) tokens ≡ true
+lossy_keeps_entries [] = refl
+lossy_keeps_entries (CommentToken tag text ∷ tokens) = lossy_keeps_entries tokens
+lossy_keeps_entries (HeaderToken h ∷ tokens) = lossy_keeps_entries tokens
+lossy_keeps_entries (NameToken bytes ∷ tokens) = lossy_keeps_entries tokens
+lossy_keeps_entries (ValueToken bytes ∷ tokens) = lossy_keeps_entries tokens
+lossy_keeps_entries (NewlineToken bytes ∷ tokens) = lossy_keeps_entries tokens
+lossy_keeps_entries (ValueNotDoneToken bytes ∷ tokens) = lossy_keeps_entries tokens
+lossy_keeps_entries (ValueDoneToken bytes ∷ tokens) = lossy_keeps_entries tokens
+lossy_keeps_entries (WhitespaceToken bytes ∷ tokens) = lossy_keeps_entries tokens
+lossy_keeps_entries (SeparatorToken ∷ tokens) = lossy_keeps_entries tokens
+
 -- What a lossy load keeps has the document of all.
 pub lossy_document : (tokens : List Token) → told (filter (keeps_token keeps_meaning) tokens) nothing ≡ told tokens nothing
-lossy_document [] = refl
-lossy_document (CommentToken tag text ∷ tokens) = lossy_document tokens
-lossy_document (NewlineToken bytes ∷ tokens) = lossy_document tokens
-lossy_document (WhitespaceToken bytes ∷ tokens) = lossy_document tokens
-lossy_document (HeaderToken h ∷ tokens) = ap (before (HeaderToken h)) (lossy_document tokens)
-lossy_document (NameToken bytes ∷ tokens) = ap (before (NameToken bytes)) (lossy_document tokens)
-lossy_document (ValueToken bytes ∷ tokens) = ap (before (ValueToken bytes)) (lossy_document tokens)
-lossy_document (ValueNotDoneToken bytes ∷ tokens) = ap (before (ValueNotDoneToken bytes)) (lossy_document tokens)
-lossy_document (ValueDoneToken bytes ∷ tokens) = ap (before (ValueDoneToken bytes)) (lossy_document tokens)
-lossy_document (SeparatorToken ∷ tokens) = ap (before SeparatorToken) (lossy_document tokens)
+lossy_document tokens = selected_document tokens _ (filter_selection keeps_meaning true tokens (λ e. lossy_keeps_entries tokens))

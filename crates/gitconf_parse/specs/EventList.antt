@@ -1,5 +1,5 @@
 -- The events of a text, and those that a filter keeps.
-use Rattle.std.specs.Prelude.{◌≡◌, ℕ, ◌^◌, ◌<◌, Bool, true, false, not, ◌||◌, List, length, map, filter}
+use Rattle.std.specs.Prelude.{◌≡◌, ◌⊎◌, ℕ, ◌^◌, ◌<◌, Bool, true, false, not, ◌||◌, ◌&&◌, List, [], ◌∷◌, length, map, filter}
 use Rattle.std.specs.List.{list_all, AllByRecursion}
 use Rattle.gitconf_text.specs.Part.{Part}
 use Rattle.gitconf_text.specs.Document.{IsText}
@@ -63,7 +63,27 @@ pub record IsKept (p : Shown → Bool) (buffer : List ℕ) (all kept : List Even
   pub tokens : map (token_of buffer) kept ≡ filter (keeps_token p) (map (token_of buffer) all)
   pub entries_are : entries ≡ list_all (keeps_entry_token p) (map (token_of buffer) all)
 
--- what an `Events` keeps: each event is shown as its token is
-pub record EventsFit (buffer copies : List ℕ) (events : List Event) : Type 0 where
+-- a token that may be missing: no header, and, where the entries are kept, no part of one
+abbrev pub may_miss : (entries : Bool) → Token → Bool
+may_miss entries t = not (is_header_token t) && not (entries && is_entry_token t)
+
+-- The tokens are some of all, in their order, and only such are missing as may be.
+abbrev pub IsSelection : (entries : Bool) → (all tokens : List Token) → Type 0
+IsSelection entries [] tokens = tokens ≡ []
+IsSelection entries (t ∷ all) tokens =
+    ((rest : List Token) × (tokens ≡ t ∷ rest) × IsSelection entries all rest)
+    ⊎ ((may_miss entries t ≡ true) × IsSelection entries all tokens)
+
+-- The input has a document, and the list has some of its tokens, whatever a filter answered: all headers, and, where it keeps
+-- the entries, all that make them.
+pub record IsSelected (input : List ℕ) (list : EventList) : Type 0 where
+  pub parts : List Part
+  pub text : IsText input parts
+  pub tokens : IsSelection list.keeps_entries (tokens_of parts) list.tokens
+  pub used : list.used ≡ length input
+
+-- what an `Events` keeps: each event is shown as its token is, and their tokens are those of the text, or some of them
+pub record EventsFit (buffer copies : List ℕ) (events : List Event) (entries : Bool) : Type 0 where
   pub room : length buffer < 2 ^ 32
   pub shown : AllByRecursion (IsShown buffer copies) events
+  pub selected : IsSelected buffer (record { tokens = map (token_of buffer) events; keeps_entries = entries; used = length buffer })

@@ -19,7 +19,7 @@ use crate::event::Event;
 use crate::event_ref::EventRef;
 use crate::items::{Items, grouped};
 use crate::reading::{Fault, ReadError, read};
-use decode::decode_headers;
+use decode::decoded_events;
 pub use decode::decoded_header;
 pub use filter::keeps_meaning;
 use filter::kept_events;
@@ -53,7 +53,7 @@ impl Model for Events {
       used = length e.buffer.items;
     } };
 
-    ghost invariant = { λ e. EventsFit e.buffer.items e.copies.items e.events.items };
+    ghost invariant = { λ e. EventsFit e.buffer.items e.copies.items e.events.items e.keeps_entries };
 }
 
 /// Refuses an input of more than 4294967295 bytes.
@@ -100,7 +100,7 @@ fn events_of(alloc: Global, input: &[u8]) -> Result<Vec<Event>, Error>
 }
 
 impl Events {
-    ghost use Rattle.std.specs.Prelude.{◌≡◌, List, Bool, true, map, IfOk, IfErr, IsNone, OnOk};
+    ghost use Rattle.std.specs.Prelude.{◌≡◌, ℕ, List, Bool, true, map, IfOk, IfErr, IsNone, OnOk};
     ghost use Rattle.std.specs.Option.{ForSome, ForNone};
     ghost use Rattle.gitconf_text.specs.Part.{Part};
     ghost use Rattle.gitconf_text.specs.Document.{IsText};
@@ -109,7 +109,7 @@ impl Events {
     ghost use Rattle.gitconf_parse.specs.ShownEvents.{shown_token};
     ghost use Rattle.gitconf_parse.specs.Sections.{is_shown_header, front_of, sections_of};
     ghost use Rattle.gitconf_parse.specs.EventIters.{events_left, sections_left};
-    ghost use Rattle.gitconf_parse.specs.EventList.{IsParsed, IsWhole, IsFiltered};
+    ghost use Rattle.gitconf_parse.specs.EventList.{IsParsed, IsWhole, IsFiltered, IsSelected};
     ghost use Rattle.gitconf_parse.specs.EventResult.{IsRefused};
     ghost use Rattle.std.specs.Prelude.{length, ◌<◌, ◌^◌};
     ghost use Rattle.gitconf_parse.specs.Items.{Between, are_items, tokens_of_all};
@@ -121,10 +121,10 @@ impl Events {
         ensures fits { OnOk result (length input.now < 2 ^ 32) }
         ensures refused { IfErr result (IsRefused input.now) }
     {
-        let mut events = events_of(alloc, input)?;
+        let events = events_of(alloc, input)?;
         let buffer = Vec::from_slice(alloc, input)?;
         let mut copies = Vec::new(alloc);
-        decode_headers(&buffer, &mut events, &mut copies)?;
+        let events = decoded_events(&buffer, events, &mut copies)?;
         Ok(Events {
             buffer,
             copies,
@@ -135,8 +135,12 @@ impl Events {
 
     /// Those that are headers or that the filter keeps.
     fn filtered(self, alloc: Global, filter: fn(&EventRef<'_>) -> bool) -> Result<Events, NoMemory>
-        requires { IsAlwaysCallable filter }
-        ensures { IfOk result (λ e. (p : Shown → Bool) → ((r : _) (b : Bool) → post filter r b → b ≡ p (shown r.now)) → IsFiltered p self e) }
+        requires callable { IsAlwaysCallable filter }
+        requires entries { self.keeps_entries ≡ true }
+        // With a filter that answers by what it is shown.
+        ensures filtered { IfOk result (λ e. (p : Shown → Bool) → ((r : _) (b : Bool) → post filter r b → b ≡ p (shown r.now)) → IsFiltered p self e) }
+        // With any filter.
+        ensures selected { IfOk result (λ e. (input : List ℕ) → IsSelected input self → IsSelected input e) }
     {
         let (events, keeps_entries) = kept_events(
             alloc,
@@ -162,7 +166,7 @@ impl Events {
     ///
     /// Refusal 1 where the text has no document, with the line and the data from where it can't be read on; refusal 2 for
     /// more than 4294967295 bytes; refusal 27 for want of memory.
-    #[tactic(auto, using(crate::proofs::Filtering::filtering))]
+    #[tactic(auto, using(crate::proofs::Filtering::filtering, crate::proofs::Selections::whole_selected))]
     pub fn from_bytes(
         alloc: Global,
         input: &[u8],
@@ -174,6 +178,7 @@ impl Events {
             → ForNone filter ((s : Shown) → p s ≡ true) → IsParsed p input.now events) }
         ensures whole { IsNone filter → IfOk result (IsWhole input.now) }
         // With any filter.
+        ensures selected { IfOk result (IsSelected input.now) }
         ensures fits { OnOk result (length input.now < 2 ^ 32) }
         ensures documented { IfOk result (λ _. (parts : List Part) × IsText input.now parts) }
         ensures refused { IfErr result (IsRefused input.now) }
@@ -190,8 +195,10 @@ impl Events {
     /// # Errors
     ///
     /// Those of `from_bytes`.
+    #[tactic(auto, using(crate::proofs::Selections::whole_selected))]
     pub fn from_str(alloc: Global, input: &str) -> Result<Events, Error>
         ensures parsed { IfOk result (IsWhole input.now) }
+        ensures selected { IfOk result (IsSelected input.now) }
         ensures refused { IfErr result (IsRefused input.now) }
     {
         Events::whole(alloc, input.as_bytes())
@@ -256,7 +263,9 @@ impl Events {
 
     /// Whether the filter kept every name, separator, value and piece of a value.
     pub fn keeps_entries(&self) -> bool
-        ensures { result ≡ self.now.keeps_entries }
+        ensures value { result ≡ self.now.keeps_entries }
+        // What was kept are tokens of a text: all headers, and all that make entries where the answer is true.
+        ensures text { (input : List ℕ) × IsSelected input self.now }
     {
         self.keeps_entries
     }

@@ -4,10 +4,10 @@ ghost use Rattle.std.specs.Prelude.{filter};
 ghost use Rattle.std.specs.List.{list_all, flat_map};
 ghost use Rattle.gitconf_text.specs.Part.{Part};
 ghost use Rattle.gitconf_text.specs.Document.{Document, IsText, Reads, gathered, unmarked};
-ghost use Rattle.gitconf_text.specs.Token.{spelled_token, tokens_of};
+ghost use Rattle.gitconf_text.specs.Token.{Token, spelled_token, tokens_of};
 ghost use Rattle.gitconf_text.specs.Header.{is_spelling, unquoted};
 ghost use Rattle.gitconf_parse.specs.EventRef.{Shown, escaped_subsection};
-ghost use Rattle.gitconf_parse.specs.EventList.{EventList, IsParsed, IsWhole, keeps_token};
+ghost use Rattle.gitconf_parse.specs.EventList.{EventList, IsParsed, IsSelected, IsSelection, IsWhole, keeps_token};
 ghost use Rattle.gitconf_parse.specs.Items.{Between, are_items};
 ghost use Rattle.gitconf_parse.specs.TokenDocument.{document_of_tokens, keeps_meaning};
 
@@ -29,14 +29,17 @@ pub fn tokens_join()
     ensures { (text : List ℕ) (parts : List Part) → IsText text parts → flat_map spelled_token (tokens_of parts) ≡ unmarked text }
 {}
 
-/// The tokens of a text say its document, and so do those that are left without blanks, line ends and comments.
+/// The tokens of a text say its document, and so do those that are left without blanks, line ends and comments, all of these
+/// or some.
 pub fn lossy_tokens_have_the_document()
     ensures all { (parts : List Part) → document_of_tokens (tokens_of parts) ≡ gathered parts }
     ensures lossy { (parts : List Part) → document_of_tokens (filter (keeps_token keeps_meaning) (tokens_of parts)) ≡ gathered parts }
+    ensures selected { (parts : List Part) (tokens : List Token) → IsSelection true (tokens_of parts) tokens → document_of_tokens tokens ≡ gathered parts }
 {}
 
-/// Events of a text make items by section, without a filter, and with one that keeps each name, separator and value.
+/// Events of a text make items by section, without a filter, and with any that kept each name, separator and value.
 pub fn kept_entries_make_items()
     ensures whole { (text : List ℕ) (list : EventList) → IsWhole text list → are_items Between list.tokens ≡ true }
     ensures kept { (p : Shown → Bool) (text : List ℕ) (list : EventList) → IsParsed p text list → list.keeps_entries ≡ true → are_items Between list.tokens ≡ true }
+    ensures selected { (text : List ℕ) (list : EventList) → IsSelected text list → list.keeps_entries ≡ true → are_items Between list.tokens ≡ true }
 {}

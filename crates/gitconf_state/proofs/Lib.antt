@@ -1,6 +1,7 @@
 pub mod LoadingTokens
 pub mod LoadingFilters
 pub mod LoadingItems
+pub mod LoadingLeft
 pub mod LoadingNames
 pub mod LoadingClean
 pub mod LoadingDocument

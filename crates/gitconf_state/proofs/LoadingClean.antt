@@ -4,25 +4,31 @@ use Rattle.std.specs.List.{list_all, AllByRecursion}
 use Rattle.std.proofs.lemmas.List.Folds.{list_all-map}
 use Rattle.gitconf_text.specs.Header.{Header, PlainHeader, DottedHeader, QuotedHeader, FitsHeader}
 use Rattle.gitconf_text.specs.Part.{Item, BlanksItem, LineEndsItem, CommentItem, EntryItem, Part, ItemPart, HeaderPart, FitsPart, AreFit}
-use Rattle.gitconf_text.specs.Token.{Token, CommentToken, HeaderToken, NameToken, ValueToken, NewlineToken, ValueNotDoneToken, ValueDoneToken, WhitespaceToken, SeparatorToken, tokens_of}
+use Rattle.gitconf_text.specs.Token.{tokens_of}
 use Rattle.gitconf_parse.specs.EventRef.{Shown}
-use Rattle.gitconf_parse.specs.EventList.{keeps_token, keeps_entry_token}
+use Rattle.gitconf_parse.specs.EventList.{keeps_entry_token}
 use Rattle.gitconf_parse.specs.TokenDocument.{keeps_meaning}
+use Rattle.gitconf_parse.proofs.Selections.{filter_selection}
+use Rattle.gitconf_parse.proofs.TextLaws.{lossy_keeps_entries}
 use Rattle.gitconf_parse.proofs.ValueAgain.{both_true}
 use Rattle.gitconf_parse.proofs.RunLaws.{false_not}
 use Rattle.gitconf_state.specs.State.{SectionState, State, entries_of, HasSectionItems, HasItems}
-use Rattle.gitconf_state.specs.Printing.{Closed}
-use Rattle.gitconf_state.specs.Clean.{is_nameless, has_blanks, is_entry, stand_apart, IsCleanSection, IsClean}
-use Rattle.gitconf_state.specs.Loads.{IsLoad, IsFullLoad}
+use Rattle.gitconf_state.specs.Printing.{Open, Closed}
+use Rattle.gitconf_state.specs.Clean.{is_nameless, stand_apart, IsCleanSection, IsClean}
+use Rattle.gitconf_state.specs.Loads.{state_tokens, IsLoad, IsFullLoad, IsPartLoad}
 use Rattle.gitconf_state.proofs.LoadingTokens.{same_parts, own_section_parts, own_parts, own_tokens}
-use Rattle.gitconf_state.proofs.LoadingFilters.{both_hold, where_kept_passes, kept_parts_pass, fit_parts_pass, all_parts, kept_part, kept_parts, kept_tokens}
-use Rattle.gitconf_state.proofs.LoadingItems.{is_part, parts_are, kept_parts_are}
-use Rattle.gitconf_state.proofs.LoadingNames.{names_stand}
+use Rattle.gitconf_state.proofs.LoadingFilters.{fit_parts_pass, all_parts}
+use Rattle.gitconf_state.proofs.LoadingItems.{is_part, parts_are}
+use Rattle.gitconf_state.proofs.LoadingLeft.{is_clean_part, parts_left}
+use Rattle.gitconf_state.proofs.LoadingNames.{names_stand, stands_anywhere}
 
--- The state has exactly the parts that the filter leaves.
-pub load_parts : (keeps : Shown → Bool) (parts : List Part) (state : State) → list_all (keeps_entry_token keeps) (tokens_of parts) ≡ true → IsLoad keeps parts state
-    → own_parts state ≡ kept_parts (keeps_token keeps) parts
-load_parts keeps parts state all load = same_parts (own_parts state) (kept_parts (keeps_token keeps) parts) (own_tokens state ∙ load.tokens ∙ sym (kept_tokens keeps parts all))
+-- a load with a filter that keeps each name, separator and value has some of the tokens
+kept_load : (keeps : Shown → Bool) (parts : List Part) (state : State) → list_all (keeps_entry_token keeps) (tokens_of parts) ≡ true → IsLoad keeps parts state → IsPartLoad parts state
+kept_load keeps parts state all load = record { tokens = rw load.tokens (filter_selection keeps true (tokens_of parts) (λ e. all)); held = load.held }
+
+-- The state has exactly the parts that are left.
+part_load_parts : (parts : List Part) (state : State) (load : IsPartLoad parts state) → own_parts state ≡ (parts_left parts (state_tokens state) load.tokens).left
+part_load_parts parts state load = let l = parts_left parts (state_tokens state) load.tokens in same_parts (own_parts state) l.left (own_tokens state ∙ l.tokens_are)
 
 -- A whole load has exactly the parts of the text.
 pub full_load_parts : (parts : List Part) (state : State) → IsFullLoad parts state → own_parts state ≡ parts
@@ -51,16 +57,15 @@ state_has_items state held all =
 pub full_has_items : (parts : List Part) (state : State) → AreFit parts [] → IsFullLoad parts state → HasItems state
 full_has_items parts state fits load = state_has_items state load.held (ap (list_all is_part) (full_load_parts parts state load) ∙ parts_are parts fits)
 
--- So has a load with a filter that keeps each name, separator and value.
+-- So has a load of some of its tokens, all that make entries among them.
+pub part_load_has_items : (parts : List Part) (state : State) → AreFit parts [] → IsPartLoad parts state → HasItems state
+part_load_has_items parts state fits load =
+    state_has_items state load.held (ap (list_all is_part) (part_load_parts parts state load) ∙ (parts_left parts (state_tokens state) load.tokens).are (parts_are parts fits))
+
+-- And so has one with a filter that keeps each name, separator and value.
 pub kept_has_items : (keeps : Shown → Bool) (parts : List Part) (state : State) → list_all (keeps_entry_token keeps) (tokens_of parts) ≡ true
     → AreFit parts [] → IsLoad keeps parts state → HasItems state
-kept_has_items keeps parts state all fits load =
-    state_has_items state load.held (ap (list_all is_part) (load_parts keeps parts state all load) ∙ kept_parts_are (keeps_token keeps) parts (parts_are parts fits))
-
--- blanks are spaces and tabs, and a header has a name or a subsection
-abbrev is_clean_part : Part → Bool
-is_clean_part (ItemPart i) = has_blanks i
-is_clean_part (HeaderPart h) = not (is_nameless h)
+kept_has_items keeps parts state all fits load = part_load_has_items parts state fits (kept_load keeps parts state all load)
 
 -- a header that fits is named
 header_is_named : (h : Header) → FitsHeader h → not (is_nameless h) ≡ true
@@ -104,63 +109,21 @@ full_is_clean parts state fits load =
     state_is_clean state load.held (ap (list_all is_clean_part) same ∙ parts_are_clean parts fits)
     (names_stand Closed state.front (flat_map own_section_parts state.sections) own_fit tt)
 
--- what a filter leaves of a clean part is clean
-kept_part_clean : (q : Token → Bool) (p : Part) → is_clean_part p ≡ true → list_all is_clean_part (kept_part q p) ≡ true
-kept_part_clean q (HeaderPart h) is = rw is refl
-kept_part_clean q (ItemPart (BlanksItem run)) is = where_kept_passes is_clean_part _ (ItemPart (BlanksItem run)) is
-kept_part_clean q (ItemPart (LineEndsItem run)) is = where_kept_passes is_clean_part _ (ItemPart (LineEndsItem run)) is
-kept_part_clean q (ItemPart (CommentItem tag text)) is = where_kept_passes is_clean_part _ (ItemPart (CommentItem tag text)) is
-kept_part_clean q (ItemPart (EntryItem e)) is = refl
+-- without an entry, all may stand anywhere
+stand_anywhere : (before : Open) (items : List Item) → entries_of items ≡ [] → stand_apart before items ≡ true
+stand_anywhere before [] none = refl
+stand_anywhere before (BlanksItem run ∷ items) none = rw (stands_anywhere before (BlanksItem run) refl) (stand_anywhere _ items none)
+stand_anywhere before (LineEndsItem run ∷ items) none = rw (stands_anywhere before (LineEndsItem run) refl) (stand_anywhere _ items none)
+stand_anywhere before (CommentItem tag text ∷ items) none = rw (stands_anywhere before (CommentItem tag text) refl) (stand_anywhere _ items none)
+stand_anywhere before (EntryItem e ∷ items) none = absurd (cc)
 
--- so is what it leaves of clean parts
-kept_parts_clean : (q : Token → Bool) (parts : List Part) → list_all is_clean_part parts ≡ true → list_all is_clean_part (kept_parts q parts) ≡ true
-kept_parts_clean q = kept_parts_pass is_clean_part is_clean_part q (kept_part_clean q)
+-- A load of some of a text's tokens is clean where its front has no entry.
+pub part_load_is_clean : (parts : List Part) (state : State) → AreFit parts [] → IsPartLoad parts state → entries_of state.front ≡ [] → IsClean state
+part_load_is_clean parts state fits load none =
+    state_is_clean state load.held
+    (ap (list_all is_clean_part) (part_load_parts parts state load) ∙ (parts_left parts (state_tokens state) load.tokens).clean (parts_are_clean parts fits))
+    (stand_anywhere Closed state.front none)
 
--- an entry or a header
-abbrev is_meant : Part → Bool
-is_meant (ItemPart i) = is_entry i
-is_meant (HeaderPart h) = true
-
--- what a lossy load keeps is entries and headers
-lossy_part_is_meant : (p : Part) → list_all is_meant (kept_part (keeps_token keeps_meaning) p) ≡ true
-lossy_part_is_meant (HeaderPart h) = refl
-lossy_part_is_meant (ItemPart (BlanksItem run)) = refl
-lossy_part_is_meant (ItemPart (LineEndsItem run)) = refl
-lossy_part_is_meant (ItemPart (CommentItem tag text)) = refl
-lossy_part_is_meant (ItemPart (EntryItem e)) = refl
-
--- so it is of all parts
-lossy_parts_are_meant : (parts : List Part) → AreFit parts [] → list_all is_meant (kept_parts (keeps_token keeps_meaning) parts) ≡ true
-lossy_parts_are_meant parts fits = kept_parts_pass is_clean_part is_meant (keeps_token keeps_meaning) (λ p is. lossy_part_is_meant p) parts (parts_are_clean parts fits)
-
--- a lossy load keeps each name, separator and value
-pub lossy_keeps_entries : (tokens : List Token) → list_all (keeps_entry_token keeps_meaning) tokens ≡ true
-lossy_keeps_entries [] = refl
-lossy_keeps_entries (t ∷ tokens) = both_hold (keeps_entry_token keeps_meaning t) (list_all (keeps_entry_token keeps_meaning) tokens) (go t) (lossy_keeps_entries tokens)
-  where
-    go : (t : Token) → keeps_entry_token keeps_meaning t ≡ true
-    go (CommentToken tag text) = refl
-    go (HeaderToken h) = refl
-    go (NameToken bytes) = refl
-    go (ValueToken bytes) = refl
-    go (NewlineToken bytes) = refl
-    go (ValueNotDoneToken bytes) = refl
-    go (ValueDoneToken bytes) = refl
-    go (WhitespaceToken bytes) = refl
-    go SeparatorToken = refl
-
--- items that are entries, and say none
-no_entries : (items : List Item) → list_all is_entry items ≡ true → entries_of items ≡ [] → items ≡ []
-no_entries [] all none = refl
-no_entries (EntryItem e ∷ items) all none = absurd (cc)
-no_entries (BlanksItem run ∷ items) all none = absurd (cc)
-no_entries (LineEndsItem run ∷ items) all none = absurd (cc)
-no_entries (CommentItem tag text ∷ items) all none = absurd (cc)
-
--- A lossy load of a text is clean where its front has no entry.
+-- So is a lossy one.
 pub lossy_is_clean : (parts : List Part) (state : State) → AreFit parts [] → IsLoad keeps_meaning parts state → entries_of state.front ≡ [] → IsClean state
-lossy_is_clean parts state fits load none =
-    let same = load_parts keeps_meaning parts state (lossy_keeps_entries (tokens_of parts)) load in
-    let meant = all_parts is_meant (map ItemPart state.front) (flat_map own_section_parts state.sections) (ap (list_all is_meant) same ∙ lossy_parts_are_meant parts fits) in
-    let empty = no_entries state.front (items_pass is_meant state.front meant.0) none in
-    state_is_clean state load.held (ap (list_all is_clean_part) same ∙ kept_parts_clean (keeps_token keeps_meaning) parts (parts_are_clean parts fits)) (rw empty refl)
+lossy_is_clean parts state fits load none = part_load_is_clean parts state fits (kept_load keeps_meaning parts state (lossy_keeps_entries (tokens_of parts)) load) none

@@ -8,7 +8,7 @@ use Rattle.gitconf_parse.specs.TokenDocument.{Told, nothing, told, keeps_meaning
 use Rattle.gitconf_parse.proofs.OneDocument.{told_parts}
 use Rattle.gitconf_parse.proofs.TextLaws as tokens
 use Rattle.gitconf_state.specs.State.{SectionState, State, entries_of, section_document, document_of}
-use Rattle.gitconf_state.specs.Loads.{state_tokens, IsLoad, IsFullLoad}
+use Rattle.gitconf_state.specs.Loads.{state_tokens, IsLoad, IsFullLoad, IsPartLoad}
 use Rattle.gitconf_state.proofs.LoadingTokens.{own_section_parts, own_parts, own_tokens}
 
 -- entries put before a document's own
@@ -50,7 +50,11 @@ tokens_document state = sym (own_document state) ∙ sym (told_parts (own_parts 
 pub full_document : (parts : List Part) (state : State) → IsFullLoad parts state → document_of state ≡ gathered parts
 full_document parts state load = tokens_document state ∙ ap (λ t. (told t nothing).document) load.tokens ∙ told_parts parts
 
--- A lossy load does too.
+-- So does a load of some of its tokens, all that make entries among them.
+pub part_load_document : (parts : List Part) (state : State) → IsPartLoad parts state → document_of state ≡ gathered parts
+part_load_document parts state load = tokens_document state ∙ ap (λ (t : Told). t.document) (tokens.selected_document (tokens_of parts) (state_tokens state) load.tokens) ∙ told_parts parts
+
+-- And so does a lossy load.
 pub lossy_document : (parts : List Part) (state : State) → IsLoad keeps_meaning parts state → document_of state ≡ gathered parts
 lossy_document parts state load =
     tokens_document state

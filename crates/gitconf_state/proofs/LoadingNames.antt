@@ -15,7 +15,7 @@ use Rattle.gitconf_parse.proofs.ValueAgain.{both_true, apart}
 use Rattle.gitconf_parse.proofs.RunLaws.{Stops, is_comment_text, comment_places}
 use Rattle.gitconf_parse.proofs.ByteLaws.{refuted, letter_no_line_end, letter_name_byte, mark_no_line_end, line_end_no_blank}
 use Rattle.gitconf_state.specs.Printing.{Open, Closed, OpenKey, OpenKeyAndBlanks, OpenValue, OpenComment, after_blanks, after_entry, after}
-use Rattle.gitconf_state.specs.Clean.{may_stand, stand_apart}
+use Rattle.gitconf_state.specs.Clean.{is_entry, may_stand, stand_apart}
 
 -- the text is empty, or begins with a line end
 abbrev pub is_line_closed : List ℕ → Bool
@@ -141,10 +141,10 @@ behind_entry OpenValue e rest fits h = absurd (
     letter_behind_value f.0 f.1 f.3 (ap may_follow_value (sym f.2 ∙ sym (append_assoc e.name _ rest)) ∙ h))
 behind_entry OpenComment e rest fits h = absurd (let r = only_line_ends (EntryItem e) rest fits h in let k = r.1 in cc)
 
--- An item stands where it may, and behind it stands what may.
-pub behind_item : (before : Open) (i : Item) (rest : List ℕ) → FitsItem i rest → Follows before (spelled_item i ++ rest)
-    → (may_stand before i ≡ true) × Follows (after before i) rest
-behind_item before (BlanksItem run) rest fits h = (go before, behind_blanks before run rest fits.0 fits.1 h)
+-- what is no entry may stand anywhere
+pub stands_anywhere : (before : Open) (i : Item) → is_entry i ≡ false → may_stand before i ≡ true
+stands_anywhere before (EntryItem e) none = absurd (cc)
+stands_anywhere before (BlanksItem run) none = go before
   where
     go : (before : Open) → may_stand before (BlanksItem run) ≡ true
     go Closed = refl
@@ -152,7 +152,7 @@ behind_item before (BlanksItem run) rest fits h = (go before, behind_blanks befo
     go OpenKeyAndBlanks = refl
     go OpenValue = refl
     go OpenComment = refl
-behind_item before (LineEndsItem run) rest fits h = (go before, tt)
+stands_anywhere before (LineEndsItem run) none = go before
   where
     go : (before : Open) → may_stand before (LineEndsItem run) ≡ true
     go Closed = refl
@@ -160,7 +160,7 @@ behind_item before (LineEndsItem run) rest fits h = (go before, tt)
     go OpenKeyAndBlanks = refl
     go OpenValue = refl
     go OpenComment = refl
-behind_item before (CommentItem tag text) rest fits h = (go before, comment_end text rest (comment_places text rest fits.1 fits.2).1)
+stands_anywhere before (CommentItem tag text) none = go before
   where
     go : (before : Open) → may_stand before (CommentItem tag text) ≡ true
     go Closed = refl
@@ -168,6 +168,14 @@ behind_item before (CommentItem tag text) rest fits h = (go before, comment_end 
     go OpenKeyAndBlanks = refl
     go OpenValue = refl
     go OpenComment = refl
+
+-- An item stands where it may, and behind it stands what may.
+pub behind_item : (before : Open) (i : Item) (rest : List ℕ) → FitsItem i rest → Follows before (spelled_item i ++ rest)
+    → (may_stand before i ≡ true) × Follows (after before i) rest
+behind_item before (BlanksItem run) rest fits h = (stands_anywhere before (BlanksItem run) refl, behind_blanks before run rest fits.0 fits.1 h)
+behind_item before (LineEndsItem run) rest fits h = (stands_anywhere before (LineEndsItem run) refl, tt)
+behind_item before (CommentItem tag text) rest fits h =
+    (stands_anywhere before (CommentItem tag text) refl, comment_end text rest (comment_places text rest fits.1 fits.2).1)
 behind_item before (EntryItem e) rest fits h = behind_entry before e rest fits h
 
 -- The names of a text's front stand where they may.

@@ -1,10 +1,10 @@
--- The state that the tokens of a text make, all of them or those that a filter keeps.
-use Rattle.std.specs.Prelude.{◌≡◌, Bool, List, [], ◌∷◌, ◌++◌, flat_map, filter}
+-- The state that the tokens of a text make, all of them, those that a filter keeps, or some.
+use Rattle.std.specs.Prelude.{◌≡◌, Bool, true, List, [], ◌∷◌, ◌++◌, flat_map, filter}
 use Rattle.std.specs.List.{AllByRecursion}
 use Rattle.gitconf_text.specs.Part.{Part}
 use Rattle.gitconf_text.specs.Token.{Token, HeaderToken, item_tokens, tokens_of}
 use Rattle.gitconf_parse.specs.EventRef.{Shown}
-use Rattle.gitconf_parse.specs.EventList.{keeps_token}
+use Rattle.gitconf_parse.specs.EventList.{keeps_token, IsSelection}
 use Rattle.gitconf_state.specs.State.{SectionState, State}
 
 abbrev pub section_tokens : SectionState → List Token
@@ -22,4 +22,9 @@ pub record IsLoad (keeps : Shown → Bool) (parts : List Part) (state : State) :
 -- the state has all tokens of a text of these parts, and holds none
 pub record IsFullLoad (parts : List Part) (state : State) : Type 0 where
   pub tokens : state_tokens state ≡ tokens_of parts
+  pub held : AllByRecursion (λ s. s.held ≡ []) state.sections
+
+-- the state has some tokens of a text of these parts, all that make entries among them, and holds none
+pub record IsPartLoad (parts : List Part) (state : State) : Type 0 where
+  pub tokens : IsSelection true (tokens_of parts) (state_tokens state)
   pub held : AllByRecursion (λ s. s.held ≡ []) state.sections

@@ -14,7 +14,7 @@ ghost use Rattle.gitconf_parse.specs.TokenDocument.{keeps_meaning};
 ghost use Rattle.gitconf_state.specs.State.{State, HasItems, document_of, entries_of, SectionState, section_document, document_of_kept};
 ghost use Rattle.gitconf_state.specs.Printing.{printed, printed_kept, printed_section};
 ghost use Rattle.gitconf_state.specs.Clean.{IsClean};
-ghost use Rattle.gitconf_state.specs.Loads.{IsFullLoad, IsLoad};
+ghost use Rattle.gitconf_state.specs.Loads.{IsFullLoad, IsLoad, IsPartLoad};
 ghost use Rattle.gitconf_state.specs.Inserted.{Inserted, IsByteForByte};
 ghost use Rattle.gitconf_state.specs.LineEnds.{file_line_end};
 ghost use Rattle.gitconf_state.specs.Lookup.{passing, last_value, all_values};
@@ -22,13 +22,17 @@ ghost use Rattle.gitconf_state.specs.Edit.{is_entry_of, spacing_of, new_entry, s
 ghost use Rattle.gitconf_state.specs.Comments.{item_comments, comments_of, comments, comments_of_kept};
 
 /// A state loaded from a text has items of a text, also where a filter dropped blanks, line ends and comments. Loaded whole it is
-/// clean and has the text's document; a lossy one has the document too, and is clean where no entry stands before its first section.
+/// clean and has the text's document; a lossy one, or any that kept what makes entries, has the document too, and is clean where no
+/// entry stands before its first section.
 pub fn loads_are_clean()
     ensures full { (text : List ℕ) (parts : List Part) (state : State) → IsText text parts → IsFullLoad parts state → HasItems state × IsClean state }
     ensures full_document { (text : List ℕ) (parts : List Part) (state : State) → IsText text parts → IsFullLoad parts state → document_of state ≡ gathered parts }
     ensures kept { (keeps : Shown → Bool) (text : List ℕ) (parts : List Part) (state : State) → list_all (keeps_entry_token keeps) (tokens_of parts) ≡ true → IsText text parts → IsLoad keeps parts state → HasItems state }
     ensures lossy { (text : List ℕ) (parts : List Part) (state : State) → IsText text parts → IsLoad keeps_meaning parts state → entries_of state.front ≡ [] → IsClean state }
     ensures lossy_document { (text : List ℕ) (parts : List Part) (state : State) → IsText text parts → IsLoad keeps_meaning parts state → document_of state ≡ gathered parts }
+    ensures part { (text : List ℕ) (parts : List Part) (state : State) → IsText text parts → IsPartLoad parts state → HasItems state }
+    ensures part_clean { (text : List ℕ) (parts : List Part) (state : State) → IsText text parts → IsPartLoad parts state → entries_of state.front ≡ [] → IsClean state }
+    ensures part_document { (text : List ℕ) (parts : List Part) (state : State) → IsText text parts → IsPartLoad parts state → document_of state ≡ gathered parts }
 {}
 
 /// Loaded whole and printed, a text keeps the bytes of all its tokens, in order; nothing is put in but a line end behind some of them.

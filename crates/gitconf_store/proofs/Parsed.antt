@@ -1,41 +1,48 @@
 -- What is loaded of the events of a text.
-use Rattle.std.proofs.Common.{◌≡◌, ℕ, true, List, map, [], refl, subst, ◌∙◌}
+use Rattle.std.proofs.Common.{◌≡◌, ℕ, true, List, length, map, [], Result, Ok, Err, subst, ◌∙◌}
+use Rattle.std.specs.Prelude.{filter}
+use Rattle.std.specs.Result.{IfOk}
 use Rattle.gitconf_text.specs.Part.{Part}
 use Rattle.gitconf_text.specs.Document.{IsText, Reads, unmarked}
 use Rattle.gitconf_text.specs.Token.{Token, spelled_token, tokens_of}
 use Rattle.gitconf_base.specs.Metadata.{Meta}
-use Rattle.gitconf_parse.specs.EventList.{EventList, IsParsed, IsWhole}
-use Rattle.gitconf_parse.specs.Items.{Between, are_items}
+use Rattle.gitconf_parse.specs.EventList.{EventList, keeps_token, IsParsed, IsSelected, IsWhole}
+use Rattle.gitconf_parse.specs.declared.items.Items.{Items}
+use Rattle.gitconf_parse.specs.Items.{tokens_of_all}
 use Rattle.gitconf_parse.specs.TokenDocument.{keeps_meaning}
-use Rattle.gitconf_parse.proofs.Filtering.{whole_parsed}
-use Rattle.gitconf_parse.proofs.GroupLaws.{parsed_items}
 use Rattle.gitconf_parse.proofs.OneDocument.{one_tokens}
+use Rattle.gitconf_parse.proofs.TextLaws.{lossy_keeps_entries}
 use Rattle.gitconf_state.specs.State.{State, HasItems, document_of, entries_of}
 use Rattle.gitconf_state.specs.Clean.{IsClean}
 use Rattle.gitconf_state.specs.Inserted.{Inserted, IsByteForByte}
-use Rattle.gitconf_state.specs.Loads.{IsFullLoad}
+use Rattle.gitconf_state.specs.Loads.{IsFullLoad, IsPartLoad}
 use Rattle.gitconf_state.specs.Printing.{printed}
-use Rattle.gitconf_state.proofs.LoadingClean.{full_has_items, full_is_clean, kept_has_items, lossy_is_clean, lossy_keeps_entries}
-use Rattle.gitconf_state.proofs.LoadingDocument.{full_document, lossy_document}
+use Rattle.gitconf_state.proofs.LoadingClean.{full_is_clean, part_load_has_items, part_load_is_clean}
+use Rattle.gitconf_state.proofs.LoadingDocument.{part_load_document}
 use Rattle.gitconf_state.proofs.InsertingLineEnds.{printed_inserted}
 use Rattle.gitconf_state.proofs.ExactPrinting.{byte_for_byte}
 use Rattle.gitconf_store.specs.Made.{IsMade}
+use Rattle.gitconf_store.specs.Store.{loaded}
+use Rattle.gitconf_store.proofs.Loading.{loaded_is_made}
 
--- all events of a text make items
-pub whole_items : (input : List ℕ) (list : EventList) → IsWhole input list → are_items Between list.tokens ≡ true
-whole_items input list w = parsed_items (λ _. true) input list (whole_parsed (λ _. true) input list (λ s. refl) w) w.entries
+-- what was kept of a text, with its entries, is a load of some of its tokens
+selected_load : (input : List ℕ) (list : EventList) (meta : Meta) (s : IsSelected input list) (state : State) → list.keeps_entries ≡ true → IsMade list.tokens meta list.used state → IsPartLoad s.parts state
+selected_load input list meta s state whole made = record { tokens = rw made.tokens_are (rw whole at s.tokens); held = made.held }
 
--- and these are such as a state has
-pub whole_sound : (input : List ℕ) (list : EventList) (meta : Meta) → IsWhole input list → (state : State) → IsMade list.tokens meta list.used state → HasItems state
-whole_sound input list meta w state made = full_has_items w.parts state w.text.fits (record { tokens = made.tokens_are ∙ w.tokens; held = made.held })
+pub selected_sound : (input : List ℕ) (list : EventList) (meta : Meta) → IsSelected input list → list.keeps_entries ≡ true → (state : State) → IsMade list.tokens meta list.used state → HasItems state
+selected_sound input list meta s whole state made = part_load_has_items s.parts state s.text.fits (selected_load input list meta s state whole made)
 
--- the same of those that have a meaning
-pub lossy_items : (input : List ℕ) (list : EventList) → IsParsed keeps_meaning input list → are_items Between list.tokens ≡ true
-lossy_items input list p = parsed_items keeps_meaning input list p (p.entries ∙ lossy_keeps_entries (tokens_of p.parts))
+selected_document : (input : List ℕ) (list : EventList) (meta : Meta) → IsSelected input list → list.keeps_entries ≡ true → (state : State) → IsMade list.tokens meta list.used state
+    → Reads input (document_of state)
+selected_document input list meta s whole state made = (s.parts, s.text, part_load_document s.parts state (selected_load input list meta s state whole made))
 
-pub lossy_sound : (input : List ℕ) (list : EventList) (meta : Meta) → IsParsed keeps_meaning input list → (state : State) → IsMade list.tokens meta list.used state → HasItems state
-lossy_sound input list meta p state made =
-    kept_has_items keeps_meaning p.parts state (lossy_keeps_entries (tokens_of p.parts)) p.text.fits (record { tokens = made.tokens_are ∙ p.tokens; held = made.held })
+selected_clean : (input : List ℕ) (list : EventList) (meta : Meta) → IsSelected input list → list.keeps_entries ≡ true → (state : State) → IsMade list.tokens meta list.used state
+    → entries_of state.front ≡ [] → IsClean state
+selected_clean input list meta s whole state made none = part_load_is_clean s.parts state s.text.fits (selected_load input list meta s state whole made) none
+
+-- what has a meaning has all entries
+pub lossy_entries : (input : List ℕ) (list : EventList) → IsParsed keeps_meaning input list → list.keeps_entries ≡ true
+lossy_entries input list p = p.entries ∙ lossy_keeps_entries (tokens_of p.parts)
 
 -- a state of the same tokens
 pub made_of : (tokens others : List Token) (meta : Meta) (used bytes : ℕ) (state : State) → tokens ≡ others → used ≡ bytes → IsMade tokens meta used state → IsMade others meta bytes state
@@ -52,26 +59,47 @@ other_load input list meta w state made parts text = record {
   held = made.held;
 }
 
-pub whole_document : (input : List ℕ) (list : EventList) (meta : Meta) → IsWhole input list → (state : State) → IsMade list.tokens meta list.used state → Reads input (document_of state)
-whole_document input list meta w state made = (w.parts, w.text, full_document w.parts state (whole_load input list meta w state made))
-
-pub whole_clean : (input : List ℕ) (list : EventList) (meta : Meta) → IsWhole input list → (state : State) → IsMade list.tokens meta list.used state → IsClean state
+whole_clean : (input : List ℕ) (list : EventList) (meta : Meta) → IsWhole input list → (state : State) → IsMade list.tokens meta list.used state → IsClean state
 whole_clean input list meta w state made = full_is_clean w.parts state w.text.fits (whole_load input list meta w state made)
 
-pub whole_inserted : (input : List ℕ) (list : EventList) (meta : Meta) → IsWhole input list → (state : State) → IsMade list.tokens meta list.used state
+whole_inserted : (input : List ℕ) (list : EventList) (meta : Meta) → IsWhole input list → (state : State) → IsMade list.tokens meta list.used state
     → (parts : List Part) → IsText input parts → Inserted (map spelled_token (tokens_of parts)) (printed state)
 whole_inserted input list meta w state made parts text =
     subst (λ tokens. Inserted (map spelled_token tokens) (printed state)) (other_load input list meta w state made parts text).tokens (printed_inserted state made.held)
 
-pub whole_exact : (input : List ℕ) (list : EventList) (meta : Meta) → IsWhole input list → (state : State) → IsMade list.tokens meta list.used state
+whole_exact : (input : List ℕ) (list : EventList) (meta : Meta) → IsWhole input list → (state : State) → IsMade list.tokens meta list.used state
     → (parts : List Part) → IsText input parts → IsByteForByte parts → printed state ≡ unmarked input
 whole_exact input list meta w state made parts text exact = byte_for_byte input parts state text (other_load input list meta w state made parts text) exact
 
--- and one of those that have a meaning a lossy load
-pub lossy_is_documented : (input : List ℕ) (list : EventList) (meta : Meta) → IsParsed keeps_meaning input list → (state : State) → IsMade list.tokens meta list.used state
-    → Reads input (document_of state)
-lossy_is_documented input list meta p state made = (p.parts, p.text, lossy_document p.parts state (record { tokens = made.tokens_are ∙ p.tokens; held = made.held }))
+-- a store that is made of the items of events
+pub loaded_made : (buffer : List ℕ) (g : Items) (list : EventList) (meta : Meta) → tokens_of_all buffer g ≡ list.tokens → length buffer ≡ list.used → IsMade list.tokens meta list.used (loaded buffer g meta)
+loaded_made buffer g list meta same size = made_of (tokens_of_all buffer g) list.tokens meta (length buffer) list.used (loaded buffer g meta) same size (loaded_is_made buffer g meta)
 
-pub lossy_clean : (input : List ℕ) (list : EventList) (meta : Meta) → IsParsed keeps_meaning input list → (state : State) → IsMade list.tokens meta list.used state
-    → entries_of state.front ≡ [] → IsClean state
-lossy_clean input list meta p state made none = lossy_is_clean p.parts state p.text.fits (record { tokens = made.tokens_are ∙ p.tokens; held = made.held }) none
+pub ok_made : {E : Type 0} (r : Result State E) (buffer : List ℕ) (g : Items) (list : EventList) (meta : Meta) → tokens_of_all buffer g ≡ list.tokens → length buffer ≡ list.used
+    → IfOk r (λ s. s ≡ loaded buffer g meta) → IfOk r (λ s. IsMade list.tokens meta list.used s)
+ok_made (Ok s) buffer g list meta same size is = rw is (loaded_made buffer g list meta same size)
+ok_made (Err e) buffer g list meta same size is = tt
+
+-- what is known of a store that was made of events
+pub record OkLoaded {E : Type 0} (r : Result State E) (list : EventList) : Type 0 where
+  pub document : IfOk r (λ s. (text : List ℕ) → IsSelected text list → Reads text (document_of s))
+  pub clean : IfOk r (λ s. entries_of s.front ≡ [] → IsClean s)
+  pub whole_clean : IfOk r (λ s. (text : List ℕ) → IsWhole text list → IsClean s)
+  pub inserted : IfOk r (λ s. (text : List ℕ) (parts : List Part) → IsWhole text list → IsText text parts → Inserted (map spelled_token (tokens_of parts)) (printed s))
+  pub byte_for_byte : IfOk r (λ s. (text : List ℕ) (parts : List Part) → IsWhole text list → IsText text parts → IsByteForByte parts → printed s ≡ unmarked text)
+
+pub ok_loaded : {E : Type 0} (r : Result State E) (list : EventList) (meta : Meta) (text : List ℕ) → IsSelected text list → list.keeps_entries ≡ true
+    → IfOk r (λ s. IsMade list.tokens meta list.used s) → OkLoaded r list
+ok_loaded (Ok s) list meta text is whole made = record {
+  document = λ text is. selected_document text list meta is whole s made;
+  clean = selected_clean text list meta is whole s made;
+  whole_clean = λ text is. whole_clean text list meta is s made;
+  inserted = λ text parts is. whole_inserted text list meta is s made parts;
+  byte_for_byte = λ text parts is. whole_exact text list meta is s made parts;
+}
+ok_loaded (Err e) list meta text is whole made = record { document = tt; clean = tt; whole_clean = tt; inserted = tt; byte_for_byte = tt }
+
+-- a state of what has a meaning
+pub lossy_made : (input : List ℕ) (list : EventList) (meta : Meta) (state : State) → IsParsed keeps_meaning input list → IsMade list.tokens meta list.used state
+    → (parts : List Part) × IsText input parts × IsMade (filter (keeps_token keeps_meaning) (tokens_of parts)) meta (length input) state
+lossy_made input list meta state p made = (p.parts, p.text, made_of list.tokens _ meta list.used (length input) state p.tokens p.used made)

@@ -52,7 +52,7 @@ impl Model for Store {
 impl Store {
     ghost use Rattle.std.specs.Fn.{ComputesKey};
     ghost use Rattle.std.specs.Option.{option_copied};
-    ghost use Rattle.std.specs.Prelude.{◌≡◌, ◌<◌, ◌^◌, ◌↔◌, [], length, false, IfOk, IsErrOf, IfSome, OnOk, OnErr, option_map, slice_get, true, List, filter, IfErr, map, Bool};
+    ghost use Rattle.std.specs.Prelude.{◌≡◌, ◌<◌, ◌^◌, ◌↔◌, [], length, false, IfOk, IsErrOf, IfSome, OnOk, OnErr, option_map, slice_get, true, List, filter, IfErr, map, Bool, ℕ};
     ghost use Rattle.bstr.specs.Owned.{bstring_bytes};
     ghost use Rattle.gitconf_text.specs.Document.{IsText, Reads, unmarked};
     ghost use Rattle.gitconf_text.specs.HeaderErrors.{header_number};
@@ -60,9 +60,8 @@ impl Store {
     ghost use Rattle.gitconf_text.specs.Part.{Part};
     ghost use Rattle.gitconf_text.specs.Token.{tokens_of, spelled_token};
     ghost use Rattle.gitconf_base.specs.Metadata.{Meta};
-    ghost use Rattle.gitconf_parse.specs.EventList.{keeps_token};
+    ghost use Rattle.gitconf_parse.specs.EventList.{keeps_token, IsSelected, IsWhole};
     ghost use Rattle.gitconf_parse.specs.EventResult.{IsRefused};
-    ghost use Rattle.gitconf_parse.specs.Items.{Between, are_items};
     ghost use Rattle.gitconf_parse.specs.ItemsFit.{ItemsFit};
     ghost use Rattle.gitconf_parse.specs.ShownEvents.{shown_token};
     ghost use Rattle.gitconf_parse.specs.Sink.{Writes, Counts};
@@ -123,13 +122,28 @@ impl Store {
         })
     }
 
-    /// The state of events, if they make items and these are such as a text may have.
-    #[tactic(auto, using(crate::proofs::Loading::loaded_is_made))]
-    fn from_events(alloc: Global, events: Events, meta: Rc<Metadata>) -> Result<Store, NoMemory>
-        requires items { are_items Between events.tokens ≡ true }
-        requires sound { (state : State) → IsMade events.tokens meta.value events.used state → HasItems state }
-        ensures { IfOk result (λ s. IsMade events.tokens meta.value events.used s) }
+    /// The state of the events of a text, all of them or those that a filter kept: its front, and its sections under the
+    /// numbers from 0 on, each from `meta`. What the filter dropped is not in it.
+    ///
+    /// It asks that all names, separators and values were kept ([`Events::keeps_entries`]). One pass; the text is handed
+    /// over, and of it only the names and subsections of sections are copied.
+    ///
+    /// # Errors
+    ///
+    /// Want of memory.
+    pub fn from_events(alloc: Global, events: Events, meta: Rc<Metadata>) -> Result<Store, NoMemory>
+        requires { events.keeps_entries ≡ true }
+        ensures made { IfOk result (λ s. IsMade events.tokens meta.value events.used s) }
+        ensures document { IfOk result (λ s. (text : List ℕ) → IsSelected text events → Reads text (document_of s)) }
+        ensures clean { IfOk result (λ s. entries_of s.front ≡ [] → IsClean s) }
+        // Where nothing was dropped it is clean, and its text is the one that was parsed, but for line ends put in.
+        ensures whole_clean { IfOk result (λ s. (text : List ℕ) → IsWhole text events → IsClean s) }
+        ensures inserted { IfOk result (λ s. (text : List ℕ) (parts : List Part) → IsWhole text events → IsText text parts
+            → Inserted (map spelled_token (tokens_of parts)) (printed s)) }
+        ensures byte_for_byte { IfOk result (λ s. (text : List ℕ) (parts : List Part) → IsWhole text events → IsText text parts
+            → IsByteForByte parts → printed s ≡ unmarked text) }
     {
+        prove!(events.keeps_entries());
         let (buffer, items) = events.into_items(alloc)?;
         Store::from_items(alloc, buffer, items, meta)
     }

@@ -3,7 +3,7 @@ use bstr::BString;
 use gitconf_base::key::AsKey;
 use gitconf_base::meta::Metadata;
 use gitconf_parse::error::Error;
-use gitconf_parse::events::check_len;
+use gitconf_parse::events::{Events, check_len};
 use gitconf_parse::sink::{Sink, SinkFault};
 use gitconf_store::section::{SectionRef, Sections};
 use gitconf_store::store::Store;
@@ -29,21 +29,22 @@ impl Model for File {
 impl File {
     ghost use Rattle.std.specs.Fn.{ComputesKey};
     ghost use Rattle.std.specs.Option.{option_copied};
-    ghost use Rattle.std.specs.Prelude.{◌≡◌, ◌<◌, ◌^◌, Bool, [], List, true, length, IfOk, IfErr};
+    ghost use Rattle.std.specs.Prelude.{◌≡◌, ◌<◌, ◌^◌, ℕ, Bool, [], List, true, length, map, IfOk, IfErr};
     ghost use Rattle.bstr.specs.Owned.{bstring_bytes};
     ghost use Rattle.gitconf_text.specs.Document.{IsText, Reads, unmarked};
     ghost use Rattle.gitconf_text.specs.Part.{Part};
-    ghost use Rattle.gitconf_text.specs.Token.{tokens_of};
+    ghost use Rattle.gitconf_text.specs.Token.{tokens_of, spelled_token};
     ghost use Rattle.gitconf_base.specs.Metadata.{Meta, api_meta};
+    ghost use Rattle.gitconf_parse.specs.EventList.{IsSelected, IsWhole};
     ghost use Rattle.gitconf_parse.specs.EventResult.{IsRefused};
     ghost use Rattle.gitconf_parse.specs.Sink.{Writes, Counts};
     ghost use Rattle.gitconf_state.specs.Clean.{IsClean};
     ghost use Rattle.gitconf_state.specs.Comments.{comments, comments_of};
-    ghost use Rattle.gitconf_state.specs.Inserted.{IsByteForByte};
+    ghost use Rattle.gitconf_state.specs.Inserted.{Inserted, IsByteForByte};
     ghost use Rattle.gitconf_state.specs.LineEnds.{file_line_end};
     ghost use Rattle.gitconf_state.specs.Lookup.{last_value};
     ghost use Rattle.gitconf_state.specs.Printing.{printed, printed_kept};
-    ghost use Rattle.gitconf_state.specs.State.{SectionState, document_of, document_of_kept};
+    ghost use Rattle.gitconf_state.specs.State.{SectionState, document_of, document_of_kept, entries_of};
     ghost use Rattle.gitconf_store.specs.Counts.{are_void, section_entries};
     ghost use Rattle.gitconf_store.specs.Lookups.{IsFound};
     ghost use Rattle.gitconf_store.specs.Made.{IsMade};
@@ -79,6 +80,36 @@ impl File {
             Err(_) => return Err(Error::memory()),
         };
         let store = Store::from_bytes(alloc, input, meta)?;
+        Ok(File { store })
+    }
+
+    /// The file of the events of a text, all of them or those that a filter kept; it and its sections come from `meta`,
+    /// and no include is followed. What the filter dropped is not in it.
+    ///
+    /// It asks that all names, separators and values were kept ([`Events::keeps_entries`]); so the file has the text's
+    /// document, whatever else was dropped. One pass; the text is handed over, and of it only the
+    /// names and subsections of sections are copied.
+    ///
+    /// # Errors
+    ///
+    /// Want of memory.
+    pub fn from_parse_events_no_includes(
+        alloc: Global,
+        events: Events,
+        meta: Rc<Metadata>,
+    ) -> Result<File, NoMemory>
+        requires { events.keeps_entries ≡ true }
+        ensures made { IfOk result (λ f. IsMade events.tokens meta.value events.used f) }
+        ensures document { IfOk result (λ f. (text : List ℕ) → IsSelected text events → Reads text (document_of f)) }
+        ensures clean { IfOk result (λ f. entries_of f.front ≡ [] → IsClean f) }
+        // Where nothing was dropped it is clean, and its text is the one that was parsed, but for line ends put in.
+        ensures whole_clean { IfOk result (λ f. (text : List ℕ) → IsWhole text events → IsClean f) }
+        ensures inserted { IfOk result (λ f. (text : List ℕ) (parts : List Part) → IsWhole text events → IsText text parts
+            → Inserted (map spelled_token (tokens_of parts)) (printed f)) }
+        ensures byte_for_byte { IfOk result (λ f. (text : List ℕ) (parts : List Part) → IsWhole text events → IsText text parts
+            → IsByteForByte parts → printed f ≡ unmarked text) }
+    {
+        let store = Store::from_events(alloc, events, meta)?;
         Ok(File { store })
     }
 

@@ -139,11 +139,7 @@ fn decoded_event(buffer: &[u8], event: Event, copies: &mut Vec<u8>) -> Result<Ev
 }
 
 /// Gives each header the copy of its subsection, where that isn't what is spelled.
-pub fn decode_headers(
-    buffer: &[u8],
-    events: &mut [Event],
-    copies: &mut Vec<u8>,
-) -> Result<(), NoMemory>
+fn decode_headers(buffer: &[u8], events: &mut [Event], copies: &mut Vec<u8>) -> Result<(), NoMemory>
     requires { AllByRecursion (EventFits (length buffer.now)) events.old }
     ensures tokens { map (token_of buffer.now) events.new ≡ map (token_of buffer.now) events.old }
     ensures shown { OnOk result (AllByRecursion (IsShown buffer.now copies.new.items) events.new) }
@@ -152,4 +148,19 @@ pub fn decode_headers(
         *event = decoded_event(buffer, *event, copies)?;
     }
     Ok(())
+}
+
+/// The events, each header with the place of its subsection's copy where that isn't what is spelled.
+pub fn decoded_events(
+    buffer: &[u8],
+    events: Vec<Event>,
+    copies: &mut Vec<u8>,
+) -> Result<Vec<Event>, NoMemory>
+    requires { AllByRecursion (EventFits (length buffer.now)) events.items }
+    ensures tokens { IfOk result (λ r. map (token_of buffer.now) r.items ≡ map (token_of buffer.now) events.items) }
+    ensures shown { IfOk result (λ r. AllByRecursion (IsShown buffer.now copies.new.items) r.items) }
+{
+    let mut events = events;
+    decode_headers(buffer, &mut events, copies)?;
+    Ok(events)
 }

@@ -1,11 +1,11 @@
 //! Events that a filter keeps.
-ghost use Rattle.std.specs.Prelude.{◌≡◌, ◌++◌, ◌∷◌, [], ℕ, Bool, List, if◌then◌else◌, IfOk, OnOk};
+ghost use Rattle.std.specs.Prelude.{◌≡◌, ◌++◌, ◌∷◌, [], ℕ, Bool, true, List, map, if◌then◌else◌, IfOk, OnOk};
 ghost use Rattle.std.specs.List.{AllByRecursion};
 ghost use Rattle.gitconf_parse.specs.EventRef.{Shown, shown};
 ghost use Rattle.gitconf_parse.specs.Events.{token_of};
 ghost use Rattle.gitconf_parse.specs.ShownEvents.{IsShown};
 ghost use Rattle.gitconf_parse.specs.TokenDocument as spec;
-ghost use Rattle.gitconf_parse.specs.EventList.{is_entry_token, keeps_token, IsKept};
+ghost use Rattle.gitconf_parse.specs.EventList.{is_entry_token, is_header_token, keeps_token, IsKept, IsSelection};
 
 use super::lend::event_ref;
 use crate::event::Event;
@@ -17,7 +17,8 @@ use std::alloc::Global;
 fn keeps(buffer: &[u8], copies: &[u8], event: &Event, filter: fn(&EventRef<'_>) -> bool) -> bool
     requires shown { IsShown buffer.now copies.now event.now }
     requires callable { IsAlwaysCallable filter }
-    ensures { (p : Shown → Bool) → ((e : _) (b : Bool) → post filter e b → b ≡ p (shown e.now)) → result ≡ keeps_token p (token_of buffer.now event.now) }
+    ensures exact { (p : Shown → Bool) → ((e : _) (b : Bool) → post filter e b → b ≡ p (shown e.now)) → result ≡ keeps_token p (token_of buffer.now event.now) }
+    ensures header { is_header_token (token_of buffer.now event.now) ≡ true → result ≡ true }
 {
     matches!(event, Event::SectionHeader(_)) || filter(&event_ref(buffer, copies, event))
 }
@@ -32,8 +33,11 @@ pub fn kept_events(
 ) -> Result<(Vec<Event>, bool), NoMemory>
     requires shown { AllByRecursion (IsShown buffer.now copies.now) events.now }
     requires callable { IsAlwaysCallable filter }
+    // With a filter that answers by what it is shown.
     ensures kept { IfOk result (λ kept. (p : Shown → Bool) → ((e : _) (b : Bool) → post filter e b → b ≡ p (shown e.now))
         → IsKept p buffer.now events.now kept.0.items kept.1) }
+    // With any filter.
+    ensures selected { IfOk result (λ kept. IsSelection kept.1 (map (token_of buffer.now) events.now) (map (token_of buffer.now) kept.0.items)) }
     ensures fits { IfOk result (λ kept. AllByRecursion (IsShown buffer.now copies.now) kept.0.items) }
 {
     let mut kept = Vec::new(alloc);

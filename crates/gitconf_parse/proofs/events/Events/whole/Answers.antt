@@ -1,0 +1,8 @@
+use Rattle.gitconf_parse.proofs.Selections.{read_fits}
+use Rattle.gitconf_parse.proofs.events.Events.whole.Goals as goal
+
+pub invariant_of-result : goal.invariant_of-result
+invariant_of-result c =
+    read_fits c.args.input.now c.in_ok-buffer.buffer.items c.decoded_events.new.copies.items c.in_ok-events.events.items c.in_ok-events-2.events.items
+    c.in_ok-events.ensures.found c.in_ok-buffer.ensures.items c.in_ok-events.ensures.fits
+    (rw c.deref.ensures.value at c.in_ok-events-2.ensures.tokens) (rw c.deref.ensures.value at c.in_ok-events-2.ensures.shown)
