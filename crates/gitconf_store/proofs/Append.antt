@@ -1,5 +1,5 @@
 -- Bytes appended to the buffer leave every view as it is.
-use Rattle.std.proofs.Common.{◌≡◌, ℕ, List, [], ◌∷◌, ◌++◌, length, map, take, drop, Option, Some, None, refl, ap, sym, ◌∙◌, arith, length-append}
+use Rattle.std.proofs.Common.{◌≡◌, ℕ, List, [], ◌∷◌, ◌++◌, length, map, Option, Some, None, refl, ap, sym, ◌∙◌}
 use Rattle.std.specs.Prelude.{if◌then◌else◌}
 use Rattle.std.specs.List.{AllByRecursion}
 use Rattle.std.specs.Option.{option_map}
@@ -11,7 +11,7 @@ use Rattle.gitconf_base.specs.Sections.{SectionEntry}
 use Rattle.gitconf_parse.specs.declared.event.Span.{Span}
 use Rattle.gitconf_parse.specs.declared.event.Header.{Header}
 use Rattle.gitconf_parse.specs.declared.event.Event.TheVariants as kinds
-use Rattle.gitconf_parse.specs.Events.{bytes_of, header_of, header_form, SpanFits, OptionFits, HeaderFits}
+use Rattle.gitconf_parse.specs.Events.{bytes_of, header_of, header_form, OptionFits, HeaderFits}
 use Rattle.gitconf_parse.specs.EventRef.{ShownHeader}
 use Rattle.gitconf_parse.specs.ShownEvents.{decoded_or, shown_token, IsShown}
 use Rattle.gitconf_body.proofs.Append.{bytes_more, span_more, items_more, items_fit_more}

@@ -1,6 +1,5 @@
 -- A section that is made with a value.
-use Rattle.std.proofs.Common.{◌≡◌, ℕ, ◌+◌, ◌<◌, ◌^◌, true, List, [], ◌∷◌, ◌++◌, length, map, Option, refl, ap, sym, subst, ◌∙◌}
-use Rattle.std.specs.List.{AllByRecursion}
+use Rattle.std.proofs.Common.{◌≡◌, ℕ, ◌+◌, ◌<◌, ◌^◌, true, List, [], ◌∷◌, ◌++◌, length, Option, ap, sym, subst, ◌∙◌}
 use Rattle.std.proofs.lemmas.List.{map-append}
 use Rattle.gitconf_text.specs.Bytes.{fold}
 use Rattle.gitconf_text.specs.Header.{name_of, subsection_of}
@@ -14,9 +13,9 @@ use Rattle.gitconf_parse.specs.Events.{header_of}
 use Rattle.gitconf_parse.specs.ItemsFit.{AreItemsWithin}
 use Rattle.gitconf_parse.specs.ShownEvents.{IsExtended, IsShown}
 use Rattle.gitconf_parse.proofs.Shown.{all_push}
-use Rattle.gitconf_state.specs.Edit.{made_header, new_section, section_with, set_value, with_used}
+use Rattle.gitconf_state.specs.Edit.{made_header, new_section, set_value, with_used}
 use Rattle.gitconf_state.specs.LineEnds.{file_line_end}
-use Rattle.gitconf_state.specs.State.{State, HasItems, HasSectionItems}
+use Rattle.gitconf_state.specs.State.{HasItems, HasSectionItems}
 use Rattle.gitconf_state.proofs.EditItems.{section_with_is, new_section_is, file_line_end_is}
 use Rattle.gitconf_state.proofs.EditValues.{made_name, made_subsection}
 use Rattle.gitconf_write.specs.Bodies.{items_of}
@@ -87,12 +86,12 @@ made_fits b new copies more front meta table after s line_end name subsection ke
   front_within = extended_fit b new front x old.front_within;
   sections_within = subst (AllSectionsFit new more) (sym is) (all_push (SectionFits new more) table.entries (entry_of table.next name subsection s)
       (sections_fit_more new copies more table.entries y (sections_fit_in b new copies table.entries x old.sections_within)) (record {
-    header = made.shown;
-    items = made.within;
-    held = subst (AreItemsWithin (length new)) (sym made.held) tt;
-    name = ap fold (sym (made_name name subsection) ∙ ap name_of (sym made.header));
-    subsection = sym (made_subsection name subsection valid) ∙ ap subsection_of (sym made.header);
-  }));
+        header = made.shown;
+        items = made.within;
+        held = subst (AreItemsWithin (length new)) (sym made.held) tt;
+        name = ap fold (sym (made_name name subsection) ∙ ap name_of (sym made.header));
+        subsection = sym (made_subsection name subsection valid) ∙ ap subsection_of (sym made.header);
+      }));
   items = subst HasItems (sym (made_state b new copies more front meta table after s line_end name subsection key value x old made same is)) (record {
     front = old.items.front;
     sections = all_push HasSectionItems (state_of b front meta table).sections _ old.items.sections

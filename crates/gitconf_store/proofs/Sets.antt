@@ -1,8 +1,8 @@
 -- A value that is set by its names.
-use Rattle.std.proofs.Common.{◌≡◌, ◌⊎◌, ℕ, ◌+◌, ◌≤◌, ◌^◌, Bool, true, false, List, [], ◌∷◌, ◌++◌, length, zero, suc, Option, Some, None, Result, Ok, Err, inl, refl, ap, sym, subst, ◌∙◌}
+use Rattle.std.proofs.Common.{◌≡◌, ◌⊎◌, ℕ, ◌+◌, ◌≤◌, ◌^◌, Bool, true, false, List, [], ◌∷◌, ◌++◌, length, Option, Some, None, Result, Ok, Err, inl, refl, ap, sym, subst, ◌∙◌}
 use Rattle.std.specs.List.{list_any, last_or, slice_get}
 use Rattle.std.specs.Option.{option_map}
-use Rattle.std.specs.Prelude.{filter, IfErr, IfOk, IfSome, IsErrOf, ◌↔◌}
+use Rattle.std.specs.Prelude.{filter, IfErr, IfSome, IsErrOf, ◌↔◌}
 use Rattle.bstr.specs.declared.bstring.BString.{BString}
 use Rattle.bstr.specs.Owned.{bstring_bytes}
 use Rattle.gitconf_text.specs.HeaderErrors.{header_number}
@@ -13,14 +13,13 @@ use Rattle.gitconf_text.specs.declared.parse.section.header.Error.TheVariants.{I
 use Rattle.gitconf_base.specs.Metadata.{Meta}
 use Rattle.gitconf_base.specs.Sections.{no_number}
 use Rattle.gitconf_body.specs.Places.{IsLastAt}
-use Rattle.gitconf_state.specs.Edit.{SetRawValue, is_target, new_tokens, old_value, replaced_value, section_tokens, section_with, set_raw_value, set_raw_value_tokens, set_tokens, token_bytes, with_used}
+use Rattle.gitconf_state.specs.Edit.{is_target, old_value, section_tokens, section_with, set_raw_value, set_raw_value_tokens, set_tokens, token_bytes, with_used}
 use Rattle.gitconf_state.specs.LineEnds.{file_line_end}
 use Rattle.gitconf_state.specs.State.{SectionState, State}
 use Rattle.gitconf_state.proofs.EditLists.{any_at, filter_none, last_passing}
 use Rattle.gitconf_state.proofs.EditPlaces.{set_raw_value_at, set_raw_value_new, replaced_value_at, replaced_value_none}
 use Rattle.gitconf_store.specs.declared.set_raw_value.Error.{Error}
 use Rattle.gitconf_store.specs.declared.set_raw_value.Error.TheVariants.{Header, Span}
-use Rattle.gitconf_store.specs.SetErrors.{set_number}
 use Rattle.gitconf_store.specs.Edits.{update_at, set_at, set_new, EditGrows, IsSet, UsedGrows}
 
 -- the tokens of a section that is made
@@ -71,7 +70,7 @@ made_err name subsection key keeps value old new r e result fault is keyed none 
   invalid_name = (λ same. (keyed, none, named.0 (fault ∙ (let h : e ≡ InvalidName = cc in ap Err h))), λ all. ap (λ e. Err (Header e)) (let h = sym fault ∙ named.1 all.2 in let g : e ≡ InvalidName = cc in g));
   invalid_subsection = (
     λ same. let v = valid.0 (fault ∙ (let h : e ≡ InvalidSubSection = cc in ap Err h)) in (keyed, none, v.0, v.1),
-    λ all. ap (λ e. Err (Header e)) (let h = sym fault ∙ valid.1 (all.2, all.3) in let g : e ≡ InvalidSubSection = cc in g)
+    λ all. ap (λ e. Err (Header e)) (let h = sym fault ∙ valid.1 (all.2, all.3) in let g : e ≡ InvalidSubSection = cc in g),
   );
   ok = tt;
   answer = tt;

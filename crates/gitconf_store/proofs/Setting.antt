@@ -9,7 +9,6 @@ use Rattle.gitconf_text.specs.Names.{is_value_name}
 use Rattle.gitconf_text.specs.Part.{Item as SectionItem}
 use Rattle.gitconf_base.specs.Metadata.{Meta}
 use Rattle.gitconf_base.specs.Sections.{SectionEntry, Sections, changed_at, with_section, section_at}
-use Rattle.gitconf_parse.specs.declared.event.Header.{Header}
 use Rattle.gitconf_parse.specs.declared.items.Item.{Item}
 use Rattle.gitconf_parse.specs.declared.event.Event.TheVariants as kinds
 use Rattle.gitconf_parse.specs.Events.{header_of}
@@ -24,7 +23,7 @@ use Rattle.gitconf_body.proofs.Buffers.{extended_fit, extended_items}
 use Rattle.gitconf_store.specs.declared.section.Section.{Section}
 use Rattle.gitconf_store.specs.Edits.{update_at, set_at}
 use Rattle.gitconf_store.specs.Store.{section_state, state_of, SectionFits, AllSectionsFit, StoreFits}
-use Rattle.gitconf_store.proofs.Append.{section_more, section_fits_more, sections_more, sections_fit_in_more, header_more}
+use Rattle.gitconf_store.proofs.Append.{section_more, section_fits_more, sections_more, sections_fit_in_more}
 
 -- sections in the longer buffer
 pub section_in : (b new copies : List ℕ) (e : SectionEntry Section) → IsExtended b new → SectionFits b copies e → section_state new e ≡ section_state b e
@@ -54,14 +53,16 @@ changed_fits b new copies s t (e ∷ es) (suc at) x others fits here = (section_
 changed_fits b new copies s t (e ∷ es) zero x others fits here =
     let is : e.section ≡ s = cc in
     let f = section_fits_in b new copies e x fits.0 in
-    let same : e.section.header ≡ t.header = ap (λ s. s.header) is ∙ sym others.header in
-    (record {
-      header = subst (λ h. IsShown new copies (kinds.SectionHeader h)) same f.header;
-      items = others.within;
-      held = subst (λ h. AreItemsWithin (length new) h.items) (ap (λ s. s.held) is ∙ sym others.held) f.held;
-      name = f.name ∙ ap (λ h. fold (name_of (header_of new h))) same;
-      subsection = f.subsection ∙ ap (λ h. subsection_of (header_of new h)) same;
-    }, sections_fit_in b new copies es x fits.1)
+    let same : e.section.header ≡ t.header = ap (λ s. s.header) is ∙ sym others.header in (
+      record {
+        header = subst (λ h. IsShown new copies (kinds.SectionHeader h)) same f.header;
+        items = others.within;
+        held = subst (λ h. AreItemsWithin (length new) h.items) (ap (λ s. s.held) is ∙ sym others.held) f.held;
+        name = f.name ∙ ap (λ h. fold (name_of (header_of new h))) same;
+        subsection = f.subsection ∙ ap (λ h. subsection_of (header_of new h)) same;
+      },
+      sections_fit_in b new copies es x fits.1,
+    )
 
 -- it is the section with the value
 changed_state : (b new copies : List ℕ) (s t : Section) (es : List (SectionEntry Section)) (at : ℕ) (line_end key value : List ℕ) → IsExtended b new → HasOthers (length new) s t

@@ -1,5 +1,5 @@
 -- The last section of a name and subsection that passes, looked for from the end.
-use Rattle.std.proofs.Common.{◌≡◌, ℕ, ◌+◌, ◌<◌, ◌≤◌, Bool, true, false, List, [], ◌∷◌, ◌++◌, length, map, take, zero, suc, Option, Some, None, refl, ap, sym, subst, ◌∙◌, arith}
+use Rattle.std.proofs.Common.{◌≡◌, ℕ, Bool, true, false, List, [], ◌∷◌, ◌++◌, length, map, take, zero, suc, Option, Some, None, refl, ap, sym, subst, ◌∙◌, arith}
 use Rattle.std.specs.List.{slice_get, list_any, AllByRecursion}
 use Rattle.std.specs.Option.{option_map}
 use Rattle.std.specs.Prelude.{◌&&◌, ◌||◌}
@@ -86,8 +86,6 @@ target_found test entries end at f next is = let t = there entries at test true 
 
 pub target_none : (test : SectionEntry Section → Bool) (entries : List (SectionEntry Section)) (end : ℕ) → IsFront test entries (take end entries) → end ≡ 0 → list_any test entries ≡ false
 target_none test entries end f is = front_none test entries (subst (IsFront test entries) (ap (λ n. take n entries) is) f)
-
-
 
 -- The places in the table are those in the state.
 any_target : (b copies name : List ℕ) (subsection : Option (List ℕ)) (keeps : Meta → Bool) (es : List (SectionEntry Section)) → AllByRecursion (SectionFits b copies) es

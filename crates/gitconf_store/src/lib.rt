@@ -5,7 +5,6 @@ mod edit;
 pub mod events;
 pub mod laws;
 mod load;
-
 mod lookup;
 mod print;
 pub mod section;

@@ -1,12 +1,11 @@
 //! The state of a file behind one buffer.
+use crate::edit::last_place;
 use crate::events::ItemEvents;
 use crate::load::load_sections;
-use crate::edit::last_place;
 use crate::lookup::last_meaning;
 use crate::print::{front_is_ended, write_sections};
 use crate::section::{Section, SectionRef, Sections};
-use crate::set_raw_value;
-use crate::tokens;
+use crate::{set_raw_value, tokens};
 use bstr::BString;
 use gitconf_base::meta::Metadata;
 use gitconf_base::util::SectionTable;
@@ -497,5 +496,31 @@ impl Store {
             Some(old) => Ok(Some(BString::new(old))),
             None => Ok(None),
         }
+    }
+
+    /// [`Store::set_raw_value_filter_by`] with a filter that all metadata passes.
+    ///
+    /// # Errors
+    ///
+    /// Those of [`Store::set_raw_value_filter_by`].
+    #[tactic(auto, using(std::proofs::lemmas::Fn::always_returns_same))]
+    pub fn set_raw_value_by(
+        &mut self,
+        section_name: &str,
+        subsection_name: Option<&[u8]>,
+        value_name: &str,
+        new_value: &[u8],
+    ) -> Result<Option<BString>, set_raw_value::Error>
+        ensures value_name { IsRefusal result 6 ↔ (is_value_name value_name.now ≡ false) }
+        ensures exact { IsSet section_name.now (option_copied subsection_name.entry) value_name.now (λ _. true) new_value.now result self.old self.new }
+        ensures err { OnErr result (self.new ≡ with_used self.new.used self.old) }
+    {
+        self.set_raw_value_filter_by(
+            section_name,
+            subsection_name,
+            value_name,
+            new_value,
+            |_| true,
+        )
     }
 }

@@ -6,6 +6,7 @@ use gitconf_parse::error::Error;
 use gitconf_parse::events::{Events, check_len};
 use gitconf_parse::sink::{Sink, SinkFault};
 use gitconf_store::section::{SectionRef, Sections};
+pub use gitconf_store::set_raw_value;
 use gitconf_store::store::Store;
 use gitconf_text::NoMemory;
 use std::alloc::Global;
@@ -29,11 +30,13 @@ impl Model for File {
 impl File {
     ghost use Rattle.std.specs.Fn.{ComputesKey};
     ghost use Rattle.std.specs.Option.{option_copied};
-    ghost use Rattle.std.specs.Prelude.{◌≡◌, ◌<◌, ◌^◌, ℕ, Bool, [], List, true, length, map, IfOk, IfErr};
+    ghost use Rattle.std.specs.Prelude.{◌≡◌, ◌<◌, ◌^◌, ℕ, Bool, [], List, true, length, map, IfOk, IfErr, ◌↔◌, false, IsSome, OnErr};
     ghost use Rattle.bstr.specs.Owned.{bstring_bytes};
     ghost use Rattle.gitconf_text.specs.Document.{IsText, Reads, unmarked};
     ghost use Rattle.gitconf_text.specs.Part.{Part};
     ghost use Rattle.gitconf_text.specs.Token.{tokens_of, spelled_token};
+    ghost use Rattle.gitconf_text.specs.Names.{is_value_name};
+    ghost use Rattle.gitconf_base.specs.Key.{the_key};
     ghost use Rattle.gitconf_base.specs.Metadata.{Meta, api_meta};
     ghost use Rattle.gitconf_parse.specs.EventList.{IsSelected, IsWhole};
     ghost use Rattle.gitconf_parse.specs.EventResult.{IsRefused};
@@ -45,11 +48,13 @@ impl File {
     ghost use Rattle.gitconf_state.specs.Lookup.{last_value};
     ghost use Rattle.gitconf_state.specs.Printing.{printed, printed_kept};
     ghost use Rattle.gitconf_state.specs.State.{SectionState, document_of, document_of_kept, entries_of};
+    ghost use Rattle.gitconf_state.specs.Edit.{with_used};
     ghost use Rattle.gitconf_store.specs.Counts.{are_void, section_entries};
+    ghost use Rattle.gitconf_store.specs.Edits.{IsRefusal, IsSet};
     ghost use Rattle.gitconf_store.specs.Lookups.{IsFound};
     ghost use Rattle.gitconf_store.specs.Made.{IsMade};
     ghost use Rattle.gitconf_store.specs.Views.{shown, sections_left};
-    ghost use Rattle.gix_config.specs.Keys.{value_of_key};
+    ghost use Rattle.gix_config.specs.Keys.{IsSetByKey, value_of_key};
 
     /// A file without front and sections. Takes no memory.
     pub fn new(alloc: Global, meta: Rc<Metadata>) -> File
@@ -248,6 +253,116 @@ impl File {
     {
         self.store
             .string_filter_by(section_name, subsection_name, value_name, filter)
+    }
+
+    /// Gives a key such as `remote.origin.url` a value: in the last section of the key's name and subsection, whose last entry of the
+    /// name gets it, spelled as a file has it; `=` is put in where the entry has none. A section without such an entry gets one behind
+    /// all others, with the blanks that it uses; where there is no section, one is made behind all others, with the file's line end and
+    /// metadata.
+    ///
+    /// Answers the raw text of the value that was there: its pieces joined, not decoded; nothing for an entry without `=`; `None` where
+    /// there was no entry. All else stays as it is. Takes a walk over the sections, and one over the section's items.
+    ///
+    /// # Errors
+    ///
+    /// Refusal 6 for a name of a value that is none, before anything else; 4 and 5 where a section has to be made of a name or a
+    /// subsection that can't be; 3 where the file would take more than 4294967295 bytes, or there is no number for a section; 27 for
+    /// want of memory. The file is then as it was.
+    pub fn set_raw_value<K: AsKey>(
+        &mut self,
+        key: K,
+        new_value: &[u8],
+    ) -> Result<Option<BString>, set_raw_value::Error>
+        requires { IsSome (K.key key) }
+        ensures value_name { IsRefusal result 6 ↔ (is_value_name (the_key (K.key key)).name ≡ false) }
+        ensures exact { IsSetByKey (the_key (K.key key)) (λ _. true) new_value.now result self.old self.new }
+        ensures err { OnErr result (self.new ≡ with_used self.new.used self.old) }
+    {
+        let key = key.as_key();
+        self.set_raw_value_by(
+            key.section_name,
+            key.subsection_name,
+            key.value_name,
+            new_value,
+        )
+    }
+
+    /// As [`File::set_raw_value`], by the names of the section, the subsection and the value.
+    ///
+    /// # Errors
+    ///
+    /// Those of [`File::set_raw_value`].
+    pub fn set_raw_value_by(
+        &mut self,
+        section_name: &str,
+        subsection_name: Option<&[u8]>,
+        value_name: &str,
+        new_value: &[u8],
+    ) -> Result<Option<BString>, set_raw_value::Error>
+        ensures value_name { IsRefusal result 6 ↔ (is_value_name value_name.now ≡ false) }
+        ensures exact { IsSet section_name.now (option_copied subsection_name.entry) value_name.now (λ _. true) new_value.now result self.old self.new }
+        ensures err { OnErr result (self.new ≡ with_used self.new.used self.old) }
+    {
+        self.store
+            .set_raw_value_by(section_name, subsection_name, value_name, new_value)
+    }
+
+    /// As [`File::set_raw_value`], in the last section whose metadata passes the filter.
+    ///
+    /// # Errors
+    ///
+    /// Those of [`File::set_raw_value`].
+    pub fn set_raw_value_filter<K: AsKey, F: FnMut(&Metadata) -> bool>(
+        &mut self,
+        key: K,
+        new_value: &[u8],
+        filter: F,
+    ) -> Result<Option<BString>, set_raw_value::Error>
+        requires known { IsSome (K.key key) }
+        requires callable { F.IsAlwaysCallable filter }
+        ensures value_name { IsRefusal result 6 ↔ (is_value_name (the_key (K.key key)).name ≡ false) }
+        // For a filter that answers by what it is shown.
+        ensures exact { (keeps : Meta → Bool) → ComputesKey F.FnMut keeps filter
+            → IsSetByKey (the_key (K.key key)) keeps new_value.now result self.old self.new }
+        ensures err { OnErr result (self.new ≡ with_used self.new.used self.old) }
+    {
+        let key = key.as_key();
+        self.set_raw_value_filter_by(
+            key.section_name,
+            key.subsection_name,
+            key.value_name,
+            new_value,
+            filter,
+        )
+    }
+
+    /// As [`File::set_raw_value_filter`], by the names of the section, the subsection and the value.
+    ///
+    /// # Errors
+    ///
+    /// Those of [`File::set_raw_value`].
+    pub fn set_raw_value_filter_by<F: FnMut(&Metadata) -> bool>(
+        &mut self,
+        section_name: &str,
+        subsection_name: Option<&[u8]>,
+        value_name: &str,
+        new_value: &[u8],
+        filter: F,
+    ) -> Result<Option<BString>, set_raw_value::Error>
+        requires { F.IsAlwaysCallable filter }
+        ensures value_name { IsRefusal result 6 ↔ (is_value_name value_name.now ≡ false) }
+        // For a filter that answers by what it is shown.
+        ensures exact { (keeps : Meta → Bool) → ComputesKey F.FnMut keeps filter
+            → IsSet section_name.now (option_copied subsection_name.entry) value_name.now keeps new_value.now result self.old self.new }
+        ensures err { OnErr result (self.new ≡ with_used self.new.used self.old) }
+    {
+        self.store.set_raw_value_filter_by(
+            section_name,
+            subsection_name,
+            value_name,
+            new_value,
+            filter,
+        )
     }
 
     /// Writes the front and the sections that `filter` keeps, with line ends put in where parts would else run

@@ -1,4 +1,4 @@
-use Rattle.std.proofs.Common.{rules, ◌≡◌, ◌≤◌, ◌-◌, suc, Some, true, false, arith}
+use Rattle.std.proofs.Common.{rules, ◌≡◌, ◌-◌, suc, Some, true, false}
 use Rattle.std.specs.List.{slice_get}
 use Rattle.std.specs.Option.{option_copied, option_map}
 use Rattle.std.specs.Prelude.{◌&&◌}

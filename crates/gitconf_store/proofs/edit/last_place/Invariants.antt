@@ -1,4 +1,4 @@
-use Rattle.std.proofs.Common.{◌≡◌, ◌≤◌, Bool, length, take}
+use Rattle.std.proofs.Common.{◌≤◌, Bool, length, take}
 use Rattle.std.specs.Fn.{ComputesKey}
 use Rattle.std.specs.Option.{option_copied}
 use Rattle.std.specs.Prelude.{◌&&◌}

@@ -1,4 +1,3 @@
-use Rattle.std.proofs.Common.{ap}
 use Rattle.std.specs.Option.{option_copied}
 use Rattle.gitconf_store.proofs.Targets.{targets_shown}
 use Rattle.gitconf_store.proofs.store.Store.last_target.Goals as goal

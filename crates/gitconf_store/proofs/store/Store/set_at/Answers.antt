@@ -1,10 +1,7 @@
-use Rattle.std.proofs.Common.{rules, ◌≡◌, refl, sym, ap, subst, ◌∙◌, length, arith}
-use Rattle.std.specs.Prelude.{IfOk, IfSome, OnOk, OnErr, option_map}
-use Rattle.std.specs.List.{slice_get}
-use Rattle.gitconf_base.specs.Sections.{with_section}
+use Rattle.std.proofs.Common.{◌≡◌, refl, sym, ap, subst, ◌∙◌, length}
+use Rattle.std.specs.Prelude.{option_map}
 use Rattle.gitconf_state.specs.Edit.{old_value, set_tokens, token_bytes}
 use Rattle.gitconf_state.specs.LineEnds.{file_line_end}
-use Rattle.gitconf_state.specs.State.{State}
 use Rattle.gitconf_write.specs.Bodies.{items_of}
 use Rattle.gitconf_write.specs.LineEnds.{bytes_of_line_end}
 use Rattle.gitconf_store.specs.declared.section.Section.{Section}

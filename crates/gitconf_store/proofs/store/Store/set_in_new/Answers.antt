@@ -1,9 +1,9 @@
-use Rattle.std.proofs.Common.{rules, ◌≡◌, true, [], refl, sym, ap, subst, ◌∙◌}
+use Rattle.std.proofs.Common.{rules, ◌≡◌, true, [], sym, ap, ◌∙◌}
 use Rattle.std.specs.Option.{option_copied}
 use Rattle.gitconf_text.specs.Names.{is_made_name, is_valid_or_none}
 use Rattle.gitconf_base.specs.Sections.{with_last}
 use Rattle.gitconf_parse.specs.Events.{header_of}
-use Rattle.gitconf_state.specs.Edit.{made_header, section_tokens, token_bytes}
+use Rattle.gitconf_state.specs.Edit.{made_header}
 use Rattle.gitconf_state.specs.LineEnds.{file_line_end}
 use Rattle.gitconf_write.specs.LineEnds.{bytes_of_line_end}
 use Rattle.gitconf_store.specs.declared.section.Section.{Section}

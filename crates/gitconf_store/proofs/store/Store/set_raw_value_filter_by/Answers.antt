@@ -1,11 +1,9 @@
 use Rattle.std.proofs.Common.{rules, ◌≡◌, true, false, None, Some, Err, Ok, refl, subst}
-use Rattle.std.specs.List.{list_any, slice_get}
-use Rattle.std.specs.Option.{option_copied, option_map}
-use Rattle.std.specs.Prelude.{IfSome}
-use Rattle.bstr.specs.Owned.{bstring_bytes}
+use Rattle.std.specs.List.{list_any}
+use Rattle.std.specs.Option.{option_copied}
 use Rattle.gitconf_text.specs.Names.{is_value_name}
 use Rattle.gitconf_body.specs.Places.{IsLastAt}
-use Rattle.gitconf_state.specs.Edit.{is_target, old_value}
+use Rattle.gitconf_state.specs.Edit.{is_target}
 use Rattle.gitconf_store.specs.declared.set_raw_value.Error.TheVariants.{Header, Span}
 use Rattle.gitconf_store.specs.Edits.{IsSet}
 use Rattle.gitconf_store.proofs.Sets.{made_ok, made_err, found_ok, found_err}
