@@ -1,3 +1,4 @@
 pub mod KeyLemmas
 pub mod KeyRows
 pub mod SectionLemmas
+pub mod HomesLemmas

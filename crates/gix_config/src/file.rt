@@ -1,4 +1,7 @@
 //! A file of git's configuration in memory.
+pub mod includes;
+pub mod init;
+
 use bstr::BString;
 use gitconf_base::key::AsKey;
 use gitconf_base::meta::Metadata;
