@@ -11,3 +11,4 @@ pub mod Raw
 pub mod Entries
 pub mod Deciding
 pub mod Named
+pub mod Cloning

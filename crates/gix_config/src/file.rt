@@ -62,6 +62,18 @@ impl File {
         }
     }
 
+    /// The same file again, with a buffer of its own; metadata is shared. Each byte and each part is copied once.
+    ///
+    /// # Errors
+    ///
+    /// Want of memory.
+    pub fn try_clone(&self) -> Result<File, NoMemory>
+        ensures { IfOk result (λ f. f ≡ self.now) }
+    {
+        let store = self.store.try_clone()?;
+        Ok(File { store })
+    }
+
     /// The file that a text is, all of it, as a calling program hands it in ([`Metadata::api`]). One pass, which copies
     /// the text once.
     ///
