@@ -98,7 +98,7 @@ impl Model for Homes {
 }
 
 impl Homes {
-    ghost use Rattle.std.specs.Prelude.{◌≡◌, [], OnOk, OnErr, ℕ, List, Some, cond, string_bytes};
+    ghost use Rattle.std.specs.Prelude.{◌≡◌, [], OnOk, OnErr, ℕ, List, None, Some, cond, string_bytes};
     ghost use Rattle.std.specs.Option.{option_copied};
     ghost use Rattle.std.specs.Str.{bytes_eq};
     ghost use Rattle.gitconf_base.specs.Homes.{folder_of, with_home};
@@ -120,6 +120,7 @@ impl Homes {
     pub fn insert(&mut self, user: String, folder: String) -> Result<(), NoMemory>
         ensures ok { OnOk result (self.new ≡ with_home (string_bytes user) (string_bytes folder) self.old) }
         ensures err { OnErr result (self.new ≡ self.old) }
+        ensures absent { OnErr result (folder_of (string_bytes user) self.old ≡ None) }
         // The user has the folder, and each other user what it had.
         ensures last { OnOk result ((asked : List ℕ) → folder_of asked self.new
             ≡ cond (bytes_eq (string_bytes user) asked) (Some (string_bytes folder)) (folder_of asked self.old)) }
