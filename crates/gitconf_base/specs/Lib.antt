@@ -6,3 +6,4 @@ pub mod Sections
 pub mod Rows
 pub mod SectionIters
 pub mod SectionLoan
+pub mod Homes

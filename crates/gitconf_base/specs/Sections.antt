@@ -1,7 +1,7 @@
 -- The sections of a file as a plain list in file order.
 use Rattle.std.specs.Prelude.{◌≡◌, ℕ, ◌+◌, ◌<◌, ◌≤◌, Bool, false, not, ◌==◌, ◌&&◌, List, [], ◌∷◌, ◌++◌, length, take, drop, Option, map, filter, find, position, insert, zero, suc, slice_get}
 use Rattle.std.specs.Option.{option_eq, option_map}
-use Rattle.std.specs.List.{AllByRecursion}
+use Rattle.std.specs.List.{AllByRecursion, AllZip}
 use Rattle.std.specs.Str.{bytes_eq}
 use Rattle.gitconf_text.specs.Bytes.{fold}
 use Rattle.gitconf_text.specs.Names.{is_same_name}
@@ -120,3 +120,15 @@ named name subsection all = map (λ e. (e.number, e.section)) (filter (is_named 
 -- the sections of a name and any subsection, in file order
 abbrev pub all_named : {T : Type 0} → List ℕ → Sections T → List (ℕ × T)
 all_named name all = map (λ e. (e.number, e.section)) (filter (has_name name) all.entries)
+
+-- a section under the same number and names, with a clone of what it holds
+pub record IsEntryClone {T : Type 0} (IsClone : T → T → Type 0) (entry copy : SectionEntry T) : Type 0 where
+  pub number : copy.number ≡ entry.number
+  pub name : copy.name ≡ entry.name
+  pub subsection : copy.subsection ≡ entry.subsection
+  pub section : IsClone entry.section copy.section
+
+-- a table with such sections, and with the same number to be given next
+pub record IsTableClone {T : Type 0} (IsClone : T → T → Type 0) (all copy : Sections T) : Type 0 where
+  pub next : copy.next ≡ all.next
+  pub entries : AllZip (IsEntryClone IsClone) all.entries copy.entries

@@ -8,3 +8,4 @@ pub mod laws;
 pub mod meta;
 pub mod source;
 pub mod util;
+pub mod values;

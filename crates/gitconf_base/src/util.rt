@@ -7,7 +7,7 @@ ghost use Rattle.std.specs.Option.{option_copied, option_eq, option_map};
 ghost use Rattle.std.specs.Str.{bytes_eq};
 ghost use Rattle.std.specs.Borrow.{sem};
 ghost use Rattle.gitconf_text.specs.Bytes.{fold};
-ghost use Rattle.gitconf_base.specs.Sections.{all_named, entry_of, has_name, ids, is_named, named, no_number, number_at, numbered_from, place_of, section_at, section_of, sections_of, with_all, with_behind, with_last, with_names, without, IsNumbered};
+ghost use Rattle.gitconf_base.specs.Sections.{all_named, entry_of, has_name, ids, is_named, named, no_number, number_at, numbered_from, place_of, section_at, section_of, sections_of, with_all, with_behind, with_last, with_names, without, IsNumbered, IsTableClone};
 ghost use Rattle.gitconf_base.specs.Rows.{entries_of, entry_of_row};
 ghost use Rattle.gitconf_base.specs.SectionIters.{ids_left, named_left, sections_left, shown_section, with_name_left};
 
@@ -57,6 +57,22 @@ struct Row<T> {
     section: T,
 }
 
+impl<T: Clone> Clone for Row<T> {
+    ghost use Rattle.gitconf_base.specs.Sections.{IsEntryClone};
+    ghost use Rattle.gitconf_base.specs.Rows.{entry_of_row};
+
+    ghost is_clone = { λ row copy. IsEntryClone T.is_clone (entry_of_row row) (entry_of_row copy) };
+
+    fn clone(&self) -> Result<Row<T>, AllocError> {
+        Ok(Row {
+            id: self.id,
+            name: self.name.clone()?,
+            subsection: self.subsection.clone()?,
+            section: self.section.clone()?,
+        })
+    }
+}
+
 /// The sections of a file, each with its number, in file order.
 #[derive(Drop)]
 pub struct SectionTable<T> {
@@ -87,6 +103,23 @@ impl<T> SectionTable<T> {
             rows: Vec::new(alloc),
             next: 0,
         }
+    }
+
+    /// The same table again: its sections under their numbers and names, with clones of what they hold. Takes memory for
+    /// the names and the places at once.
+    ///
+    /// # Errors
+    ///
+    /// Want of memory, here or in a clone.
+    pub fn try_clone(&self) -> Result<SectionTable<T>, NoMemory>
+    where
+        T: Clone,
+        ensures { IfOk result (IsTableClone T.is_clone self.now) }
+    {
+        Ok(SectionTable {
+            rows: self.rows.clone()?,
+            next: self.next,
+        })
     }
 
     /// How many sections there are.

@@ -27,3 +27,4 @@ pub mod Cuts
 pub mod EscapedRuns
 pub mod Grouping
 pub mod GroupLaws
+pub mod Clones

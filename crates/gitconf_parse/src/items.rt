@@ -21,21 +21,21 @@ pub struct Piece {
 }
 
 /// A value: the pieces that go on, and the last one.
-#[derive(Debug, Drop)]
+#[derive(Clone, Debug, Drop)]
 pub struct Value {
     pub pieces: Vec<Piece>,
     pub last: Span,
 }
 
 /// What stands behind `=`.
-#[derive(Debug, Drop)]
+#[derive(Clone, Debug, Drop)]
 pub struct Assigned {
     pub blanks: Span,
     pub value: Value,
 }
 
 /// A value name, the blanks behind it, and what is assigned, if anything.
-#[derive(Debug, Drop)]
+#[derive(Clone, Debug, Drop)]
 pub struct Entry {
     pub name: Span,
     pub blanks: Span,
@@ -43,7 +43,7 @@ pub struct Entry {
 }
 
 /// What a body is made of.
-#[derive(Debug, Drop)]
+#[derive(Clone, Debug, Drop)]
 pub enum Item {
     Blanks(Span),
     LineEnds(Span),

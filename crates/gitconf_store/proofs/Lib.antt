@@ -14,3 +14,4 @@ pub mod Targets
 pub mod Setting
 pub mod Making
 pub mod Sets
+pub mod Cloning

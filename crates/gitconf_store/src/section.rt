@@ -13,7 +13,7 @@ use gitconf_write::sections::{write_held, write_section};
 use std::rc::Rc;
 
 /// A section: its header, where it comes from, its body, and the items held behind it.
-#[derive(Drop)]
+#[derive(Clone, Drop)]
 pub(crate) struct Section {
     pub(crate) header: Header,
     pub(crate) meta: Rc<Metadata>,

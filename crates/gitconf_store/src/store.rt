@@ -191,6 +191,28 @@ impl Store {
         }
     }
 
+    /// The same state again, with a buffer of its own; metadata is shared. Each byte and each item is copied once.
+    ///
+    /// # Errors
+    ///
+    /// Want of memory.
+    pub fn try_clone(&self) -> Result<Store, NoMemory>
+        ensures { IfOk result (λ s. s ≡ self.now) }
+    {
+        let buffer = self.buffer.clone()?;
+        let copies = self.copies.clone()?;
+        let front = self.front.clone()?;
+        let meta = self.meta.clone()?;
+        let sections = self.sections.try_clone()?;
+        Ok(Store {
+            buffer,
+            copies,
+            front,
+            meta,
+            sections,
+        })
+    }
+
     /// Where the file comes from.
     pub fn meta(&self) -> &Metadata
         ensures { result.now ≡ self.now.meta }

@@ -1,4 +1,7 @@
 //! A file of git's configuration in memory.
+pub mod includes;
+pub mod init;
+
 use bstr::BString;
 use gitconf_base::key::AsKey;
 use gitconf_base::meta::Metadata;
@@ -63,6 +66,18 @@ impl File {
         File {
             store: Store::new(alloc, meta),
         }
+    }
+
+    /// The same file again, with a buffer of its own; metadata is shared. Each byte and each part is copied once.
+    ///
+    /// # Errors
+    ///
+    /// Want of memory.
+    pub fn try_clone(&self) -> Result<File, NoMemory>
+        ensures { IfOk result (λ f. f ≡ self.now) }
+    {
+        let store = self.store.try_clone()?;
+        Ok(File { store })
     }
 
     /// The file that a text is, all of it, as a calling program hands it in ([`Metadata::api`]). One pass, which copies

@@ -6,3 +6,4 @@ pub mod file;
 pub use file::File;
 pub use gitconf_base::key::{AsKey, KeyRef};
 pub use gitconf_base::source::Source;
+pub use gitconf_base::values::{self, path};

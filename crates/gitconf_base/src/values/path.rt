@@ -1,0 +1,2 @@
+//! Paths as configuration writes them.
+pub mod interpolate;
