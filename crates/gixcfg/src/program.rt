@@ -7,6 +7,7 @@ use gitconf_base::key::KeyRef;
 use gitconf_parse::error::Error;
 use gitconf_text::NoMemory;
 use gix_config::File;
+use gix_config::file::set_raw_value;
 use std::alloc::{AllocError, AllocFailed, Global};
 use std::io::{ErrorKind, Read, Write};
 
@@ -21,6 +22,8 @@ pub const MEMORY: u8 = 5;
 enum Command<'a> {
     /// Prints the last value of a key.
     Get(KeyRef<'a>),
+    /// Gives a key a value, and prints the file.
+    Set(KeyRef<'a>, &'a str),
     /// Prints the file.
     Print,
 }
@@ -34,6 +37,8 @@ enum Fault {
     Missing,
     /// Standard input is refused, or too large.
     Refused(Error),
+    /// The edit is refused.
+    RefusedEdit(set_raw_value::Error),
     /// Standard input can't be read.
     Input,
     /// Standard output failed.
@@ -52,7 +57,7 @@ impl Fault {
         match self {
             Fault::Missing => 1,
             Fault::Usage => 2,
-            Fault::Refused(_) => 3,
+            Fault::Refused(_) | Fault::RefusedEdit(_) => 3,
             Fault::Input | Fault::Output => 4,
             Fault::Memory => MEMORY,
         }
@@ -90,11 +95,21 @@ impl From<Error> for Fault {
     }
 }
 
+impl From<set_raw_value::Error> for Fault {
+    fn from(refusal: set_raw_value::Error) -> Fault {
+        if refusal.number() == 27 {
+            Fault::Memory
+        } else {
+            Fault::RefusedEdit(refusal)
+        }
+    }
+}
+
 /// Runs the program with the words behind its name, standard input, standard output and standard error, and answers
 /// its exit status: 0 done, 1 missing, 2 usage, 3 refused, 4 input or output, 5 memory.
 ///
-/// `get KEY` prints the last value of a key and a line feed, `print` the file that standard input is. Standard input is
-/// read whole, and only where the words are understood.
+/// `get KEY` prints the last value of a key and a line feed, `set KEY VALUE` the file with that value, `print` the file that standard
+/// input is. Standard input is read whole, and only where the words are understood.
 pub fn run<R: Read + Drop, W: Write + Drop, E: Write + Drop>(
     alloc: Global,
     args: &[&str],
@@ -122,8 +137,8 @@ fn execute<R: Read, W: Write>(
 ) -> Result<(), Fault> {
     let command = command_of(args)?;
     let text = read_all(alloc, input)?;
-    let file = File::try_from_bytes(alloc, &text)?;
-    let answer = answer_of(command, &file)?;
+    let mut file = File::try_from_bytes(alloc, &text)?;
+    let answer = answer_of(command, &mut file)?;
     match out.write_all(&answer) {
         Ok(()) => Ok(()),
         Err(_) => Err(Fault::Output),
@@ -133,12 +148,18 @@ fn execute<R: Read, W: Write>(
 /// The command that the words are. A key without a dot is no key.
 fn command_of<'a>(args: &[&'a str]) -> Result<Command<'a>, Fault> {
     match args {
-        [word, key] if *word == "get" => match KeyRef::parse_unvalidated(key.as_bytes()) {
-            Some(key) => Ok(Command::Get(key)),
-            None => Err(Fault::Usage),
-        },
+        [word, key] if *word == "get" => Ok(Command::Get(key_of(key)?)),
+        [word, key, value] if *word == "set" => Ok(Command::Set(key_of(key)?, value)),
         [word] if *word == "print" => Ok(Command::Print),
         _ => Err(Fault::Usage),
+    }
+}
+
+/// The key that a word is.
+fn key_of(word: &str) -> Result<KeyRef<'_>, Fault> {
+    match KeyRef::parse_unvalidated(word.as_bytes()) {
+        Some(key) => Ok(key),
+        None => Err(Fault::Usage),
     }
 }
 
@@ -153,7 +174,7 @@ fn read_all<R: Read>(alloc: Global, input: &mut R) -> Result<Vec<u8>, Fault> {
 }
 
 /// What is printed.
-fn answer_of(command: Command<'_>, file: &File) -> Result<BString, Fault> {
+fn answer_of(command: Command<'_>, file: &mut File) -> Result<BString, Fault> {
     match command {
         Command::Get(key) => match file.string(key)? {
             Some(mut value) => {
@@ -162,6 +183,10 @@ fn answer_of(command: Command<'_>, file: &File) -> Result<BString, Fault> {
             }
             None => Err(Fault::Missing),
         },
+        Command::Set(key, value) => {
+            let _ = file.set_raw_value(key, value.as_bytes())?;
+            Ok(file.to_bstring()?)
+        }
         Command::Print => Ok(file.to_bstring()?),
     }
 }
@@ -178,6 +203,11 @@ fn tell<E: Write>(alloc: Global, fault: &Fault, err: &mut E) -> Result<(), NoMem
         Fault::Refused(refusal) => {
             let number = refusal.number();
             let line = format!(in alloc; "gixcfg: E{number}: {refusal}\n")?;
+            err.write_all(line.as_bytes())
+        }
+        Fault::RefusedEdit(refusal) => {
+            let number = refusal.number();
+            let line = format!(in alloc; "gixcfg: E{number}\n")?;
             err.write_all(line.as_bytes())
         }
     };
