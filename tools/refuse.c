@@ -5,6 +5,7 @@
    for END bytes, it stops, and grants them only where it refused nothing, so that the test knows. It then appends the
    line `growths COUNT refused 0` or `growths COUNT refused 1` to the file that REFUSE_LOG names.
 
+   Programs of the kit ask for memory by malloc and realloc alone; calloc is here so that the count holds for others too.
    The real calls are those that the C library gives under another name, so that nothing is looked up here. */
 #define _GNU_SOURCE
 #include <errno.h>

@@ -32,6 +32,8 @@ mod rows;
 #[cfg(test)]
 mod sections;
 #[cfg(test)]
+mod settings;
+#[cfg(test)]
 mod texts;
 #[cfg(test)]
 mod values;
