@@ -1,10 +1,12 @@
-//! Worked rows of the parser, of the text layer and of what stands below files, by their public calls.
+//! Worked rows of the parser, of the text layer, of what stands below files, and of files, by their public calls.
 //!
 //! Each expected value is written by hand from the rules of the grammar, and none was taken from a run.
 #![tactic(auto)]
 
 #[cfg(test)]
 mod base;
+#[cfg(test)]
+mod files;
 #[cfg(test)]
 mod filters;
 #[cfg(test)]
@@ -13,6 +15,8 @@ mod fronts;
 mod items;
 #[cfg(test)]
 mod loads;
+#[cfg(test)]
+mod lookups;
 #[cfg(test)]
 mod names;
 #[cfg(test)]
@@ -27,6 +31,8 @@ mod rendering;
 mod rows;
 #[cfg(test)]
 mod sections;
+#[cfg(test)]
+mod settings;
 #[cfg(test)]
 mod texts;
 #[cfg(test)]

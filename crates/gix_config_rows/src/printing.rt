@@ -3,7 +3,7 @@
 use super::loads::{loaded, loaded_lossy};
 use super::printed::{EXACT, LOSSY, Rows, SECTIONS, TOLD, printed};
 use super::rendering::unmarked;
-use bstr::BStr;
+use bstr::{BStr, BString};
 use gitconf_base::meta::Metadata;
 use gitconf_parse::events::Events;
 use gitconf_store::store::Store;
@@ -94,13 +94,17 @@ fn texts_printed_byte_for_byte(rt: HostRuntime) -> Result<(), Fail> {
     Ok(())
 }
 
-/// The section at a place, alone.
-fn section_text(alloc: Global, store: &Store, place: usize) -> Result<Option<Vec<u8>>, Fail> {
+/// The section at a place, alone, as it is printed in one piece and to a writer.
+fn section_texts(
+    alloc: Global,
+    store: &Store,
+    place: usize,
+) -> Result<Option<(BString, Vec<u8>)>, Fail> {
     for (at, section) in store.sections().enumerate() {
         if at == place {
             let mut out = Vec::new(alloc);
             section.write_to(&mut out)?;
-            return Ok(Some(out));
+            return Ok(Some((section.to_bstring()?, out)));
         }
     }
     Ok(None)
@@ -111,12 +115,13 @@ fn sections_alone(rt: HostRuntime) -> Result<(), Fail> {
     for (text, place, expected) in &SECTIONS {
         let shown = BStr::new(text);
         let store = loaded(rt.alloc(), text)?;
-        let Some(section) = section_text(rt.alloc(), &store, *place)? else {
+        let Some((printed, written)) = section_texts(rt.alloc(), &store, *place)? else {
             assert!(rt; false, "'{shown}' has no section {place}");
             return Ok(());
         };
-        assert!(rt; section.as_slice() == *expected, "'{shown}'");
-        let events = Events::from_bytes(rt.alloc(), &section, None);
+        assert!(rt; printed.as_bytes() == *expected, "'{shown}'");
+        assert!(rt; written.as_slice() == *expected, "'{shown}'");
+        let events = Events::from_bytes(rt.alloc(), &written, None);
         assert!(rt; events.is_ok(), "'{shown}'");
     }
     Ok(())
@@ -131,6 +136,7 @@ fn what_a_text_tells(rt: HostRuntime) -> Result<(), Fail> {
         assert_eq!(rt; store.is_void(), *is_void, "'{shown}'");
         assert_eq!(rt; store.num_values(), *entries, "'{shown}'");
         assert!(rt; *store.meta() == Metadata::api(), "'{shown}'");
+        assert!(rt; *store.meta_owned()? == Metadata::api(), "'{shown}'");
     }
     Ok(())
 }

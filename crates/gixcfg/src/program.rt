@@ -122,7 +122,7 @@ pub fn run<R: Read + Drop, W: Write + Drop, E: Write + Drop>(
     match execute(alloc, args, &mut input, &mut out) {
         Ok(()) => 0,
         Err(fault) => {
-            let _ = tell(alloc, &fault, &mut err);
+            tell(&fault, &mut err);
             fault.status()
         }
     }
@@ -192,8 +192,8 @@ fn answer_of(command: Command<'_>, file: &mut File) -> Result<BString, Fault> {
 }
 
 /// Tells a fault on standard error: how the program is called, or which refusal it was. Nothing is told of what is
-/// missing. A failed write changes no status.
-fn tell<E: Write>(alloc: Global, fault: &Fault, err: &mut E) -> Result<(), NoMemory> {
+/// missing. A failed write changes no status, and no memory is taken.
+fn tell<E: Write>(fault: &Fault, err: &mut E) {
     let _ = match fault {
         Fault::Missing => Ok(()),
         Fault::Usage => err.write_all(b"usage: gixcfg COMMAND [ARGS]\n"),
@@ -202,8 +202,7 @@ fn tell<E: Write>(alloc: Global, fault: &Fault, err: &mut E) -> Result<(), NoMem
         Fault::Memory => err.write_all(b"gixcfg: E27\n"),
         Fault::Refused(refusal) => {
             let number = refusal.number();
-            let line = format!(in alloc; "gixcfg: E{number}: {refusal}\n")?;
-            err.write_all(line.as_bytes())
+            writeln!(err, "gixcfg: E{number}: {refusal}")
         }
         Fault::RefusedEdit(refusal) => {
             let number = refusal.number();
@@ -211,5 +210,4 @@ fn tell<E: Write>(alloc: Global, fault: &Fault, err: &mut E) -> Result<(), NoMem
             err.write_all(line.as_bytes())
         }
     };
-    Ok(())
 }

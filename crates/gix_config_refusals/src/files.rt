@@ -1,0 +1,162 @@
+//! Files: loaded, looked up, and written.
+
+use super::parse::TEXT;
+use super::shim::{begin, was_refused};
+use bstr::ByteSlice;
+use gitconf_base::meta::Metadata;
+use gitconf_store::store::Store;
+use gix_config::File;
+use std::process::Abort;
+use std::rc::Rc;
+use std::test::Fail;
+
+/// What is printed of the text: nothing but its mark is left out.
+const PRINTED: &[u8] =
+    b"# x\n; y\r\nf = 0\n[core] # c\n\tk = v\n j\n\tlong = a \\\n  b \\\r\n c ; end\ne = \"x\\ty\" z\n[remote \"or\\\"igin\"]\nurl=u\r\n[Branch.Main]\n  m = 1 # d\n";
+
+/// The same without blanks, line ends and comments, with line ends put in.
+const PRINTED_LOSSY: &[u8] =
+    b"f=0\n[core]\nk=v\nj\nlong=a \\\n  b \\\n c\ne=\"x\\ty\" z\n[remote \"or\\\"igin\"]\nurl=u\n[Branch.Main]\nm=1\n";
+
+/// Its first section alone.
+const SECTION: &[u8] =
+    b"[core] # c\n\tk = v\n j\n\tlong = a \\\n  b \\\r\n c ; end\ne = \"x\\ty\" z\n";
+
+/// Whether this key has this value.
+fn has_value(file: &File, key: &str, value: &[u8]) -> Result<bool, Fail> {
+    let found = file.string(key)?;
+    Ok(found.is_some_and(|found| found.as_bytes() == value))
+}
+
+/// Whether the file is the whole text.
+fn is_whole(file: &File) -> Result<bool, Fail> {
+    Ok(
+        file.to_bstring()?.as_bytes() == PRINTED
+            && file.num_values() == 6
+            && has_value(file, "core.long", b"a   b  c")?
+            && has_value(file, "remote.or\"igin.url", b"u")?
+            && has_value(file, "Branch.main.m", b"1")?,
+    )
+}
+
+#[test]
+fn a_loaded_text(rt: HostRuntime) -> Result<(), Fail> {
+    begin(rt.alloc())?;
+    let answer = File::try_from_bytes(rt.alloc(), TEXT);
+    let refused = was_refused(rt.alloc());
+    match answer {
+        Ok(file) => assert!(rt; is_whole(&file)?),
+        Err(error) => assert!(rt; refused && error.number() == 27),
+    }
+    Ok(())
+}
+
+#[test]
+fn a_text_loaded_without_layout(rt: HostRuntime) -> Result<(), Fail> {
+    let meta = Rc::new(rt.alloc(), Metadata::api())?;
+    begin(rt.alloc())?;
+    let answer = Store::from_bytes_lossy(rt.alloc(), TEXT, meta);
+    let refused = was_refused(rt.alloc());
+    match answer {
+        Ok(store) => assert!(rt; store.to_bstring()?.as_bytes() == PRINTED_LOSSY),
+        Err(error) => assert!(rt; refused && error.number() == 27),
+    }
+    Ok(())
+}
+
+/// Looks the key up, which has this value.
+fn check_string<R: Abort + AllocGlobal>(rt: &R, key: &str, value: &[u8]) -> Result<(), Fail> {
+    let file = File::try_from_bytes(rt.alloc(), TEXT)?;
+    begin(rt.alloc())?;
+    let answer = file.string(key);
+    let refused = was_refused(rt.alloc());
+    match answer {
+        Ok(found) => assert!(rt; found.is_some_and(|found| found.as_bytes() == value)),
+        Err(error) => assert!(rt; refused && error.number() == 27),
+    }
+    assert!(rt; is_whole(&file)?);
+    Ok(())
+}
+
+#[test]
+fn a_value_looked_up(rt: HostRuntime) -> Result<(), Fail> {
+    check_string(&rt, "core.k", b"v")
+}
+
+#[test]
+fn a_value_in_quotes_looked_up(rt: HostRuntime) -> Result<(), Fail> {
+    check_string(&rt, "core.e", b"x\ty z")
+}
+
+#[test]
+fn a_value_of_pieces_looked_up(rt: HostRuntime) -> Result<(), Fail> {
+    check_string(&rt, "core.long", b"a   b  c")
+}
+
+#[test]
+fn a_printed_file(rt: HostRuntime) -> Result<(), Fail> {
+    let file = File::try_from_bytes(rt.alloc(), TEXT)?;
+    begin(rt.alloc())?;
+    let answer = file.to_bstring();
+    let refused = was_refused(rt.alloc());
+    match answer {
+        Ok(text) => assert!(rt; text.as_bytes() == PRINTED),
+        Err(error) => assert!(rt; refused && error.number() == 27),
+    }
+    assert!(rt; is_whole(&file)?);
+    Ok(())
+}
+
+/// A vector is a writer that fails where its growth is refused.
+#[test]
+fn a_written_file(rt: HostRuntime) -> Result<(), Fail> {
+    let file = File::try_from_bytes(rt.alloc(), TEXT)?;
+    let mut out = Vec::new(rt.alloc());
+    begin(rt.alloc())?;
+    let answer = file.write_to(&mut out);
+    let refused = was_refused(rt.alloc());
+    match answer {
+        Ok(()) => assert!(rt; out.as_slice() == PRINTED),
+        Err(fault) => assert!(rt; refused && fault.number() == 28 && PRINTED.starts_with(&out)),
+    }
+    assert!(rt; is_whole(&file)?);
+    Ok(())
+}
+
+/// Of a section alone it takes a beginning too.
+#[test]
+fn a_written_section(rt: HostRuntime) -> Result<(), Fail> {
+    let file = File::try_from_bytes(rt.alloc(), TEXT)?;
+    let Some(section) = file.sections().next() else {
+        assert!(rt; false, "no section");
+        return Ok(());
+    };
+    let mut out = Vec::new(rt.alloc());
+    begin(rt.alloc())?;
+    let answer = section.write_to(&mut out);
+    let refused = was_refused(rt.alloc());
+    match answer {
+        Ok(()) => assert!(rt; out.as_slice() == SECTION),
+        Err(fault) => assert!(rt; refused && fault.number() == 28 && SECTION.starts_with(&out)),
+    }
+    assert!(rt; is_whole(&file)?);
+    Ok(())
+}
+
+#[test]
+fn a_printed_section(rt: HostRuntime) -> Result<(), Fail> {
+    let file = File::try_from_bytes(rt.alloc(), TEXT)?;
+    let Some(section) = file.sections().next() else {
+        assert!(rt; false, "no section");
+        return Ok(());
+    };
+    begin(rt.alloc())?;
+    let answer = section.to_bstring();
+    let refused = was_refused(rt.alloc());
+    match answer {
+        Ok(text) => assert!(rt; text.as_bytes() == SECTION),
+        Err(error) => assert!(rt; refused && error.number() == 27),
+    }
+    assert!(rt; is_whole(&file)?);
+    Ok(())
+}

@@ -1,0 +1,101 @@
+//! Calls that take no memory: the shim refuses their first growth, and there is none.
+
+use super::parse::TEXT;
+use super::shim::{begin, was_refused};
+use gitconf_base::key::KeyRef;
+use gitconf_base::meta::Metadata;
+use gitconf_parse::events::Events;
+use gitconf_text::value::normalize;
+use gix_config::File;
+use std::rc::Rc;
+use std::test::Fail;
+
+/// No section, no key in it, a key without a value, and no key at all.
+#[test]
+fn misses(rt: HostRuntime) -> Result<(), Fail> {
+    let file = File::try_from_bytes(rt.alloc(), TEXT)?;
+    begin(rt.alloc())?;
+    let mut found: usize = 0;
+    for key in [
+        "a.k",
+        "core.x",
+        "core.o.k",
+        "core.j",
+        "remote.url",
+        "Branch.Main.m",
+        "core",
+        "",
+    ] {
+        if !matches!(file.string(key), Ok(None)) {
+            found = found.saturating_add(1);
+        }
+    }
+    assert!(rt; !was_refused(rt.alloc()));
+    assert_eq!(rt; found, 0);
+    Ok(())
+}
+
+#[test]
+fn a_new_file(rt: HostRuntime) -> Result<(), Fail> {
+    let meta = Rc::new(rt.alloc(), Metadata::api())?;
+    begin(rt.alloc())?;
+    let file = File::new(rt.alloc(), meta);
+    assert!(rt; !was_refused(rt.alloc()));
+    assert!(rt; file.is_void() && file.sections().next().is_none());
+    Ok(())
+}
+
+#[test]
+fn counts_and_views(rt: HostRuntime) -> Result<(), Fail> {
+    let file = File::try_from_bytes(rt.alloc(), TEXT)?;
+    begin(rt.alloc())?;
+    let values = file.num_values();
+    let is_void = file.is_void();
+    let line_end = file.detect_newline_style();
+    let sections = file.sections().count();
+    let is_api = *file.meta() == Metadata::api();
+    let shared = file.meta_owned();
+    assert!(rt; !was_refused(rt.alloc()));
+    assert!(rt; values == 6 && !is_void && sections == 3 && is_api);
+    assert!(rt; line_end == b"\n".as_slice());
+    assert!(rt; *shared? == Metadata::api());
+    Ok(())
+}
+
+#[test]
+fn events_looked_at(rt: HostRuntime) -> Result<(), Fail> {
+    let events = Events::from_bytes(rt.alloc(), TEXT, None)?;
+    begin(rt.alloc())?;
+    let front = events.frontmatter().count();
+    let mut in_sections: usize = 0;
+    for section in events.sections() {
+        in_sections = in_sections.saturating_add(section.body().count());
+    }
+    let keeps_entries = events.keeps_entries();
+    assert!(rt; !was_refused(rt.alloc()));
+    assert!(rt; front == 10 && in_sections == 48 && keeps_entries);
+    Ok(())
+}
+
+#[test]
+fn keys_and_plain_values(rt: HostRuntime) -> Result<(), Fail> {
+    begin(rt.alloc())?;
+    let key = KeyRef::parse_unvalidated(b"remote.o.url");
+    let meaning = normalize(rt.alloc(), b"\"a b\"");
+    assert!(rt; !was_refused(rt.alloc()));
+    assert!(rt; key.is_some_and(|key| key.value_name == "url"));
+    assert!(rt; meaning?.as_slice() == b"a b".as_slice());
+    Ok(())
+}
+
+/// A writer that has room is not refused anything.
+#[test]
+fn a_file_written_where_there_is_room(rt: HostRuntime) -> Result<(), Fail> {
+    let file = File::try_from_bytes(rt.alloc(), b"[a] k = v")?;
+    let mut out = Vec::with_capacity(rt.alloc(), 100)?;
+    begin(rt.alloc())?;
+    let answer = file.write_to(&mut out);
+    assert!(rt; !was_refused(rt.alloc()));
+    assert!(rt; answer.is_ok() && out.as_slice() == b"[a]\n k = v\n".as_slice());
+    Ok(())
+}
