@@ -5,7 +5,7 @@ use super::shim::{begin, was_refused};
 use bstr::ByteSlice;
 use gitconf_base::meta::Metadata;
 use gitconf_store::store::Store;
-use gix_config::File;
+use gix_config::{File, KeyRef};
 use std::process::Abort;
 use std::rc::Rc;
 use std::test::Fail;
@@ -159,4 +159,84 @@ fn a_printed_section(rt: HostRuntime) -> Result<(), Fail> {
     }
     assert!(rt; is_whole(&file)?);
     Ok(())
+}
+
+/// Sets the value of a key in the file, which is then printed with `new` in the place of `old`.
+fn check_set<R: Abort + AllocGlobal>(
+    rt: &R,
+    key: &str,
+    value: &[u8],
+    old: &[u8],
+    new: &[u8],
+) -> Result<(), Fail> {
+    let mut file = File::try_from_bytes(rt.alloc(), TEXT)?;
+    let Some(key) = KeyRef::parse_unvalidated(key.as_bytes()) else {
+        assert!(rt; false, "no key");
+        return Ok(());
+    };
+    begin(rt.alloc())?;
+    let answer = file.set_raw_value(key, value);
+    let refused = was_refused(rt.alloc());
+    match answer {
+        Ok(_) => {
+            let printed = file.to_bstring()?;
+            assert!(rt; is_replaced(printed.as_bytes(), old, new));
+        }
+        Err(error) => {
+            assert!(rt; refused && error.number() == 27);
+            assert!(rt; is_whole(&file)?);
+        }
+    }
+    Ok(())
+}
+
+/// Whether the text is the printed one with `new` in the place of `old`, which stands in that once.
+fn is_replaced(text: &[u8], old: &[u8], new: &[u8]) -> bool {
+    for at in 0..=PRINTED.len() {
+        let (before, left) = PRINTED.split_at(at);
+        if let Some(behind) = left.strip_prefix(old) {
+            return text
+                .strip_prefix(before)
+                .and_then(|rest| rest.strip_prefix(new))
+                == Some(behind);
+        }
+    }
+    false
+}
+
+#[test]
+fn a_value_replaced(rt: HostRuntime) -> Result<(), Fail> {
+    check_set(&rt, "core.k", b"a;b", b"k = v\n", b"k = \"a;b\"\n")
+}
+
+#[test]
+fn a_value_of_pieces_replaced(rt: HostRuntime) -> Result<(), Fail> {
+    check_set(&rt, "core.long", b"z", b"a \\\n  b \\\r\n c ;", b"z ;")
+}
+
+#[test]
+fn a_value_put_behind_a_name(rt: HostRuntime) -> Result<(), Fail> {
+    check_set(&rt, "core.j", b"w", b" j\n", b" j = w\n")
+}
+
+#[test]
+fn an_entry_put_last(rt: HostRuntime) -> Result<(), Fail> {
+    check_set(
+        &rt,
+        "remote.or\"igin.fetch",
+        b"+x",
+        b"url=u\r\n",
+        b"url=u\r\nfetch=+x\n",
+    )
+}
+
+#[test]
+fn a_section_made_for_a_value(rt: HostRuntime) -> Result<(), Fail> {
+    check_set(
+        &rt,
+        "a.B\\.k",
+        b"v",
+        b"1 # d\n",
+        b"1 # d\n[a \"B\\\\\"]\n\tk = v\n",
+    )
 }

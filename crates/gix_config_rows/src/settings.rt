@@ -1,7 +1,7 @@
 //! Values that are set in files, as rows for the call that sets them. Until there is one, what it has to leave is read.
 
 use bstr::BStr;
-use gix_config::File;
+use gix_config::{File, KeyRef};
 use std::test::Fail;
 
 /// A text, a key, a value, the pieces of the value that stood there, and what is printed once the value is set.
@@ -240,6 +240,26 @@ fn set_values_are_found(rt: HostRuntime) -> Result<(), Fail> {
             "'{}'",
             BStr::new(text)
         );
+    }
+    Ok(())
+}
+
+/// Each of the rows: what was there, and what is printed.
+#[test]
+fn values_are_set(rt: HostRuntime) -> Result<(), Fail> {
+    for (text, key, value, old, printed) in &SETTINGS {
+        let shown = BStr::new(text);
+        let Some(key) = KeyRef::parse_unvalidated(key) else {
+            assert!(rt; false, "'{shown}'");
+            return Ok(());
+        };
+        let mut file = File::try_from_bytes(rt.alloc(), text)?;
+        let found = file.set_raw_value(key, value)?;
+        match (&found, *old) {
+            (Some(found), Some(old)) => assert!(rt; found.as_bytes() == old, "'{shown}'"),
+            (found, old) => assert!(rt; found.is_none() && old.is_none(), "'{shown}'"),
+        }
+        assert!(rt; file.to_bstring()?.as_bytes() == *printed, "'{shown}'");
     }
     Ok(())
 }

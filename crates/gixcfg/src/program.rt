@@ -206,8 +206,7 @@ fn tell<E: Write>(fault: &Fault, err: &mut E) {
         }
         Fault::RefusedEdit(refusal) => {
             let number = refusal.number();
-            let line = format!(in alloc; "gixcfg: E{number}\n")?;
-            err.write_all(line.as_bytes())
+            writeln!(err, "gixcfg: E{number}")
         }
     };
 }

@@ -205,7 +205,7 @@ fn files_are_printed(rt: HostRuntime) -> Result<(), Fail> {
 /// Words that aren't understood, found before standard input is read.
 #[test]
 fn other_words_are_usage_faults(rt: HostRuntime) -> Result<(), Fail> {
-    let rows: [Row; 14] = [
+    let rows: [Row; 13] = [
         (b"[", &[], 2, b"", USAGE),
         (b"[", &["get"], 2, b"", USAGE),
         (b"[", &["get", "ak"], 2, b"", USAGE),
@@ -213,7 +213,6 @@ fn other_words_are_usage_faults(rt: HostRuntime) -> Result<(), Fail> {
         (b"[", &["get", "a.k", "v"], 2, b"", USAGE),
         (b"[", &["a.k", "get"], 2, b"", USAGE),
         (b"[", &["print", "a.b"], 2, b"", USAGE),
-        (b"[", &["set", "a.k", "v"], 2, b"", USAGE),
         (b"[", &["unset", "a.k"], 2, b"", USAGE),
         (b"[", &["Get", "a.k"], 2, b"", USAGE),
         (b"[", &["get ", "a.k"], 2, b"", USAGE),

@@ -156,9 +156,9 @@ fn changed(alloc: Global, old: &[u8], new: &[u8]) -> Result<Vec<u8>, AllocError>
     Ok(Vec::new(alloc))
 }
 
-/// Sets each of the values: all other lines stay. To be switched on once the program has the command `set`, by a test
-/// that calls this.
-pub fn check_changes<R: Abort + AllocGlobal>(rt: &R) -> Result<(), Fail> {
+/// Sets each of the values: all other lines stay.
+#[test]
+fn values_of_a_real_file_are_set(rt: HostRuntime) -> Result<(), Fail> {
     for (key, value, old, new) in &CHANGES {
         let expected = changed(rt.alloc(), old, new)?;
         let mut out = Vec::new(rt.alloc());

@@ -53,6 +53,32 @@ fn a_file_printed(rt: HostRuntime) -> Result<(), Fail> {
 }
 
 #[test]
+fn a_value_set(rt: HostRuntime) -> Result<(), Fail> {
+    let printed = b"# c\n[a \"x\\\"y\"]\n k = v ; d\n j\n[B.C]\n long = w\n";
+    check_refused(
+        &rt,
+        (TEXT, &["set", "b.c.long", "w"], 0, printed, b""),
+    )
+}
+
+#[test]
+fn a_section_made(rt: HostRuntime) -> Result<(), Fail> {
+    let printed = b"[a]\n k = v\n[b \"x\\\\y\"]\n\tl = w\n";
+    check_refused(
+        &rt,
+        (b"[a] k = v", &["set", "b.x\\y.l", "w"], 0, printed, b""),
+    )
+}
+
+#[test]
+fn an_edit_refused(rt: HostRuntime) -> Result<(), Fail> {
+    check_refused(
+        &rt,
+        (TEXT, &["set", "a.1k", "w"], 3, b"", b"gixcfg: E6\n"),
+    )
+}
+
+#[test]
 fn a_value_missing(rt: HostRuntime) -> Result<(), Fail> {
     check_refused(&rt, (TEXT, &["get", "a.k"], 1, b"", b""))
 }

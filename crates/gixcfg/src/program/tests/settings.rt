@@ -1,8 +1,6 @@
-//! Runs of `set`, which sets a value and prints the file. To be switched on once the program has the command: a test
-//! `values_are_set` that calls `check_settings`.
+//! Runs of `set`, which sets a value and prints the file.
 
 use super::{Row, USAGE, check};
-use std::process::Abort;
 use std::test::Fail;
 
 static SETTINGS: [Row; 46] = [
@@ -304,10 +302,20 @@ static REFUSALS: [Row; 13] = [
     (b"[", &["set", "a.k", "v", "w"], 2, b"", USAGE),
 ];
 
-/// Runs all of them.
-pub fn check_settings<R: Abort + AllocGlobal>(rt: &R) -> Result<(), Fail> {
-    for row in SETTINGS.iter().chain(&REFUSALS) {
-        check(rt, rt.alloc(), *row)?;
+/// The file with the value, and nothing else changed.
+#[test]
+fn values_are_set(rt: HostRuntime) -> Result<(), Fail> {
+    for row in &SETTINGS {
+        check(&rt, rt.alloc(), *row)?;
+    }
+    Ok(())
+}
+
+/// Edits, texts and words that are refused.
+#[test]
+fn settings_are_refused(rt: HostRuntime) -> Result<(), Fail> {
+    for row in &REFUSALS {
+        check(&rt, rt.alloc(), *row)?;
     }
     Ok(())
 }

@@ -1,4 +1,9 @@
+use Rattle.std.proofs.Common.{subst}
+use Rattle.std.specs.Option.{option_copied}
+use Rattle.gitconf_store.specs.Edits.{IsSet}
 use Rattle.gix_config.proofs.file.File.set_raw_value_filter_by.Goals as goal
 
 pub returns-clause-exact : goal.returns-clause-exact
-returns-clause-exact g c = c.set_raw_value_filter_by.ensures.exact
+returns-clause-exact g c = λ keeps h.
+    subst (λ s. IsSet c.args.section_name.now (option_copied c.args.subsection_name) c.args.value_name.now keeps c.args.new_value.now c.set_raw_value_filter_by.result s c.set_raw_value_filter_by.new.self)
+    c.self.view_is (c.set_raw_value_filter_by.ensures.exact keeps h)
