@@ -30,3 +30,4 @@ pub mod EditPlaces
 pub mod EditValues
 pub mod EditOthers
 pub mod EditRows
+pub mod EditUsed

@@ -18,7 +18,7 @@ ghost use Rattle.gitconf_state.specs.Loads.{IsFullLoad, IsLoad, IsPartLoad};
 ghost use Rattle.gitconf_state.specs.Inserted.{Inserted, IsByteForByte};
 ghost use Rattle.gitconf_state.specs.LineEnds.{file_line_end};
 ghost use Rattle.gitconf_state.specs.Lookup.{passing, last_value, all_values};
-ghost use Rattle.gitconf_state.specs.Edit.{is_entry_of, spacing_of, new_entry, set_value, new_section, is_target, section_with, set_raw_value, Edit, apply, apply_all, may_stand, is_edit, are_edits, is_clean_edit};
+ghost use Rattle.gitconf_state.specs.Edit.{is_entry_of, spacing_of, new_entry, set_value, new_section, is_target, section_with, set_raw_value, Edit, apply, apply_all, may_stand, is_edit, are_edits, is_clean_edit, with_used};
 ghost use Rattle.gitconf_state.specs.Comments.{item_comments, comments_of, comments, comments_of_kept};
 
 /// A state loaded from a text has items of a text, also where a filter dropped blanks, line ends and comments. Loaded whole it is
@@ -78,10 +78,23 @@ pub fn edits_keep_states()
     ensures all_clean { (edits : List Edit) (state : State) → list_all is_clean_edit edits ≡ true → IsClean state → IsClean (apply_all edits state) }
 {}
 
-/// The text of an edited state is read back: it has the document that the edits leave.
+/// The text of an edited state is read back: it has the document that the edits leave. So it is from the bytes of an accepted text,
+/// loaded whole, through any list of edits, to the bytes that are written.
 pub fn edited_text_reads_back()
-    ensures { (edits : List Edit) (state : State) → are_edits edits state ≡ true → list_all is_clean_edit edits ≡ true → HasItems state → IsClean state
+    ensures state { (edits : List Edit) (state : State) → are_edits edits state ≡ true → list_all is_clean_edit edits ≡ true → HasItems state → IsClean state
         → Reads (printed (apply_all edits state)) (document_of (apply_all edits state)) }
+    ensures text { (edits : List Edit) (text : List ℕ) (parts : List Part) (state : State) → IsText text parts → IsFullLoad parts state
+        → are_edits edits state ≡ true → list_all is_clean_edit edits ≡ true
+        → Reads (printed (apply_all edits state)) (document_of (apply_all edits state)) }
+{}
+
+/// How many bytes a buffer has is asked by no edit, and shown by no text or document. So calls that leave the state of an edit but for
+/// this number leave that of all edits, one behind the other, but for it.
+pub fn used_bytes_are_not_asked()
+    ensures edits { (edits : List Edit) (used : ℕ) (state : State) → apply_all edits (with_used used state) ≡ with_used used (apply_all edits state) }
+    ensures names { (edits : List Edit) (used : ℕ) (state : State) → are_edits edits (with_used used state) ≡ are_edits edits state }
+    ensures text { (used : ℕ) (state : State) → printed (with_used used state) ≡ printed state }
+    ensures document { (used : ℕ) (state : State) → document_of (with_used used state) ≡ document_of state }
 {}
 
 /// A value that was set is found by its name, subsection and key, where the look-up keeps the sections that the edit keeps and
