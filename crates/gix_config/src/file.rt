@@ -4,11 +4,12 @@ pub mod init;
 
 use bstr::BString;
 use gitconf_base::key::AsKey;
-use gitconf_base::meta::Metadata;
+pub use gitconf_base::meta::Metadata;
+pub use gitconf_base::util::SectionId;
 use gitconf_parse::error::Error;
 use gitconf_parse::events::{Events, check_len};
 use gitconf_parse::sink::{Sink, SinkFault};
-use gitconf_store::section::{SectionRef, Sections};
+pub use gitconf_store::section::{SectionRef, Sections};
 pub use gitconf_store::set_raw_value;
 use gitconf_store::store::Store;
 use gitconf_text::NoMemory;

@@ -2,8 +2,10 @@
 #![tactic(auto)]
 
 pub mod file;
+pub mod parse;
+pub mod value;
 
 pub use file::File;
 pub use gitconf_base::key::{AsKey, KeyRef};
-pub use gitconf_base::source::Source;
+pub use gitconf_base::source::{self, Source};
 pub use gitconf_base::values::{self, path};

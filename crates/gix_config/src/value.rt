@@ -1,0 +1,2 @@
+//! What raw values mean.
+pub use gitconf_text::value::{Error, normalize};
