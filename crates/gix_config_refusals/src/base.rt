@@ -1,10 +1,12 @@
-//! Metadata, and the table of sections.
+//! Metadata, the table of sections, and home folders.
 
 use super::shim::{begin, was_refused};
 use gitconf_base::meta::Metadata;
 use gitconf_base::source::Source;
 use gitconf_base::util::{SectionId, SectionTable};
+use gitconf_base::values::Homes;
 use std::alloc::Global;
+use std::process::Abort;
 use std::test::Fail;
 
 #[test]
@@ -59,6 +61,21 @@ fn is_as_made(table: &SectionTable<u8>, next: SectionId) -> bool {
         && has_one(table, "core", None, b'c')
         && has_one(table, "remote", Some(b"o"), b'r')
         && table.next_id() == next
+}
+
+#[test]
+fn a_copy_of_a_table(rt: HostRuntime) -> Result<(), Fail> {
+    let table = table_of_two(rt.alloc())?;
+    let next = table.next_id();
+    begin(rt.alloc())?;
+    let answer = table.try_clone();
+    let refused = was_refused(rt.alloc());
+    match answer {
+        Ok(copy) => assert!(rt; is_as_made(&copy, next)),
+        Err(error) => assert!(rt; refused && error.number() == 27),
+    }
+    assert!(rt; is_as_made(&table, next));
+    Ok(())
 }
 
 #[test]
@@ -143,4 +160,53 @@ fn a_renamed_section(rt: HostRuntime) -> Result<(), Fail> {
         }
     }
     Ok(())
+}
+
+/// Users, each with the folder of its name.
+fn users(alloc: Global, names: &[&str]) -> Result<Homes, Fail> {
+    let mut homes = Homes::new(alloc);
+    for name in names {
+        homes.insert(
+            String::from_str(alloc, name)?,
+            String::from_str(alloc, name)?,
+        )?;
+    }
+    Ok(homes)
+}
+
+/// Gives `new` a folder, which is none of these users.
+fn check_new_user<R: Abort + AllocGlobal>(rt: &R, names: &[&str]) -> Result<(), Fail> {
+    let mut homes = users(rt.alloc(), names)?;
+    let user = String::from_str(rt.alloc(), "new")?;
+    let folder = String::from_str(rt.alloc(), "/home/new")?;
+    begin(rt.alloc())?;
+    let answer = homes.insert(user, folder);
+    let refused = was_refused(rt.alloc());
+    match answer {
+        Ok(()) => assert!(rt; homes.get("new") == Some("/home/new")),
+        Err(error) => {
+            assert!(rt; refused && error.number() == 27);
+            assert!(rt; homes.get("new").is_none());
+        }
+    }
+    for name in names {
+        assert!(rt; homes.get(name) == Some(*name));
+    }
+    Ok(())
+}
+
+#[test]
+fn a_first_user(rt: HostRuntime) -> Result<(), Fail> {
+    check_new_user(&rt, &[])
+}
+
+/// A node that has its fifteen users is full, and is split.
+#[test]
+fn a_user_put_among_others(rt: HostRuntime) -> Result<(), Fail> {
+    check_new_user(
+        &rt,
+        &[
+            "a", "b", "c", "d", "e", "f", "g", "h", "i", "j", "k", "l", "m", "n", "o",
+        ],
+    )
 }

@@ -1,10 +1,14 @@
-//! Files: loaded, looked up, and written.
+//! Files: loaded, copied, looked up, written, and edited.
+ghost use Rattle.std.specs.Option.{ForSome};
 
 use super::parse::TEXT;
 use super::shim::{begin, was_refused};
 use bstr::ByteSlice;
 use gitconf_base::meta::Metadata;
+use gitconf_parse::event_ref::EventRef;
+use gitconf_parse::events::{Events, keeps_meaning};
 use gitconf_store::store::Store;
+use gix_config::file::init;
 use gix_config::{File, KeyRef};
 use std::process::Abort;
 use std::rc::Rc;
@@ -61,6 +65,87 @@ fn a_text_loaded_without_layout(rt: HostRuntime) -> Result<(), Fail> {
         Ok(store) => assert!(rt; store.to_bstring()?.as_bytes() == PRINTED_LOSSY),
         Err(error) => assert!(rt; refused && error.number() == 27),
     }
+    Ok(())
+}
+
+/// Loads the text by options, which is then printed so.
+fn check_load<R: Abort + AllocGlobal>(rt: &R, lossy: bool, printed: &[u8]) -> Result<(), Fail> {
+    let meta = Rc::new(rt.alloc(), Metadata::api())?;
+    let options = init::Options {
+        lossy,
+        ..init::Options::default()
+    };
+    begin(rt.alloc())?;
+    let answer = File::from_bytes_no_includes(rt.alloc(), TEXT, meta, options);
+    let refused = was_refused(rt.alloc());
+    match answer {
+        Ok(file) => {
+            assert!(rt; file.to_bstring()?.as_bytes() == printed);
+            assert!(rt; has_value(&file, "core.long", b"a   b  c")?);
+        }
+        Err(error) => assert!(rt; refused && error.number() == 27),
+    }
+    Ok(())
+}
+
+#[test]
+fn a_text_loaded_by_options(rt: HostRuntime) -> Result<(), Fail> {
+    check_load(&rt, false, PRINTED)
+}
+
+#[test]
+fn a_text_loaded_by_options_without_layout(rt: HostRuntime) -> Result<(), Fail> {
+    check_load(&rt, true, PRINTED_LOSSY)
+}
+
+/// Makes a file of the events that the filter keeps, which is then printed so.
+fn check_events<R: Abort + AllocGlobal>(
+    rt: &R,
+    filter: Option<fn(&EventRef<'_>) -> bool>,
+    printed: &[u8],
+) -> Result<(), Fail>
+    requires { ForSome filter (λ f. IsAlwaysCallable f) }
+{
+    let events = Events::from_bytes(rt.alloc(), TEXT, filter)?;
+    if !events.keeps_entries() {
+        assert!(rt; false, "not all entries");
+        return Ok(());
+    }
+    let meta = Rc::new(rt.alloc(), Metadata::api())?;
+    begin(rt.alloc())?;
+    let answer = File::from_parse_events_no_includes(rt.alloc(), events, meta);
+    let refused = was_refused(rt.alloc());
+    match answer {
+        Ok(file) => {
+            assert!(rt; file.to_bstring()?.as_bytes() == printed);
+            assert!(rt; has_value(&file, "core.long", b"a   b  c")?);
+        }
+        Err(error) => assert!(rt; refused && error.number() == 27),
+    }
+    Ok(())
+}
+
+#[test]
+fn a_file_of_events(rt: HostRuntime) -> Result<(), Fail> {
+    check_events(&rt, None, PRINTED)
+}
+
+#[test]
+fn a_file_of_events_that_a_filter_keeps(rt: HostRuntime) -> Result<(), Fail> {
+    check_events(&rt, Some(keeps_meaning), PRINTED_LOSSY)
+}
+
+#[test]
+fn a_copy_of_a_file(rt: HostRuntime) -> Result<(), Fail> {
+    let file = File::try_from_bytes(rt.alloc(), TEXT)?;
+    begin(rt.alloc())?;
+    let answer = file.try_clone();
+    let refused = was_refused(rt.alloc());
+    match answer {
+        Ok(copy) => assert!(rt; is_whole(&copy)?),
+        Err(error) => assert!(rt; refused && error.number() == 27),
+    }
+    assert!(rt; is_whole(&file)?);
     Ok(())
 }
 
@@ -161,13 +246,14 @@ fn a_printed_section(rt: HostRuntime) -> Result<(), Fail> {
     Ok(())
 }
 
-/// Sets the value of a key in the file, which is then printed with `new` in the place of `old`.
+/// Sets the value of a key in the file, whose raw text was this one. The file is then printed with the second text of
+/// the change in the place of the first.
 fn check_set<R: Abort + AllocGlobal>(
     rt: &R,
     key: &str,
     value: &[u8],
-    old: &[u8],
-    new: &[u8],
+    was: Option<&[u8]>,
+    change: (&[u8], &[u8]),
 ) -> Result<(), Fail> {
     let mut file = File::try_from_bytes(rt.alloc(), TEXT)?;
     let Some(key) = KeyRef::parse_unvalidated(key.as_bytes()) else {
@@ -178,9 +264,10 @@ fn check_set<R: Abort + AllocGlobal>(
     let answer = file.set_raw_value(key, value);
     let refused = was_refused(rt.alloc());
     match answer {
-        Ok(_) => {
+        Ok(found) => {
+            assert!(rt; found.as_ref().map(|found| found.as_bytes()) == was);
             let printed = file.to_bstring()?;
-            assert!(rt; is_replaced(printed.as_bytes(), old, new));
+            assert!(rt; is_replaced(printed.as_bytes(), change.0, change.1));
         }
         Err(error) => {
             assert!(rt; refused && error.number() == 27);
@@ -206,37 +293,29 @@ fn is_replaced(text: &[u8], old: &[u8], new: &[u8]) -> bool {
 
 #[test]
 fn a_value_replaced(rt: HostRuntime) -> Result<(), Fail> {
-    check_set(&rt, "core.k", b"a;b", b"k = v\n", b"k = \"a;b\"\n")
+    let change: (&[u8], &[u8]) = (b"k = v\n", b"k = \"a;b\"\n");
+    check_set(&rt, "core.k", b"a;b", Some(b"v"), change)
 }
 
 #[test]
 fn a_value_of_pieces_replaced(rt: HostRuntime) -> Result<(), Fail> {
-    check_set(&rt, "core.long", b"z", b"a \\\n  b \\\r\n c ;", b"z ;")
+    let change: (&[u8], &[u8]) = (b"a \\\n  b \\\r\n c ;", b"z ;");
+    check_set(&rt, "core.long", b"z", Some(b"a   b  c"), change)
 }
 
 #[test]
 fn a_value_put_behind_a_name(rt: HostRuntime) -> Result<(), Fail> {
-    check_set(&rt, "core.j", b"w", b" j\n", b" j = w\n")
+    check_set(&rt, "core.j", b"w", Some(b""), (b" j\n", b" j = w\n"))
 }
 
 #[test]
 fn an_entry_put_last(rt: HostRuntime) -> Result<(), Fail> {
-    check_set(
-        &rt,
-        "remote.or\"igin.fetch",
-        b"+x",
-        b"url=u\r\n",
-        b"url=u\r\nfetch=+x\n",
-    )
+    let change: (&[u8], &[u8]) = (b"url=u\r\n", b"url=u\r\nfetch=+x\n");
+    check_set(&rt, "remote.or\"igin.fetch", b"+x", None, change)
 }
 
 #[test]
 fn a_section_made_for_a_value(rt: HostRuntime) -> Result<(), Fail> {
-    check_set(
-        &rt,
-        "a.B\\.k",
-        b"v",
-        b"1 # d\n",
-        b"1 # d\n[a \"B\\\\\"]\n\tk = v\n",
-    )
+    let change: (&[u8], &[u8]) = (b"1 # d\n", b"1 # d\n[a \"B\\\\\"]\n\tk = v\n");
+    check_set(&rt, "a.B\\.k", b"v", None, change)
 }

@@ -4,6 +4,7 @@ use super::parse::TEXT;
 use super::shim::{begin, was_refused};
 use gitconf_base::key::KeyRef;
 use gitconf_base::meta::Metadata;
+use gitconf_base::values::Homes;
 use gitconf_parse::events::Events;
 use gitconf_text::value::normalize;
 use gix_config::File;
@@ -97,5 +98,22 @@ fn a_file_written_where_there_is_room(rt: HostRuntime) -> Result<(), Fail> {
     let answer = file.write_to(&mut out);
     assert!(rt; !was_refused(rt.alloc()));
     assert!(rt; answer.is_ok() && out.as_slice() == b"[a]\n k = v\n".as_slice());
+    Ok(())
+}
+
+/// A user that has a folder gets another.
+#[test]
+fn another_home_folder(rt: HostRuntime) -> Result<(), Fail> {
+    let mut homes = Homes::new(rt.alloc());
+    homes.insert(
+        String::from_str(rt.alloc(), "u")?,
+        String::from_str(rt.alloc(), "/u")?,
+    )?;
+    let user = String::from_str(rt.alloc(), "u")?;
+    let folder = String::from_str(rt.alloc(), "/v")?;
+    begin(rt.alloc())?;
+    let answer = homes.insert(user, folder);
+    assert!(rt; !was_refused(rt.alloc()));
+    assert!(rt; answer.is_ok() && homes.get("u") == Some("/v"));
     Ok(())
 }
