@@ -12,13 +12,19 @@ mod filters;
 #[cfg(test)]
 mod fronts;
 #[cfg(test)]
+mod includes;
+#[cfg(test)]
 mod items;
+#[cfg(test)]
+mod kept;
 #[cfg(test)]
 mod loads;
 #[cfg(test)]
 mod lookups;
 #[cfg(test)]
 mod names;
+#[cfg(test)]
+mod options;
 #[cfg(test)]
 mod printed;
 #[cfg(test)]

@@ -1,7 +1,7 @@
-//! Values that are set in files, as rows for the call that sets them. Until there is one, what it has to leave is read.
+//! Values that are set in files, in each of the four forms.
 
-use bstr::BStr;
-use gix_config::{File, KeyRef};
+use bstr::{BStr, BString};
+use gix_config::{File, KeyRef, Source};
 use std::test::Fail;
 
 /// A text, a key, a value, the pieces of the value that stood there, and what is printed once the value is set.
@@ -244,6 +244,15 @@ fn set_values_are_found(rt: HostRuntime) -> Result<(), Fail> {
     Ok(())
 }
 
+/// The raw text that was answered is this one, or there was none.
+fn was(found: &Option<BString>, expected: Option<&[u8]>) -> bool {
+    match (found, expected) {
+        (Some(found), Some(expected)) => found.as_bytes() == expected,
+        (None, None) => true,
+        _ => false,
+    }
+}
+
 /// Each of the rows: what was there, and what is printed.
 #[test]
 fn values_are_set(rt: HostRuntime) -> Result<(), Fail> {
@@ -255,11 +264,49 @@ fn values_are_set(rt: HostRuntime) -> Result<(), Fail> {
         };
         let mut file = File::try_from_bytes(rt.alloc(), text)?;
         let found = file.set_raw_value(key, value)?;
-        match (&found, *old) {
-            (Some(found), Some(old)) => assert!(rt; found.as_bytes() == old, "'{shown}'"),
-            (found, old) => assert!(rt; found.is_none() && old.is_none(), "'{shown}'"),
-        }
+        assert!(rt; was(&found, *old), "'{shown}'");
         assert!(rt; file.to_bstring()?.as_bytes() == *printed, "'{shown}'");
     }
+    Ok(())
+}
+
+/// The three names of a key set what the key sets, with a filter that each section passes, and without one.
+#[test]
+fn values_are_set_by_names(rt: HostRuntime) -> Result<(), Fail> {
+    for (text, key, value, old, printed) in &SETTINGS {
+        let shown = BStr::new(text);
+        let Some(key) = KeyRef::parse_unvalidated(key) else {
+            assert!(rt; false, "'{shown}'");
+            return Ok(());
+        };
+        let (section, subsection, name) = (key.section_name, key.subsection_name, key.value_name);
+        let mut file = File::try_from_bytes(rt.alloc(), text)?;
+        let found = file.set_raw_value_by(section, subsection, name, value)?;
+        assert!(rt; was(&found, *old), "'{shown}'");
+        assert!(rt; file.to_bstring()?.as_bytes() == *printed, "'{shown}'");
+        let mut file = File::try_from_bytes(rt.alloc(), text)?;
+        let found = file.set_raw_value_filter_by(section, subsection, name, value, |meta| {
+            meta.source == Source::Api
+        })?;
+        assert!(rt; was(&found, *old), "'{shown}'");
+        assert!(rt; file.to_bstring()?.as_bytes() == *printed, "'{shown}'");
+    }
+    Ok(())
+}
+
+/// A section that the filter drops is left alone, and another one is made.
+#[test]
+fn values_are_set_where_a_filter_passes(rt: HostRuntime) -> Result<(), Fail> {
+    let Some(key) = KeyRef::parse_unvalidated(b"a.k") else {
+        assert!(rt; false, "no key");
+        return Ok(());
+    };
+    let mut file = File::try_from_bytes(rt.alloc(), b"[a]\nk=1\n")?;
+    let found = file.set_raw_value_filter(key, b"2", |meta| meta.source == Source::User)?;
+    assert!(rt; was(&found, None));
+    assert!(rt; file.to_bstring()?.as_bytes() == b"[a]\nk=1\n[a]\n\tk = 2\n".as_slice());
+    let found = file.set_raw_value_filter(key, b"3", |meta| meta.source == Source::Api)?;
+    assert!(rt; was(&found, Some(b"2")));
+    assert!(rt; file.to_bstring()?.as_bytes() == b"[a]\nk=1\n[a]\n\tk = 3\n".as_slice());
     Ok(())
 }
