@@ -55,10 +55,7 @@ fn a_file_printed(rt: HostRuntime) -> Result<(), Fail> {
 #[test]
 fn a_value_set(rt: HostRuntime) -> Result<(), Fail> {
     let printed = b"# c\n[a \"x\\\"y\"]\n k = v ; d\n j\n[B.C]\n long = w\n";
-    check_refused(
-        &rt,
-        (TEXT, &["set", "b.c.long", "w"], 0, printed, b""),
-    )
+    check_refused(&rt, (TEXT, &["set", "b.c.long", "w"], 0, printed, b""))
 }
 
 #[test]
@@ -72,10 +69,7 @@ fn a_section_made(rt: HostRuntime) -> Result<(), Fail> {
 
 #[test]
 fn an_edit_refused(rt: HostRuntime) -> Result<(), Fail> {
-    check_refused(
-        &rt,
-        (TEXT, &["set", "a.1k", "w"], 3, b"", b"gixcfg: E6\n"),
-    )
+    check_refused(&rt, (TEXT, &["set", "a.1k", "w"], 3, b"", b"gixcfg: E6\n"))
 }
 
 #[test]
