@@ -7,7 +7,6 @@ ghost use Rattle.gitconf_parse.specs.ParseError.{kind_of, unexpected_token, too_
 pub use crate::reading::Expected;
 use bstr::BStr;
 use gitconf_text::NoMemory;
-use std::alloc::{AllocError, AllocFailed};
 use std::fmt::Write;
 use std::marker::Model;
 use std::{fmt, str};
@@ -40,6 +39,8 @@ impl Model for Error {
 }
 
 impl Error {
+    ghost use Rattle.std.specs.Prelude.{◌==◌};
+
     /// Refusal 1: from `remaining` on, in this line, no token can be read. It is for the crates above this one.
     pub fn unexpected(line_number: usize, expected: Expected, remaining: Vec<u8>) -> Error
         ensures { result ≡ unexpected_token line_number expected remaining.items }
@@ -80,6 +81,13 @@ impl Error {
             Cause::TooLarge(_) => 2,
             Cause::Memory => 27,
         }
+    }
+
+    /// Whether memory was wanting. It is for the crates above this one, whose own errors have a case for that.
+    pub fn is_memory(&self) -> bool
+        ensures { result ≡ (self.now.number == 27) }
+    {
+        matches!(&self.cause, Cause::Memory)
     }
 
     /// The line in which the remaining data begins, counted from 1. It is 1 but for refusal 1.
@@ -201,22 +209,6 @@ impl From<NoMemory> for Error {
     ghost from_gives = { λ _ e. e ≡ want_of_memory };
 
     fn from(_e: NoMemory) -> Error {
-        Error::memory()
-    }
-}
-
-impl From<AllocError> for Error {
-    ghost from_gives = { λ _ e. e ≡ want_of_memory };
-
-    fn from(_e: AllocError) -> Error {
-        Error::memory()
-    }
-}
-
-impl<T: Drop> From<AllocFailed<T>> for Error {
-    ghost from_gives = { λ _ e. e ≡ want_of_memory };
-
-    fn from(_e: AllocFailed<T>) -> Error {
         Error::memory()
     }
 }

@@ -78,10 +78,17 @@ fn refusal(alloc: Global, input: &[u8], fault: Fault) -> Error
 {
     let (before, remaining) = input.split_at(fault.at);
     let line_feeds = before.iter().filter(|byte| **byte == b'\n').count();
-    match Vec::from_slice(alloc, remaining) {
+    match copied(alloc, remaining) {
         Ok(remaining) => Error::unexpected(line_feeds + 1, fault.expected, remaining),
         Err(_) => Error::memory(),
     }
+}
+
+/// A copy of a text.
+fn copied(alloc: Global, input: &[u8]) -> Result<Vec<u8>, NoMemory>
+    ensures items { IfOk result (λ copy. copy.items ≡ input.now) }
+{
+    Ok(Vec::from_slice(alloc, input)?)
 }
 
 /// The events of a text that has a document.
@@ -122,7 +129,7 @@ impl Events {
         ensures refused { IfErr result (IsRefused input.now) }
     {
         let events = events_of(alloc, input)?;
-        let buffer = Vec::from_slice(alloc, input)?;
+        let buffer = copied(alloc, input)?;
         let mut copies = Vec::new(alloc);
         let events = decoded_events(&buffer, events, &mut copies)?;
         Ok(Events {

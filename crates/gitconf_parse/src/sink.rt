@@ -9,15 +9,6 @@ use thiserror::Error;
 #[error("the writer failed")]
 pub struct SinkFault;
 
-impl SinkFault {
-    /// The refusal's number, 28.
-    pub fn number(&self) -> u8
-        ensures { result ≡ 28 }
-    {
-        28
-    }
-}
-
 /// What a text is written to.
 ///
 /// A writer that tells its bytes or its failures in its contract says in `told` which bytes it took, and in `faults`

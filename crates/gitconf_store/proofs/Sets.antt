@@ -2,7 +2,8 @@
 use Rattle.std.proofs.Common.{◌≡◌, ◌⊎◌, ℕ, ◌+◌, ◌≤◌, ◌^◌, Bool, true, false, List, [], ◌∷◌, ◌++◌, length, Option, Some, None, Result, Ok, Err, inl, refl, ap, sym, subst, ◌∙◌}
 use Rattle.std.specs.List.{list_any, last_or, slice_get}
 use Rattle.std.specs.Option.{option_map}
-use Rattle.std.specs.Prelude.{filter, IfErr, IfSome, IsErrOf, ◌↔◌}
+use Rattle.std.specs.Prelude.{◌==◌, if◌then◌else◌, filter, IfErr, IfSome, IsErrOf, ◌↔◌}
+use Rattle.std.proofs.lemmas.Bool.{eqb-true}
 use Rattle.bstr.specs.declared.bstring.BString.{BString}
 use Rattle.bstr.specs.Owned.{bstring_bytes}
 use Rattle.gitconf_text.specs.HeaderErrors.{header_number}
@@ -10,6 +11,7 @@ use Rattle.gitconf_text.specs.Names.{is_made_name, is_valid_or_none, is_value_na
 use Rattle.gitconf_text.specs.Token.{Token}
 use Rattle.gitconf_text.specs.declared.parse.section.header.Error.{Error as HeaderError}
 use Rattle.gitconf_text.specs.declared.parse.section.header.Error.TheVariants.{InvalidName, InvalidSubSection}
+use Rattle.gitconf_text.specs.declared.parse.section.header.Error.TheVariants as headers
 use Rattle.gitconf_base.specs.Metadata.{Meta}
 use Rattle.gitconf_base.specs.Sections.{no_number}
 use Rattle.gitconf_body.specs.Places.{IsLastAt}
@@ -19,8 +21,44 @@ use Rattle.gitconf_state.specs.State.{SectionState, State}
 use Rattle.gitconf_state.proofs.EditLists.{any_at, filter_none, last_passing}
 use Rattle.gitconf_state.proofs.EditPlaces.{set_raw_value_at, set_raw_value_new, replaced_value_at, replaced_value_none}
 use Rattle.gitconf_store.specs.declared.set_raw_value.Error.{Error}
-use Rattle.gitconf_store.specs.declared.set_raw_value.Error.TheVariants.{Header, Span}
+use Rattle.gitconf_store.specs.declared.set_raw_value.Error.TheVariants.{Header, Memory, Span}
 use Rattle.gitconf_store.specs.Edits.{update_at, set_at, set_new, EditGrows, IsSet, UsedGrows}
+use Rattle.gitconf_store.specs.SetErrors.{of_header, of_span, set_number}
+
+-- a refusal's number stays what it was
+number_of_header : (e : HeaderError) → set_number (of_header e) ≡ header_number e
+number_of_header headers.InvalidName = refl
+number_of_header headers.InvalidSubSection = refl
+number_of_header (headers.Span number) = refl
+number_of_header headers.Memory = refl
+
+number_of_span : (e : ℕ) → set_number (of_span e) ≡ e
+number_of_span e = go (e == 27) refl
+  where
+    go : (b : Bool) → (e == 27) ≡ b → set_number (if b then Memory else Span e) ≡ e
+    go true is = sym (eqb-true e 27 is)
+    go false is = refl
+
+-- which refusal of a header it was
+only_name : (e : HeaderError) → of_header e ≡ Header InvalidName → e ≡ InvalidName
+only_name headers.InvalidName is = refl
+only_name headers.InvalidSubSection is = absurd (cc)
+only_name (headers.Span number) is = absurd (cc)
+only_name headers.Memory is = absurd (cc)
+
+only_subsection : (e : HeaderError) → of_header e ≡ Header InvalidSubSection → e ≡ InvalidSubSection
+only_subsection headers.InvalidName is = absurd (cc)
+only_subsection headers.InvalidSubSection is = refl
+only_subsection (headers.Span number) is = absurd (cc)
+only_subsection headers.Memory is = absurd (cc)
+
+-- that of a place is none of a header
+no_header : (e : ℕ) (h : HeaderError) → of_span e ≡ Header h → ⊥
+no_header e h = go (e == 27)
+  where
+    go : (b : Bool) → (if b then Memory else Span e) ≡ Header h → ⊥
+    go true is = absurd (cc)
+    go false is = absurd (cc)
 
 -- the tokens of a section that is made
 tokens_new : (name : List ℕ) (subsection : Option (List ℕ)) (key : List ℕ) (keeps : Meta → Bool) (value : List ℕ) (state : State)
@@ -62,22 +100,25 @@ made_ok name subsection key keeps value old new r done none named valid made gro
 
 -- None could be made.
 pub made_err : (name : List ℕ) (subsection : Option (List ℕ)) (key : List ℕ) (keeps : Meta → Bool) (value : List ℕ) (old new : State) (r : Result (Unit {0}) HeaderError) (e : HeaderError) (result : Result (Option BString) Error)
-    → r ≡ Err e → result ≡ Err (Header e) → is_value_name key ≡ true → list_any (is_target name subsection keeps) old.sections ≡ false
+    → r ≡ Err e → result ≡ Err (of_header e) → is_value_name key ≡ true → list_any (is_target name subsection keeps) old.sections ≡ false
     → (IsErrOf r InvalidName ↔ (is_made_name name ≡ false)) → (IsErrOf r InvalidSubSection ↔ ((is_made_name name ≡ true) × (is_valid_or_none subsection ≡ false)))
     → EditGrows r header_number (token_bytes (section_tokens (file_line_end old) name subsection key value)) old new
     → IsSet name subsection key keeps value result old new
 made_err name subsection key keeps value old new r e result fault is keyed none named valid grows = subst (λ t. IsSet name subsection key keeps value t old new) (sym is) (record {
-  invalid_name = (λ same. (keyed, none, named.0 (fault ∙ (let h : e ≡ InvalidName = cc in ap Err h))), λ all. ap (λ e. Err (Header e)) (let h = sym fault ∙ named.1 all.2 in let g : e ≡ InvalidName = cc in g));
+  invalid_name = (
+    λ same. (keyed, none, named.0 (fault ∙ (let h : of_header e ≡ Header InvalidName = cc in ap Err (only_name e h)))),
+    λ all. ap (λ e. Err (of_header e)) (let h = sym fault ∙ named.1 all.2 in let g : e ≡ InvalidName = cc in g),
+  );
   invalid_subsection = (
-    λ same. let v = valid.0 (fault ∙ (let h : e ≡ InvalidSubSection = cc in ap Err h)) in (keyed, none, v.0, v.1),
-    λ all. ap (λ e. Err (Header e)) (let h = sym fault ∙ valid.1 (all.2, all.3) in let g : e ≡ InvalidSubSection = cc in g),
+    λ same. let v = valid.0 (fault ∙ (let h : of_header e ≡ Header InvalidSubSection = cc in ap Err (only_subsection e h))) in (keyed, none, v.0, v.1),
+    λ all. ap (λ e. Err (of_header e)) (let h = sym fault ∙ valid.1 (all.2, all.3) in let g : e ≡ InvalidSubSection = cc in g),
   );
   ok = tt;
   answer = tt;
   used = record {
     grown = subst (λ ts. new.used ≤ old.used + token_bytes ts) (sym (tokens_new name subsection key keeps value old none)) grows.grown;
-    too_large = subst (λ ts. header_number e ≡ 3 → (2 ^ 32 ≤ old.used + token_bytes ts) ⊎ (old.next ≡ no_number)) (sym (tokens_new name subsection key keeps value old none))
-        (subst (λ r. IfErr r (λ e. header_number e ≡ 3 → (2 ^ 32 ≤ old.used + token_bytes (section_tokens (file_line_end old) name subsection key value)) ⊎ (old.next ≡ no_number))) fault grows.too_large);
+    too_large = λ number. (subst (λ ts. header_number e ≡ 3 → (2 ^ 32 ≤ old.used + token_bytes ts) ⊎ (old.next ≡ no_number)) (sym (tokens_new name subsection key keeps value old none))
+        (subst (λ r. IfErr r (λ e. header_number e ≡ 3 → (2 ^ 32 ≤ old.used + token_bytes (section_tokens (file_line_end old) name subsection key value)) ⊎ (old.next ≡ no_number))) fault grows.too_large)) (sym (number_of_header e) ∙ number);
   };
 })
 
@@ -135,16 +176,16 @@ found_ok {T} name subsection key keeps value old new at t o bytes l set was same
 
 -- It stays as it was.
 pub found_err : {T : Type 0} (name : List ℕ) (subsection : Option (List ℕ)) (key : List ℕ) (keeps : Meta → Bool) (value : List ℕ) (old new : State) (at : ℕ) (r : Result T ℕ) (e : ℕ) (result : Result (Option BString) Error)
-    → IsLastAt (is_target name subsection keeps) old.sections at → r ≡ Err e → result ≡ Err (Span e)
+    → IsLastAt (is_target name subsection keeps) old.sections at → r ≡ Err e → result ≡ Err (of_span e)
     → IfSome (slice_get old.sections at) (λ s. UsedGrows {T = T} r (token_bytes (set_tokens (file_line_end old) key value s.items)) old.used new.used)
     → IsSet name subsection key keeps value result old new
 found_err {T} name subsection key keeps value old new at r e result l fault is used = subst (λ t. IsSet name subsection key keeps value t old new) (sym is) (record {
-  invalid_name = (λ same. absurd (cc), λ all. absurd (stands all.1));
-  invalid_subsection = (λ same. absurd (cc), λ all. absurd (stands all.1));
+  invalid_name = (λ same. absurd (no_header e InvalidName (cc)), λ all. absurd (stands all.1));
+  invalid_subsection = (λ same. absurd (no_header e InvalidSubSection (cc)), λ all. absurd (stands all.1));
   ok = tt;
   answer = tt;
   used = let g = grown_at name subsection key keeps value old new at r l used in
-      record { grown = g.grown; too_large = λ number. inl (g.too_large (fault ∙ ap Err number)) };
+      record { grown = g.grown; too_large = λ number. inl (g.too_large (fault ∙ ap Err (sym (number_of_span e) ∙ number))) };
 })
   where
     stands : list_any (is_target name subsection keeps) old.sections ≡ false → ⊥

@@ -1,4 +1,6 @@
 //! Sections as a store keeps them, and views of them.
+ghost use Rattle.std.specs.Prelude.{◌≡◌, IfOk};
+
 use crate::events::ItemEvents;
 use bstr::BString;
 use gitconf_base::meta::Metadata;
@@ -19,6 +21,17 @@ pub(crate) struct Section {
     pub(crate) meta: Rc<Metadata>,
     pub(crate) items: Vec<Item>,
     pub(crate) held: Vec<Item>,
+}
+
+/// The same metadata with one owner more.
+///
+/// # Errors
+///
+/// No other owner can be counted any more.
+pub(crate) fn shared(meta: &Rc<Metadata>) -> Result<Rc<Metadata>, NoMemory>
+    ensures { IfOk result (λ owned. owned.value ≡ meta.now.value) }
+{
+    Ok(meta.clone()?)
 }
 
 /// A view of a section.

@@ -1,6 +1,5 @@
 //! How setting a raw value is refused.
 ghost use Rattle.std.specs.Prelude.{◌≡◌};
-ghost use Rattle.gitconf_store.specs.SetErrors.{set_number};
 
 use gitconf_text::NoMemory;
 use gitconf_text::parse::section::{ValueNameError, header};
@@ -10,7 +9,7 @@ use thiserror::Error;
 /// How setting a raw value is refused.
 #[derive(Debug, Drop, Error)]
 pub enum Error {
-    /// A section has to be made, and can't be: refusal 3, 4, 5 or 27.
+    /// A section has to be made, and can't be: refusal 3, 4 or 5.
     #[error(transparent)]
     Header(header::Error),
     /// The name of the value is none: refusal 6.
@@ -24,37 +23,30 @@ pub enum Error {
     Memory,
 }
 
-impl Error {
-    /// The refusal's number: 3 to 6, or 27.
-    pub fn number(&self) -> u8
-        ensures { result ≡ set_number self.now }
-    {
-        match self {
-            Error::Header(e) => e.number(),
-            Error::ValueName(e) => e.number(),
-            Error::Span(e) => e.number(),
-            Error::Memory => 27,
+impl From<header::Error> for Error {
+    ghost use Rattle.gitconf_store.specs.SetErrors.{of_header};
+
+    ghost from_gives = { λ header e. e ≡ of_header header };
+
+    fn from(header: header::Error) -> Error {
+        match header {
+            header::Error::Memory => Error::Memory,
+            header => Error::Header(header),
         }
     }
 }
 
-impl From<header::Error> for Error {
-    ghost use Rattle.gitconf_store.specs.declared.set_raw_value.Error.TheVariants.{Header};
-
-    ghost from_gives = { λ header e. e ≡ Header header };
-
-    fn from(header: header::Error) -> Error {
-        Error::Header(header)
-    }
-}
-
 impl From<span::Error> for Error {
-    ghost use Rattle.gitconf_store.specs.declared.set_raw_value.Error.TheVariants.{Span};
+    ghost use Rattle.gitconf_store.specs.SetErrors.{of_span};
 
-    ghost from_gives = { λ span e. e ≡ Span span };
+    ghost from_gives = { λ span e. e ≡ of_span span };
 
     fn from(span: span::Error) -> Error {
-        Error::Span(span)
+        if span.is_memory() {
+            Error::Memory
+        } else {
+            Error::Span(span)
+        }
     }
 }
 

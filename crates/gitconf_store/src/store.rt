@@ -4,7 +4,7 @@ use crate::events::ItemEvents;
 use crate::load::load_sections;
 use crate::lookup::last_meaning;
 use crate::print::{front_is_ended, write_sections};
-use crate::section::{Section, SectionRef, Sections};
+use crate::section::{Section, SectionRef, Sections, shared};
 use crate::{set_raw_value, tokens};
 use bstr::BString;
 use gitconf_base::meta::Metadata;
@@ -228,7 +228,7 @@ impl Store {
     pub fn meta_owned(&self) -> Result<Rc<Metadata>, NoMemory>
         ensures { IfOk result (λ m. m.value ≡ self.now.meta) }
     {
-        Ok(self.meta.clone()?)
+        shared(&self.meta)
     }
 
     /// Says where the file comes from, and each section that is made from now on. Those that stand keep theirs.
@@ -467,7 +467,7 @@ impl Store {
         )?;
         let section = Section {
             header: section.header,
-            meta: self.meta.clone()?,
+            meta: shared(&self.meta)?,
             items: section.items,
             held: Vec::new(*self.buffer.allocator()),
         };

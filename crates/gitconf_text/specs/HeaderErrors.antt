@@ -1,5 +1,5 @@
 -- What the refusals of a made header are.
-use Rattle.std.specs.Prelude.{ℕ}
+use Rattle.std.specs.Prelude.{ℕ, ◌==◌, if◌then◌else◌}
 use Rattle.gitconf_text.specs.declared.parse.section.header.Error.{Error}
 use Rattle.gitconf_text.specs.declared.parse.section.header.Error.TheVariants.{InvalidName, InvalidSubSection, Span, Memory}
 
@@ -9,3 +9,7 @@ header_number InvalidName = 4
 header_number InvalidSubSection = 5
 header_number (Span number) = number
 header_number Memory = 27
+
+-- what a refusal of a place is: want of memory has a case of its own
+abbrev pub of_span : (number : ℕ) → Error
+of_span number = if number == 27 then Memory else Span number

@@ -8,17 +8,6 @@ use thiserror::Error;
 #[error("out of memory")]
 pub struct NoMemory;
 
-impl NoMemory {
-    ghost use Rattle.std.specs.Prelude.{◌≡◌};
-
-    /// The refusal's number, 27.
-    pub fn number(&self) -> u8
-        ensures { result ≡ 27 }
-    {
-        27
-    }
-}
-
 impl From<AllocError> for NoMemory {
     fn from(_e: AllocError) -> NoMemory {
         NoMemory

@@ -1,6 +1,9 @@
--- The numbers of refusals.
-use Rattle.std.specs.Prelude.{ℕ}
+-- The refusals of files and of includes, of what they come from; want of memory has one case in each.
+use Rattle.std.specs.Prelude.{ℕ, ◌==◌, if◌then◌else◌}
+use Rattle.gitconf_base.specs.declared.values.path.interpolate.Error.{Error as Interpolate}
+use Rattle.gitconf_base.specs.declared.values.path.interpolate.Error.TheVariants as interpolate
 use Rattle.gitconf_base.specs.Homes.{interpolate_number}
+use Rattle.gitconf_parse.specs.ParseError.{Refusal}
 use Rattle.gix_config.specs.declared.file.includes.Error.{Error as Includes}
 use Rattle.gix_config.specs.declared.file.includes.Error.TheVariants as includes
 use Rattle.gix_config.specs.declared.file.init.Error.{Error as Init}
@@ -26,3 +29,27 @@ init_number (init.Interpolate e) = interpolate_number e
 init_number (init.Includes e) = includes_number e
 init_number (init.Span e) = e
 init_number init.Memory = 27
+
+abbrev pub include_of_parse : Refusal → Includes
+include_of_parse e = if e.number == 27 then includes.Memory else includes.Parse e
+
+abbrev pub include_of_span : (number : ℕ) → Includes
+include_of_span number = if number == 27 then includes.Memory else includes.Span number
+
+abbrev pub include_of_interpolate : Interpolate → Includes
+include_of_interpolate interpolate.Memory = includes.Memory
+include_of_interpolate e = includes.Interpolate e
+
+abbrev pub init_of_parse : Refusal → Init
+init_of_parse e = if e.number == 27 then init.Memory else init.Parse e
+
+abbrev pub init_of_span : (number : ℕ) → Init
+init_of_span number = if number == 27 then init.Memory else init.Span number
+
+abbrev pub init_of_interpolate : Interpolate → Init
+init_of_interpolate interpolate.Memory = init.Memory
+init_of_interpolate e = init.Interpolate e
+
+abbrev pub init_of_includes : Includes → Init
+init_of_includes includes.Memory = init.Memory
+init_of_includes e = init.Includes e

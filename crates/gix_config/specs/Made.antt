@@ -1,19 +1,20 @@
 -- What is made of the bytes of a file.
-use Rattle.std.specs.Prelude.{ℕ, Bool, true, false, List, filter}
+use Rattle.std.specs.Prelude.{◌<◌, ◌^◌, ℕ, Bool, true, false, List, filter, length}
 use Rattle.gitconf_text.specs.Part.{Part}
 use Rattle.gitconf_text.specs.Token.{Token, tokens_of}
 use Rattle.gitconf_parse.specs.EventList.{keeps_token}
 use Rattle.gitconf_parse.specs.EventResult.{IsRefused}
 use Rattle.gitconf_parse.specs.TokenDocument.{keeps_meaning}
 use Rattle.gix_config.specs.declared.file.init.Error.{Error}
-use Rattle.gix_config.specs.declared.file.init.Error.TheVariants.{Parse}
+use Rattle.gix_config.specs.declared.file.init.Error.TheVariants.{Parse, Memory}
 
 -- the tokens of a text that stay: all, or in a lossy load those that are no blanks, line ends or comments
 abbrev pub loaded_tokens : (lossy : Bool) → List Part → List Token
 loaded_tokens false parts = tokens_of parts
 loaded_tokens true parts = filter (keeps_token keeps_meaning) (tokens_of parts)
 
--- the parser refused the bytes
+-- the parser refused the bytes, which it does where memory is wanting for no input that is too large
 abbrev pub IsParseRefusal : (input : List ℕ) → Error → Type 0
 IsParseRefusal input (Parse refusal) = IsRefused input refusal
+IsParseRefusal input Memory = length input < 2 ^ 32
 IsParseRefusal input _ = ⊥

@@ -1,4 +1,6 @@
 //! A file of git's configuration in memory.
+ghost use Rattle.std.specs.Prelude.{◌≡◌, IfOk};
+
 pub mod includes;
 pub mod init;
 
@@ -9,6 +11,7 @@ pub use gitconf_base::util::SectionId;
 use gitconf_parse::error::Error;
 use gitconf_parse::events::{Events, check_len};
 use gitconf_parse::sink::{Sink, SinkFault};
+pub use gitconf_store::events::ItemEvents;
 pub use gitconf_store::section::{SectionRef, Sections};
 pub use gitconf_store::set_raw_value;
 use gitconf_store::store::Store;
@@ -16,6 +19,13 @@ use gitconf_text::NoMemory;
 use std::alloc::Global;
 use std::marker::Model;
 use std::rc::Rc;
+
+/// The metadata with one owner, who may share it.
+fn shared(alloc: Global, meta: Metadata) -> Result<Rc<Metadata>, NoMemory>
+    ensures { IfOk result (λ owned. owned.value ≡ meta) }
+{
+    Ok(Rc::new(alloc, meta)?)
+}
 
 /// A file of git's configuration: what stands before its first section, and its sections in order.
 #[derive(Drop)]
@@ -44,6 +54,7 @@ impl File {
     ghost use Rattle.gitconf_base.specs.Metadata.{Meta, api_meta};
     ghost use Rattle.gitconf_parse.specs.EventList.{IsSelected, IsWhole};
     ghost use Rattle.gitconf_parse.specs.EventResult.{IsRefused};
+    ghost use Rattle.gitconf_parse.specs.ShownEvents.{shown_token};
     ghost use Rattle.gitconf_parse.specs.Sink.{Writes, Counts};
     ghost use Rattle.gitconf_state.specs.Clean.{IsClean};
     ghost use Rattle.gitconf_state.specs.Comments.{comments, comments_of};
@@ -55,9 +66,11 @@ impl File {
     ghost use Rattle.gitconf_state.specs.Edit.{with_used};
     ghost use Rattle.gitconf_store.specs.Counts.{are_void, section_entries};
     ghost use Rattle.gitconf_store.specs.Edits.{IsRefusal, IsSet};
+    ghost use Rattle.gitconf_store.specs.ItemEvents.{events_left};
     ghost use Rattle.gitconf_store.specs.Lookups.{IsFound};
     ghost use Rattle.gitconf_store.specs.Made.{IsMade};
     ghost use Rattle.gitconf_store.specs.Views.{shown, sections_left};
+    ghost use Rattle.gitconf_write.specs.Bodies.{tokens_in};
     ghost use Rattle.gix_config.specs.Keys.{IsSetByKey, value_of_key};
 
     /// A file without front and sections. Takes no memory.
@@ -96,10 +109,7 @@ impl File {
         ensures refused { IfErr result (IsRefused input.now) }
     {
         check_len(input.len())?;
-        let meta = match Rc::new(alloc, Metadata::api()) {
-            Ok(meta) => meta,
-            Err(_) => return Err(Error::memory()),
-        };
+        let meta = shared(alloc, Metadata::api())?;
         let store = Store::from_bytes(alloc, input, meta)?;
         Ok(File { store })
     }
@@ -159,6 +169,13 @@ impl File {
     {
         self.store.set_meta(meta);
         self
+    }
+
+    /// The events that stand before the first section. Entries among them are seen by no look-up. Takes no memory.
+    pub fn front(&self) -> ItemEvents<'_>
+        ensures { events_left result ≡ map shown_token (tokens_in self.now.front) }
+    {
+        self.store.front()
     }
 
     /// The sections in file order.

@@ -3,6 +3,7 @@
 
 pub mod file;
 pub mod parse;
+pub mod refusals;
 pub mod value;
 
 pub use file::File;

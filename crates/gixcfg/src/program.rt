@@ -8,6 +8,7 @@ use gitconf_parse::error::Error;
 use gitconf_text::NoMemory;
 use gix_config::File;
 use gix_config::file::set_raw_value;
+use gix_config::refusals::Refusal;
 use std::alloc::{AllocError, AllocFailed, Global};
 use std::io::{ErrorKind, Read, Write};
 
@@ -87,7 +88,7 @@ where
 
 impl From<Error> for Fault {
     fn from(refusal: Error) -> Fault {
-        if refusal.number() == 27 {
+        if refusal.is_memory() {
             Fault::Memory
         } else {
             Fault::Refused(refusal)
@@ -97,10 +98,9 @@ impl From<Error> for Fault {
 
 impl From<set_raw_value::Error> for Fault {
     fn from(refusal: set_raw_value::Error) -> Fault {
-        if refusal.number() == 27 {
-            Fault::Memory
-        } else {
-            Fault::RefusedEdit(refusal)
+        match refusal {
+            set_raw_value::Error::Memory => Fault::Memory,
+            refusal => Fault::RefusedEdit(refusal),
         }
     }
 }

@@ -24,6 +24,8 @@ impl Model for Error {
 }
 
 impl Error {
+    ghost use Rattle.std.specs.Prelude.{◌==◌};
+
     /// The refusal of what passes the limit.
     pub fn too_large() -> Error
         ensures { result ≡ 3 }
@@ -38,6 +40,13 @@ impl Error {
         ensures { result ≡ self.now }
     {
         self.cause.number(3)
+    }
+
+    /// Whether memory was wanting. It is for the crates above this one, whose own errors have a case for that.
+    pub fn is_memory(&self) -> bool
+        ensures { result ≡ (self.now == 27) }
+    {
+        self.cause == Cause::Memory
     }
 }
 

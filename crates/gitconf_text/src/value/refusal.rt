@@ -5,7 +5,6 @@ ghost use Rattle.gitconf_text.specs.ValueErrors.{refused, value_error_text, want
 
 use crate::memory::NoMemory;
 use bstr::BString;
-use std::alloc::{AllocError, AllocFailed};
 use std::fmt;
 use std::marker::Model;
 
@@ -120,22 +119,6 @@ impl From<NoMemory> for Error {
     ghost from_gives = { λ _ e. e ≡ wanting };
 
     fn from(_e: NoMemory) -> Error {
-        Error { told: None }
-    }
-}
-
-impl From<AllocError> for Error {
-    ghost from_gives = { λ _ e. e ≡ wanting };
-
-    fn from(_e: AllocError) -> Error {
-        Error { told: None }
-    }
-}
-
-impl<T: Drop> From<AllocFailed<T>> for Error {
-    ghost from_gives = { λ _ e. e ≡ wanting };
-
-    fn from(_e: AllocFailed<T>) -> Error {
         Error { told: None }
     }
 }

@@ -10,7 +10,6 @@ use gitconf_base::values::path::interpolate;
 use gitconf_parse::error as parse;
 use gitconf_text::NoMemory;
 use gitconf_text::parse::span;
-use std::alloc::{AllocError, AllocFailed};
 use thiserror::Error;
 
 /// How includes are refused.
@@ -22,13 +21,13 @@ pub enum Error {
     /// Opening the included file at that path failed: refusal 19.
     #[error("Could not read included configuration file at '{path}'")]
     Io { path: String, source: FileFault },
-    /// The parser refused an included file: refusal 1 or 2, or 27.
+    /// The parser refused an included file: refusal 1 or 2.
     #[error(transparent)]
     Parse(parse::Error),
-    /// The place of a part would be past 4294967295, or no section number is left: refusal 3, or 27.
+    /// The place of a part would be past 4294967295, or no section number is left: refusal 3.
     #[error(transparent)]
     Span(span::Error),
-    /// The path of an include could not be interpolated: refusal 12 to 14, or 27.
+    /// The path of an include could not be interpolated: refusal 12 to 14.
     #[error(transparent)]
     Interpolate(interpolate::Error),
     /// More files include each other than the options allow, or than a level can count: refusal 15.
@@ -48,55 +47,44 @@ pub enum Error {
     Memory,
 }
 
-impl Error {
-    ghost use Rattle.gix_config.specs.Errors.{includes_number};
+impl From<parse::Error> for Error {
+    ghost use Rattle.gix_config.specs.Errors.{include_of_parse};
 
-    /// The refusal's number: 1 to 3, 12 to 20, or 27.
-    pub fn number(&self) -> u8
-        ensures { result ≡ includes_number self.now }
-    {
-        match self {
-            Error::Io { .. } => 19,
-            Error::CopyBuffer(_) => 20,
-            Error::Parse(e) => e.number(),
-            Error::Span(e) => e.number(),
-            Error::Interpolate(e) => e.number(),
-            Error::IncludeDepthExceeded { .. } => 15,
-            Error::MissingConfigPath => 16,
-            Error::MissingGitDir => 17,
-            Error::Realpath(_) => 18,
-            Error::Memory => 27,
+    ghost from_gives = { λ parse e. e ≡ include_of_parse parse };
+
+    fn from(parse: parse::Error) -> Error {
+        if parse.is_memory() {
+            Error::Memory
+        } else {
+            Error::Parse(parse)
         }
     }
 }
 
-impl From<parse::Error> for Error {
-    ghost use Rattle.gix_config.specs.declared.file.includes.Error.TheVariants.{Parse};
-
-    ghost from_gives = { λ parse e. e ≡ Parse parse };
-
-    fn from(parse: parse::Error) -> Error {
-        Error::Parse(parse)
-    }
-}
-
 impl From<span::Error> for Error {
-    ghost use Rattle.gix_config.specs.declared.file.includes.Error.TheVariants.{Span};
+    ghost use Rattle.gix_config.specs.Errors.{include_of_span};
 
-    ghost from_gives = { λ span e. e ≡ Span span };
+    ghost from_gives = { λ span e. e ≡ include_of_span span };
 
     fn from(span: span::Error) -> Error {
-        Error::Span(span)
+        if span.is_memory() {
+            Error::Memory
+        } else {
+            Error::Span(span)
+        }
     }
 }
 
 impl From<interpolate::Error> for Error {
-    ghost use Rattle.gix_config.specs.declared.file.includes.Error.TheVariants.{Interpolate};
+    ghost use Rattle.gix_config.specs.Errors.{include_of_interpolate};
 
-    ghost from_gives = { λ interpolate e. e ≡ Interpolate interpolate };
+    ghost from_gives = { λ interpolate e. e ≡ include_of_interpolate interpolate };
 
     fn from(interpolate: interpolate::Error) -> Error {
-        Error::Interpolate(interpolate)
+        match interpolate {
+            interpolate::Error::Memory => Error::Memory,
+            interpolate => Error::Interpolate(interpolate),
+        }
     }
 }
 
@@ -106,26 +94,6 @@ impl From<NoMemory> for Error {
     ghost from_gives = { λ _ e. e ≡ Memory };
 
     fn from(_e: NoMemory) -> Error {
-        Error::Memory
-    }
-}
-
-impl From<AllocError> for Error {
-    ghost use Rattle.gix_config.specs.declared.file.includes.Error.TheVariants.{Memory};
-
-    ghost from_gives = { λ _ e. e ≡ Memory };
-
-    fn from(_e: AllocError) -> Error {
-        Error::Memory
-    }
-}
-
-impl<T: Drop> From<AllocFailed<T>> for Error {
-    ghost use Rattle.gix_config.specs.declared.file.includes.Error.TheVariants.{Memory};
-
-    ghost from_gives = { λ _ e. e ≡ Memory };
-
-    fn from(_e: AllocFailed<T>) -> Error {
         Error::Memory
     }
 }

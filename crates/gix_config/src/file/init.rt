@@ -15,16 +15,16 @@ use thiserror::Error;
 /// How a file is refused that is to be made.
 #[derive(Debug, Drop, Error)]
 pub enum Error {
-    /// The parser refused the bytes: refusal 1 or 2, or 27.
+    /// The parser refused the bytes: refusal 1 or 2.
     #[error(transparent)]
     Parse(parse::Error),
-    /// A path could not be interpolated: refusal 12 to 14, or 27.
+    /// A path could not be interpolated: refusal 12 to 14.
     #[error(transparent)]
     Interpolate(interpolate::Error),
     /// An include was refused.
     #[error(transparent)]
     Includes(includes::Error),
-    /// The place of a part would be past 4294967295, or no section number is left: refusal 3, or 27.
+    /// The place of a part would be past 4294967295, or no section number is left: refusal 3.
     #[error(transparent)]
     Span(span::Error),
     /// A growth was refused: refusal 27.
@@ -32,60 +32,57 @@ pub enum Error {
     Memory,
 }
 
-impl Error {
-    ghost use Rattle.gix_config.specs.Errors.{init_number};
+impl From<parse::Error> for Error {
+    ghost use Rattle.gix_config.specs.Errors.{init_of_parse};
 
-    /// The refusal's number: 1 to 3, 12 to 20, or 27.
-    pub fn number(&self) -> u8
-        ensures { result ≡ init_number self.now }
-    {
-        match self {
-            Error::Parse(e) => e.number(),
-            Error::Interpolate(e) => e.number(),
-            Error::Includes(e) => e.number(),
-            Error::Span(e) => e.number(),
-            Error::Memory => 27,
+    ghost from_gives = { λ parse e. e ≡ init_of_parse parse };
+
+    fn from(parse: parse::Error) -> Error {
+        if parse.is_memory() {
+            Error::Memory
+        } else {
+            Error::Parse(parse)
         }
     }
 }
 
-impl From<parse::Error> for Error {
-    ghost use Rattle.gix_config.specs.declared.file.init.Error.TheVariants.{Parse};
-
-    ghost from_gives = { λ parse e. e ≡ Parse parse };
-
-    fn from(parse: parse::Error) -> Error {
-        Error::Parse(parse)
-    }
-}
-
 impl From<interpolate::Error> for Error {
-    ghost use Rattle.gix_config.specs.declared.file.init.Error.TheVariants.{Interpolate};
+    ghost use Rattle.gix_config.specs.Errors.{init_of_interpolate};
 
-    ghost from_gives = { λ interpolate e. e ≡ Interpolate interpolate };
+    ghost from_gives = { λ interpolate e. e ≡ init_of_interpolate interpolate };
 
     fn from(interpolate: interpolate::Error) -> Error {
-        Error::Interpolate(interpolate)
+        match interpolate {
+            interpolate::Error::Memory => Error::Memory,
+            interpolate => Error::Interpolate(interpolate),
+        }
     }
 }
 
 impl From<includes::Error> for Error {
-    ghost use Rattle.gix_config.specs.declared.file.init.Error.TheVariants.{Includes};
+    ghost use Rattle.gix_config.specs.Errors.{init_of_includes};
 
-    ghost from_gives = { λ includes e. e ≡ Includes includes };
+    ghost from_gives = { λ includes e. e ≡ init_of_includes includes };
 
     fn from(includes: includes::Error) -> Error {
-        Error::Includes(includes)
+        match includes {
+            includes::Error::Memory => Error::Memory,
+            includes => Error::Includes(includes),
+        }
     }
 }
 
 impl From<span::Error> for Error {
-    ghost use Rattle.gix_config.specs.declared.file.init.Error.TheVariants.{Span};
+    ghost use Rattle.gix_config.specs.Errors.{init_of_span};
 
-    ghost from_gives = { λ span e. e ≡ Span span };
+    ghost from_gives = { λ span e. e ≡ init_of_span span };
 
     fn from(span: span::Error) -> Error {
-        Error::Span(span)
+        if span.is_memory() {
+            Error::Memory
+        } else {
+            Error::Span(span)
+        }
     }
 }
 
@@ -95,26 +92,6 @@ impl From<NoMemory> for Error {
     ghost from_gives = { λ _ e. e ≡ Memory };
 
     fn from(_e: NoMemory) -> Error {
-        Error::Memory
-    }
-}
-
-impl From<AllocError> for Error {
-    ghost use Rattle.gix_config.specs.declared.file.init.Error.TheVariants.{Memory};
-
-    ghost from_gives = { λ _ e. e ≡ Memory };
-
-    fn from(_e: AllocError) -> Error {
-        Error::Memory
-    }
-}
-
-impl<T: Drop> From<AllocFailed<T>> for Error {
-    ghost use Rattle.gix_config.specs.declared.file.init.Error.TheVariants.{Memory};
-
-    ghost from_gives = { λ _ e. e ≡ Memory };
-
-    fn from(_e: AllocFailed<T>) -> Error {
         Error::Memory
     }
 }

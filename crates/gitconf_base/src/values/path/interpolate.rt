@@ -1,6 +1,5 @@
 //! What the shorthands at the front of a path stand for: `%(prefix)/`, `~/` and `~user/`.
 ghost use Rattle.std.specs.Prelude.{◌≡◌};
-ghost use Rattle.gitconf_base.specs.Homes.{interpolate_number};
 
 use gitconf_text::NoMemory;
 use std::alloc::{AllocError, AllocFailed, Global};
@@ -38,46 +37,12 @@ pub enum Error {
     Memory,
 }
 
-impl Error {
-    /// The refusal's number: 12 to 14, or 27.
-    pub fn number(&self) -> u8
-        ensures { result ≡ interpolate_number self.now }
-    {
-        match self {
-            Error::Missing { .. } => 12,
-            Error::Utf8Conversion { .. } => 13,
-            Error::UsernameConversion(_) => 14,
-            Error::Memory => 27,
-        }
-    }
-}
-
 impl From<NoMemory> for Error {
     ghost use Rattle.gitconf_base.specs.declared.values.path.interpolate.Error.TheVariants.{Memory};
 
     ghost from_gives = { λ _ e. e ≡ Memory };
 
     fn from(_e: NoMemory) -> Error {
-        Error::Memory
-    }
-}
-
-impl From<AllocError> for Error {
-    ghost use Rattle.gitconf_base.specs.declared.values.path.interpolate.Error.TheVariants.{Memory};
-
-    ghost from_gives = { λ _ e. e ≡ Memory };
-
-    fn from(_e: AllocError) -> Error {
-        Error::Memory
-    }
-}
-
-impl<T: Drop> From<AllocFailed<T>> for Error {
-    ghost use Rattle.gitconf_base.specs.declared.values.path.interpolate.Error.TheVariants.{Memory};
-
-    ghost from_gives = { λ _ e. e ≡ Memory };
-
-    fn from(_e: AllocFailed<T>) -> Error {
         Error::Memory
     }
 }

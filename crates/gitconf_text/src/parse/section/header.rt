@@ -5,7 +5,6 @@ ghost use Rattle.gitconf_text.specs.Names as spec;
 use super::bytes::is_made_name;
 use crate::memory::NoMemory;
 use crate::parse::span;
-use std::alloc::{AllocError, AllocFailed};
 use thiserror::Error;
 
 /// How a header is refused that is to be made.
@@ -25,29 +24,17 @@ pub enum Error {
     Memory,
 }
 
-impl Error {
-    ghost use Rattle.gitconf_text.specs.HeaderErrors.{header_number};
-
-    /// The refusal's number: 3 to 5, or 27.
-    pub fn number(&self) -> u8
-        ensures { result ≡ header_number self.now }
-    {
-        match self {
-            Error::InvalidName => 4,
-            Error::InvalidSubSection => 5,
-            Error::Span(e) => e.number(),
-            Error::Memory => 27,
-        }
-    }
-}
-
 impl From<span::Error> for Error {
-    ghost use Rattle.gitconf_text.specs.declared.parse.section.header.Error.TheVariants.{Span};
+    ghost use Rattle.gitconf_text.specs.HeaderErrors.{of_span};
 
-    ghost from_gives = { λ span e. e ≡ Span span };
+    ghost from_gives = { λ span e. e ≡ of_span span };
 
     fn from(span: span::Error) -> Error {
-        Error::Span(span)
+        if span.is_memory() {
+            Error::Memory
+        } else {
+            Error::Span(span)
+        }
     }
 }
 
@@ -57,26 +44,6 @@ impl From<NoMemory> for Error {
     ghost from_gives = { λ _ e. e ≡ Memory };
 
     fn from(_e: NoMemory) -> Error {
-        Error::Memory
-    }
-}
-
-impl From<AllocError> for Error {
-    ghost use Rattle.gitconf_text.specs.declared.parse.section.header.Error.TheVariants.{Memory};
-
-    ghost from_gives = { λ _ e. e ≡ Memory };
-
-    fn from(_e: AllocError) -> Error {
-        Error::Memory
-    }
-}
-
-impl<T: Drop> From<AllocFailed<T>> for Error {
-    ghost use Rattle.gitconf_text.specs.declared.parse.section.header.Error.TheVariants.{Memory};
-
-    ghost from_gives = { λ _ e. e ≡ Memory };
-
-    fn from(_e: AllocFailed<T>) -> Error {
         Error::Memory
     }
 }

@@ -23,14 +23,14 @@ returns-in_err-section-clause-err c =
     (longer_state c.self.inside.buffer.items c.section_with.new.buffer.items c.self.inside.copies.items c.self.inside.front.items c.self.inside.meta.value c.self.inside.sections
     c.section_with.ensures.grows.extended c.self.invariant))
 
-pub invariant_of-self-in_err-clone : goal.invariant_of-self-in_err-clone
-invariant_of-self-in_err-clone c =
+pub invariant_of-self-in_err-shared : goal.invariant_of-self-in_err-shared
+invariant_of-self-in_err-shared c =
     longer_fits c.self.inside.buffer.items c.section_with.new.buffer.items c.self.inside.copies.items c.section_with.new.copies.items c.self.inside.front.items c.self.inside.meta.value c.self.inside.sections
     c.section_with.ensures.grows.extended c.section_with.ensures.extended c.section_with.ensures.grows.room c.self.invariant
 
-pub returns-in_err-clone-clause-err : goal.returns-in_err-clone-clause-err
-returns-in_err-clone-clause-err c =
-    rw (← c.self.view_is) (if_err_at_all c.from_residual-in_err-clone.result
+pub returns-in_err-shared-clause-err : goal.returns-in_err-shared-clause-err
+returns-in_err-shared-clause-err c =
+    rw (← c.self.view_is) (if_err_at_all c.from_residual-in_err-shared.result
     (longer_state c.self.inside.buffer.items c.section_with.new.buffer.items c.self.inside.copies.items c.self.inside.front.items c.self.inside.meta.value c.self.inside.sections
     c.section_with.ensures.grows.extended c.self.invariant))
 
@@ -52,7 +52,7 @@ pub invariant_of-self-2 : goal.invariant_of-self-2
 invariant_of-self-2 c =
     let name = c.args.section_name.now in
     let subsection = option_copied c.args.subsection_name in
-    let s : Section = record { header = c.in_ok-section.section.header; meta = c.in_ok-clone.field-0; items = c.in_ok-section.section.items; held = c.new.result } in
+    let s : Section = record { header = c.in_ok-section.section.header; meta = c.in_ok-shared.field-0; items = c.in_ok-section.section.items; held = c.new.result } in
     let line_end : bytes_of_line_end c.line_end-line_end.result ≡ file_line_end (state_of c.self.inside.buffer.items c.self.inside.front.items c.self.inside.meta.value c.self.inside.sections) =
     c.line_end-line_end.ensures ∙ ap file_line_end (sym c.self.view_is) in
     let header : header_of c.section_with.new.buffer.items s.header ≡ made_header name subsection = search rules in
@@ -77,7 +77,7 @@ pub returns-clause-ok : goal.returns-clause-ok
 returns-clause-ok c =
     let name = c.args.section_name.now in
     let subsection = option_copied c.args.subsection_name in
-    let s : Section = record { header = c.in_ok-section.section.header; meta = c.in_ok-clone.field-0; items = c.in_ok-section.section.items; held = c.new.result } in
+    let s : Section = record { header = c.in_ok-section.section.header; meta = c.in_ok-shared.field-0; items = c.in_ok-section.section.items; held = c.new.result } in
     let line_end : bytes_of_line_end c.line_end-line_end.result ≡ file_line_end (state_of c.self.inside.buffer.items c.self.inside.front.items c.self.inside.meta.value c.self.inside.sections) =
     c.line_end-line_end.ensures ∙ ap file_line_end (sym c.self.view_is) in
     let header : header_of c.section_with.new.buffer.items s.header ≡ made_header name subsection = search rules in

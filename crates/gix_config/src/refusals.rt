@@ -1,0 +1,160 @@
+//! The numbers of refusals, E1 to E28, as programs tell them. They stand here alone: no crate below asks for a number.
+ghost use Rattle.std.specs.Prelude.{◌≡◌};
+
+use crate::file::{includes, init, set_raw_value};
+use gitconf_base::values::path::interpolate;
+use gitconf_parse::error as parse;
+use gitconf_parse::sink::SinkFault;
+use gitconf_text::NoMemory;
+use gitconf_text::parse::section::{NameError, ValueNameError, header};
+use gitconf_text::parse::span;
+use gitconf_text::value;
+
+/// What a call is refused by.
+pub trait Refusal {
+    ghost use Rattle.std.specs.Prelude.{ℕ};
+
+    ghost number_of: { Self → ℕ };
+
+    /// Its number, 1 to 28: the causes are told in docs/refusals.md. 27 is want of memory.
+    fn number(&self) -> u8
+        ensures { result ≡ number_of self.now };
+}
+
+impl Refusal for NoMemory {
+    ghost number_of = { λ _. 27 };
+
+    fn number(&self) -> u8 {
+        27
+    }
+}
+
+impl Refusal for SinkFault {
+    ghost number_of = { λ _. 28 };
+
+    fn number(&self) -> u8 {
+        28
+    }
+}
+
+impl Refusal for parse::Error {
+    ghost number_of = { λ e. e.number };
+
+    fn number(&self) -> u8 {
+        parse::Error::number(self)
+    }
+}
+
+impl Refusal for span::Error {
+    ghost number_of = { λ number. number };
+
+    fn number(&self) -> u8 {
+        span::Error::number(self)
+    }
+}
+
+impl Refusal for NameError {
+    ghost number_of = { λ number. number };
+
+    fn number(&self) -> u8 {
+        NameError::number(self)
+    }
+}
+
+impl Refusal for ValueNameError {
+    ghost number_of = { λ number. number };
+
+    fn number(&self) -> u8 {
+        ValueNameError::number(self)
+    }
+}
+
+impl Refusal for value::Error {
+    ghost number_of = { λ e. e.number };
+
+    fn number(&self) -> u8 {
+        value::Error::number(self)
+    }
+}
+
+impl Refusal for header::Error {
+    ghost use Rattle.gitconf_text.specs.HeaderErrors.{header_number};
+
+    ghost number_of = { header_number };
+
+    fn number(&self) -> u8 {
+        match self {
+            header::Error::Span(e) => e.number(),
+            header::Error::InvalidName => 4,
+            header::Error::InvalidSubSection => 5,
+            header::Error::Memory => 27,
+        }
+    }
+}
+
+impl Refusal for set_raw_value::Error {
+    ghost use Rattle.gitconf_store.specs.SetErrors.{set_number};
+
+    ghost number_of = { set_number };
+
+    fn number(&self) -> u8 {
+        match self {
+            set_raw_value::Error::Header(e) => e.number(),
+            set_raw_value::Error::ValueName(e) => e.number(),
+            set_raw_value::Error::Span(e) => e.number(),
+            set_raw_value::Error::Memory => 27,
+        }
+    }
+}
+
+impl Refusal for interpolate::Error {
+    ghost use Rattle.gitconf_base.specs.Homes.{interpolate_number};
+
+    ghost number_of = { interpolate_number };
+
+    fn number(&self) -> u8 {
+        match self {
+            interpolate::Error::Missing { .. } => 12,
+            interpolate::Error::Utf8Conversion { .. } => 13,
+            interpolate::Error::UsernameConversion(_) => 14,
+            interpolate::Error::Memory => 27,
+        }
+    }
+}
+
+impl Refusal for includes::Error {
+    ghost use Rattle.gix_config.specs.Errors.{includes_number};
+
+    ghost number_of = { includes_number };
+
+    fn number(&self) -> u8 {
+        match self {
+            includes::Error::Parse(e) => e.number(),
+            includes::Error::Span(e) => e.number(),
+            includes::Error::Interpolate(e) => e.number(),
+            includes::Error::IncludeDepthExceeded { .. } => 15,
+            includes::Error::MissingConfigPath => 16,
+            includes::Error::MissingGitDir => 17,
+            includes::Error::Realpath(_) => 18,
+            includes::Error::Io { .. } => 19,
+            includes::Error::CopyBuffer(_) => 20,
+            includes::Error::Memory => 27,
+        }
+    }
+}
+
+impl Refusal for init::Error {
+    ghost use Rattle.gix_config.specs.Errors.{init_number};
+
+    ghost number_of = { init_number };
+
+    fn number(&self) -> u8 {
+        match self {
+            init::Error::Parse(e) => e.number(),
+            init::Error::Interpolate(e) => e.number(),
+            init::Error::Includes(e) => e.number(),
+            init::Error::Span(e) => e.number(),
+            init::Error::Memory => 27,
+        }
+    }
+}
