@@ -44,7 +44,7 @@ impl Model for File {
 impl File {
     ghost use Rattle.std.specs.Fn.{ComputesKey};
     ghost use Rattle.std.specs.Option.{option_copied};
-    ghost use Rattle.std.specs.Prelude.{◌≡◌, ◌<◌, ◌^◌, ℕ, Bool, [], List, true, length, map, IfOk, IfErr, ◌↔◌, false, IsSome, OnErr};
+    ghost use Rattle.std.specs.Prelude.{◌≡◌, ◌<◌, ◌^◌, ℕ, Bool, [], List, true, length, map, IfOk, IfErr, IfSome, ◌↔◌, false, IsNone, IsSome, OnErr};
     ghost use Rattle.bstr.specs.Owned.{bstring_bytes};
     ghost use Rattle.gitconf_text.specs.Document.{IsText, Reads, unmarked};
     ghost use Rattle.gitconf_text.specs.Part.{Part};
@@ -171,11 +171,18 @@ impl File {
         self
     }
 
-    /// The events that stand before the first section. Entries among them are seen by no look-up. Takes no memory.
-    pub fn front(&self) -> ItemEvents<'_>
-        ensures { events_left result ≡ map shown_token (tokens_in self.now.front) }
+    /// The events that stand before the first section, or `None` where there are none. Entries among them are seen by no look-up.
+    /// Takes no memory.
+    pub fn frontmatter(&self) -> Option<ItemEvents<'_>>
+        ensures none { IsNone result ↔ (tokens_in self.now.front ≡ []) }
+        ensures events { IfSome result (λ it. events_left it ≡ map shown_token (tokens_in self.now.front)) }
     {
-        self.store.front()
+        let events = self.store.front();
+        let mut ahead = events;
+        match ahead.next() {
+            Some(_) => Some(events),
+            None => None,
+        }
     }
 
     /// The sections in file order.
