@@ -1,7 +1,7 @@
 //! The letters of the kinds of events, and filters that drop some of these kinds.
 
 use crate::refusal::Refusal;
-use gix_config::parse::{Error, EventRef, Events};
+use gix_config::parse::{EventRef, Events};
 use std::alloc::Global;
 
 /// The letter of an event's kind.
@@ -19,134 +19,138 @@ pub fn letter_of(event: &EventRef<'_>) -> char {
     }
 }
 
-/// The kinds that a filter drops; headers are kept by any.
-#[derive(Clone, Copy, Default)]
-pub struct Dropped {
-    names: bool,
-    separators: bool,
-    values: bool,
-    pieces: bool,
-    last_pieces: bool,
-    line_ends: bool,
-    blanks: bool,
-    comments: bool,
-}
+// A set of kinds has a bit for each. No filter drops headers, so they have none.
+const NAMES: u8 = 1;
 
-impl Dropped {
-    /// The kinds of these letters.
-    pub fn of_letters(letters: &[u8]) -> Result<Dropped, Refusal> {
-        let mut dropped = Dropped::default();
-        for letter in letters {
-            match letter {
-                b'H' => {}
-                b'N' => dropped.names = true,
-                b'S' => dropped.separators = true,
-                b'V' => dropped.values = true,
-                b'P' => dropped.pieces = true,
-                b'D' => dropped.last_pieces = true,
-                b'L' => dropped.line_ends = true,
-                b'W' => dropped.blanks = true,
-                b'C' => dropped.comments = true,
-                _ => return Err(Refusal::Line),
-            }
-        }
-        Ok(dropped)
-    }
+const SEPARATORS: u8 = 2;
 
-    /// The events of a text without these kinds.
-    //
-    // A filter is a function that captures nothing, so each choice of kinds is a function of its own. They are chosen
-    // two kinds at a time.
-    pub fn events_without(self, alloc: Global, text: &[u8]) -> Result<Events, Error> {
-        match (self.names, self.separators) {
-            (false, false) => self.of_values::<false, false>(alloc, text),
-            (false, true) => self.of_values::<false, true>(alloc, text),
-            (true, false) => self.of_values::<true, false>(alloc, text),
-            (true, true) => self.of_values::<true, true>(alloc, text),
-        }
-    }
+const VALUES: u8 = 4;
 
-    fn of_values<const NAMES: bool, const SEPARATORS: bool>(
-        self,
-        alloc: Global,
-        text: &[u8],
-    ) -> Result<Events, Error> {
-        match (self.values, self.pieces) {
-            (false, false) => self.of_line_ends::<NAMES, SEPARATORS, false, false>(alloc, text),
-            (false, true) => self.of_line_ends::<NAMES, SEPARATORS, false, true>(alloc, text),
-            (true, false) => self.of_line_ends::<NAMES, SEPARATORS, true, false>(alloc, text),
-            (true, true) => self.of_line_ends::<NAMES, SEPARATORS, true, true>(alloc, text),
-        }
-    }
+const PIECES: u8 = 8;
 
-    fn of_line_ends<
-        const NAMES: bool,
-        const SEPARATORS: bool,
-        const VALUES: bool,
-        const PIECES: bool,
-    >(self, alloc: Global, text: &[u8]) -> Result<Events, Error> {
-        match (self.last_pieces, self.line_ends) {
-            (false, false) => {
-                self.of_layout::<NAMES, SEPARATORS, VALUES, PIECES, false, false>(alloc, text)
-            }
-            (false, true) => {
-                self.of_layout::<NAMES, SEPARATORS, VALUES, PIECES, false, true>(alloc, text)
-            }
-            (true, false) => {
-                self.of_layout::<NAMES, SEPARATORS, VALUES, PIECES, true, false>(alloc, text)
-            }
-            (true, true) => {
-                self.of_layout::<NAMES, SEPARATORS, VALUES, PIECES, true, true>(alloc, text)
-            }
-        }
-    }
+const LAST_PIECES: u8 = 16;
 
-    fn of_layout<
-        const NAMES: bool,
-        const SEPARATORS: bool,
-        const VALUES: bool,
-        const PIECES: bool,
-        const LAST_PIECES: bool,
-        const LINE_ENDS: bool,
-    >(self, alloc: Global, text: &[u8]) -> Result<Events, Error> {
-        let filter: fn(&EventRef<'_>) -> bool = match (self.blanks, self.comments) {
-            (false, false) => {
-                keeps::<NAMES, SEPARATORS, VALUES, PIECES, LAST_PIECES, LINE_ENDS, false, false>
-            }
-            (false, true) => {
-                keeps::<NAMES, SEPARATORS, VALUES, PIECES, LAST_PIECES, LINE_ENDS, false, true>
-            }
-            (true, false) => {
-                keeps::<NAMES, SEPARATORS, VALUES, PIECES, LAST_PIECES, LINE_ENDS, true, false>
-            }
-            (true, true) => {
-                keeps::<NAMES, SEPARATORS, VALUES, PIECES, LAST_PIECES, LINE_ENDS, true, true>
-            }
+const LINE_ENDS: u8 = 32;
+
+const BLANKS: u8 = 64;
+
+const COMMENTS: u8 = 128;
+
+const VALUES_OF_PIECES: u8 = SEPARATORS | PIECES | LAST_PIECES;
+
+const SPACING: u8 = LINE_ENDS | BLANKS;
+
+const LINE_ENDS_AND_COMMENTS: u8 = LINE_ENDS | COMMENTS;
+
+const BLANKS_AND_COMMENTS: u8 = BLANKS | COMMENTS;
+
+const LAYOUT: u8 = LINE_ENDS | BLANKS | COMMENTS;
+
+const ALL: u8 = 255;
+
+/// The set of the kinds of these letters.
+fn kinds_of(letters: &[u8]) -> Result<u8, Refusal> {
+    let mut kinds = 0;
+    for letter in letters {
+        kinds |= match letter {
+            b'H' => 0,
+            b'N' => NAMES,
+            b'S' => SEPARATORS,
+            b'V' => VALUES,
+            b'P' => PIECES,
+            b'D' => LAST_PIECES,
+            b'L' => LINE_ENDS,
+            b'W' => BLANKS,
+            b'C' => COMMENTS,
+            _ => return Err(Refusal::Line),
         };
-        Events::from_bytes(alloc, text, Some(filter))
     }
+    Ok(kinds)
 }
 
-/// Whether an event is of a kind that isn't dropped. Of headers it says no, which are kept all the same.
-fn keeps<
-    const NAMES: bool,
-    const SEPARATORS: bool,
-    const VALUES: bool,
-    const PIECES: bool,
-    const LAST_PIECES: bool,
-    const LINE_ENDS: bool,
-    const BLANKS: bool,
-    const COMMENTS: bool,
->(event: &EventRef<'_>) -> bool {
-    match event {
-        EventRef::SectionHeader { .. } => false,
-        EventRef::SectionValueName(_) => !NAMES,
-        EventRef::KeyValueSeparator => !SEPARATORS,
-        EventRef::Value(_) => !VALUES,
-        EventRef::ValueNotDone(_) => !PIECES,
-        EventRef::ValueDone(_) => !LAST_PIECES,
-        EventRef::Newline(_) => !LINE_ENDS,
-        EventRef::Whitespace(_) => !BLANKS,
-        EventRef::Comment { .. } => !COMMENTS,
-    }
+/// The events of a text without the kinds of these letters. A set of kinds that has no filter here is refused.
+//
+// A filter is a function that captures nothing, so each set has one of its own.
+pub fn events_without(alloc: Global, text: &[u8], letters: &[u8]) -> Result<Events, Refusal> {
+    let events = match kinds_of(letters)? {
+        0 => Events::from_bytes(alloc, text, Some(no_headers)),
+        NAMES => Events::from_bytes(alloc, text, Some(no_names)),
+        SEPARATORS => Events::from_bytes(alloc, text, Some(no_separators)),
+        VALUES => Events::from_bytes(alloc, text, Some(no_values)),
+        PIECES => Events::from_bytes(alloc, text, Some(no_pieces)),
+        LAST_PIECES => Events::from_bytes(alloc, text, Some(no_last_pieces)),
+        VALUES_OF_PIECES => Events::from_bytes(alloc, text, Some(no_values_of_pieces)),
+        LINE_ENDS => Events::from_bytes(alloc, text, Some(no_line_ends)),
+        BLANKS => Events::from_bytes(alloc, text, Some(no_blanks)),
+        COMMENTS => Events::from_bytes(alloc, text, Some(no_comments)),
+        SPACING => Events::from_bytes(alloc, text, Some(no_spacing)),
+        LINE_ENDS_AND_COMMENTS => Events::from_bytes(alloc, text, Some(no_line_ends_and_comments)),
+        BLANKS_AND_COMMENTS => Events::from_bytes(alloc, text, Some(no_blanks_and_comments)),
+        LAYOUT => Events::from_bytes(alloc, text, Some(no_layout)),
+        ALL => Events::from_bytes(alloc, text, Some(nothing)),
+        _ => return Err(Refusal::Line),
+    };
+    Ok(events?)
+}
+
+// Each of these filters says no to headers too, which are kept all the same.
+
+fn no_headers(event: &EventRef<'_>) -> bool {
+    !matches!(event, EventRef::SectionHeader { .. })
+}
+
+fn no_names(event: &EventRef<'_>) -> bool {
+    no_headers(event) && !matches!(event, EventRef::SectionValueName(_))
+}
+
+fn no_separators(event: &EventRef<'_>) -> bool {
+    no_headers(event) && !matches!(event, EventRef::KeyValueSeparator)
+}
+
+fn no_values(event: &EventRef<'_>) -> bool {
+    no_headers(event) && !matches!(event, EventRef::Value(_))
+}
+
+fn no_pieces(event: &EventRef<'_>) -> bool {
+    no_headers(event) && !matches!(event, EventRef::ValueNotDone(_))
+}
+
+fn no_last_pieces(event: &EventRef<'_>) -> bool {
+    no_headers(event) && !matches!(event, EventRef::ValueDone(_))
+}
+
+fn no_values_of_pieces(event: &EventRef<'_>) -> bool {
+    no_separators(event) && no_pieces(event) && no_last_pieces(event)
+}
+
+fn no_line_ends(event: &EventRef<'_>) -> bool {
+    no_headers(event) && !matches!(event, EventRef::Newline(_))
+}
+
+fn no_blanks(event: &EventRef<'_>) -> bool {
+    no_headers(event) && !matches!(event, EventRef::Whitespace(_))
+}
+
+fn no_comments(event: &EventRef<'_>) -> bool {
+    no_headers(event) && !matches!(event, EventRef::Comment { .. })
+}
+
+fn no_spacing(event: &EventRef<'_>) -> bool {
+    no_line_ends(event) && no_blanks(event)
+}
+
+fn no_line_ends_and_comments(event: &EventRef<'_>) -> bool {
+    no_line_ends(event) && no_comments(event)
+}
+
+fn no_blanks_and_comments(event: &EventRef<'_>) -> bool {
+    no_blanks(event) && no_comments(event)
+}
+
+fn no_layout(event: &EventRef<'_>) -> bool {
+    no_spacing(event) && no_comments(event)
+}
+
+fn nothing(_event: &EventRef<'_>) -> bool {
+    false
 }

@@ -16,7 +16,7 @@ pub struct SectionNames {
 }
 
 /// The names of a section.
-pub fn names_of(alloc: Global, section: SectionRef<'_>) -> Result<SectionNames, NoMemory> {
+pub fn names_of(alloc: Global, section: &SectionRef<'_>) -> Result<SectionNames, NoMemory> {
     let text = section.to_bstring()?;
     let events = match Events::from_bytes(alloc, &text, None) {
         Ok(events) => events,

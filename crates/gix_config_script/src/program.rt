@@ -107,6 +107,11 @@ fn answer_to(alloc: Global, session: &mut Session, line: &[u8]) -> Result<String
     line_of(alloc, refused, outcome)
 }
 
+/// Whether the answer is to tell if a growth was refused. Of `refusals` itself it tells nothing.
+fn is_told(session: &Session, words: &[Word<'_>]) -> bool {
+    session.tells_refusals() && !matches!(words, [Word::Plain(b"refusals"), ..])
+}
+
 /// Does a command, and says whether a growth was refused in it; nothing where that isn't to be told. Only what the
 /// command does stands between the two blocks.
 fn bracketed<'a>(
@@ -114,7 +119,7 @@ fn bracketed<'a>(
     session: &'a mut Session,
     words: &'a [Word<'_>],
 ) -> Result<(Option<bool>, Outcome<'a>), AllocError> {
-    if !session.tells_refusals() {
+    if !is_told(session, words) {
         return Ok((None, outcome_of(alloc, session, words)));
     }
     begin(alloc)?;

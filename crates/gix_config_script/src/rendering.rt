@@ -145,10 +145,10 @@ fn put_sections(alloc: Global, line: &mut String, file: &File) -> Result<(), NoM
     for section in file.sections() {
         line.push_str(" [")?;
         put_number(alloc, line, section.id())?;
-        let names = names_of(alloc, section)?;
+        let names = names_of(alloc, &section)?;
         put_bytes(alloc, line, &names.name)?;
         put_optional(alloc, line, names.subsection.as_deref())?;
-        put_entries(alloc, line, section)?;
+        put_entries(alloc, line, &section)?;
         line.push_str(" ]")?;
     }
     Ok(())
@@ -164,7 +164,7 @@ fn put_number(alloc: Global, line: &mut String, id: SectionId) -> Result<(), NoM
 }
 
 /// Each entry: its name, and its value; none for an entry without `=`.
-fn put_entries(alloc: Global, line: &mut String, section: SectionRef<'_>) -> Result<(), NoMemory> {
+fn put_entries(alloc: Global, line: &mut String, section: &SectionRef<'_>) -> Result<(), NoMemory> {
     // The pieces of a value so far, and whether a separator stands before them.
     let mut raw = Vec::new(alloc);
     let mut is_separated = false;

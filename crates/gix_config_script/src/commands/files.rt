@@ -7,8 +7,9 @@ use crate::refusal::Refusal;
 use crate::session::Session;
 use crate::words::{Word, all_bytes, no_words, one_word};
 use crate::writers::{FailingOnce, Failure};
+use gitconf_text::NoMemory;
 use gix_config::File;
-use gix_config::file::{SectionId, init};
+use gix_config::file::{SectionId, SectionRef, init};
 use std::alloc::Global;
 use std::borrow::CowSlice;
 
@@ -97,12 +98,17 @@ fn sections_named(
     all_bytes(names)?;
     let mut found = Vec::new(alloc);
     for section in file.sections() {
-        let own = names_of(alloc, section)?;
-        if names.iter().any(|name| is_name(name, &own.name)) {
+        if has_name(alloc, &section, names)? {
             found.push(section.id())?;
         }
     }
     Ok(found)
+}
+
+/// Whether the section has one of these names.
+fn has_name(alloc: Global, section: &SectionRef<'_>, names: &[Word<'_>]) -> Result<bool, NoMemory> {
+    let own = names_of(alloc, section)?;
+    Ok(names.iter().any(|name| is_name(name, &own.name)))
 }
 
 /// Whether a word is that name, letters of either case being the same.

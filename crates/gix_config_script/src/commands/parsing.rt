@@ -1,7 +1,7 @@
 //! Commands on texts and names, which ask no file.
 
 use crate::answer::{Answer, Outcome};
-use crate::kinds::Dropped;
+use crate::kinds::events_without;
 use crate::refusal::Refusal;
 use crate::words::{Word, one_word};
 use gix_config::parse::Events;
@@ -37,11 +37,10 @@ pub fn kept_events(alloc: Global, words: &[Word<'_>]) -> Result<Events, Refusal>
         return Err(Refusal::Line);
     };
     let text = text.bytes()?;
-    let events = match letters.plain()? {
-        b"-" => Events::from_bytes(alloc, text, None),
-        letters => Dropped::of_letters(letters)?.events_without(alloc, text),
-    };
-    Ok(events?)
+    match letters.plain()? {
+        b"-" => Ok(Events::from_bytes(alloc, text, None)?),
+        letters => events_without(alloc, text, letters),
+    }
 }
 
 /// `name BYTES`: whether bytes are the name of a section.
