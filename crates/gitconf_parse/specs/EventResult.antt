@@ -17,3 +17,4 @@ pub record IsRefused (input : List ℕ) (r : Refusal) : Type 0 where
   pub undocumented : r.number ≡ 1 → (parts : List Part) → IsText input parts → ⊥
   pub large : r.number ≡ 2 → 2 ^ 32 ≤ length input
   pub small : 2 ^ 32 ≤ length input → r ≡ too_large_input (length input)
+  pub memory : r.number ≡ 27 → r ≡ want_of_memory

@@ -57,7 +57,7 @@ impl File {
     ghost use Rattle.gitconf_parse.specs.ShownEvents.{shown_token};
     ghost use Rattle.gitconf_parse.specs.Sink.{Writes, Counts};
     ghost use Rattle.gitconf_state.specs.Clean.{IsClean};
-    ghost use Rattle.gitconf_state.specs.Comments.{comments, comments_of};
+    ghost use Rattle.gitconf_state.specs.Comments.{comments, comments_of, comments_of_kept};
     ghost use Rattle.gitconf_state.specs.Inserted.{Inserted, IsByteForByte};
     ghost use Rattle.gitconf_state.specs.LineEnds.{file_line_end};
     ghost use Rattle.gitconf_state.specs.Lookup.{last_value};
@@ -105,6 +105,7 @@ impl File {
         ensures made { IfOk result (λ f. (parts : List Part) × IsText input.now parts × IsMade (tokens_of parts) api_meta (length input.now) f) }
         ensures document { IfOk result (λ f. Reads input.now (document_of f)) }
         ensures clean { IfOk result IsClean }
+        ensures inserted { IfOk result (λ f. (parts : List Part) → IsText input.now parts → Inserted (map spelled_token (tokens_of parts)) (printed f)) }
         ensures byte_for_byte { IfOk result (λ f. (parts : List Part) → IsText input.now parts → IsByteForByte parts → printed f ≡ unmarked input.now) }
         ensures refused { IfErr result (IsRefused input.now) }
     {
@@ -421,6 +422,8 @@ impl File {
         ensures exact { (keeps : SectionState → Bool) → ComputesKey F.FnMut (λ r. keeps (shown r)) filter
             → Writes result (printed_kept keeps self.now) (W.told out.old) (W.told out.new) }
         ensures reads { (keeps : SectionState → Bool) → IsClean self.now → Reads (printed_kept keeps self.now) (document_of_kept keeps self.now) }
+        ensures comments { (keeps : SectionState → Bool) → IsClean self.now
+            → (parts : List Part) → IsText (printed_kept keeps self.now) parts → comments_of parts ≡ comments_of_kept keeps self.now }
         ensures counted { Counts result (W.faults out.old) (W.faults out.new) }
     {
         self.store.write_to_filter(out, filter)
@@ -434,6 +437,7 @@ impl File {
     pub fn write_to<W: Sink>(&self, out: &mut W) -> Result<(), SinkFault>
         ensures written { Writes result (printed self.now) (W.told out.old) (W.told out.new) }
         ensures reads { IsClean self.now → Reads (printed self.now) (document_of self.now) }
+        ensures comments { IsClean self.now → (parts : List Part) → IsText (printed self.now) parts → comments_of parts ≡ comments self.now }
         ensures counted { Counts result (W.faults out.old) (W.faults out.new) }
     {
         self.store.write_to(out)

@@ -10,3 +10,4 @@ pub use file::File;
 pub use gitconf_base::key::{AsKey, KeyRef};
 pub use gitconf_base::source::{self, Source};
 pub use gitconf_base::values::{self, path};
+pub use gitconf_text::NoMemory;

@@ -109,11 +109,12 @@ pub struct Options<'a> {
 }
 
 impl File {
-    ghost use Rattle.std.specs.Prelude.{◌≡◌, [], List, true, false, length, IfOk, IfErr};
+    ghost use Rattle.std.specs.Prelude.{◌≡◌, [], List, true, false, length, map, IfOk, IfErr};
     ghost use Rattle.gitconf_text.specs.Document.{IsText, Reads, unmarked};
     ghost use Rattle.gitconf_text.specs.Part.{Part};
+    ghost use Rattle.gitconf_text.specs.Token.{tokens_of, spelled_token};
     ghost use Rattle.gitconf_state.specs.Clean.{IsClean};
-    ghost use Rattle.gitconf_state.specs.Inserted.{IsByteForByte};
+    ghost use Rattle.gitconf_state.specs.Inserted.{Inserted, IsByteForByte};
     ghost use Rattle.gitconf_state.specs.Printing.{printed};
     ghost use Rattle.gitconf_state.specs.State.{document_of, entries_of};
     ghost use Rattle.gitconf_store.specs.Made.{IsMade};
@@ -137,6 +138,7 @@ impl File {
             × IsMade (loaded_tokens options.entry.lossy parts) meta.value (length input.now) f) }
         ensures document { IfOk result (λ f. Reads input.now (document_of f)) }
         ensures clean { IfOk result (λ f. (options.entry.lossy ≡ true → entries_of f.front ≡ []) → IsClean f) }
+        ensures inserted { options.entry.lossy ≡ false → IfOk result (λ f. (parts : List Part) → IsText input.now parts → Inserted (map spelled_token (tokens_of parts)) (printed f)) }
         ensures byte_for_byte { options.entry.lossy ≡ false → IfOk result (λ f. (parts : List Part) → IsText input.now parts → IsByteForByte parts → printed f ≡ unmarked input.now) }
         ensures refused { IfErr result (IsParseRefusal input.now) }
     {

@@ -1,0 +1,55 @@
+//! What a command answers, before it is written as a line.
+
+use crate::refusal::Refusal;
+use bstr::BString;
+use gix_config::File;
+use gix_config::file::SectionRef;
+use gix_config::parse::{Error, Events};
+use std::borrow::CowSlice;
+
+/// What a command answers, or why it was not done.
+pub type Outcome<'a> = Result<Answer<'a>, Refusal>;
+
+/// What a command answers: what the library answered, or what it lends.
+#[derive(Drop)]
+pub enum Answer<'a> {
+    /// It is done.
+    Done,
+    /// What was asked for is not there.
+    Absent,
+    /// No such command stands.
+    Unknown,
+    Flag(bool),
+    Number(usize),
+    Bytes(CowSlice<'a, u8>),
+    /// Bytes, or none.
+    Optional(Option<BString>),
+    /// The text of a refusal.
+    Message(Error),
+    Events(Events),
+    /// Whether they keep entries, and the events.
+    Kept(Events),
+    /// The events before the first section of a file.
+    Front(&'a File),
+    /// The events of a section's body.
+    Body(SectionRef<'a>),
+    /// The events of what is held behind a section.
+    Held(SectionRef<'a>),
+    /// All sections of a file, with their entries.
+    Dump(&'a File),
+}
+
+impl Answer<'_> {
+    /// Bytes of their own.
+    pub fn text(text: BString) -> Answer<'static> {
+        Answer::Bytes(CowSlice::Owned(text.into_vec()))
+    }
+
+    /// Bytes of their own, or nothing.
+    pub fn found(text: Option<BString>) -> Answer<'static> {
+        match text {
+            Some(text) => Answer::text(text),
+            None => Answer::Absent,
+        }
+    }
+}

@@ -1,0 +1,33 @@
+//! Commands that change a file.
+
+use crate::answer::{Answer, Outcome};
+use crate::refusal::Refusal;
+use crate::words::{Word, key_of};
+use gix_config::{File, KeyRef};
+
+/// `setraw KEY3 BYTES`: sets a value, and answers the one that was there.
+pub fn setraw<'a>(file: &mut File, words: &[Word<'_>]) -> Outcome<'a> {
+    let [section, subsection, name, value] = words else {
+        return Err(Refusal::Line);
+    };
+    let key = key_of(section, subsection, name)?;
+    let value = value.bytes()?;
+    Ok(Answer::Optional(file.set_raw_value_by(
+        key.section_name,
+        key.subsection_name,
+        key.value_name,
+        value,
+    )?))
+}
+
+/// `setkey BYTES BYTES`: the same, by a key.
+pub fn setkey<'a>(file: &mut File, words: &[Word<'_>]) -> Outcome<'a> {
+    let [key, value] = words else {
+        return Err(Refusal::Line);
+    };
+    let Some(key) = KeyRef::parse_unvalidated(key.bytes()?) else {
+        return Err(Refusal::Line);
+    };
+    let value = value.bytes()?;
+    Ok(Answer::Optional(file.set_raw_value(key, value)?))
+}

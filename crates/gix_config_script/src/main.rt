@@ -1,0 +1,22 @@
+//! The program `gix_config_script`: a script of commands on standard input, and an answer a line on standard output.
+//! The language is told in docs/scripts.md.
+#![tactic(auto)]
+
+mod answer;
+mod bracket;
+mod commands;
+mod kinds;
+mod names;
+mod program;
+mod refusal;
+mod rendering;
+mod session;
+mod words;
+mod writers;
+
+use program::run;
+use std::process::ExitCode;
+
+fn main(rt: HostRuntime) -> ExitCode {
+    ExitCode::from(run(rt.alloc(), rt.reader(), rt.stdout()))
+}

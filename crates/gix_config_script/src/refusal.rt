@@ -1,0 +1,75 @@
+//! Why a command was not done.
+
+use gix_config::NoMemory;
+use gix_config::file::{init, set_raw_value};
+use gix_config::parse::section::{NameError, ValueNameError};
+use gix_config::parse::{Error, SinkFault};
+use gix_config::refusals::Refusal as _;
+use std::alloc::{AllocError, AllocFailed};
+
+/// Why a command was not done.
+#[derive(Drop)]
+pub enum Refusal {
+    /// The line is not understood, or asks for what can't be done at all.
+    Line,
+    /// The library's refusal of that number.
+    Numbered(u8),
+    /// The parser's refusal of a text that has no document.
+    Unread(Error),
+    /// A writer failed, which had taken these bytes.
+    Unwritten(SinkFault, Vec<u8>),
+}
+
+impl From<Error> for Refusal {
+    fn from(refusal: Error) -> Refusal {
+        match refusal.number() {
+            1 => Refusal::Unread(refusal),
+            number => Refusal::Numbered(number),
+        }
+    }
+}
+
+impl From<init::Error> for Refusal {
+    fn from(refusal: init::Error) -> Refusal {
+        match refusal {
+            init::Error::Parse(refusal) => Refusal::from(refusal),
+            other => Refusal::Numbered(other.number()),
+        }
+    }
+}
+
+impl From<set_raw_value::Error> for Refusal {
+    fn from(refusal: set_raw_value::Error) -> Refusal {
+        Refusal::Numbered(refusal.number())
+    }
+}
+
+impl From<NameError> for Refusal {
+    fn from(refusal: NameError) -> Refusal {
+        Refusal::Numbered(refusal.number())
+    }
+}
+
+impl From<ValueNameError> for Refusal {
+    fn from(refusal: ValueNameError) -> Refusal {
+        Refusal::Numbered(refusal.number())
+    }
+}
+
+impl From<NoMemory> for Refusal {
+    fn from(refusal: NoMemory) -> Refusal {
+        Refusal::Numbered(refusal.number())
+    }
+}
+
+impl From<AllocError> for Refusal {
+    fn from(refusal: AllocError) -> Refusal {
+        Refusal::from(NoMemory::from(refusal))
+    }
+}
+
+impl<T: Drop> From<AllocFailed<T>> for Refusal {
+    fn from(refusal: AllocFailed<T>) -> Refusal {
+        Refusal::from(NoMemory::from(refusal))
+    }
+}

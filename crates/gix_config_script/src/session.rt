@@ -1,0 +1,98 @@
+//! What commands work on: four files, one of which is the current one.
+
+use gix_config::File;
+use gix_config::file::Metadata;
+use std::alloc::{AllocError, Global};
+use std::rc::Rc;
+
+/// The place of a file.
+#[derive(Clone, Copy)]
+pub enum Slot {
+    F,
+    G,
+    H,
+    I,
+}
+
+/// The state of a script.
+#[derive(Drop)]
+pub struct Session {
+    f: File,
+    g: File,
+    h: File,
+    i: File,
+    current: Slot,
+    /// Of what is loaded or made.
+    meta: Rc<Metadata>,
+    tells_refusals: bool,
+}
+
+impl Session {
+    /// Four empty files, the first of them the current one.
+    pub fn new(alloc: Global) -> Result<Session, AllocError> {
+        let meta = Rc::new(alloc, Metadata::api())?;
+        Ok(Session {
+            f: File::new(alloc, meta.clone()?),
+            g: File::new(alloc, meta.clone()?),
+            h: File::new(alloc, meta.clone()?),
+            i: File::new(alloc, meta.clone()?),
+            current: Slot::F,
+            meta,
+            tells_refusals: false,
+        })
+    }
+
+    /// The current file.
+    pub fn file(&self) -> &File {
+        match self.current {
+            Slot::F => &self.f,
+            Slot::G => &self.g,
+            Slot::H => &self.h,
+            Slot::I => &self.i,
+        }
+    }
+
+    /// The current file, to be changed.
+    pub fn file_mut(&mut self) -> &mut File {
+        match self.current {
+            Slot::F => &mut self.f,
+            Slot::G => &mut self.g,
+            Slot::H => &mut self.h,
+            Slot::I => &mut self.i,
+        }
+    }
+
+    /// Makes that file the current one.
+    pub fn select(&mut self, slot: Slot) {
+        self.current = slot;
+    }
+
+    /// Puts a file in the place of the current one.
+    pub fn put(&mut self, file: File) {
+        self.put_at(self.current, file);
+    }
+
+    /// Puts a file into that place.
+    pub fn put_at(&mut self, slot: Slot, file: File) {
+        match slot {
+            Slot::F => self.f = file,
+            Slot::G => self.g = file,
+            Slot::H => self.h = file,
+            Slot::I => self.i = file,
+        }
+    }
+
+    /// The metadata of what is loaded or made.
+    pub fn meta(&self) -> Result<Rc<Metadata>, AllocError> {
+        self.meta.clone()
+    }
+
+    /// Whether each answer is to say if a growth was refused.
+    pub fn tells_refusals(&self) -> bool {
+        self.tells_refusals
+    }
+
+    pub fn tell_refusals(&mut self, on: bool) {
+        self.tells_refusals = on;
+    }
+}

@@ -1,0 +1,63 @@
+//! A writer that fails once.
+
+use gix_config::parse::{Sink, SinkFault};
+use std::alloc::Global;
+
+/// What happens at the write that fails.
+#[derive(Clone, Copy)]
+pub enum Failure {
+    /// It is refused.
+    Refused,
+    /// Nothing is taken.
+    NothingTaken,
+}
+
+/// Takes all of each write but one, which fails. A write behind that is taken again, so that it shows.
+#[derive(Drop)]
+pub struct FailingOnce {
+    taken: Vec<u8>,
+    /// How many writes come before the one that fails; none behind that.
+    writes_left: Option<usize>,
+    failure: Failure,
+}
+
+impl FailingOnce {
+    /// Fails behind so many writes.
+    pub fn behind(alloc: Global, writes: usize, failure: Failure) -> FailingOnce {
+        FailingOnce {
+            taken: Vec::new(alloc),
+            writes_left: Some(writes),
+            failure,
+        }
+    }
+
+    /// What was taken.
+    pub fn into_taken(self) -> Vec<u8> {
+        let FailingOnce { taken, .. } = self;
+        taken
+    }
+}
+
+/// It tells the bytes that it took, and no count of its failures.
+impl Sink for FailingOnce {
+    ghost use Rattle.std.specs.Prelude.{Some, None};
+
+    ghost told = { λ s. Some s.taken.items };
+
+    ghost faults = { λ _. None };
+
+    fn write(&mut self, text: &[u8]) -> Result<usize, SinkFault> {
+        match self.writes_left {
+            Some(0) => {
+                self.writes_left = None;
+                return match self.failure {
+                    Failure::Refused => Err(SinkFault),
+                    Failure::NothingTaken => Ok(0),
+                };
+            }
+            Some(left) => self.writes_left = Some(left - 1),
+            None => {}
+        }
+        self.taken.write(text)
+    }
+}
