@@ -13,7 +13,7 @@ from transcripts import Row
 from words import to_transcript
 
 # A command with more growths than this has none to be refused one by one.
-MOST_GROWTHS = 20000
+MOST_GROWTHS = 5000
 
 OUT_OF_MEMORY = "err E27"
 
@@ -27,7 +27,7 @@ SCOPES = {"edit", "editnew", "editdetached", "value", "multi"}
 STATE = ["print", "dump", "count"]
 
 
-def _as_before(before, _done, after):
+def as_before(before, _done, after):
     return after == before
 
 
@@ -57,8 +57,8 @@ def _sections_of(state):
 # file before the command and behind it, `after` behind the refusal. Where a command is not here, all is as before.
 EXCEPTIONS = {
     # These drop what they were given, so that they can't be given again; the file is as before.
-    "append": _as_before,
-    "pushsection": _as_before,
+    "append": as_before,
+    "pushsection": as_before,
     # These keep the entries, or sections, that were done before.
     "setvalues": _first_done,
     "setall": _first_done,
@@ -243,7 +243,7 @@ def _is_beginning(answer, full):
 def _check_state(row, states, number):
     """What is told of the file before the command, behind it and behind the refusal fits together."""
     before, _, after = states
-    if EXCEPTIONS.get(row.word, _as_before)(*states):
+    if EXCEPTIONS.get(row.word, as_before)(*states):
         return
     differing = [
         f"\n    {command} was   {to_transcript(old)}\n    {command} is    {to_transcript(new)}"
