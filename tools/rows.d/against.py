@@ -5,23 +5,25 @@ The list (rows/DIFFERENCES.txt) has groups that an empty line ends. A group begi
 answer, and theirs, as transcripts have them.
 """
 
+import re
 from typing import NamedTuple
 
 from plain import tell_stop
 from process import Stopped
-from words import Malformed, to_transcript
+from words import Malformed, hex_word, to_transcript
 
-# Commands that PROTOCOL.md's programs need not have. Where the other program has none, the row is passed over.
-BEYOND = {
-    "name", "valuename", "keeps", "loadkept", "setkey", "stringkey", "printfail", "printnone", "refusals", "errtext", "body",
-    "reset",
-}
+# Commands that another program need not have. Where it has none, the row is passed over.
+BEYOND = {"name", "valuename", "keeps", "loadkept", "setkey", "stringkey", "printfail", "printnone", "refusals", "reset"}
 
-# Of these, the ones that change a file: behind them both programs have the same file only from the next load on.
-CHANGES = {"loadkept", "setkey"}
+# Commands by a key, and the one by names that stands for each.
+BY_NAMES = {"stringkey": "string", "setkey": "setraw"}
+
+# These load a file anew, so that both programs have the same one again.
 LOADS = {"load", "lossy", "new", "reset"}
 
 HAS_NONE = {"refused", "unknown"}
+
+KEY = re.compile(r"(stringkey|setkey) x((?:[0-9a-f]{2})*)((?: .*)?)")
 
 
 class Difference(NamedTuple):
@@ -105,27 +107,37 @@ def run(transcripts, start, listed, report):
         report.tell(f"passed over: {comparison.passed_over[word]:5} of {word}")
 
 
+def _asked(row):
+    """The row's command, by names where it is by a key that has a dot."""
+    by_key = KEY.fullmatch(row.sent)
+    if by_key is None:
+        return row.sent
+    section, dot, rest = bytes.fromhex(by_key.group(2)).partition(b".")
+    subsection, second_dot, name = rest.rpartition(b".")
+    if not dot:
+        return row.sent
+    names = [hex_word(section), hex_word(subsection) if second_dot else "-", hex_word(name)]
+    return " ".join([BY_NAMES[row.word], *names]) + by_key.group(3)
+
+
 class _Comparison:
+    """What was seen of the transcripts so far."""
+
     def __init__(self, listed, report):
         self.seen = set()
         self.passed_over = {}
         self._listed = listed
         self._report = report
+        self._is_same_file = True
 
     def run(self, transcript, start):
         """Compares the rows of a transcript."""
         done, program = 0, None
+        self._is_same_file = True
         try:
             program = start()
-            is_same_file = True
             for row in transcript.rows:
-                answer = program.ask(row.sent)
-                if answer in HAS_NONE and row.word in BEYOND:
-                    is_same_file = is_same_file and row.word not in CHANGES
-                    self._pass_over(row.word)
-                else:
-                    is_same_file = is_same_file or (row.word in LOADS and answer == "ok")
-                    self._compare(transcript, row, answer, is_same_file)
+                self._take(transcript, row, program.ask(_asked(row)))
                 done += 1
         except Stopped as fault:
             tell_stop(transcript.rows, done, fault, self._report)
@@ -133,13 +145,23 @@ class _Comparison:
             if program is not None:
                 program.stop()
 
+    def _take(self, transcript, row, answer):
+        """Compares the row with the other program's answer, or passes it over."""
+        if row.wanted == "unknown" or (answer in HAS_NONE and row.word in BEYOND and answer != row.answer):
+            # One of the two programs has done it, the other hasn't.
+            self._is_same_file = self._is_same_file and row.word != "loadkept" and answer in HAS_NONE
+            self._pass_over(row.word)
+            return
+        self._is_same_file = self._is_same_file or (row.word in LOADS and answer == "ok")
+        if self._is_same_file:
+            self._compare(transcript, row, answer)
+        else:
+            self._pass_over("rows whose file the other program hasn't")
+
     def _pass_over(self, word):
         self.passed_over[word] = self.passed_over.get(word, 0) + 1
 
-    def _compare(self, transcript, row, answer, is_same_file):
-        if not is_same_file:
-            self._pass_over("rows behind a change that was passed over")
-            return
+    def _compare(self, transcript, row, answer):
         difference = Difference(row.file, transcript.title, row.command, row.wanted, to_transcript(answer))
         if answer == row.answer:
             self._report.row_passed()

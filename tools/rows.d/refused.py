@@ -31,19 +31,19 @@ def as_before(before, _done, after):
     return after == before
 
 
-def _first_done(before, done, after):
+def first_done(before, done, after):
     """The first words of the sections are those of the whole edit, and the others as before."""
     before, done, after = (state[1].split(" ") for state in (before, done, after))
     return len(after) == len(before) == len(done) and any(
         after == done[:count] + before[count:] for count in range(len(after) + 1))
 
 
-def _new_section_at_most(before, _done, after):
+def new_section_at_most(before, _done, after):
     """There may be one section more, without entries."""
     return re.fullmatch(re.escape(before[1]) + r"( \[\d+ x[0-9a-f]* (-|x[0-9a-f]*) \])?", after[1]) is not None
 
 
-def _sections_stay(before, _done, after):
+def sections_stay(before, _done, after):
     """All sections stay, in their order. (How far the files that were inserted reach is told by no command.)"""
     sections = iter(_sections_of(after))
     return all(section in sections for section in _sections_of(before))
@@ -53,22 +53,29 @@ def _sections_of(state):
     return re.findall(r"\[\d+ ([^\]]*)\]", state[1])
 
 
-# What holds of the file behind a refused growth where it isn't all as before: `before` and `done` are what is told of the
-# file before the command and behind it, `after` behind the refusal. Where a command is not here, all is as before.
-EXCEPTIONS = {
-    # These drop what they were given, so that they can't be given again; the file is as before.
+# Commands that change a file in place, and what holds of it behind a refused growth: `before` and `done` are what is told of
+# the file before the command and behind it, `after` behind the refusal. A refused one may leave room that it asked for, and a
+# second try would ask for less. So each growth is refused behind the commands before it, which are done anew. The same holds
+# for all commands in scopes. Behind any other command all is as before.
+EDITS = {
+    "setraw": as_before,
+    "setkey": as_before,
+    "setexisting": as_before,
+    "remove": as_before,
+    "removeid": as_before,
+    # These drop what they were given; the file is as before.
     "append": as_before,
     "pushsection": as_before,
     # These keep the entries, or sections, that were done before.
-    "setvalues": _first_done,
-    "setall": _first_done,
-    "setmulti": _first_done,
-    "rename": _first_done,
+    "setmulti": first_done,
+    "setvalues": first_done,
+    "setall": first_done,
+    "rename": first_done,
     # These may leave a new section without entries.
-    "newsection": _new_section_at_most,
-    "editnew": _new_section_at_most,
+    "newsection": new_section_at_most,
+    "editnew": new_section_at_most,
     # This keeps the files that were inserted before.
-    "resolve": _sections_stay,
+    "resolve": sections_stay,
 }
 
 
@@ -174,7 +181,7 @@ def _refuse(session, place):
     """Refuses each growth of the command, and leaves the session behind it. Answers how many were refused."""
     if place.begins_in_scope and not place.ends_in_scope:
         return _give_once(session, place.row)
-    if place.ends_in_scope or place.row.word in EXCEPTIONS:
+    if place.ends_in_scope or place.row.word in EDITS:
         return _refuse_afresh(session, place)
     return _refuse_again(session, place.row)
 
@@ -243,7 +250,7 @@ def _is_beginning(answer, full):
 def _check_state(row, states, number):
     """What is told of the file before the command, behind it and behind the refusal fits together."""
     before, _, after = states
-    if EXCEPTIONS.get(row.word, as_before)(*states):
+    if EDITS.get(row.word, as_before)(*states):
         return
     differing = [
         f"\n    {command} was   {to_transcript(old)}\n    {command} is    {to_transcript(new)}"

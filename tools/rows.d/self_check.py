@@ -195,7 +195,7 @@ def _check_case(case, tools, folder):
         words[1] = str(program)
     _make(case.program, program)
     called = [sys.executable, str(tools / "rows"), "--rows", str(rows), "--program", str(program), "--gixcfg", str(program)]
-    ran = subprocess.run(called + ["--limit", "2", *words], stdout=subprocess.PIPE, stderr=subprocess.STDOUT)
+    ran = subprocess.run(called + ["--limit", "1", *words], stdout=subprocess.PIPE, stderr=subprocess.STDOUT)
     told = ran.stdout.decode("utf-8", "replace")
     missing = [part for part in case.told if part not in told]
     is_right = told.endswith(f"{case.count}\n") and ran.returncode == (0 if case.count.endswith(" 0 failed") else 1)
@@ -243,7 +243,7 @@ def run(tools):
             fault = _check_case(case, tools, Path(folder))
         _count(report, case.name, fault)
     for word, before, done, after, is_right in STATES:
-        holds = refused.EXCEPTIONS.get(word, refused.as_before)(before, done, after)
+        holds = refused.EDITS.get(word, refused.as_before)(before, done, after)
         _count(report, f"the state behind a refused {word}", None if holds == is_right else after)
     return report.close()
 
