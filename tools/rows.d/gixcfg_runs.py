@@ -39,7 +39,8 @@ class Run(NamedTuple):
     @property
     def is_plain(self):
         """Whether no stream fails or is slow."""
-        return self.input == Input(self.input.text) and (self.out, self.err) == (Output(), Output())
+        given = self.input
+        return given.text is not None and given == Input(given.text) and self.out == self.err == Output()
 
 
 class Ending(NamedTuple):

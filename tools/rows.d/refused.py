@@ -152,6 +152,7 @@ def run(transcripts, start, shim, report, table):
     """Runs each transcript through programs that `start` makes, but for those that turn refusals on themselves."""
     for transcript in transcripts:
         if any(row.word == "refusals" for row in transcript.rows):
+            report.tell(f"{transcript.rows[0].place}: passed over, since it turns refusals on itself: {transcript.title}")
             continue
         session = Session(transcript.rows, start, shim)
         try:
@@ -218,7 +219,8 @@ def _refuse_afresh(session, place):
             return number
         _check_refusal(row, answer, number + 1)
         after = session.state(place.ends_in_scope)
-        _check_state(row, (before, done, after), number + 1)
+        # A call that can do without the growth has done all.
+        _check_state(row, (done if answer == row.answer else before, done, after), number + 1)
     raise Fault(f"more than {MOST_GROWTHS} growths")
 
 
