@@ -9,31 +9,35 @@ from typing import NamedTuple, Tuple
 import refused
 from report import Report
 
-# A program of the script language. `load` takes two growths; FAULT is what is wrong with it.
+# A program of the script language. `load` and some others take two growths; FAULT is what is wrong with it.
 SPEAKER = r"""#!PYTHON
 import os, sys, time
 FAULT = "WRONG"
-held, is_on, tries = "x", False, int(os.environ.get("REFUSE_FIRST", 1)) - 1
+held, is_on, is_in_scope, tries = "x", False, False, int(os.environ.get("REFUSE_FIRST", 1)) - 1
 for line in sys.stdin:
     words = line.split()
     if words[0] == "refusals":
         is_on = words[1] == "on"
         print("ok", flush=True)
         continue
-    takes = 2 if words[0] in ("load", "printif", "append") else 0
+    takes = 2 if words[0] in ("load", "printif", "append", "push") else 0
     refused = is_on and tries < takes
     if is_on:
         tries = tries + 1 if refused else 0
     mark = "" if not is_on else "+ " if refused else "- "
-    if refused and FAULT == "halfedit":
+    if refused and FAULT == {"load": "halfload", "push": "halfpush"}.get(words[0]):
         held = "x00"
     if refused:
         answer = {"E1": "err E1 1 name x"}.get(FAULT, "err E27")
         if words[0] == "printif":
             answer = "err E28 " + ("x0b" if FAULT == "nobeginning" else held[:3])
-    elif words[0] == "load":
+    elif words[0] in ("load", "push"):
         held, answer = words[1], "ok"
-    elif words[0] in ("print", "printif"):
+    elif words[0] in ("edit", "end"):
+        is_in_scope, answer = words[0] == "edit", "ok"
+    elif is_in_scope:
+        answer = "refused"
+    elif words[0] in ("print", "printif") or words == ["string", "x61", "-", "x6b"]:
         answer = "ok " + held
     elif words[0] == "dump":
         answer = "ok [0 x61 - x6b " + held + " ]"
@@ -106,6 +110,9 @@ sys.exit(1 if FAULT == "status" else 0)
 
 ROWS = '# one\nload "v"\n  ok\ncount\n  ok 1\nprint\n  ok "v"\n\n# two\nprint\n  ok ""\n'
 GROWING = '# one\nload "v"\n  ok\nprintif "a"\n  ok "v"\nappend "g"\n  unknown\nprint\n  ok "v"\n'
+SCOPE = '# one\nload "v"\n  ok\nedit "a" -\n  ok\npush "w"\n  ok\nend\n  ok\nprint\n  ok "w"\n'
+BEYOND = ('# one\nload "v"\n  ok\nstringkey "a.k"\n  ok "v"\nname "x"\n  ok\nloadkept "z" -\n  ok\nprint\n  ok "z"\n'
+          'load "u"\n  ok\nprint\n  ok "u"\n')
 RUNS = 'gixcfg "get" < "v"\n  0 "v" ""\n\ngixcfg "other" < "v" unread\n  2 "" "usage"\n'
 REASON = "# A reason.\nin rows.txt: one\n"
 
@@ -126,16 +133,16 @@ def plain(fault, told, count, rows=ROWS):
     return Case(f"rows, {fault}", SPEAKER.replace("WRONG", fault), "rows.txt", rows, (), told, count)
 
 
-def refusals(fault, told, count):
-    return Case(f"--refused, {fault}", SPEAKER.replace("WRONG", fault), "rows.txt", GROWING, ("--refused",), told, count)
+def refusals(fault, told, count, rows=GROWING):
+    return Case(f"--refused, {fault}", SPEAKER.replace("WRONG", fault), "rows.txt", rows, ("--refused",), told, count)
 
 
 def program_run(fault, told, count):
     return Case(f"gixcfg, {fault}", GIXCFG.replace("WRONG", fault), "program.txt", RUNS, (), told, count)
 
 
-def other(name, fault, listed, told, count):
-    return Case(f"--against, {name}", SPEAKER.replace("WRONG", fault), "rows.txt", ROWS, ("--against", listed), told, count)
+def other(name, fault, listed, told, count, rows=ROWS):
+    return Case(f"--against, {name}", SPEAKER.replace("WRONG", fault), "rows.txt", rows, ("--against", listed), told, count)
 
 
 CASES = [
@@ -151,8 +158,10 @@ CASES = [
     plain("an answer without a command", ("rows.txt:1: an answer without a command",), "0 passed, 1 failed", "  ok\n"),
     plain("an open quote", ("rows.txt:2: a quote stays open",), "0 passed, 1 failed", 'load "v\n  ok\n'),
     refusals("right", ("6 growths refused in 4 commands", "load                  2 in     1"), "4 passed, 0 failed"),
-    refusals("halfedit", ("another file, with growth 1 refused", 'print was   ok ""', 'print is    ok "\\x00"'),
-             "1 passed, 3 failed"),
+    refusals("halfload", ("another file, with growth 1 refused", 'print was   ok ""', 'print is    ok "\\x00"'),
+             "3 passed, 1 failed"),
+    refusals("a scope", ("4 growths refused in 5 commands", "push                  2 in     1"), "5 passed, 0 failed", SCOPE),
+    refusals("halfpush", ('rows.txt:6: push "w"', "another file, with growth 1 refused"), "4 passed, 1 failed", SCOPE),
     refusals("E1", ('rows.txt:2: load "v"', "err E1 1 name \"\", with growth 1 refused"), "2 passed, 2 failed"),
     refusals("nobeginning", ('err E28 "\\x0b", with growth 1 refused',), "3 passed, 1 failed"),
     Case("--refused, no growth", SPEAKER.replace("WRONG", "right"), "rows.txt", ROWS.replace("load", "other").replace(
@@ -179,6 +188,8 @@ CASES = [
           ("a difference that isn't listed", "a listed difference is gone"), "3 passed, 2 failed"),
     other("a listed one that is gone", "right", REASON + "count\n  ok 1\n  ok 2\n", ("a listed difference is gone",),
           "4 passed, 1 failed"),
+    other("commands that it has not", "right", "", ("passed over:     1 of name", "passed over:     1 of loadkept",
+                                                    "passed over:     1 of rows whose file"), "4 passed, 0 failed", BEYOND),
     other("one without a reason", "changed", "in rows.txt: one\ncount\n  ok 1\n  ok 2\n", ("has a reason",),
           "0 passed, 1 failed"),
 ]
