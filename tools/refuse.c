@@ -1,20 +1,22 @@
-/* A shim that is loaded before a test program (LD_PRELOAD) and refuses one growth of it.
+/* A shim that is loaded before a program (LD_PRELOAD) and refuses growths of it: a malloc, calloc or realloc that asks for
+   bytes. It has two ways.
 
-   A test says by the size of a block where it begins and ends. Asked for BEGIN bytes, the shim counts from then on each
-   malloc, calloc and realloc that asks for bytes, and refuses the one whose number the variable REFUSE_AT has. Asked
-   for END bytes, it stops, and grants them only where it refused nothing, so that the test knows. It then appends the
-   line `growths COUNT refused 0` or `growths COUNT refused 1` to the file that REFUSE_LOG names.
+   By command. A program of the script language says by the size of a block where a command begins and ends, while its
+   refusals are on. Asked for BEGIN bytes, the shim counts growths from then on; asked for END bytes, it stops, and grants
+   these only where it refused nothing, so that the program can tell. It refuses a command's first growth, and where one
+   was refused in the try before, the next one: so the same command, given again and again, has each of its growths
+   refused, and at last none. REFUSE_FIRST is the growth that is refused first of all (1 where it is left out).
 
-   Programs of the kit ask for memory by malloc and realloc alone; calloc is here so that the count holds for others too.
+   By process. REFUSE_AT=N refuses the Nth growth of the whole process, and tells so by making the file REFUSE_LOG.
+
    The real calls are those that the C library gives under another name, so that nothing is looked up here. */
 #define _GNU_SOURCE
 #include <errno.h>
 #include <fcntl.h>
-#include <stdio.h>
 #include <stdlib.h>
 #include <unistd.h>
 
-/* The same two sizes stand in the tests (`shim.rt`). No call under test asks for as much. */
+/* The same two sizes stand in the programs. No call of theirs asks for as much. */
 #define BEGIN 999979
 #define END 999983
 
@@ -22,49 +24,64 @@ extern void *__libc_malloc(size_t size);
 extern void *__libc_calloc(size_t count, size_t size);
 extern void *__libc_realloc(void *block, size_t size);
 
-static int is_counting, was_refused;
-static unsigned long growths;
+static int is_whole_process, is_counting;
+/* Which growth is refused, of those since the counting began. */
+static unsigned long refused_number, growths;
+/* Whether one was refused in this try. */
+static int was_refused;
 
-static unsigned long asked_number(void) {
-    const char *text = getenv("REFUSE_AT");
-    return text ? strtoul(text, NULL, 10) : 0;
+static unsigned long number_of(const char *name, unsigned long otherwise) {
+    const char *text = getenv(name);
+    return text ? strtoul(text, NULL, 10) : otherwise;
 }
 
-static void begin(void) {
-    is_counting = 1;
-    was_refused = 0;
-    growths = 0;
+__attribute__((constructor)) static void start(void) {
+    refused_number = number_of("REFUSE_AT", 0);
+    is_whole_process = is_counting = refused_number != 0;
+    if (!is_whole_process)
+        refused_number = number_of("REFUSE_FIRST", 1);
 }
 
-static void end(void) {
-    is_counting = 0;
+static void tell_refusal(void) {
     const char *name = getenv("REFUSE_LOG");
-    int file = name ? open(name, O_WRONLY | O_CREAT | O_APPEND, 0600) : -1;
+    int file = name ? open(name, O_WRONLY | O_CREAT, 0600) : -1;
     if (file < 0)
-        return;
-    char line[64];
-    int length = snprintf(line, sizeof line, "growths %lu refused %d\n", growths, was_refused);
-    if (write(file, line, (size_t)length) != length)
         abort();
     close(file);
 }
 
-/* Whether this growth is refused. Blocks of BEGIN and END bytes are no growths of the call under test. */
+static void begin(void) {
+    is_counting = 1;
+    growths = 0;
+    was_refused = 0;
+}
+
+/* A command without a growth changes nothing. */
+static void end(void) {
+    is_counting = 0;
+    if (growths == 0)
+        return;
+    refused_number = was_refused ? refused_number + 1 : 1;
+}
+
+/* Whether this growth is refused. Blocks of BEGIN and END bytes are no growths of the command. */
 static int is_refused(size_t size) {
-    if (size == BEGIN) {
+    if (!is_whole_process && size == BEGIN) {
         begin();
         return 0;
     }
-    if (size == END) {
+    if (!is_whole_process && size == END) {
         end();
         return was_refused;
     }
     if (!is_counting || size == 0)
         return 0;
     growths++;
-    if (growths != asked_number())
+    if (growths != refused_number)
         return 0;
     was_refused = 1;
+    if (is_whole_process)
+        tell_refusal();
     return 1;
 }
 

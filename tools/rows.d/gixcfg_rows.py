@@ -1,0 +1,69 @@
+"""The rows of `gixcfg`, run as they stand and under refused growths."""
+
+import itertools
+
+from gixcfg_process import Failed, ending
+from gixcfg_runs import Ending, ending_of, run_of
+from transcripts import read
+from words import Malformed
+
+OUT_OF_MEMORY = Ending("5", b"", b"gixcfg: E27\n")
+
+
+class ProgramRow:
+    """A row with the run and the ending that its lines are."""
+
+    def __init__(self, row, folder):
+        try:
+            self.run = run_of(row.command, folder)
+            self.wanted = ending_of(row.wanted, folder)
+        except Malformed as fault:
+            raise Malformed(f"{row.place}: {fault}") from fault
+        self.row = row
+
+
+def read_rows(path):
+    """The rows of a file of runs."""
+    return [ProgramRow(row, path.parent) for transcript in read(path) for row in transcript.rows]
+
+
+def run(rows, program, limit, report):
+    """Makes each run."""
+    for row in rows:
+        try:
+            got = ending(program, row.run, limit)
+        except Failed as fault:
+            report.row_failed(row.row, f"nothing: {fault}")
+            continue
+        if got == row.wanted:
+            report.row_passed()
+        else:
+            report.row_failed(row.row, got)
+
+
+def refuse(rows, program, limit, shim, report, table):
+    """Makes each run whose streams don't fail with its first growth refused, then its second, until none is."""
+    for row in rows:
+        if not row.run.is_plain:
+            continue
+        try:
+            fault, refused = _refuse_one(row, program, limit, shim)
+        except Failed as stop:
+            fault, refused = f"nothing: {stop}", 0
+        table.add("gixcfg", refused)
+        if fault is None:
+            report.row_passed()
+        else:
+            report.row_failed(row.row, fault)
+
+
+def _refuse_one(row, program, limit, shim):
+    """What was got in place of what is right, and how many growths were refused."""
+    for number in itertools.count(1):
+        variables = shim.whole_process(number)
+        got = ending(program, row.run, limit, variables)
+        was_refused = shim.was_refused()
+        if got != row.wanted and not (was_refused and got == OUT_OF_MEMORY):
+            return f"{got}, with growth {number} refused" if was_refused else got, number - 1
+        if not was_refused:
+            return None, number - 1

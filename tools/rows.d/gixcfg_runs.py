@@ -1,0 +1,160 @@
+"""Runs of the program `gixcfg`: its words and streams, and its status, output and error.
+
+A run is a line `gixcfg WORDS [< INPUT] [> OUTPUT] [2> ERROR]`, and behind two blanks on the next line `STATUS OUTPUT ERROR`.
+rows/README.md has the form of each of them.
+"""
+
+import re
+from typing import List, NamedTuple, Optional
+
+from words import Malformed, QUOTED, quote, unquote
+
+_TOKEN = re.compile(rf"{QUOTED}|[^ \"]+")
+
+
+class Input(NamedTuple):
+    """Standard input: a text, or a folder where there is none."""
+
+    text: Optional[bytes]
+    step: int = 0
+    fails: bool = False
+    stays_unread: bool = False
+
+
+class Output(NamedTuple):
+    """Standard output or error: with room for so many bytes, or where that is None for all."""
+
+    room: Optional[int] = None
+    is_full: bool = False
+
+
+class Run(NamedTuple):
+    """A run of the program."""
+
+    words: List[bytes]
+    input: Input
+    out: Output
+    err: Output
+
+    @property
+    def is_plain(self):
+        """Whether no stream fails or is slow."""
+        given = self.input
+        return given.text is not None and given == Input(given.text) and self.out == self.err == Output()
+
+
+class Ending(NamedTuple):
+    """How a run ends: its status, and what it wrote; None for what can't be seen."""
+
+    status: str
+    out: Optional[bytes]
+    err: Optional[bytes]
+
+    def __str__(self):
+        return " ".join([self.status, _shown(self.out), _shown(self.err)])
+
+
+def _shown(text):
+    return "-" if text is None else quote(text)
+
+
+class _Tokens:
+    """The words of a line, one after the other."""
+
+    def __init__(self, line, folder):
+        self._folder = folder
+        self._tokens = _TOKEN.findall(line)
+        if " ".join(self._tokens) != line:
+            raise Malformed("words stand in quotes, with one blank between them")
+
+    def next(self):
+        if not self._tokens:
+            raise Malformed("a word is missing")
+        return self._tokens.pop(0)
+
+    def accept(self, *words):
+        """Takes these words, where they come next."""
+        if self._tokens[:len(words)] != list(words):
+            return False
+        del self._tokens[:len(words)]
+        return True
+
+    def number(self):
+        word = self.next()
+        if not word.isdigit():
+            raise Malformed(f"no number: {word}")
+        return int(word)
+
+    def comes_quoted(self):
+        return bool(self._tokens) and self._tokens[0].startswith('"')
+
+    def quoted(self):
+        if not self.comes_quoted():
+            raise Malformed("a word in quotes is missing")
+        return unquote(self.next())
+
+    def text(self):
+        """A text in quotes, or that of a file beside the rows, where one part may be changed."""
+        if self.comes_quoted():
+            return self.quoted()
+        text = _text_of(self._folder / self.next())
+        while self.accept("with"):
+            old = self.quoted()
+            if not self.accept("as") or text.count(old) != 1:
+                raise Malformed("`with OLD as NEW`: OLD has to stand in the file once")
+            text = text.replace(old, self.quoted())
+        return text
+
+    def close(self):
+        if self._tokens:
+            raise Malformed(f"no word that may stand here: {self._tokens[0]}")
+
+
+def _text_of(path):
+    try:
+        return path.read_bytes()
+    except OSError as fault:
+        raise Malformed(f"no file beside the rows: {path.name}") from fault
+
+
+def run_of(line, folder):
+    """The run that a line is; `folder` has the files that it names."""
+    tokens = _Tokens(line, folder)
+    if not tokens.accept("gixcfg"):
+        raise Malformed("a run begins with gixcfg")
+    words = []
+    while tokens.comes_quoted():
+        words.append(tokens.quoted())
+    given = _input_of(tokens) if tokens.accept("<") else Input(b"")
+    out = _output_of(tokens) if tokens.accept(">") else Output()
+    err = _output_of(tokens) if tokens.accept("2>") else Output()
+    tokens.close()
+    return Run(words, given, out, err)
+
+
+def _input_of(tokens):
+    if tokens.accept("folder"):
+        return Input(None)
+    text = tokens.text()
+    if tokens.accept("by"):
+        return Input(text, step=tokens.number())
+    if tokens.accept("then", "fails"):
+        return Input(text, fails=True)
+    return Input(text, stays_unread=tokens.accept("unread"))
+
+
+def _output_of(tokens):
+    if tokens.accept("full"):
+        return Output(is_full=True)
+    if tokens.accept("room"):
+        return Output(room=tokens.number())
+    raise Malformed("an output is `full` or `room N`")
+
+
+def ending_of(line, folder):
+    """The ending that a line is."""
+    tokens = _Tokens(line, folder)
+    status = str(tokens.number())
+    out, err = (None if tokens.accept("-") else tokens.text() for _ in range(2))
+    tokens.close()
+    return Ending(status, out, err)

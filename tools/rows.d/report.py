@@ -1,0 +1,36 @@
+"""What is told of the rows, and their count."""
+
+from words import to_transcript
+
+
+class Report:
+    """Counts rows, and tells each that failed."""
+
+    def __init__(self, tell=print):
+        self.tell = tell
+        self.passed = 0
+        self.failed = 0
+
+    def row_passed(self):
+        self.passed += 1
+
+    def row_failed(self, row, got):
+        """Tells a row with what was got in place of the wanted answer, as a transcript has it."""
+        self.fault(f"{row.place}: {row.command}\n  wanted  {row.wanted}\n  got     {got}")
+
+    def answer(self, row, got):
+        """Counts a row by the program's answer."""
+        if got == row.answer:
+            self.row_passed()
+        else:
+            self.row_failed(row, to_transcript(got))
+
+    def fault(self, text):
+        """Tells something that failed."""
+        self.tell(text)
+        self.failed += 1
+
+    def close(self):
+        """Tells the count, and answers the exit status."""
+        self.tell(f"{self.passed} passed, {self.failed} failed")
+        return 1 if self.failed else 0

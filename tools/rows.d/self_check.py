@@ -1,0 +1,266 @@
+"""Shows by small false programs that each kind of fault is told as failed, and that what is right passes."""
+
+import subprocess
+import sys
+import tempfile
+from pathlib import Path
+from typing import NamedTuple, Tuple
+
+import refused
+from report import Report
+
+# A program of the script language. `load` and some others take two growths; FAULT is what is wrong with it.
+SPEAKER = r"""#!PYTHON
+import os, sys, time
+FAULT = "WRONG"
+held, is_on, is_in_scope, tries = "x", False, False, int(os.environ.get("REFUSE_FIRST", 1)) - 1
+for line in sys.stdin:
+    words = line.split()
+    if words[0] == "refusals":
+        is_on = words[1] == "on"
+        print("ok", flush=True)
+        continue
+    takes = 2 if words[0] in ("load", "printif", "append", "push") else 0
+    refused = is_on and tries < takes
+    if is_on:
+        tries = tries + 1 if refused else 0
+    mark = "" if not is_on else "+ " if refused else "- "
+    if refused and FAULT == {"load": "halfload", "push": "halfpush"}.get(words[0]):
+        held = "x00"
+    if refused:
+        answer = {"E1": "err E1 1 name x"}.get(FAULT, "err E27")
+        if words[0] == "printif":
+            answer = "err E28 " + ("x0b" if FAULT == "nobeginning" else held[:3])
+    elif words[0] in ("load", "push"):
+        held, answer = words[1], "ok"
+    elif words[0] in ("edit", "end"):
+        is_in_scope, answer = words[0] == "edit", "ok"
+    elif is_in_scope:
+        answer = "refused"
+    elif words[0] in ("print", "printif") or words == ["string", "x61", "-", "x6b"]:
+        answer = "ok " + held
+    elif words[0] == "dump":
+        answer = "ok [0 x61 - x6b " + held + " ]"
+    elif words[0] == "count":
+        if FAULT == "stops": sys.exit("it stops here")
+        if FAULT == "hangs": time.sleep(60)
+        if FAULT == "missing": continue
+        answer = "ok 2" if FAULT == "changed" else "ok 1"
+    else:
+        answer = "unknown"
+    print(mark + answer, flush=True)
+if FAULT == "more": print("ok")
+if FAULT == "status": sys.exit(1)
+"""
+
+# A program whose growths are real ones, so that the shim refuses them: of the script language, and as a whole process
+# where it is given words.
+GROWER = r"""
+#include <stdio.h>
+#include <stdlib.h>
+#include <string.h>
+#include <unistd.h>
+static int grows(void) {
+    void *volatile first = malloc(10);
+    void *volatile second = first ? realloc(first, 2000) : NULL;
+    free(second ? second : first);
+    return second != NULL;
+}
+static int is_granted(size_t size) {
+    void *volatile block = malloc(size);
+    free(block);
+    return block != NULL;
+}
+int main(int count, char **words) {
+    if (count > 1) {
+        const char *text = grows() ? "v\n" : "gixcfg: E27\n";
+        int status = text[0] == 'v' ? 0 : 5;
+        return write(status ? 2 : 1, text, strlen(text)) < 0 ? 4 : status;
+    }
+    char line[100];
+    int is_on = 0;
+    while (fgets(line, sizeof line, stdin)) {
+        int is_switch = strncmp(line, "refusals ", 9) == 0;
+        if (is_switch)
+            is_on = line[10] == 'n';
+        int begins = is_on && !is_switch && is_granted(999979);
+        const char *answer = strcmp(line, "load x\n") || grows() ? "ok" : "err E27";
+        if (begins)
+            fputs(is_granted(999983) ? "- " : "+ ", stdout);
+        puts(answer);
+        fflush(stdout);
+    }
+    return 0;
+}
+"""
+
+# A program that is called as gixcfg is, and prints what FAULT says in the place of one thing.
+GIXCFG = r"""#!PYTHON
+import sys, time
+FAULT = "WRONG"
+text = sys.stdin.buffer.read() if FAULT == "reads" or sys.argv[1:2] == ["get"] else b""
+if FAULT == "hangs": time.sleep(60)
+if sys.argv[1:2] != ["get"]:
+    sys.stderr.write("usage")
+    sys.exit(2)
+sys.stdout.buffer.write(text + (b"!" if FAULT == "output" else b""))
+sys.stderr.write("?" if FAULT == "error" else "")
+sys.exit(1 if FAULT == "status" else 0)
+"""
+
+ROWS = '# one\nload "v"\n  ok\ncount\n  ok 1\nprint\n  ok "v"\n\n# two\nprint\n  ok ""\n'
+GROWING = '# one\nload "v"\n  ok\nprintif "a"\n  ok "v"\nappend "g"\n  unknown\nprint\n  ok "v"\n'
+SCOPE = '# one\nload "v"\n  ok\nedit "a" -\n  ok\npush "w"\n  ok\nend\n  ok\nprint\n  ok "w"\n'
+BEYOND = ('# one\nload "v"\n  ok\nstringkey "a.k"\n  ok "v"\nname "x"\n  ok\nloadkept "z" -\n  ok\nprint\n  ok "z"\n'
+          'load "u"\n  ok\nprint\n  ok "u"\n')
+RUNS = 'gixcfg "get" < "v"\n  0 "v" ""\n\ngixcfg "other" < "v" unread\n  2 "" "usage"\n'
+REASON = "# A reason.\nin rows.txt: one\n"
+
+
+class Case(NamedTuple):
+    """Rows for a program, and what the tool has to tell: parts of its lines, and its last line."""
+
+    name: str
+    program: str
+    file: str
+    rows: str
+    words: Tuple[str, ...]
+    told: Tuple[str, ...]
+    count: str
+
+
+def plain(fault, told, count, rows=ROWS):
+    return Case(f"rows, {fault}", SPEAKER.replace("WRONG", fault), "rows.txt", rows, (), told, count)
+
+
+def refusals(fault, told, count, rows=GROWING):
+    return Case(f"--refused, {fault}", SPEAKER.replace("WRONG", fault), "rows.txt", rows, ("--refused",), told, count)
+
+
+def program_run(fault, told, count):
+    return Case(f"gixcfg, {fault}", GIXCFG.replace("WRONG", fault), "program.txt", RUNS, (), told, count)
+
+
+def other(name, fault, listed, told, count, rows=ROWS):
+    return Case(f"--against, {name}", SPEAKER.replace("WRONG", fault), "rows.txt", rows, ("--against", listed), told, count)
+
+
+CASES = [
+    plain("right", (), "4 passed, 0 failed"),
+    plain("changed", ("rows.txt:4: count", "wanted  ok 1", "got     ok 2"), "3 passed, 1 failed"),
+    plain("missing", ("rows.txt:4: count", "got     nothing: no answer", "rows.txt:6: print"), "2 passed, 2 failed"),
+    plain("hangs", ("rows.txt:4: count", "got     nothing: no answer", "rows.txt:6: print"), "2 passed, 2 failed"),
+    plain("stops", ("got     nothing: it ended with status 1: it stops here", "rows.txt:6: print"), "2 passed, 2 failed"),
+    plain("more", ("rows.txt:6: behind the last command: it printed more than its answers",), "4 passed, 2 failed"),
+    plain("status", ("it ended with status 1",), "4 passed, 2 failed"),
+    plain("a command without an answer", ("rows.txt:3: the line before is a command without an answer",),
+          "0 passed, 1 failed", "# one\nprint\nprint\n  ok\n"),
+    plain("an answer without a command", ("rows.txt:1: an answer without a command",), "0 passed, 1 failed", "  ok\n"),
+    plain("an open quote", ("rows.txt:2: a quote stays open",), "0 passed, 1 failed", 'load "v\n  ok\n'),
+    refusals("right", ("6 growths refused in 4 commands", "load                  2 in     1"), "4 passed, 0 failed"),
+    refusals("halfload", ("another file, with growth 1 refused", 'print was   ok ""', 'print is    ok "\\x00"'),
+             "3 passed, 1 failed"),
+    refusals("a scope", ("4 growths refused in 5 commands", "push                  2 in     1"), "5 passed, 0 failed", SCOPE),
+    refusals("halfpush", ('rows.txt:6: push "w"', "another file, with growth 1 refused"), "4 passed, 1 failed", SCOPE),
+    refusals("E1", ('rows.txt:2: load "v"', "err E1 1 name \"\", with growth 1 refused"), "2 passed, 2 failed"),
+    refusals("nobeginning", ('err E28 "\\x0b", with growth 1 refused',), "3 passed, 1 failed"),
+    Case("--refused, no growth", SPEAKER.replace("WRONG", "right"), "rows.txt", ROWS.replace("load", "other").replace(
+        "  ok\n", "  unknown\n").replace('"v"\n\n', '""\n\n'), ("--refused",), ("no growth was refused at all",),
+        "4 passed, 1 failed"),
+    Case("--refused, real growths", GROWER, "rows.txt", 'load ""\n  ok\nload ""\n  ok\nprint\n  ok\n', ("--refused",),
+         ("4 growths refused in 3 commands",), "3 passed, 0 failed"),
+    Case("--refused, a whole process", GROWER, "program.txt", 'gixcfg "get"\n  0 "v\\n" ""\n', ("--refused",),
+         ("2 growths refused in 1 commands",), "1 passed, 0 failed"),
+    Case("--refused, a whole process that ends otherwise", GROWER.replace("E27", "E1"), "program.txt",
+         'gixcfg "get"\n  0 "v\\n" ""\n', ("--refused",), ('got     5 "" "gixcfg: E1\\n", with growth 1 refused',),
+         "0 passed, 1 failed"),
+    program_run("right", (), "2 passed, 0 failed"),
+    program_run("output", ('program.txt:1: gixcfg "get" < "v"', 'wanted  0 "v" ""', 'got     0 "v!" ""'), "1 passed, 1 failed"),
+    program_run("error", ('got     0 "v" "?"',), "1 passed, 1 failed"),
+    program_run("status", ('got     1 "v" ""',), "1 passed, 1 failed"),
+    program_run("reads", ("1 bytes of its standard input were read",), "1 passed, 1 failed"),
+    program_run("hangs", ("got     nothing: no end in",), "0 passed, 2 failed"),
+    other("the same", "right", "", (), "4 passed, 0 failed"),
+    other("a difference", "changed", "", ("rows.txt:4: a difference that isn't listed",), "3 passed, 1 failed"),
+    other("a listed one", "changed", REASON + "count\n  ok 1\n  ok 2\n", ("1 listed differences were seen",),
+          "4 passed, 0 failed"),
+    other("a listed one that is another", "changed", REASON + "count\n  ok 1\n  ok 3\n",
+          ("a difference that isn't listed", "a listed difference is gone"), "3 passed, 2 failed"),
+    other("a listed one that is gone", "right", REASON + "count\n  ok 1\n  ok 2\n", ("a listed difference is gone",),
+          "4 passed, 1 failed"),
+    other("commands that it has not", "right", "", ("passed over:     1 of name", "passed over:     1 of loadkept",
+                                                    "passed over:     1 of rows whose file"), "4 passed, 0 failed", BEYOND),
+    other("one without a reason", "changed", "in rows.txt: one\ncount\n  ok 1\n  ok 2\n", ("has a reason",),
+          "0 passed, 1 failed"),
+]
+
+
+def _check_case(case, tools, folder):
+    """What is wrong with what the tool tells of this case, or None."""
+    rows, program = folder / "rows", folder / "program"
+    rows.mkdir()
+    (rows / case.file).write_text(case.rows)
+    words = list(case.words)
+    if words[:1] == ["--against"]:
+        (rows / "DIFFERENCES.txt").write_text(words[1])
+        words[1] = str(program)
+    _make(case.program, program)
+    called = [sys.executable, str(tools / "rows"), "--rows", str(rows), "--program", str(program), "--gixcfg", str(program)]
+    ran = subprocess.run(called + ["--limit", "1", *words], stdout=subprocess.PIPE, stderr=subprocess.STDOUT)
+    told = ran.stdout.decode("utf-8", "replace")
+    missing = [part for part in case.told if part not in told]
+    is_right = told.endswith(f"{case.count}\n") and ran.returncode == (0 if case.count.endswith(" 0 failed") else 1)
+    if is_right and not missing:
+        return None
+    return f"it ended with status {ran.returncode}, and told\n{told}" + "".join(f"without  {part}\n" for part in missing)
+
+
+def _make(source, path):
+    """Makes a program: a Python script, or one in C."""
+    if source.startswith("#!"):
+        path.write_text(source.replace("PYTHON", sys.executable))
+        path.chmod(0o700)
+        return
+    text = path.with_suffix(".c")
+    text.write_text(source)
+    subprocess.run(["cc", "-O0", "-o", str(path), str(text)], check=True)
+
+
+def _state(*sections):
+    return ["", " ".join(("ok",) + sections), ""]
+
+
+A, B, C = "[0 x61 - x6b x31 ]", "[1 x62 - x6b x32 ]", "[2 x63 - ]"
+# What may hold of a file behind a refused growth, by command, before, behind and behind the refusal.
+STATES = [
+    ("load", _state(A), _state(B), _state(A), True),
+    ("load", _state(A), _state(B), _state(B), False),
+    ("append", _state(A), _state(A, B), _state(A), True),
+    ("append", _state(A), _state(A, B), _state(A, B), False),
+    ("newsection", _state(A, B), _state(A, B, C), _state(A, B, C), True),
+    ("newsection", _state(A), _state(A, B), _state(A, B), False),
+    ("rename", _state("[0 x61 - ]", "[1 x61 - ]"), _state("[0 x62 - ]", "[1 x62 - ]"), _state("[0 x62 - ]", "[1 x61 - ]"), True),
+    ("rename", _state("[0 x61 - ]", "[1 x61 - ]"), _state("[0 x62 - ]", "[1 x62 - ]"), _state("[0 x61 - ]", "[1 x62 - ]"), False),
+    ("resolve", _state(A, B), _state(A, C, B), _state(A, C, B), True),
+    ("resolve", _state(A, B), _state(A, C, B), _state(A, C), False),
+]
+
+
+def run(tools):
+    """Checks each case, and closes with their count."""
+    report = Report()
+    for case in CASES:
+        with tempfile.TemporaryDirectory() as folder:
+            fault = _check_case(case, tools, Path(folder))
+        _count(report, case.name, fault)
+    for word, before, done, after, is_right in STATES:
+        holds = refused.EDITS.get(word, refused.as_before)(before, done, after)
+        _count(report, f"the state behind a refused {word}", None if holds == is_right else after)
+    return report.close()
+
+
+def _count(report, name, fault):
+    if fault is None:
+        report.row_passed()
+    else:
+        report.fault(f"{name}: {fault}")
