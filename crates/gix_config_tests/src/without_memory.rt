@@ -1,23 +1,19 @@
 //! Calls that take no memory: the shim refuses their first growth, and there is none.
 
-use super::parse::TEXT;
-use super::shim::{begin, was_refused};
-use gitconf_base::key::KeyRef;
-use gitconf_base::meta::Metadata;
-use gitconf_base::values::Homes;
+use super::base::homes;
+use super::events::TEXT;
+use super::refused::{begin, was_refused};
 use gitconf_parse::events::Events;
 use gitconf_text::value::normalize;
-use gix_config::File;
+use gix_config::file::Metadata;
+use gix_config::{File, KeyRef};
 use std::rc::Rc;
 use std::test::Fail;
 
 /// No section, no key in it, a key without a value, and no key at all.
 #[test]
 fn misses(rt: HostRuntime) -> Result<(), Fail> {
-    let file = File::try_from_bytes(rt.alloc(), TEXT)?;
-    begin(rt.alloc())?;
-    let mut found: usize = 0;
-    for key in [
+    let keys = [
         "a.k",
         "core.x",
         "core.o.k",
@@ -26,30 +22,20 @@ fn misses(rt: HostRuntime) -> Result<(), Fail> {
         "Branch.Main.m",
         "core",
         "",
-    ] {
-        if !matches!(file.string(key), Ok(None)) {
-            found = found.saturating_add(1);
-        }
-    }
-    assert!(rt; !was_refused(rt.alloc()));
-    assert_eq!(rt; found, 0);
-    Ok(())
-}
-
-#[test]
-fn a_new_file(rt: HostRuntime) -> Result<(), Fail> {
-    let meta = Rc::new(rt.alloc(), Metadata::api())?;
+    ];
+    let file = File::try_from_bytes(rt.alloc(), TEXT)?;
     begin(rt.alloc())?;
-    let file = File::new(rt.alloc(), meta);
-    assert!(rt; !was_refused(rt.alloc()));
-    assert!(rt; file.is_void() && file.sections().next().is_none());
+    let missed = keys.iter().all(|key| matches!(file.string(*key), Ok(None)));
+    assert!(rt; !was_refused(rt.alloc()) && missed);
     Ok(())
 }
 
 #[test]
 fn counts_and_views(rt: HostRuntime) -> Result<(), Fail> {
+    let meta = Rc::new(rt.alloc(), Metadata::api())?;
     let file = File::try_from_bytes(rt.alloc(), TEXT)?;
     begin(rt.alloc())?;
+    let new = File::new(rt.alloc(), meta);
     let values = file.num_values();
     let is_void = file.is_void();
     let line_end = file.detect_newline_style();
@@ -57,6 +43,7 @@ fn counts_and_views(rt: HostRuntime) -> Result<(), Fail> {
     let is_api = *file.meta() == Metadata::api();
     let shared = file.meta_owned();
     assert!(rt; !was_refused(rt.alloc()));
+    assert!(rt; new.is_void() && new.sections().next().is_none());
     assert!(rt; values == 6 && !is_void && sections == 3 && is_api);
     assert!(rt; line_end == b"\n".as_slice());
     assert!(rt; *shared? == Metadata::api());
@@ -78,42 +65,23 @@ fn events_looked_at(rt: HostRuntime) -> Result<(), Fail> {
     Ok(())
 }
 
+/// A meaning that stands in the text, a writer that has room, and another folder for a user that has one.
 #[test]
-fn keys_and_plain_values(rt: HostRuntime) -> Result<(), Fail> {
-    begin(rt.alloc())?;
-    let key = KeyRef::parse_unvalidated(b"remote.o.url");
-    let meaning = normalize(rt.alloc(), b"\"a b\"");
-    assert!(rt; !was_refused(rt.alloc()));
-    assert!(rt; key.is_some_and(|key| key.value_name == "url"));
-    assert!(rt; meaning?.as_slice() == b"a b".as_slice());
-    Ok(())
-}
-
-/// A writer that has room is not refused anything.
-#[test]
-fn a_file_written_where_there_is_room(rt: HostRuntime) -> Result<(), Fail> {
+fn where_there_is_room(rt: HostRuntime) -> Result<(), Fail> {
+    let mut homes = homes(rt.alloc(), &[("u", "/u")])?;
+    let user = String::from_str(rt.alloc(), "u")?;
+    let folder = String::from_str(rt.alloc(), "/v")?;
     let file = File::try_from_bytes(rt.alloc(), b"[a] k = v")?;
     let mut out = Vec::with_capacity(rt.alloc(), 100)?;
     begin(rt.alloc())?;
+    let key = KeyRef::parse_unvalidated(b"remote.o.url");
+    let meaning = normalize(rt.alloc(), b"\"a b\"");
+    let put = homes.insert(user, folder);
     let answer = file.write_to(&mut out);
     assert!(rt; !was_refused(rt.alloc()));
+    assert!(rt; key.is_some_and(|key| key.value_name == "url"));
+    assert!(rt; meaning?.as_slice() == b"a b".as_slice());
+    assert!(rt; put.is_ok() && homes.get("u") == Some("/v"));
     assert!(rt; answer.is_ok() && out.as_slice() == b"[a]\n k = v\n".as_slice());
-    Ok(())
-}
-
-/// A user that has a folder gets another.
-#[test]
-fn another_home_folder(rt: HostRuntime) -> Result<(), Fail> {
-    let mut homes = Homes::new(rt.alloc());
-    homes.insert(
-        String::from_str(rt.alloc(), "u")?,
-        String::from_str(rt.alloc(), "/u")?,
-    )?;
-    let user = String::from_str(rt.alloc(), "u")?;
-    let folder = String::from_str(rt.alloc(), "/v")?;
-    begin(rt.alloc())?;
-    let answer = homes.insert(user, folder);
-    assert!(rt; !was_refused(rt.alloc()));
-    assert!(rt; answer.is_ok() && homes.get("u") == Some("/v"));
     Ok(())
 }
