@@ -64,14 +64,14 @@ fn metadata_is_made(rt: HostRuntime) -> Result<(), Fail> {
     assert!(rt; made.at(String::from_str(alloc, "/a")?) == expected);
     let path = String::from_str(alloc, "/a")?;
     let made = Metadata::try_from_path(path, Source::Env, Ok(Trust::Reduced));
-    assert!(rt; made.is_ok_and(|made| made == expected));
+    assert!(rt; made == Ok(expected));
     let fault = FileFault {
         stage: Stage::Read,
         not_found: true,
     };
     let path = String::from_str(alloc, "/a")?;
     let made = Metadata::try_from_path(path, Source::Env, Err(fault));
-    assert!(rt; made.is_err_and(|told| told == fault));
+    assert!(rt; made == Err(fault));
     Ok(())
 }
 
@@ -93,7 +93,10 @@ fn metadata_is_ordered_and_copied(rt: HostRuntime) -> Result<(), Fail> {
     for (at, (path, source, level, trust)) in rows.iter().enumerate() {
         let one = of_parts(rt.alloc(), *path, *source, *level, *trust)?;
         let copy = one.try_clone()?;
-        assert!(rt; copy.path.as_deref() == *path && copy.source == *source, "{at}");
+        assert!(rt;
+            copy.path.as_deref() == *path && copy.source == *source,
+            "{at}"
+        );
         assert!(rt; copy.level == *level && copy.trust == *trust, "{at}");
         for (place, (path, source, level, trust)) in rows.iter().enumerate() {
             let other = of_parts(rt.alloc(), *path, *source, *level, *trust)?;

@@ -1,19 +1,11 @@
 //! Files: their metadata, and filters that are asked.
 
-use gix_config::file::SectionId;
-use gix_config::{File, KeyRef, Source};
-use gix_config::file::Metadata;
 use bstr::BString;
-use gix_config::file::init;
+use gix_config::file::{Metadata, SectionRef, init};
+use gix_config::{File, KeyRef, Source};
 use std::alloc::Global;
 use std::rc::Rc;
 use std::test::Fail;
-
-/// The text, with metadata of that source.
-fn loaded(alloc: Global, text: &[u8], source: Source) -> Result<File, Fail> {
-    let meta = Rc::new(alloc, Metadata::from(source))?;
-    Ok(File::from_bytes_no_includes(alloc, text, meta, init::Options::default())?)
-}
 
 /// A file has the metadata that it was made with, or that was set; its sections and its copies keep theirs.
 #[test]
@@ -31,9 +23,20 @@ fn metadata_of_a_file(rt: HostRuntime) -> Result<(), Fail> {
     assert!(rt; *empty.meta() == user && empty.to_bstring()?.is_empty());
     drop(file);
     assert!(rt; *copy.meta() == Metadata::api());
-    let refused = File::try_from_bytes(rt.alloc(), b"[a]\n$").err();
-    assert!(rt; refused.is_some_and(|error| error.number() == 1 && error.line_number() == 2));
+    let Err(error) = File::try_from_bytes(rt.alloc(), b"[a]\n$") else {
+        assert!(rt; false, "read");
+        return Ok(());
+    };
+    assert!(rt; error.number() == 1 && error.line_number() == 2 && error.kind() == "name");
     Ok(())
+}
+
+fn is_api(meta: &Metadata) -> bool {
+    meta.source == Source::Api
+}
+
+fn is_user(meta: &Metadata) -> bool {
+    meta.source == Source::User
 }
 
 /// The answer is this value, or none.
@@ -45,9 +48,9 @@ fn is_value(found: &Option<BString>, expected: Option<&[u8]>) -> bool {
     }
 }
 
-/// A text, a key, and the last value of sections that come from where the file does.
+/// A text, a key, and its value where all sections pass. Where none does, there is no value.
 #[test]
-fn values_of_sections_that_pass(rt: HostRuntime) -> Result<(), Fail> {
+fn values_where_sections_pass(rt: HostRuntime) -> Result<(), Fail> {
     let rows: [(&[u8], &[u8], Option<&[u8]>); 5] = [
         (b"[a] k = v", b"a.k", Some(b"v")),
         (b"[a] k", b"a.k", None),
@@ -56,19 +59,20 @@ fn values_of_sections_that_pass(rt: HostRuntime) -> Result<(), Fail> {
         (b"[a] k = v", b"ak", None),
     ];
     for (text, key, expected) in rows {
-        let file = loaded(rt.alloc(), text, Source::User)?;
-        let kept = file.string_filter(key, |meta| meta.source == Source::User)?;
-        assert!(rt; is_value(&kept, expected));
-        let dropped = file.string_filter(key, |meta| meta.source == Source::Api)?;
-        assert!(rt; dropped.is_none());
-        let Some(key) = KeyRef::parse_unvalidated(key) else {
-            continue;
-        };
-        let (section, subsection, name) = (key.section_name, key.subsection_name, key.value_name);
-        let kept = file.string_filter_by(section, subsection, name, |meta| meta.level == 0)?;
-        assert!(rt; is_value(&kept, expected));
-        let dropped = file.string_filter_by(section, subsection, name, |meta| meta.level == 1)?;
-        assert!(rt; dropped.is_none());
+        let file = File::try_from_bytes(rt.alloc(), text)?;
+        assert!(rt; is_value(&file.string_filter(key, is_api)?, expected));
+        assert!(rt; is_value(&file.string_filter(key, is_user)?, None));
+        if let Some(key) = KeyRef::parse_unvalidated(key) {
+            let (section, subsection, name) = (
+                key.section_name,
+                key.subsection_name,
+                key.value_name,
+            );
+            let found = file.string_filter_by(section, subsection, name, is_api)?;
+            assert!(rt; is_value(&found, expected));
+            let found = file.string_filter_by(section, subsection, name, is_user)?;
+            assert!(rt; is_value(&found, None));
+        }
     }
     Ok(())
 }
@@ -95,25 +99,35 @@ fn values_are_set_where_a_filter_passes(rt: HostRuntime) -> Result<(), Fail> {
         return Ok(());
     };
     let mut file = File::try_from_bytes(rt.alloc(), b"[a]\nk=1\n")?;
-    let found = file.set_raw_value_filter(key, b"2", |meta| meta.source == Source::User)?;
-    assert!(rt; is_value(&found, None));
+    assert!(rt; is_value(&file.set_raw_value_filter(key, b"2", is_user)?, None));
     assert!(rt; file.to_bstring()?.as_bytes() == b"[a]\nk=1\n[a]\n\tk = 2\n".as_slice());
-    let found = file.set_raw_value_filter(key, b"3", |meta| meta.source == Source::Api)?;
-    assert!(rt; is_value(&found, Some(b"2")));
-    let found = file.set_raw_value_filter_by("A", None, "K", b"4", |meta| meta.level == 0)?;
+    assert!(rt; is_value(&file.set_raw_value_filter(key, b"3", is_api)?, Some(b"2")));
+    let found = file.set_raw_value_filter_by("A", None, "K", b"4", is_api)?;
     assert!(rt; is_value(&found, Some(b"3")));
     assert!(rt; file.to_bstring()?.as_bytes() == b"[a]\nk=1\n[a]\n\tk = 4\n".as_slice());
-    let found = file.set_raw_value_filter_by("a", None, "k", b"5", |meta| meta.level == 1)?;
+    let found = file.set_raw_value_filter_by("a", None, "k", b"5", is_user)?;
     assert!(rt; is_value(&found, None));
     assert_eq!(rt; file.sections().count(), 3);
     Ok(())
 }
 
-/// The file of which sections pass that have this number.
-fn printed_of(alloc: Global, file: &File, id: SectionId) -> Result<Vec<u8>, Fail> {
+/// What is printed of the section at this place alone, which the filter tells by its number.
+fn printed_of(alloc: Global, file: &File, place: usize) -> Result<Vec<u8>, Fail> {
     let mut out = Vec::new(alloc);
-    file.write_to_filter(&mut out, |section| section.id() == id)?;
+    for (at, kept) in file.sections().enumerate() {
+        if at == place {
+            file.write_to_filter(&mut out, |section| section.id() == kept.id())?;
+        }
+    }
     Ok(out)
+}
+
+fn is_of_user(section: &SectionRef<'_>) -> bool {
+    section.meta().source == Source::User
+}
+
+fn is_of_api(section: &SectionRef<'_>) -> bool {
+    section.meta().source == Source::Api
 }
 
 /// Sections that are kept by their numbers, of which each has its own, and by where they come from.
@@ -126,21 +140,18 @@ fn files_are_printed_in_part(rt: HostRuntime) -> Result<(), Fail> {
         (b"[a \"x\"] k [a \"y\"]j", 1, b"[a \"y\"]\nj\n"),
     ];
     for (text, place, expected) in rows {
-        let file = loaded(rt.alloc(), text, Source::User)?;
-        let id = file.sections().nth(place).map(|section| section.id());
-        let printed = printed_of(rt.alloc(), &file, id.unwrap_or_default())?;
-        assert!(rt; printed.as_slice() == expected);
+        let file = File::try_from_bytes(rt.alloc(), text)?;
+        assert!(rt; printed_of(rt.alloc(), &file, place)?.as_slice() == expected);
     }
-    let rows: [(Source, &[u8]); 2] = [
-        (Source::User, b"# f\n[a]\n\tk = v\n[b]\n j\n"),
-        (Source::Local, b"# f\n"),
-    ];
-    let file = loaded(rt.alloc(), b"# f\n[a]\n\tk = v\n[b] j", Source::User)?;
-    for (source, expected) in rows {
-        let mut out = Vec::new(rt.alloc());
-        file.write_to_filter(&mut out, |section| section.meta().source == source)?;
-        assert!(rt; out.as_slice() == expected);
-    }
+    let meta = Rc::new(rt.alloc(), Metadata::from(Source::User))?;
+    let text = b"# f\n[a]\n\tk = v\n[b] j";
+    let file = File::from_bytes_no_includes(rt.alloc(), text, meta, init::Options::default())?;
+    let mut out = Vec::new(rt.alloc());
+    file.write_to_filter(&mut out, is_of_user)?;
+    assert!(rt; out.as_slice() == b"# f\n[a]\n\tk = v\n[b]\n j\n".as_slice());
+    let mut out = Vec::new(rt.alloc());
+    file.write_to_filter(&mut out, is_of_api)?;
+    assert!(rt; out.as_slice() == b"# f\n".as_slice());
     Ok(())
 }
 

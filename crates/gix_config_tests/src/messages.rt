@@ -1,5 +1,6 @@
 //! Texts of errors and of events, numbers of refusals, and the limit of spans.
 
+use gitconf_base::host::{FileFault, Stage};
 use gitconf_parse::error::{Error, Expected};
 use gitconf_parse::event::Span;
 use gitconf_parse::event_ref::EventRef;
@@ -7,7 +8,6 @@ use gitconf_parse::sink::SinkFault;
 use gitconf_text::parse::section::{Name, ValueName};
 use gix_config::file::{includes, init};
 use gix_config::path::interpolate;
-use gitconf_base::host::{FileFault, Stage};
 use std::test::Fail;
 
 /// What no text can be refused by: the last line of all, no data left, and 4294967296 bytes.
@@ -47,10 +47,10 @@ fn refusals_of_the_parser(rt: HostRuntime) -> Result<(), Fail> {
         assert_eq!(rt; error.line_number(), *line);
         assert_eq!(rt; error.kind(), *kind);
         assert!(rt; error.remaining_data() == *data);
-        let same = rows.iter().filter(|(other, ..)| other == error).count();
-        assert_eq!(rt; same, 1);
     }
-    assert!(rt; Error::memory() == Error::memory());
+    assert!(rt;
+        Error::memory() == Error::memory() && Error::memory() != Error::too_large(4294967296)
+    );
     assert!(rt; Error::too_large(4294967296) != Error::too_large(4294967297));
     Ok(())
 }
@@ -76,7 +76,10 @@ fn texts_of_other_refusals(rt: HostRuntime) -> Result<(), Fail> {
         "Valid value names consist of alphanumeric characters or dashes, starting with an alphabetic character."
     );
     let fault = SinkFault;
-    assert_eq!(rt; format!(in rt.alloc(); "{fault}")?.as_str(), "the writer failed");
+    assert_eq!(rt;
+        format!(in rt.alloc(); "{fault}")?.as_str(),
+        "the writer failed"
+    );
     // The refusal of a load shows what the refusal within it shows.
     let error = init::Error::Includes(includes::Error::IncludeDepthExceeded { max_depth: 3 });
     assert_eq!(rt;
@@ -208,6 +211,10 @@ fn spans_end_at_the_limit(rt: HostRuntime) -> Result<(), Fail> {
     }
     let last = Span::try_new(4294967295, 0)?;
     assert_eq!(rt; last.moved(0)?, last);
-    assert!(rt; last.moved(1).is_err_and(|refused| refused.number() == 3));
+    let Err(refused) = last.moved(1) else {
+        assert!(rt; false, "a span behind the last");
+        return Ok(());
+    };
+    assert_eq!(rt; refused.number(), 3);
     Ok(())
 }

@@ -57,7 +57,11 @@ fn keys_of_sections(rt: HostRuntime) {
             }),
             None => None,
         };
-        assert!(rt; unvalidated::KeyRef::parse(text) == expected, "'{}'", BStr::new(text));
+        assert!(rt;
+            unvalidated::KeyRef::parse(text) == expected,
+            "'{}'",
+            BStr::new(text)
+        );
     }
 }
 
@@ -113,7 +117,10 @@ fn keys_of_values(rt: HostRuntime) -> Result<(), Fail> {
             assert!(rt; answers(&owned, expected), "'{shown}'");
         }
         if let Some(key) = expected {
-            assert!(rt; answers(key, expected) && answers(&key, expected), "'{shown}'");
+            assert!(rt;
+                answers(key, expected) && answers(&key, expected),
+                "'{shown}'"
+            );
         }
     }
     Ok(())

@@ -6,7 +6,7 @@
 //! its full answer. Before, it says that memory was wanting, and all is as it was. Without the shim it is made once.
 
 use super::base::homes;
-use super::events::{TEXT, WRITTEN, written};
+use super::events::{PRINTED, TEXT, WRITTEN, written};
 use gitconf_base::util::{SectionId, SectionTable};
 use gitconf_parse::event_ref::EventRef;
 use gitconf_parse::events::Events;
@@ -17,9 +17,9 @@ use gitconf_text::NoMemory;
 use gitconf_text::parse::section::{Name, ValueName};
 use gitconf_text::value::{append_escaped, escape, normalize};
 use gix_config::file::Metadata;
+use gix_config::values::Homes;
 use gix_config::{File, Source};
 use std::alloc::{AllocError, Global};
-use std::process::Abort;
 use std::str;
 use std::test::Fail;
 
@@ -142,13 +142,26 @@ fn table_of_two(alloc: Global) -> Result<SectionTable<u8>, Fail> {
 
 /// Whether the contents in order are these.
 fn has_contents(table: &SectionTable<u8>, contents: &[u8]) -> bool {
-    table.iter().map(|(_, content)| content).eq(contents.iter())
+    let mut left = contents;
+    for (_, content) in table.iter() {
+        match left.split_first() {
+            Some((first, rest)) if first == content => left = rest,
+            _ => return false,
+        }
+    }
+    left.is_empty()
 }
 
 /// Whether one section has these names, and this content.
 fn has_one(table: &SectionTable<u8>, name: &str, subsection: Option<&[u8]>, content: u8) -> bool {
-    let mut found = table.named(name, subsection);
-    found.next().is_some_and(|(_, held)| *held == content) && found.next().is_none()
+    let mut found: usize = 0;
+    for (_, held) in table.named(name, subsection) {
+        if *held != content {
+            return false;
+        }
+        found = found.saturating_add(1);
+    }
+    found == 1
 }
 
 /// Whether the table is the one that `table_of_two` made.
@@ -211,54 +224,43 @@ fn tables_put_between(rt: HostRuntime) -> Result<(), Fail> {
     Ok(())
 }
 
-/// Gives `new` a folder, which is none of these users.
-fn check_new_user<R: Abort + AllocGlobal>(rt: &R, users: &[(&str, &str)]) -> Result<(), Fail> {
-    each_refused!(rt, (mut homes, user, folder) = (
-            homes(rt.alloc(), users)?,
-            String::from_str(rt.alloc(), "new")?,
-            String::from_str(rt.alloc(), "/home/new")?,
-        ), homes.insert(user, folder),
-        Ok(()) => homes.get("new") == Some("/home/new") && users.iter().all(|(user, folder)| homes.get(user) == Some(*folder)),
-        Err(NoMemory) => homes.get("new").is_none() && users.iter().all(|(user, folder)| homes.get(user) == Some(*folder)));
+/// Whether `u` has this folder, and each of the other users has `/home`.
+fn has_folders(homes: &Homes, users: &[(&str, &str)], folder: Option<&str>) -> bool {
+    for (user, _) in users {
+        if homes.get(user) != Some("/home") {
+            return false;
+        }
+    }
+    homes.get("u") == folder
+}
+
+/// A first user, and one more than the fifteen that a node of the table has room for.
+#[test]
+fn users(rt: HostRuntime) -> Result<(), Fail> {
+    let names = [
+        "a", "b", "c", "d", "e", "f", "g", "h", "i", "j", "k", "l", "m", "n", "o",
+    ];
+    let all = names.map(|name| (name, "/home"));
+    let rows: [&[(&str, &str)]; 2] = [&[], &all];
+    for others in rows {
+        each_refused!(rt, (mut homes, user, folder) = (
+                homes(rt.alloc(), others)?,
+                String::from_str(rt.alloc(), "u")?,
+                String::from_str(rt.alloc(), "/u")?,
+            ), homes.insert(user, folder),
+            Ok(()) => has_folders(&homes, others, Some("/u")),
+            Err(NoMemory) => has_folders(&homes, others, None));
+    }
     Ok(())
 }
 
-/// A node that has its fifteen users is full, and is split.
-#[test]
-fn users(rt: HostRuntime) -> Result<(), Fail> {
-    check_new_user(&rt, &[])?;
-    let fifteen: [(&str, &str); 15] = [
-        ("a", "/a"),
-        ("b", "/b"),
-        ("c", "/c"),
-        ("d", "/d"),
-        ("e", "/e"),
-        ("f", "/f"),
-        ("g", "/g"),
-        ("h", "/h"),
-        ("i", "/i"),
-        ("j", "/j"),
-        ("k", "/k"),
-        ("l", "/l"),
-        ("m", "/m"),
-        ("n", "/n"),
-        ("o", "/o"),
-    ];
-    check_new_user(&rt, &fifteen)
-}
-
-/// What is printed of the text: nothing but its mark is left out.
-fn printed() -> &'static [u8] {
-    TEXT.strip_prefix(b"\xef\xbb\xbf").unwrap_or(TEXT)
-}
-
-/// Its first section alone.
+/// The first section of the text alone.
 const SECTION: &[u8] =
     b"[core] # c\n\tk = v\n j\n\tlong = a \\\n  b \\\r\n c ; end\ne = \"x\\ty\" z\n";
 
 /// Whether the file is the whole text.
 fn is_whole(file: &File) -> Result<bool, Fail> {
-    Ok(file.to_bstring()?.as_bytes() == printed() && file.num_values() == 6)
+    Ok(file.to_bstring()?.as_bytes() == PRINTED && file.num_values() == 6)
 }
 
 /// A vector is a writer that fails where its growth is refused.
@@ -269,8 +271,8 @@ fn files(rt: HostRuntime) -> Result<(), Fail> {
         Err(error) => error.number() == 27);
     let file = File::try_from_bytes(rt.alloc(), TEXT)?;
     each_refused!(rt, mut out = Vec::new(rt.alloc()), file.write_to(&mut out),
-        Ok(()) => out.as_slice() == printed(),
-        Err(SinkFault) => printed().starts_with(&out) && is_whole(&file)?);
+        Ok(()) => out.as_slice() == PRINTED,
+        Err(SinkFault) => PRINTED.starts_with(&out) && is_whole(&file)?);
     let Some(section) = file.sections().next() else {
         assert!(rt; false, "no section");
         return Ok(());

@@ -10,9 +10,8 @@ type Named<'a> = (&'a str, Option<&'a [u8]>, u8);
 /// A change of a table; a section is told by its place, or by its number to be removed.
 #[derive(Clone, Copy)]
 enum Step<'a> {
-    Push(Named<'a>),
-    InsertBehind(usize, Named<'a>),
-    InsertAll(usize, &'a [Named<'a>]),
+    Put(usize, Named<'a>),
+    PutAll(usize, &'a [Named<'a>]),
     Remove(usize),
     Rename(usize, &'a str, Option<&'a [u8]>),
     Change(usize, u8),
@@ -48,6 +47,46 @@ fn table_of(alloc: Global, sections: &[Named<'_>]) -> Result<SectionTable<u8>, F
     Ok(table)
 }
 
+/// Puts a section behind the one at this place, or last where there is none.
+fn put(table: &mut SectionTable<u8>, at: usize, section: Named<'_>) -> Result<SectionId, Fail> {
+    let (name, subsection, content) = section;
+    if at < table.len() {
+        return Ok(table.insert_behind(at, name.as_bytes(), subsection, content)?);
+    }
+    Ok(table.push(name.as_bytes(), subsection, content)?)
+}
+
+fn put_all(
+    alloc: Global,
+    table: &mut SectionTable<u8>,
+    at: usize,
+    sections: &[Named<'_>],
+) -> Result<(), Fail> {
+    let other = table_of(alloc, sections)?;
+    if at <= table.len() {
+        table.insert_all(at, other)?;
+    }
+    Ok(())
+}
+
+fn rename(
+    table: &mut SectionTable<u8>,
+    at: usize,
+    name: &str,
+    subsection: Option<&[u8]>,
+) -> Result<(), Fail> {
+    if at < table.len() {
+        table.rename(at, name.as_bytes(), subsection)?;
+    }
+    Ok(())
+}
+
+fn change(table: &mut SectionTable<u8>, at: usize, content: u8) {
+    if at < table.len() {
+        *table.at_mut(at) = content;
+    }
+}
+
 /// Takes the step, and answers the digit of a number that was given, or what was held by what was removed, or `-`.
 fn take(
     alloc: Global,
@@ -56,29 +95,20 @@ fn take(
     step: Step<'_>,
 ) -> Result<u8, Fail> {
     match step {
-        Step::Push((name, subsection, content)) => {
-            let id = table.push(name.as_bytes(), subsection, content)?;
-            return Ok(digit(numbers, id));
-        }
-        Step::InsertBehind(at, (name, subsection, content)) if at < table.len() => {
-            let id = table.insert_behind(at, name.as_bytes(), subsection, content)?;
-            return Ok(digit(numbers, id));
-        }
-        Step::InsertAll(at, sections) if at <= table.len() => {
-            table.insert_all(at, table_of(alloc, sections)?)?;
-        }
+        Step::Put(at, section) => return Ok(digit(numbers, put(table, at, section)?)),
+        Step::PutAll(at, sections) => put_all(alloc, table, at, sections)?,
         Step::Remove(number) => {
             let id = numbers.get(number).copied().unwrap_or_default();
             return Ok(table.remove(id).unwrap_or(b'-'));
         }
-        Step::Rename(at, name, subsection) if at < table.len() => {
-            table.rename(at, name.as_bytes(), subsection)?;
-        }
-        Step::Change(at, content) if at < table.len() => *table.at_mut(at) = content,
-        _ => return Ok(b'?'),
+        Step::Rename(at, name, subsection) => rename(table, at, name, subsection)?,
+        Step::Change(at, content) => change(table, at, content),
     }
     Ok(b'-')
 }
+
+/// No place of any section.
+const LAST: usize = usize::MAX;
 
 const ASKED: [(&str, Option<&[u8]>); 4] = [
     ("core", None),
@@ -112,32 +142,6 @@ fn told(
     Ok(out)
 }
 
-/// The same, by walks over numbers and from the back.
-fn told_from_the_back(
-    alloc: Global,
-    table: &SectionTable<u8>,
-    numbers: &[SectionId],
-) -> Result<Vec<u8>, AllocError> {
-    let mut out = Vec::new(alloc);
-    out.extend_from_slice(&[digit(numbers, table.next_id()), b'|'])?;
-    for (id, content) in table.with_name("Remote").rev() {
-        out.extend_from_slice(&[*content, digit(numbers, id)])?;
-    }
-    for (name, subsection) in ASKED.iter().rev() {
-        out.push(b'|')?;
-        for id in table.ids(name, *subsection).rev() {
-            let content = table.get(id).copied().unwrap_or(b'?');
-            out.extend_from_slice(&[content, digit(numbers, id)])?;
-        }
-    }
-    out.push(b'|')?;
-    for (id, content) in table.iter().rev() {
-        out.extend_from_slice(&[*content, digit(numbers, id)])?;
-    }
-    out.reverse();
-    Ok(out)
-}
-
 /// A step, its answer, and what is told of the table behind it.
 #[test]
 fn tables_are_changed(rt: HostRuntime) -> Result<(), Fail> {
@@ -148,24 +152,24 @@ fn tables_are_changed(rt: HostRuntime) -> Result<(), Fail> {
     ];
     let last: [Named<'_>; 1] = [("core", None, b'i')];
     let rows: [(Step<'_>, u8, &[u8]); 17] = [
-        (Step::Push(("Core", None, b'a')), b'0', b"0a|0a|||||1"),
+        (Step::Put(LAST, ("Core", None, b'a')), b'0', b"0a|0a|||||1"),
         (
-            Step::Push(("remote", Some(b"origin"), b'b')),
+            Step::Put(LAST, ("remote", Some(b"origin"), b'b')),
             b'1',
             b"0a1b|0a||1b||1b|2",
         ),
         (
-            Step::Push(("REMOTE", Some(b"Origin"), b'c')),
+            Step::Put(LAST, ("REMOTE", Some(b"Origin"), b'c')),
             b'2',
             b"0a1b2c|0a||1b|2c|1b2c|3",
         ),
         (
-            Step::InsertBehind(0, ("rEmote", Some(b"origin"), b'd')),
+            Step::Put(0, ("rEmote", Some(b"origin"), b'd')),
             b'3',
             b"0a3d1b2c|0a||3d1b|2c|3d1b2c|4",
         ),
         (
-            Step::InsertBehind(3, ("CORE", Some(b""), b'e')),
+            Step::Put(3, ("CORE", Some(b""), b'e')),
             b'4',
             b"0a3d1b2c4e|0a|4e|3d1b|2c|3d1b2c|5",
         ),
@@ -177,24 +181,24 @@ fn tables_are_changed(rt: HostRuntime) -> Result<(), Fail> {
             b"0a3d2c4e|0a2c|4e|3d||3d|5",
         ),
         (
-            Step::InsertAll(1, &three),
+            Step::PutAll(1, &three),
             b'-',
             b"0a5f6g7h3d2c4e|0a5f2c|4e|3d|7h|7h3d|8",
         ),
         (Step::Remove(0), b'a', b"5f6g7h3d2c4e|5f2c|4e|3d|7h|7h3d|8"),
         (
-            Step::InsertAll(6, &last),
+            Step::PutAll(6, &last),
             b'-',
             b"5f6g7h3d2c4e8i|5f2c8i|4e|3d|7h|7h3d|9",
         ),
         (
-            Step::InsertAll(0, &[]),
+            Step::PutAll(0, &[]),
             b'-',
             b"5f6g7h3d2c4e8i|5f2c8i|4e|3d|7h|7h3d|9",
         ),
         (Step::Remove(8), b'i', b"5f6g7h3d2c4e|5f2c|4e|3d|7h|7h3d|9"),
         (
-            Step::Push(("core", Some(b"\xff"), b'j')),
+            Step::Put(LAST, ("core", Some(b"\xff"), b'j')),
             b'9',
             b"5f6g7h3d2c4e9j|5f2c|4e|3d|7h|7h3d|A",
         ),
@@ -219,9 +223,10 @@ fn tables_are_changed(rt: HostRuntime) -> Result<(), Fail> {
     for (row, (step, answer, expected)) in rows.iter().enumerate() {
         let given = take(rt.alloc(), &mut table, &numbers, *step)?;
         assert_eq!(rt; given, *answer, "{row}");
-        assert!(rt; told(rt.alloc(), &table, &numbers)?.as_slice() == *expected, "{row}");
-        let mirrored = told_from_the_back(rt.alloc(), &table, &numbers)?;
-        assert!(rt; mirrored.as_slice() == *expected, "{row}");
+        assert!(rt;
+            told(rt.alloc(), &table, &numbers)?.as_slice() == *expected,
+            "{row}"
+        );
         assert!(rt; table.get(SectionId::default()).is_none(), "{row}");
     }
     Ok(())
@@ -243,9 +248,14 @@ fn tables_are_walked_from_both_ends(rt: HostRuntime) -> Result<(), Fail> {
     assert!(rt; named.next() == Some((first, &'a')));
     assert!(rt; named.next_back() == Some((second, &'c')));
     assert!(rt; named.next().is_none() && named.next_back().is_none());
+    let mut any = table.with_name("cORE");
+    assert!(rt; any.next_back() == Some((third, &'d')));
+    assert!(rt; any.next() == Some((first, &'a')));
+    assert!(rt; any.next_back() == Some((second, &'c')) && any.next_back().is_none());
     let mut all = table.iter();
     assert!(rt; all.next_back() == Some((third, &'d')));
     assert!(rt; all.next() == Some((first, &'a')));
     assert_eq!(rt; all.count(), 2);
+    assert!(rt; table.get(second) == Some(&'c'));
     Ok(())
 }

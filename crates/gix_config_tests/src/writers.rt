@@ -1,9 +1,10 @@
 //! Writers that fail, and writers that take little at a time.
 
-use super::events::TEXT;
+use super::events::{PRINTED, TEXT};
 use gitconf_parse::event_ref::EventRef;
 use gitconf_parse::sink::{Sink, SinkFault, write_all};
 use gix_config::File;
+use gix_config::file::SectionRef;
 use std::alloc::Global;
 use std::process::Abort;
 use std::test::Fail;
@@ -57,27 +58,27 @@ impl Sink for Narrow {
     }
 }
 
-/// What is written: a file, a file but for its sections without the letter `b`, its last section, or a header.
+/// What is written: a file, of a file the sections `[b]`, a section alone, or a header.
 #[derive(Drop)]
 enum Written<'a> {
     Whole(&'a File),
     InPart(&'a File),
-    Last(&'a File),
+    Section(SectionRef<'a>),
     Header(EventRef<'a>),
+}
+
+fn is_b(section: &SectionRef<'_>) -> bool {
+    match section.to_bstring() {
+        Ok(text) => text.as_bytes().starts_with(b"[b]"),
+        Err(_) => false,
+    }
 }
 
 fn write(what: &Written<'_>, out: &mut Narrow) -> Result<(), SinkFault> {
     match what {
         Written::Whole(file) => file.write_to(out),
-        Written::InPart(file) => file.write_to_filter(out, |section| {
-            section
-                .to_bstring()
-                .is_ok_and(|text| text.as_bytes().contains(&b'b'))
-        }),
-        Written::Last(file) => match file.sections().last() {
-            Some(section) => section.write_to(out),
-            None => Ok(()),
-        },
+        Written::InPart(file) => file.write_to_filter(out, is_b),
+        Written::Section(section) => section.write_to(out),
         Written::Header(event) => event.write_to(out),
     }
 }
@@ -93,7 +94,10 @@ fn check<R: Abort + AllocGlobal>(rt: &R, what: &Written<'_>, text: &[u8]) {
             for takes_nothing in [false, true] {
                 let mut out = Narrow::new(rt.alloc(), width, room, takes_nothing);
                 assert_eq!(rt; write(what, &mut out), Err(SinkFault), "{room} bytes");
-                assert!(rt; text.get(..room) == Some(out.taken.as_slice()), "{room} bytes");
+                assert!(rt;
+                    text.get(..room) == Some(out.taken.as_slice()),
+                    "{room} bytes"
+                );
                 assert_eq!(rt; out.failures, 1, "{room} bytes");
             }
         }
@@ -110,7 +114,7 @@ fn writers_that_fail(rt: HostRuntime) -> Result<(), Fail> {
         (b"[a]\r\n[b]\nj\n[c]\r\n", b"[a]\r\n[b]\nj\n\r\n[c]\r\n"),
         (b"[a]\nk = x\\", b"[a]\nk = x\\\n\n"),
         (b"k=x\\\r\ny [a]\n[b]", b"k=x\\\r\ny [a]\n\r\n[b]\r\n"),
-        (TEXT, TEXT.strip_prefix(b"\xef\xbb\xbf").unwrap_or(TEXT)),
+        (TEXT, PRINTED),
     ];
     for (text, printed) in rows {
         let file = File::try_from_bytes(rt.alloc(), text)?;
@@ -123,9 +127,9 @@ fn writers_that_fail(rt: HostRuntime) -> Result<(), Fail> {
 fn writers_that_fail_at_parts(rt: HostRuntime) -> Result<(), Fail> {
     let file = File::try_from_bytes(rt.alloc(), b"  [a] k [b]\nj")?;
     check(&rt, &Written::InPart(&file), b"  \n[b]\nj\n");
-    check(&rt, &Written::Last(&file), b"[b]\nj");
-    let file = File::try_from_bytes(rt.alloc(), b"[a] k")?;
-    check(&rt, &Written::Last(&file), b"[a]\n k");
+    for (section, text) in file.sections().zip([b"[a]\n k ".as_slice(), b"[b]\nj"]) {
+        check(&rt, &Written::Section(section), text);
+    }
     let header = EventRef::SectionHeader {
         name: b"name",
         separator: Some(b" "),
