@@ -130,9 +130,9 @@ fn is_of_api(section: &SectionRef<'_>) -> bool {
     section.meta().source == Source::Api
 }
 
-/// Sections that are kept by their numbers, of which each has its own, and by where they come from.
+/// Sections that are kept by their numbers, of which each has its own.
 #[test]
-fn files_are_printed_in_part(rt: HostRuntime) -> Result<(), Fail> {
+fn sections_by_their_numbers(rt: HostRuntime) -> Result<(), Fail> {
     let rows: [(&[u8], usize, &[u8]); 4] = [
         (b"[a][b]\n[c]", 0, b"[a]\n\n\n"),
         (b"[a][b]\n[c]", 1, b"[b]\n"),
@@ -143,15 +143,25 @@ fn files_are_printed_in_part(rt: HostRuntime) -> Result<(), Fail> {
         let file = File::try_from_bytes(rt.alloc(), text)?;
         assert!(rt; printed_of(rt.alloc(), &file, place)?.as_slice() == expected);
     }
-    let meta = Rc::new(rt.alloc(), Metadata::from(Source::User))?;
+    Ok(())
+}
+
+/// A file whose sections come from the user.
+fn file_of_user(alloc: Global) -> Result<File, Fail> {
+    let meta = Rc::new(alloc, Metadata::from(Source::User))?;
     let text = b"# f\n[a]\n\tk = v\n[b] j";
-    let file = File::from_bytes_no_includes(rt.alloc(), text, meta, init::Options::default())?;
-    let mut out = Vec::new(rt.alloc());
-    file.write_to_filter(&mut out, is_of_user)?;
-    assert!(rt; out.as_slice() == b"# f\n[a]\n\tk = v\n[b]\n j\n".as_slice());
+    Ok(File::from_bytes_no_includes(alloc, text, meta, init::Options::default())?)
+}
+
+/// Sections that are kept by where they come from.
+#[test]
+fn sections_by_their_source(rt: HostRuntime) -> Result<(), Fail> {
+    let file = file_of_user(rt.alloc())?;
     let mut out = Vec::new(rt.alloc());
     file.write_to_filter(&mut out, is_of_api)?;
     assert!(rt; out.as_slice() == b"# f\n".as_slice());
+    file.write_to_filter(&mut out, is_of_user)?;
+    assert!(rt; out.as_slice() == b"# f\n# f\n[a]\n\tk = v\n[b]\n j\n".as_slice());
     Ok(())
 }
 

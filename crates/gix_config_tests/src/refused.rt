@@ -5,7 +5,6 @@
 //! first one again behind a call that it left alone. So each call is made until nothing of it is refused, and then gives
 //! its full answer. Before, it says that memory was wanting, and all is as it was. Without the shim it is made once.
 
-use super::base::homes;
 use super::events::{PRINTED, TEXT, WRITTEN, written};
 use gitconf_base::util::{SectionId, SectionTable};
 use gitconf_parse::event_ref::EventRef;
@@ -15,6 +14,7 @@ use gitconf_parse::laws::kept_entries_make_items;
 use gitconf_parse::sink::SinkFault;
 use gitconf_text::NoMemory;
 use gitconf_text::parse::section::{Name, ValueName};
+use gitconf_text::parse::span;
 use gitconf_text::value::{append_escaped, escape, normalize};
 use gix_config::file::Metadata;
 use gix_config::values::Homes;
@@ -173,31 +173,46 @@ fn is_as_made(table: &SectionTable<u8>, next: SectionId) -> bool {
 }
 
 #[test]
-fn tables(rt: HostRuntime) -> Result<(), Fail> {
+fn copies_of_tables(rt: HostRuntime) -> Result<(), Fail> {
     let table = table_of_two(rt.alloc())?;
     let next = table.next_id();
     each_refused!(rt, () = (), table.try_clone(),
         Ok(copy) => is_as_made(&copy, next),
         Err(NoMemory) => is_as_made(&table, next));
-    each_refused!(rt, mut table = table_of_two(rt.alloc())?, table.push(b"Branch", Some(b"main"), b'b'),
-        Ok(id) => id == next && has_contents(&table, b"crb") && has_one(&table, "branch", Some(b"main"), b'b'),
-        Err(error) => error.number() == 27 && is_as_made(&table, next));
     Ok(())
 }
 
+/// Puts `[Branch "main"]`, which holds `b`, last or behind the first section.
+fn put(table: &mut SectionTable<u8>, is_last: bool) -> Result<SectionId, span::Error> {
+    if is_last || table.is_empty() {
+        table.push(b"Branch", Some(b"main"), b'b')
+    } else {
+        table.insert_behind(0, b"Branch", Some(b"main"), b'b')
+    }
+}
+
 #[test]
-fn tables_in_between(rt: HostRuntime) -> Result<(), Fail> {
+fn sections_put_into_tables(rt: HostRuntime) -> Result<(), Fail> {
     let next = table_of_two(rt.alloc())?.next_id();
-    each_refused!(rt, mut table = table_of_two(rt.alloc())?, {
-            assert!(rt; table.len() == 2);
-            table.insert_behind(0, b"Branch", Some(b"main"), b'b')
-        },
-        Ok(id) => id == next && has_contents(&table, b"cbr") && has_one(&table, "branch", Some(b"main"), b'b'),
-        Err(error) => error.number() == 27 && is_as_made(&table, next));
-    each_refused!(rt, mut table = table_of_two(rt.alloc())?, {
-            assert!(rt; table.len() == 2);
-            table.rename(0, b"Branch", Some(b"main"))
-        },
+    for (is_last, contents) in [(true, b"crb"), (false, b"cbr")] {
+        each_refused!(rt, mut table = table_of_two(rt.alloc())?, put(&mut table, is_last),
+            Ok(id) => id == next && has_contents(&table, contents) && has_one(&table, "branch", Some(b"main"), b'b'),
+            Err(error) => error.number() == 27 && is_as_made(&table, next));
+    }
+    Ok(())
+}
+
+fn rename_first(table: &mut SectionTable<u8>) -> Result<(), NoMemory> {
+    if table.is_empty() {
+        return Ok(());
+    }
+    table.rename(0, b"Branch", Some(b"main"))
+}
+
+#[test]
+fn renamed_sections(rt: HostRuntime) -> Result<(), Fail> {
+    let next = table_of_two(rt.alloc())?.next_id();
+    each_refused!(rt, mut table = table_of_two(rt.alloc())?, rename_first(&mut table),
         Ok(()) => has_contents(&table, b"cr") && !table.has_name("core") && has_one(&table, "branch", Some(b"main"), b'c'),
         Err(NoMemory) => is_as_made(&table, next));
     Ok(())
@@ -212,21 +227,40 @@ fn table_of_ten(alloc: Global) -> Result<SectionTable<u8>, Fail> {
     Ok(table)
 }
 
+fn put_behind_first(
+    table: &mut SectionTable<u8>,
+    other: SectionTable<u8>,
+) -> Result<(), span::Error> {
+    if table.is_empty() {
+        return Ok(());
+    }
+    table.insert_all(1, other)
+}
+
 #[test]
-fn tables_put_between(rt: HostRuntime) -> Result<(), Fail> {
+fn tables_put_into_tables(rt: HostRuntime) -> Result<(), Fail> {
     let next = table_of_two(rt.alloc())?.next_id();
-    each_refused!(rt, (mut table, other) = (table_of_two(rt.alloc())?, table_of_ten(rt.alloc())?), {
-            assert!(rt; table.len() == 2);
-            table.insert_all(1, other)
-        },
+    each_refused!(rt, (mut table, other) = (table_of_two(rt.alloc())?, table_of_ten(rt.alloc())?), put_behind_first(&mut table, other),
         Ok(()) => has_contents(&table, b"c0123456789r"),
         Err(error) => error.number() == 27 && is_as_made(&table, next));
     Ok(())
 }
 
-/// Whether `u` has this folder, and each of the other users has `/home`.
-fn has_folders(homes: &Homes, users: &[(&str, &str)], folder: Option<&str>) -> bool {
-    for (user, _) in users {
+/// These users, with one home.
+fn homes_of(alloc: Global, users: &[&str]) -> Result<Homes, Fail> {
+    let mut homes = Homes::new(alloc);
+    for user in users {
+        homes.insert(
+            String::from_str(alloc, user)?,
+            String::from_str(alloc, "/home")?,
+        )?;
+    }
+    Ok(homes)
+}
+
+/// Whether `u` has this folder, and each of the other users that home.
+fn has_folders(homes: &Homes, users: &[&str], folder: Option<&str>) -> bool {
+    for user in users {
         if homes.get(user) != Some("/home") {
             return false;
         }
@@ -237,14 +271,15 @@ fn has_folders(homes: &Homes, users: &[(&str, &str)], folder: Option<&str>) -> b
 /// A first user, and one more than the fifteen that a node of the table has room for.
 #[test]
 fn users(rt: HostRuntime) -> Result<(), Fail> {
-    let names = [
-        "a", "b", "c", "d", "e", "f", "g", "h", "i", "j", "k", "l", "m", "n", "o",
+    let rows: [&[&str]; 2] = [
+        &[],
+        &[
+            "a", "b", "c", "d", "e", "f", "g", "h", "i", "j", "k", "l", "m", "n", "o",
+        ],
     ];
-    let all = names.map(|name| (name, "/home"));
-    let rows: [&[(&str, &str)]; 2] = [&[], &all];
     for others in rows {
         each_refused!(rt, (mut homes, user, folder) = (
-                homes(rt.alloc(), others)?,
+                homes_of(rt.alloc(), others)?,
                 String::from_str(rt.alloc(), "u")?,
                 String::from_str(rt.alloc(), "/u")?,
             ), homes.insert(user, folder),

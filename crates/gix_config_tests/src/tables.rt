@@ -1,66 +1,68 @@
 //! The table of sections: its changes, and walks over it from both ends.
 
+use self::Step::{Change, Put, PutAll, Remove, Rename};
 use gitconf_base::util::{SectionId, SectionTable};
 use std::alloc::{AllocError, Global};
 use std::test::Fail;
 
-/// A section's name, subsection and content.
-type Named<'a> = (&'a str, Option<&'a [u8]>, u8);
+/// A section's name and its subsection.
+type Names<'a> = (&'a [u8], Option<&'a [u8]>);
+
+const CORE: Names<'static> = (b"Core", None);
+
+const EMPTY: Names<'static> = (b"CORE", Some(b""));
+
+const LOWER: Names<'static> = (b"rEmote", Some(b"origin"));
+
+const UPPER: Names<'static> = (b"REMOTE", Some(b"Origin"));
+
+const OTHER: Names<'static> = (b"core", Some(b"\xff"));
+
+/// No place of any section.
+const LAST: usize = usize::MAX;
 
 /// A change of a table; a section is told by its place, or by its number to be removed.
 #[derive(Clone, Copy)]
 enum Step<'a> {
-    Put(usize, Named<'a>),
-    PutAll(usize, &'a [Named<'a>]),
+    /// Behind a section, or last.
+    Put(usize, Names<'a>, u8),
+    /// Before a section, a whole table.
+    PutAll(usize, &'a [(Names<'a>, u8)]),
     Remove(usize),
-    Rename(usize, &'a str, Option<&'a [u8]>),
+    Rename(usize, Names<'a>),
     Change(usize, u8),
 }
 
-const DIGITS: &[u8] = b"0123456789A";
-
-/// The numbers of a table, from 0 on, one for each digit.
-fn numbers(alloc: Global) -> Result<Vec<SectionId>, Fail> {
-    let mut numbers = Vec::new(alloc);
-    let mut table = SectionTable::new(alloc);
-    for digit in DIGITS {
-        numbers.push(table.push(b"", None, *digit)?)?;
-    }
-    Ok(numbers)
-}
-
-fn digit(numbers: &[SectionId], id: SectionId) -> u8 {
-    match numbers.iter().position(|number| *number == id) {
-        Some(at) => DIGITS.get(at).copied().unwrap_or(b'?'),
-        None => b'?',
+fn put(table: &mut SectionTable<u8>, at: usize, names: Names<'_>, content: u8) -> Result<(), Fail> {
+    let next = table.next_id();
+    let given = if at < table.len() {
+        table.insert_behind(at, names.0, names.1, content)?
+    } else {
+        table.push(names.0, names.1, content)?
+    };
+    if given == next {
+        Ok(())
+    } else {
+        Err(Fail::new("another number is given"))
     }
 }
 
 /// A table of those sections, from which one was removed before.
-fn table_of(alloc: Global, sections: &[Named<'_>]) -> Result<SectionTable<u8>, Fail> {
+fn table_of(alloc: Global, sections: &[(Names<'_>, u8)]) -> Result<SectionTable<u8>, Fail> {
     let mut table = SectionTable::new(alloc);
     let first = table.push(b"x", None, b'x')?;
-    for (name, subsection, content) in sections {
-        table.push(name.as_bytes(), *subsection, *content)?;
+    for (names, content) in sections {
+        table.push(names.0, names.1, *content)?;
     }
     table.remove(first);
     Ok(table)
-}
-
-/// Puts a section behind the one at this place, or last where there is none.
-fn put(table: &mut SectionTable<u8>, at: usize, section: Named<'_>) -> Result<SectionId, Fail> {
-    let (name, subsection, content) = section;
-    if at < table.len() {
-        return Ok(table.insert_behind(at, name.as_bytes(), subsection, content)?);
-    }
-    Ok(table.push(name.as_bytes(), subsection, content)?)
 }
 
 fn put_all(
     alloc: Global,
     table: &mut SectionTable<u8>,
     at: usize,
-    sections: &[Named<'_>],
+    sections: &[(Names<'_>, u8)],
 ) -> Result<(), Fail> {
     let other = table_of(alloc, sections)?;
     if at <= table.len() {
@@ -69,14 +71,9 @@ fn put_all(
     Ok(())
 }
 
-fn rename(
-    table: &mut SectionTable<u8>,
-    at: usize,
-    name: &str,
-    subsection: Option<&[u8]>,
-) -> Result<(), Fail> {
+fn rename(table: &mut SectionTable<u8>, at: usize, names: Names<'_>) -> Result<(), Fail> {
     if at < table.len() {
-        table.rename(at, name.as_bytes(), subsection)?;
+        table.rename(at, names.0, names.1)?;
     }
     Ok(())
 }
@@ -87,142 +84,103 @@ fn change(table: &mut SectionTable<u8>, at: usize, content: u8) {
     }
 }
 
-/// Takes the step, and answers the digit of a number that was given, or what was held by what was removed, or `-`.
+/// Takes the step, and answers what was held by what was removed.
 fn take(
     alloc: Global,
     table: &mut SectionTable<u8>,
     numbers: &[SectionId],
     step: Step<'_>,
-) -> Result<u8, Fail> {
+) -> Result<Option<u8>, Fail> {
     match step {
-        Step::Put(at, section) => return Ok(digit(numbers, put(table, at, section)?)),
-        Step::PutAll(at, sections) => put_all(alloc, table, at, sections)?,
-        Step::Remove(number) => {
+        Put(at, names, content) => put(table, at, names, content)?,
+        PutAll(at, sections) => put_all(alloc, table, at, sections)?,
+        Remove(number) => {
             let id = numbers.get(number).copied().unwrap_or_default();
-            return Ok(table.remove(id).unwrap_or(b'-'));
+            return Ok(table.remove(id));
         }
-        Step::Rename(at, name, subsection) => rename(table, at, name, subsection)?,
-        Step::Change(at, content) => change(table, at, content),
+        Rename(at, names) => rename(table, at, names)?,
+        Change(at, content) => change(table, at, content),
     }
-    Ok(b'-')
+    Ok(None)
 }
 
-/// No place of any section.
-const LAST: usize = usize::MAX;
+/// The numbers that a table gives first.
+fn numbers(alloc: Global) -> Result<Vec<SectionId>, Fail> {
+    let mut numbers = Vec::new(alloc);
+    let mut table = SectionTable::new(alloc);
+    for _ in 0..11 {
+        numbers.push(table.push(b"", None, b'x')?)?;
+    }
+    Ok(numbers)
+}
 
-const ASKED: [(&str, Option<&[u8]>); 4] = [
-    ("core", None),
-    ("Core", Some(b"")),
-    ("REMOTE", Some(b"origin")),
-    ("remote", Some(b"Origin")),
-];
-
-/// Each section as the digit of its number and its content: all of them, those of each of the names asked for, and
-/// those of any `remote`, with a `|` behind each of these lists. Last the digit of the next number.
+/// The contents of all sections, of those of four names, and of those with a name, with a `|` behind each of these
+/// lists; last what stands under each number.
 fn told(
     alloc: Global,
     table: &SectionTable<u8>,
     numbers: &[SectionId],
 ) -> Result<Vec<u8>, AllocError> {
+    let asked: [(&str, Option<&[u8]>); 4] = [
+        ("core", None),
+        ("Core", Some(b"")),
+        ("REMOTE", Some(b"origin")),
+        ("remote", Some(b"Origin")),
+    ];
     let mut out = Vec::new(alloc);
-    for (id, content) in table.iter() {
-        out.extend_from_slice(&[digit(numbers, id), *content])?;
+    for (_, content) in table.iter() {
+        out.push(*content)?;
     }
-    for (name, subsection) in &ASKED {
+    for (name, subsection) in asked {
         out.push(b'|')?;
-        for (id, content) in table.named(name, *subsection) {
-            out.extend_from_slice(&[digit(numbers, id), *content])?;
+        for (_, content) in table.named(name, subsection) {
+            out.push(*content)?;
         }
     }
     out.push(b'|')?;
-    for (id, content) in table.with_name("Remote") {
-        out.extend_from_slice(&[digit(numbers, id), *content])?;
+    for (_, content) in table.with_name("Remote") {
+        out.push(*content)?;
     }
-    out.extend_from_slice(&[b'|', digit(numbers, table.next_id())])?;
+    out.push(b'|')?;
+    for id in numbers {
+        out.push(table.get(*id).copied().unwrap_or(b'-'))?;
+    }
     Ok(out)
 }
 
-/// A step, its answer, and what is told of the table behind it.
+/// A step, what was removed, and what is told of the table behind it.
 #[test]
 fn tables_are_changed(rt: HostRuntime) -> Result<(), Fail> {
-    let three: [Named<'_>; 3] = [
-        ("core", None, b'f'),
-        ("other", None, b'g'),
-        ("Remote", Some(b"Origin"), b'h'),
-    ];
-    let last: [Named<'_>; 1] = [("core", None, b'i')];
-    let rows: [(Step<'_>, u8, &[u8]); 17] = [
-        (Step::Put(LAST, ("Core", None, b'a')), b'0', b"0a|0a|||||1"),
+    let three = [(CORE, b'f'), ((b"other", None), b'g'), (UPPER, b'h')];
+    let one = [(CORE, b'i')];
+    let rows: [(Step<'_>, Option<u8>, &[u8]); 17] = [
+        (Put(LAST, CORE, b'a'), None, b"a|a|||||a----------"),
+        (Put(LAST, LOWER, b'b'), None, b"ab|a||b||b|ab---------"),
+        (Put(LAST, UPPER, b'c'), None, b"abc|a||b|c|bc|abc--------"),
+        (Put(0, LOWER, b'd'), None, b"adbc|a||db|c|dbc|abcd-------"),
+        (Put(3, EMPTY, b'e'), None, b"adbce|a|e|db|c|dbc|abcde------"),
+        (Remove(1), Some(b'b'), b"adce|a|e|d|c|dc|a-cde------"),
+        (Remove(1), None, b"adce|a|e|d|c|dc|a-cde------"),
+        (Rename(2, CORE), None, b"adce|ac|e|d||d|a-cde------"),
+        (PutAll(1, &three), None, b"afghdce|afc|e|d|h|hd|a-cdefgh---"),
+        (Remove(0), Some(b'a'), b"fghdce|fc|e|d|h|hd|--cdefgh---"),
+        (PutAll(6, &one), None, b"fghdcei|fci|e|d|h|hd|--cdefghi--"),
+        (PutAll(0, &[]), None, b"fghdcei|fci|e|d|h|hd|--cdefghi--"),
+        (Remove(8), Some(b'i'), b"fghdce|fc|e|d|h|hd|--cdefgh---"),
         (
-            Step::Put(LAST, ("remote", Some(b"origin"), b'b')),
-            b'1',
-            b"0a1b|0a||1b||1b|2",
+            Put(LAST, OTHER, b'j'),
+            None,
+            b"fghdcej|fc|e|d|h|hd|--cdefgh-j-",
         ),
-        (
-            Step::Put(LAST, ("REMOTE", Some(b"Origin"), b'c')),
-            b'2',
-            b"0a1b2c|0a||1b|2c|1b2c|3",
-        ),
-        (
-            Step::Put(0, ("rEmote", Some(b"origin"), b'd')),
-            b'3',
-            b"0a3d1b2c|0a||3d1b|2c|3d1b2c|4",
-        ),
-        (
-            Step::Put(3, ("CORE", Some(b""), b'e')),
-            b'4',
-            b"0a3d1b2c4e|0a|4e|3d1b|2c|3d1b2c|5",
-        ),
-        (Step::Remove(1), b'b', b"0a3d2c4e|0a|4e|3d|2c|3d2c|5"),
-        (Step::Remove(1), b'-', b"0a3d2c4e|0a|4e|3d|2c|3d2c|5"),
-        (
-            Step::Rename(2, "CORE", None),
-            b'-',
-            b"0a3d2c4e|0a2c|4e|3d||3d|5",
-        ),
-        (
-            Step::PutAll(1, &three),
-            b'-',
-            b"0a5f6g7h3d2c4e|0a5f2c|4e|3d|7h|7h3d|8",
-        ),
-        (Step::Remove(0), b'a', b"5f6g7h3d2c4e|5f2c|4e|3d|7h|7h3d|8"),
-        (
-            Step::PutAll(6, &last),
-            b'-',
-            b"5f6g7h3d2c4e8i|5f2c8i|4e|3d|7h|7h3d|9",
-        ),
-        (
-            Step::PutAll(0, &[]),
-            b'-',
-            b"5f6g7h3d2c4e8i|5f2c8i|4e|3d|7h|7h3d|9",
-        ),
-        (Step::Remove(8), b'i', b"5f6g7h3d2c4e|5f2c|4e|3d|7h|7h3d|9"),
-        (
-            Step::Put(LAST, ("core", Some(b"\xff"), b'j')),
-            b'9',
-            b"5f6g7h3d2c4e9j|5f2c|4e|3d|7h|7h3d|A",
-        ),
-        (
-            Step::Rename(5, "remote", Some(b"origin")),
-            b'-',
-            b"5f6g7h3d2c4e9j|5f2c||3d4e|7h|7h3d4e|A",
-        ),
-        (
-            Step::Change(1, b'k'),
-            b'-',
-            b"5f6k7h3d2c4e9j|5f2c||3d4e|7h|7h3d4e|A",
-        ),
-        (
-            Step::Remove(10),
-            b'-',
-            b"5f6k7h3d2c4e9j|5f2c||3d4e|7h|7h3d4e|A",
-        ),
+        (Rename(5, LOWER), None, b"fghdcej|fc||de|h|hde|--cdefgh-j-"),
+        (Change(1, b'k'), None, b"fkhdcej|fc||de|h|hde|--cdefkh-j-"),
+        (Remove(10), None, b"fkhdcej|fc||de|h|hde|--cdefkh-j-"),
     ];
     let numbers = numbers(rt.alloc())?;
     let mut table = SectionTable::new(rt.alloc());
-    for (row, (step, answer, expected)) in rows.iter().enumerate() {
-        let given = take(rt.alloc(), &mut table, &numbers, *step)?;
-        assert_eq!(rt; given, *answer, "{row}");
+    for (row, (step, removed, expected)) in rows.iter().enumerate() {
+        let answer = take(rt.alloc(), &mut table, &numbers, *step)?;
+        assert!(rt; answer == *removed, "{row}");
         assert!(rt;
             told(rt.alloc(), &table, &numbers)?.as_slice() == *expected,
             "{row}"
@@ -256,6 +214,5 @@ fn tables_are_walked_from_both_ends(rt: HostRuntime) -> Result<(), Fail> {
     assert!(rt; all.next_back() == Some((third, &'d')));
     assert!(rt; all.next() == Some((first, &'a')));
     assert_eq!(rt; all.count(), 2);
-    assert!(rt; table.get(second) == Some(&'c'));
     Ok(())
 }

@@ -36,22 +36,32 @@ fn misses(rt: HostRuntime) -> Result<(), Fail> {
 }
 
 #[test]
-fn counts_and_views(rt: HostRuntime) -> Result<(), Fail> {
+fn a_new_file(rt: HostRuntime) -> Result<(), Fail> {
     let meta = Rc::new(rt.alloc(), Metadata::api())?;
+    begin(rt.alloc())?;
+    let file = File::new(rt.alloc(), meta);
+    assert!(rt; !was_refused(rt.alloc()));
+    assert!(rt; file.is_void() && file.sections().next().is_none());
+    Ok(())
+}
+
+/// Whether what is told of the file is that of the text.
+fn is_told(file: &File) -> bool {
+    file.num_values() == 6
+        && !file.is_void()
+        && file.detect_newline_style() == b"\n".as_slice()
+        && file.sections().count() == 3
+        && *file.meta() == Metadata::api()
+}
+
+#[test]
+fn counts_and_views(rt: HostRuntime) -> Result<(), Fail> {
     let file = File::try_from_bytes(rt.alloc(), TEXT)?;
     begin(rt.alloc())?;
-    let new = File::new(rt.alloc(), meta);
-    let values = file.num_values();
-    let is_void = file.is_void();
-    let line_end = file.detect_newline_style();
-    let sections = file.sections().count();
-    let is_api = *file.meta() == Metadata::api();
+    let is_told = is_told(&file);
     let shared = file.meta_owned();
     assert!(rt; !was_refused(rt.alloc()));
-    assert!(rt; new.is_void() && new.sections().next().is_none());
-    assert!(rt; values == 6 && !is_void && sections == 3 && is_api);
-    assert!(rt; line_end == b"\n".as_slice());
-    assert!(rt; *shared? == Metadata::api());
+    assert!(rt; is_told && *shared? == Metadata::api());
     Ok(())
 }
 
@@ -70,23 +80,38 @@ fn events_looked_at(rt: HostRuntime) -> Result<(), Fail> {
     Ok(())
 }
 
-/// A meaning that stands in the text, a writer that has room, and another folder for a user that has one.
+/// A meaning that stands in the text.
 #[test]
-fn where_there_is_room(rt: HostRuntime) -> Result<(), Fail> {
-    let mut homes = homes(rt.alloc(), &[("u", "/u")])?;
-    let user = String::from_str(rt.alloc(), "u")?;
-    let folder = String::from_str(rt.alloc(), "/v")?;
-    let file = File::try_from_bytes(rt.alloc(), b"[a] k = v")?;
-    let mut out = Vec::with_capacity(rt.alloc(), 100)?;
+fn keys_and_plain_values(rt: HostRuntime) -> Result<(), Fail> {
     begin(rt.alloc())?;
     let key = KeyRef::parse_unvalidated(b"remote.o.url");
     let meaning = normalize(rt.alloc(), b"\"a b\"");
-    let put = homes.insert(user, folder);
+    assert!(rt; !was_refused(rt.alloc()) && key.is_some());
+    assert!(rt; meaning?.as_slice() == b"a b".as_slice());
+    Ok(())
+}
+
+/// A writer that has room is not refused anything.
+#[test]
+fn a_file_written_where_there_is_room(rt: HostRuntime) -> Result<(), Fail> {
+    let file = File::try_from_bytes(rt.alloc(), b"[a] k = v")?;
+    let mut out = Vec::with_capacity(rt.alloc(), 100)?;
+    begin(rt.alloc())?;
     let answer = file.write_to(&mut out);
     assert!(rt; !was_refused(rt.alloc()));
-    assert!(rt; key.is_some());
-    assert!(rt; meaning?.as_slice() == b"a b".as_slice());
-    assert!(rt; put.is_ok() && homes.get("u") == Some("/v"));
     assert!(rt; answer.is_ok() && out.as_slice() == b"[a]\n k = v\n".as_slice());
+    Ok(())
+}
+
+/// A user that has a folder gets another.
+#[test]
+fn another_home_folder(rt: HostRuntime) -> Result<(), Fail> {
+    let mut homes = homes(rt.alloc(), &[("u", "/u")])?;
+    let user = String::from_str(rt.alloc(), "u")?;
+    let folder = String::from_str(rt.alloc(), "/v")?;
+    begin(rt.alloc())?;
+    let answer = homes.insert(user, folder);
+    assert!(rt; !was_refused(rt.alloc()));
+    assert!(rt; answer.is_ok() && homes.get("u") == Some("/v"));
     Ok(())
 }

@@ -58,12 +58,12 @@ impl Sink for Narrow {
     }
 }
 
-/// What is written: a file, of a file the sections `[b]`, a section alone, or a header.
+/// What is written: a file, of a file the sections `[b]`, the section at a place alone, or a header.
 #[derive(Drop)]
 enum Written<'a> {
     Whole(&'a File),
     InPart(&'a File),
-    Section(SectionRef<'a>),
+    Section(&'a File, usize),
     Header(EventRef<'a>),
 }
 
@@ -74,11 +74,20 @@ fn is_b(section: &SectionRef<'_>) -> bool {
     }
 }
 
+fn write_section(file: &File, at: usize, out: &mut Narrow) -> Result<(), SinkFault> {
+    for (place, section) in file.sections().enumerate() {
+        if place == at {
+            return section.write_to(out);
+        }
+    }
+    Ok(())
+}
+
 fn write(what: &Written<'_>, out: &mut Narrow) -> Result<(), SinkFault> {
     match what {
         Written::Whole(file) => file.write_to(out),
         Written::InPart(file) => file.write_to_filter(out, is_b),
-        Written::Section(section) => section.write_to(out),
+        Written::Section(file, at) => write_section(file, *at, out),
         Written::Header(event) => event.write_to(out),
     }
 }
@@ -127,9 +136,8 @@ fn writers_that_fail(rt: HostRuntime) -> Result<(), Fail> {
 fn writers_that_fail_at_parts(rt: HostRuntime) -> Result<(), Fail> {
     let file = File::try_from_bytes(rt.alloc(), b"  [a] k [b]\nj")?;
     check(&rt, &Written::InPart(&file), b"  \n[b]\nj\n");
-    for (section, text) in file.sections().zip([b"[a]\n k ".as_slice(), b"[b]\nj"]) {
-        check(&rt, &Written::Section(section), text);
-    }
+    check(&rt, &Written::Section(&file, 0), b"[a]\n k ");
+    check(&rt, &Written::Section(&file, 1), b"[b]\nj");
     let header = EventRef::SectionHeader {
         name: b"name",
         separator: Some(b" "),
