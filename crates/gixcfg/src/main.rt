@@ -3,7 +3,7 @@
 
 mod program;
 
-use gitconf_text::NoMemory;
+use gix_config::NoMemory;
 use gix_config::refusals::Refusal;
 use program::{MEMORY, run};
 use std::alloc::Global;

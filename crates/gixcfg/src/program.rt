@@ -3,17 +3,12 @@ ghost use Rattle.std.specs.Prelude.{◌≡◌, ◌≤◌};
 ghost use Rattle.gixcfg.specs.Status.{status_of};
 
 use bstr::BString;
-use gitconf_base::key::KeyRef;
-use gitconf_parse::error::Error;
-use gitconf_text::NoMemory;
-use gix_config::File;
 use gix_config::file::set_raw_value;
+use gix_config::parse::Error;
 use gix_config::refusals::Refusal;
+use gix_config::{File, KeyRef, NoMemory};
 use std::alloc::{AllocError, AllocFailed, Global};
 use std::io::{ErrorKind, Read, Write};
-
-#[cfg(test)]
-mod tests;
 
 /// The status where memory was wanting.
 pub const MEMORY: u8 = 5;

@@ -1,0 +1,196 @@
+//! Files: their metadata, and filters that are asked.
+
+use bstr::BString;
+use gix_config::file::{Metadata, SectionRef, init};
+use gix_config::{File, KeyRef, Source};
+use std::alloc::Global;
+use std::rc::Rc;
+use std::test::Fail;
+
+/// A file has the metadata that it was made with, or that was set; its sections and its copies keep theirs.
+#[test]
+fn metadata_of_a_file(rt: HostRuntime) -> Result<(), Fail> {
+    let mut file = File::try_from_bytes(rt.alloc(), b"[a] k = v")?;
+    assert!(rt; *file.meta() == Metadata::api() && *file.meta_owned()? == Metadata::api());
+    let copy = file.try_clone()?;
+    let user = Metadata::from(Source::User);
+    file.set_meta(Rc::new(rt.alloc(), Metadata::from(Source::User))?);
+    assert!(rt; *file.meta() == user && *file.meta_owned()? == user);
+    for section in file.sections() {
+        assert!(rt; *section.meta() == Metadata::api());
+    }
+    let empty = File::new(rt.alloc(), file.meta_owned()?);
+    assert!(rt; *empty.meta() == user && empty.to_bstring()?.is_empty());
+    drop(file);
+    assert!(rt; *copy.meta() == Metadata::api());
+    let Err(error) = File::try_from_bytes(rt.alloc(), b"[a]\n$") else {
+        assert!(rt; false, "read");
+        return Ok(());
+    };
+    assert!(rt; error.number() == 1 && error.line_number() == 2 && error.kind() == "name");
+    Ok(())
+}
+
+fn is_api(meta: &Metadata) -> bool {
+    meta.source == Source::Api
+}
+
+fn is_user(meta: &Metadata) -> bool {
+    meta.source == Source::User
+}
+
+/// The answer is this value, or none.
+fn is_value(found: &Option<BString>, expected: Option<&[u8]>) -> bool {
+    match (found, expected) {
+        (Some(found), Some(expected)) => found.as_bytes() == expected,
+        (None, None) => true,
+        _ => false,
+    }
+}
+
+/// A text, a key, and its value where all sections pass. Where none does, there is no value.
+#[test]
+fn values_where_sections_pass(rt: HostRuntime) -> Result<(), Fail> {
+    let rows: [(&[u8], &[u8], Option<&[u8]>); 5] = [
+        (b"[a] k = v", b"a.k", Some(b"v")),
+        (b"[a] k", b"a.k", None),
+        (b"[a]\nk=1\n[A]\nk=2\n", b"a.k", Some(b"2")),
+        (b"[a \"B\"]\nk=1\n[a.B]\nk=2\n", b"a.B.k", Some(b"1")),
+        (b"[a] k = v", b"ak", None),
+    ];
+    for (text, key, expected) in rows {
+        let file = File::try_from_bytes(rt.alloc(), text)?;
+        assert!(rt; is_value(&file.string_filter(key, is_api)?, expected));
+        assert!(rt; is_value(&file.string_filter(key, is_user)?, None));
+        if let Some(key) = KeyRef::parse_unvalidated(key) {
+            let (section, subsection, name) = (
+                key.section_name,
+                key.subsection_name,
+                key.value_name,
+            );
+            let found = file.string_filter_by(section, subsection, name, is_api)?;
+            assert!(rt; is_value(&found, expected));
+            let found = file.string_filter_by(section, subsection, name, is_user)?;
+            assert!(rt; is_value(&found, None));
+        }
+    }
+    Ok(())
+}
+
+/// Sections are asked for from the last one on: a filter that drops the first one that it sees leaves the others.
+#[test]
+fn a_filter_that_changes_its_mind(rt: HostRuntime) -> Result<(), Fail> {
+    let file = File::try_from_bytes(rt.alloc(), b"[a]\nk=1\n[a]\nk=2\n[a]\nk=3\n")?;
+    let mut was_asked = false;
+    let found = file.string_filter("a.k", |_| {
+        let passes = was_asked;
+        was_asked = true;
+        passes
+    })?;
+    assert!(rt; is_value(&found, Some(b"2")));
+    Ok(())
+}
+
+/// A section that the filter drops is left alone, and another one is made.
+#[test]
+fn values_are_set_where_a_filter_passes(rt: HostRuntime) -> Result<(), Fail> {
+    let Some(key) = KeyRef::parse_unvalidated(b"a.k") else {
+        assert!(rt; false, "no key");
+        return Ok(());
+    };
+    let mut file = File::try_from_bytes(rt.alloc(), b"[a]\nk=1\n")?;
+    assert!(rt; is_value(&file.set_raw_value_filter(key, b"2", is_user)?, None));
+    assert!(rt; file.to_bstring()?.as_bytes() == b"[a]\nk=1\n[a]\n\tk = 2\n".as_slice());
+    assert!(rt; is_value(&file.set_raw_value_filter(key, b"3", is_api)?, Some(b"2")));
+    let found = file.set_raw_value_filter_by("A", None, "K", b"4", is_api)?;
+    assert!(rt; is_value(&found, Some(b"3")));
+    assert!(rt; file.to_bstring()?.as_bytes() == b"[a]\nk=1\n[a]\n\tk = 4\n".as_slice());
+    let found = file.set_raw_value_filter_by("a", None, "k", b"5", is_user)?;
+    assert!(rt; is_value(&found, None));
+    assert_eq!(rt; file.sections().count(), 3);
+    Ok(())
+}
+
+/// What is printed of the section at this place alone, which the filter tells by its number.
+fn printed_of(alloc: Global, file: &File, place: usize) -> Result<Vec<u8>, Fail> {
+    let mut out = Vec::new(alloc);
+    for (at, kept) in file.sections().enumerate() {
+        if at == place {
+            file.write_to_filter(&mut out, |section| section.id() == kept.id())?;
+        }
+    }
+    Ok(out)
+}
+
+fn is_of_user(section: &SectionRef<'_>) -> bool {
+    section.meta().source == Source::User
+}
+
+fn is_of_api(section: &SectionRef<'_>) -> bool {
+    section.meta().source == Source::Api
+}
+
+/// Sections that are kept by their numbers, of which each has its own.
+#[test]
+fn sections_by_their_numbers(rt: HostRuntime) -> Result<(), Fail> {
+    let rows: [(&[u8], usize, &[u8]); 4] = [
+        (b"[a][b]\n[c]", 0, b"[a]\n\n\n"),
+        (b"[a][b]\n[c]", 1, b"[b]\n"),
+        (b"[a][b]\n[c]", 2, b"[c]\n"),
+        (b"[a \"x\"] k [a \"y\"]j", 1, b"[a \"y\"]\nj\n"),
+    ];
+    for (text, place, expected) in rows {
+        let file = File::try_from_bytes(rt.alloc(), text)?;
+        assert!(rt; printed_of(rt.alloc(), &file, place)?.as_slice() == expected);
+    }
+    Ok(())
+}
+
+/// A file whose sections come from the user.
+fn file_of_user(alloc: Global) -> Result<File, Fail> {
+    let meta = Rc::new(alloc, Metadata::from(Source::User))?;
+    let text = b"# f\n[a]\n\tk = v\n[b] j";
+    Ok(File::from_bytes_no_includes(alloc, text, meta, init::Options::default())?)
+}
+
+/// Sections that are kept by where they come from.
+#[test]
+fn sections_by_their_source(rt: HostRuntime) -> Result<(), Fail> {
+    let file = file_of_user(rt.alloc())?;
+    let mut out = Vec::new(rt.alloc());
+    file.write_to_filter(&mut out, is_of_api)?;
+    assert!(rt; out.as_slice() == b"# f\n".as_slice());
+    file.write_to_filter(&mut out, is_of_user)?;
+    assert!(rt; out.as_slice() == b"# f\n# f\n[a]\n\tk = v\n[b]\n j\n".as_slice());
+    Ok(())
+}
+
+/// How often a filter is asked that answers always the same.
+fn times_asked(alloc: Global, file: &File, answer: bool) -> Result<u64, Fail> {
+    let mut asked: u64 = 0;
+    let mut out = Vec::new(alloc);
+    file.write_to_filter(&mut out, |_| {
+        asked = asked.saturating_add(1);
+        answer
+    })?;
+    Ok(asked)
+}
+
+/// A text, how often a filter is asked that keeps all sections, and how often one that keeps none.
+#[test]
+fn how_often_a_filter_is_asked(rt: HostRuntime) -> Result<(), Fail> {
+    let rows: [(&[u8], u64, u64); 6] = [
+        (b"", 0, 0),
+        (b"# c", 0, 0),
+        (b"[a][b][c]", 3, 3),
+        (b"# c\n[a][b][c]", 3, 3),
+        (b"  [a][b][c]", 4, 6),
+        (b"k [a]", 2, 2),
+    ];
+    for (text, all, none) in rows {
+        let file = File::try_from_bytes(rt.alloc(), text)?;
+        assert_eq!(rt; times_asked(rt.alloc(), &file, true)?, all);
+        assert_eq!(rt; times_asked(rt.alloc(), &file, false)?, none);
+    }
+    Ok(())
+}

@@ -1,0 +1,127 @@
+//! Names without case, and keys of all types.
+
+use bstr::{BStr, BString};
+use gitconf_text::parse::section::{Name, ValueName, unvalidated};
+use gix_config::{AsKey, KeyRef};
+use std::cmp::Ordering;
+use std::str;
+use std::test::Fail;
+
+/// Two texts, and whether they are the same name.
+#[test]
+fn names_have_no_case(rt: HostRuntime) -> Result<(), Fail> {
+    let rows: [(&[u8], &[u8], bool); 6] = [
+        (b"a", b"A", true),
+        (b"Path-1", b"pATH-1", true),
+        (b"core", b"core", true),
+        (b"a", b"b", false),
+        (b"a", b"aa", false),
+        (b"a-b", b"ab", false),
+    ];
+    for (one, other, is_same) in rows {
+        let shown = BStr::new(other);
+        let first = Name::try_from_bytes(rt.alloc(), one)?;
+        let second = Name::try_from(BString::from_slice(rt.alloc(), other)?)?;
+        assert_eq!(rt; first == second, is_same, "'{shown}'");
+        assert_eq!(rt; first.cmp(&second) == Ordering::Equal, is_same, "'{shown}'");
+        assert!(rt; second.to_owned()?.as_bytes() == other, "'{shown}'");
+        let first = ValueName::try_from_bytes(rt.alloc(), one)?;
+        let second = ValueName::try_from(BString::from_slice(rt.alloc(), other)?)?;
+        assert_eq!(rt; first == second, is_same, "'{shown}'");
+        assert_eq!(rt; first.cmp(&second) == Ordering::Equal, is_same, "'{shown}'");
+        assert!(rt; second.to_owned()?.as_bytes() == other, "'{shown}'");
+    }
+    Ok(())
+}
+
+/// A key of a section, cut at its first dot.
+#[test]
+fn keys_of_sections(rt: HostRuntime) {
+    let rows: [(&[u8], Option<(&str, Option<&[u8]>)>); 7] = [
+        (
+            b"remote.https:///home/user.git",
+            Some(("remote", Some(b"https:///home/user.git"))),
+        ),
+        (b"remote.origin", Some(("remote", Some(b"origin")))),
+        (b"core", Some(("core", None))),
+        (b"core.", Some(("core", Some(b"")))),
+        (b"", Some(("", None))),
+        (b".\xff", Some(("", Some(b"\xff")))),
+        (b"\xff.a", None),
+    ];
+    for (text, expected) in rows {
+        let expected = match expected {
+            Some((section_name, subsection_name)) => Some(unvalidated::KeyRef {
+                section_name,
+                subsection_name,
+            }),
+            None => None,
+        };
+        assert!(rt;
+            unvalidated::KeyRef::parse(text) == expected,
+            "'{}'",
+            BStr::new(text)
+        );
+    }
+}
+
+/// Whether both calls of a key answer these three names, or both would answer none.
+fn answers<K: AsKey>(key: K, expected: Option<KeyRef<'_>>) -> bool {
+    match key.try_as_key() {
+        Some(tried) => key.as_key() == tried && Some(tried) == expected,
+        None => expected.is_none(),
+    }
+}
+
+/// A key of a value, cut at its first dot and at its last.
+#[test]
+fn keys_of_values(rt: HostRuntime) -> Result<(), Fail> {
+    let rows: [(&[u8], Option<(&str, Option<&[u8]>, &str)>); 13] = [
+        (b"", None),
+        (b"core", None),
+        (b".", Some(("", None, ""))),
+        (b"core.", Some(("core", None, ""))),
+        (b"core.Editor", Some(("core", None, "Editor"))),
+        (b"..", Some(("", Some(b""), ""))),
+        (b"a..c", Some(("a", Some(b""), "c"))),
+        (b"a.B c.d", Some(("a", Some(b"B c"), "d"))),
+        (
+            b"remote.https://x.y/z.url",
+            Some(("remote", Some(b"https://x.y/z"), "url")),
+        ),
+        (
+            b"\xc3\xa4.\xff.\xc3\xbc",
+            Some(("\u{e4}", Some(b"\xff"), "\u{fc}")),
+        ),
+        (b"\xff.a", None),
+        (b"a.\xff", None),
+        (b"a.b.\xff", None),
+    ];
+    for (text, names) in rows {
+        let shown = BStr::new(text);
+        let expected = match names {
+            Some((section_name, subsection_name, value_name)) => Some(KeyRef {
+                section_name,
+                subsection_name,
+                value_name,
+            }),
+            None => None,
+        };
+        assert!(rt; KeyRef::parse_unvalidated(text) == expected, "'{shown}'");
+        assert!(rt; answers(text, expected), "'{shown}'");
+        let owned = BString::from_slice(rt.alloc(), text)?;
+        assert!(rt; answers(&owned, expected), "'{shown}'");
+        if let Ok(text) = str::from_utf8(text) {
+            assert!(rt; answers(text, expected), "'{shown}'");
+            let owned = String::from_str(rt.alloc(), text)?;
+            assert!(rt; answers(&owned, expected), "'{shown}'");
+        }
+        if let Some(key) = expected {
+            assert!(rt;
+                answers(key, expected) && answers(&key, expected),
+                "'{shown}'"
+            );
+        }
+    }
+    Ok(())
+}

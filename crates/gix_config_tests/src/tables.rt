@@ -1,0 +1,218 @@
+//! The table of sections: its changes, and walks over it from both ends.
+
+use self::Step::{Change, Put, PutAll, Remove, Rename};
+use gitconf_base::util::{SectionId, SectionTable};
+use std::alloc::{AllocError, Global};
+use std::test::Fail;
+
+/// A section's name and its subsection.
+type Names<'a> = (&'a [u8], Option<&'a [u8]>);
+
+const CORE: Names<'static> = (b"Core", None);
+
+const EMPTY: Names<'static> = (b"CORE", Some(b""));
+
+const LOWER: Names<'static> = (b"rEmote", Some(b"origin"));
+
+const UPPER: Names<'static> = (b"REMOTE", Some(b"Origin"));
+
+const OTHER: Names<'static> = (b"core", Some(b"\xff"));
+
+/// No place of any section.
+const LAST: usize = usize::MAX;
+
+/// A change of a table; a section is told by its place, or by its number to be removed.
+#[derive(Clone, Copy)]
+enum Step<'a> {
+    /// Behind a section, or last.
+    Put(usize, Names<'a>, u8),
+    /// Before a section, a whole table.
+    PutAll(usize, &'a [(Names<'a>, u8)]),
+    Remove(usize),
+    Rename(usize, Names<'a>),
+    Change(usize, u8),
+}
+
+fn put(table: &mut SectionTable<u8>, at: usize, names: Names<'_>, content: u8) -> Result<(), Fail> {
+    let next = table.next_id();
+    let given = if at < table.len() {
+        table.insert_behind(at, names.0, names.1, content)?
+    } else {
+        table.push(names.0, names.1, content)?
+    };
+    if given == next {
+        Ok(())
+    } else {
+        Err(Fail::new("another number is given"))
+    }
+}
+
+/// A table of those sections, from which one was removed before.
+fn table_of(alloc: Global, sections: &[(Names<'_>, u8)]) -> Result<SectionTable<u8>, Fail> {
+    let mut table = SectionTable::new(alloc);
+    let first = table.push(b"x", None, b'x')?;
+    for (names, content) in sections {
+        table.push(names.0, names.1, *content)?;
+    }
+    table.remove(first);
+    Ok(table)
+}
+
+fn put_all(
+    alloc: Global,
+    table: &mut SectionTable<u8>,
+    at: usize,
+    sections: &[(Names<'_>, u8)],
+) -> Result<(), Fail> {
+    let other = table_of(alloc, sections)?;
+    if at <= table.len() {
+        table.insert_all(at, other)?;
+    }
+    Ok(())
+}
+
+fn rename(table: &mut SectionTable<u8>, at: usize, names: Names<'_>) -> Result<(), Fail> {
+    if at < table.len() {
+        table.rename(at, names.0, names.1)?;
+    }
+    Ok(())
+}
+
+fn change(table: &mut SectionTable<u8>, at: usize, content: u8) {
+    if at < table.len() {
+        *table.at_mut(at) = content;
+    }
+}
+
+/// Takes the step, and answers what was held by what was removed.
+fn take(
+    alloc: Global,
+    table: &mut SectionTable<u8>,
+    numbers: &[SectionId],
+    step: Step<'_>,
+) -> Result<Option<u8>, Fail> {
+    match step {
+        Put(at, names, content) => put(table, at, names, content)?,
+        PutAll(at, sections) => put_all(alloc, table, at, sections)?,
+        Remove(number) => {
+            let id = numbers.get(number).copied().unwrap_or_default();
+            return Ok(table.remove(id));
+        }
+        Rename(at, names) => rename(table, at, names)?,
+        Change(at, content) => change(table, at, content),
+    }
+    Ok(None)
+}
+
+/// The numbers that a table gives first.
+fn numbers(alloc: Global) -> Result<Vec<SectionId>, Fail> {
+    let mut numbers = Vec::new(alloc);
+    let mut table = SectionTable::new(alloc);
+    for _ in 0..11 {
+        numbers.push(table.push(b"", None, b'x')?)?;
+    }
+    Ok(numbers)
+}
+
+/// The contents of all sections, of those of four names, and of those with a name, with a `|` behind each of these
+/// lists; last what stands under each number.
+fn told(
+    alloc: Global,
+    table: &SectionTable<u8>,
+    numbers: &[SectionId],
+) -> Result<Vec<u8>, AllocError> {
+    let asked: [(&str, Option<&[u8]>); 4] = [
+        ("core", None),
+        ("Core", Some(b"")),
+        ("REMOTE", Some(b"origin")),
+        ("remote", Some(b"Origin")),
+    ];
+    let mut out = Vec::new(alloc);
+    for (_, content) in table.iter() {
+        out.push(*content)?;
+    }
+    for (name, subsection) in asked {
+        out.push(b'|')?;
+        for (_, content) in table.named(name, subsection) {
+            out.push(*content)?;
+        }
+    }
+    out.push(b'|')?;
+    for (_, content) in table.with_name("Remote") {
+        out.push(*content)?;
+    }
+    out.push(b'|')?;
+    for id in numbers {
+        out.push(table.get(*id).copied().unwrap_or(b'-'))?;
+    }
+    Ok(out)
+}
+
+/// A step, what was removed, and what is told of the table behind it.
+#[test]
+fn tables_are_changed(rt: HostRuntime) -> Result<(), Fail> {
+    let three = [(CORE, b'f'), ((b"other", None), b'g'), (UPPER, b'h')];
+    let one = [(CORE, b'i')];
+    let rows: [(Step<'_>, Option<u8>, &[u8]); 17] = [
+        (Put(LAST, CORE, b'a'), None, b"a|a|||||a----------"),
+        (Put(LAST, LOWER, b'b'), None, b"ab|a||b||b|ab---------"),
+        (Put(LAST, UPPER, b'c'), None, b"abc|a||b|c|bc|abc--------"),
+        (Put(0, LOWER, b'd'), None, b"adbc|a||db|c|dbc|abcd-------"),
+        (Put(3, EMPTY, b'e'), None, b"adbce|a|e|db|c|dbc|abcde------"),
+        (Remove(1), Some(b'b'), b"adce|a|e|d|c|dc|a-cde------"),
+        (Remove(1), None, b"adce|a|e|d|c|dc|a-cde------"),
+        (Rename(2, CORE), None, b"adce|ac|e|d||d|a-cde------"),
+        (PutAll(1, &three), None, b"afghdce|afc|e|d|h|hd|a-cdefgh---"),
+        (Remove(0), Some(b'a'), b"fghdce|fc|e|d|h|hd|--cdefgh---"),
+        (PutAll(6, &one), None, b"fghdcei|fci|e|d|h|hd|--cdefghi--"),
+        (PutAll(0, &[]), None, b"fghdcei|fci|e|d|h|hd|--cdefghi--"),
+        (Remove(8), Some(b'i'), b"fghdce|fc|e|d|h|hd|--cdefgh---"),
+        (
+            Put(LAST, OTHER, b'j'),
+            None,
+            b"fghdcej|fc|e|d|h|hd|--cdefgh-j-",
+        ),
+        (Rename(5, LOWER), None, b"fghdcej|fc||de|h|hde|--cdefgh-j-"),
+        (Change(1, b'k'), None, b"fkhdcej|fc||de|h|hde|--cdefkh-j-"),
+        (Remove(10), None, b"fkhdcej|fc||de|h|hde|--cdefkh-j-"),
+    ];
+    let numbers = numbers(rt.alloc())?;
+    let mut table = SectionTable::new(rt.alloc());
+    for (row, (step, removed, expected)) in rows.iter().enumerate() {
+        let answer = take(rt.alloc(), &mut table, &numbers, *step)?;
+        assert!(rt; answer == *removed, "{row}");
+        assert!(rt;
+            told(rt.alloc(), &table, &numbers)?.as_slice() == *expected,
+            "{row}"
+        );
+        assert!(rt; table.get(SectionId::default()).is_none(), "{row}");
+    }
+    Ok(())
+}
+
+#[test]
+fn tables_are_walked_from_both_ends(rt: HostRuntime) -> Result<(), Fail> {
+    let mut table = SectionTable::new(rt.alloc());
+    let first = table.push(b"core", None, 'a')?;
+    table.push(b"other", None, 'b')?;
+    let second = table.push(b"Core", None, 'c')?;
+    let third = table.push(b"CORE", None, 'd')?;
+    let mut ids = table.ids("core", None);
+    assert!(rt; ids.next() == Some(first) && ids.next_back() == Some(third));
+    assert!(rt; ids.next() == Some(second));
+    assert!(rt; ids.next_back().is_none() && ids.next().is_none());
+    let mut named = table.named("core", None);
+    assert!(rt; named.next_back() == Some((third, &'d')));
+    assert!(rt; named.next() == Some((first, &'a')));
+    assert!(rt; named.next_back() == Some((second, &'c')));
+    assert!(rt; named.next().is_none() && named.next_back().is_none());
+    let mut any = table.with_name("cORE");
+    assert!(rt; any.next_back() == Some((third, &'d')));
+    assert!(rt; any.next() == Some((first, &'a')));
+    assert!(rt; any.next_back() == Some((second, &'c')) && any.next_back().is_none());
+    let mut all = table.iter();
+    assert!(rt; all.next_back() == Some((third, &'d')));
+    assert!(rt; all.next() == Some((first, &'a')));
+    assert_eq!(rt; all.count(), 2);
+    Ok(())
+}
