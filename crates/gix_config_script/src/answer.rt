@@ -19,13 +19,17 @@ pub enum Answer<'a> {
     Absent,
     /// No such command stands.
     Unknown,
+    /// `true` or `false`.
     Flag(bool),
+    /// A number.
     Number(usize),
+    /// Bytes, of their own or lent.
     Bytes(CowSlice<'a, u8>),
     /// Bytes, or none.
     Optional(Option<BString>),
     /// The text of a refusal.
     Message(Error),
+    /// The events of a text.
     Events(Events),
     /// Whether they keep entries, and the events.
     Kept(Events),

@@ -1,5 +1,6 @@
 //! How the program tells the shim that refuses growths (`tools/refuse.c`) where a command begins and where it ends: by
 //! the sizes of two blocks, which no command asks for.
+ghost use Rattle.std.specs.Prelude.{◌≡◌, ◌↔◌, true, IfOk, IsSome};
 
 use std::alloc::{AllocError, Global};
 
@@ -7,14 +8,32 @@ const BEGIN: usize = 999_979;
 
 const END: usize = 999_983;
 
-/// From here on the shim may refuse a growth.
-pub fn begin(alloc: Global) -> Result<(), AllocError> {
-    let _block: Vec<u8> = Vec::with_capacity(alloc, BEGIN)?;
-    Ok(())
+/// Stands around what a command does, where growths of it may be refused.
+#[derive(Clone, Copy)]
+pub struct Bracket {
+    is_told: bool,
 }
 
-/// From here on it refuses none. Whether it refused one since `begin`: then it refuses this block too.
-pub fn was_refused(alloc: Global) -> bool {
-    let block: Result<Vec<u8>, AllocError> = Vec::with_capacity(alloc, END);
-    block.is_err()
+impl Bracket {
+    /// From here on the shim may refuse a growth, where that is told to it.
+    pub fn open(alloc: Global, is_told: bool) -> Result<Bracket, AllocError>
+        ensures { IfOk result (λ b. b.is_told ≡ is_told) }
+    {
+        if is_told {
+            let _block: Vec<u8> = Vec::with_capacity(alloc, BEGIN)?;
+        }
+        Ok(Bracket { is_told })
+    }
+
+    /// From here on it refuses none. Answers whether it refused one, since it then refuses this block too; nothing
+    /// where nothing was told to it.
+    pub fn close(self, alloc: Global) -> Option<bool>
+        ensures { IsSome result ↔ (self.is_told ≡ true) }
+    {
+        if !self.is_told {
+            return None;
+        }
+        let block: Result<Vec<u8>, AllocError> = Vec::with_capacity(alloc, END);
+        Some(block.is_err())
+    }
 }

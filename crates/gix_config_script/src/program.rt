@@ -1,8 +1,7 @@
 //! What the program does with its streams, whatever these are.
-ghost use Rattle.std.specs.Prelude.{◌≤◌};
+ghost use Rattle.std.specs.Prelude.{◌≡◌, ◌≤◌, false};
 
-use crate::answer::Outcome;
-use crate::bracket::{begin, was_refused};
+use crate::bracket::Bracket;
 use crate::commands::outcome_of;
 use crate::rendering::line_of;
 use crate::session::Session;
@@ -100,30 +99,18 @@ fn play<R: Read + Drop, W: Write + Drop>(alloc: Global, input: R, out: W) -> Res
     Ok(())
 }
 
-/// The answer to a line, as a line.
-fn answer_to(alloc: Global, session: &mut Session, line: &[u8]) -> Result<String, NoMemory> {
-    let words = words_of(alloc, line)?;
-    let (refused, outcome) = bracketed(alloc, session, &words)?;
-    line_of(alloc, refused, outcome)
-}
-
 /// Whether the answer is to tell if a growth was refused. Of `refusals` itself it tells nothing.
-fn is_told(session: &Session, words: &[Word<'_>]) -> bool {
+fn is_told(session: &Session, words: &[Word<'_>]) -> bool
+    ensures { session.now.tells_refusals ≡ false → result ≡ false }
+{
     session.tells_refusals() && !matches!(words, [Word::Plain(b"refusals"), ..])
 }
 
-/// Does a command, and says whether a growth was refused in it; nothing where that isn't to be told. Only what the
-/// command does stands between the two blocks.
-fn bracketed<'a>(
-    alloc: Global,
-    session: &'a mut Session,
-    words: &'a [Word<'_>],
-) -> Result<(Option<bool>, Outcome<'a>), AllocError> {
-    if !is_told(session, words) {
-        return Ok((None, outcome_of(alloc, session, words)));
-    }
-    begin(alloc)?;
-    let outcome = outcome_of(alloc, session, words);
-    let refused = was_refused(alloc);
-    Ok((Some(refused), outcome))
+/// The answer to a line, as a line. Only what the command does stands in the bracket.
+fn answer_to(alloc: Global, session: &mut Session, line: &[u8]) -> Result<String, NoMemory> {
+    let words = words_of(alloc, line)?;
+    let bracket = Bracket::open(alloc, is_told(session, &words))?;
+    let outcome = outcome_of(alloc, session, &words);
+    let refused = bracket.close(alloc);
+    line_of(alloc, refused, outcome)
 }

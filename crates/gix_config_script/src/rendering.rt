@@ -2,6 +2,7 @@
 ghost use Rattle.std.specs.Prelude.{◌≡◌, ◌∷◌, ◌++◌, OnOk, string_bytes};
 ghost use Rattle.std.specs.Iterator.{IsFinite};
 ghost use Rattle.hex.specs.Hex.{encode_lower};
+ghost use Rattle.gix_config_script.specs.Words.{word_of_bytes};
 
 use crate::answer::{Answer, Outcome};
 use crate::kinds::letter_of;
@@ -105,7 +106,9 @@ fn put_digits(alloc: Global, line: &mut String, bytes: &[u8]) -> Result<(), NoMe
 }
 
 /// A word of bytes, behind a blank.
-fn put_bytes(alloc: Global, line: &mut String, bytes: &[u8]) -> Result<(), NoMemory> {
+fn put_bytes(alloc: Global, line: &mut String, bytes: &[u8]) -> Result<(), NoMemory>
+    ensures { OnOk result (string_bytes line.new ≡ string_bytes line.old ++ 32 ∷ word_of_bytes bytes.now) }
+{
     line.push_str(" x")?;
     put_digits(alloc, line, bytes)
 }

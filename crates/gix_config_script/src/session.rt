@@ -1,5 +1,8 @@
 //! What commands work on: four files, one of which is the current one.
 
+ghost use Rattle.std.specs.Prelude.{◌≡◌};
+ghost use Rattle.gix_config_script.specs.Session.{ChangesFile};
+
 use gix_config::File;
 use gix_config::file::Metadata;
 use std::alloc::{AllocError, Global};
@@ -63,17 +66,23 @@ impl Session {
     }
 
     /// Makes that file the current one.
-    pub fn select(&mut self, slot: Slot) {
+    pub fn select(&mut self, slot: Slot)
+        ensures { self.new ≡ record self.old { current = slot } }
+    {
         self.current = slot;
     }
 
     /// Puts a file in the place of the current one.
-    pub fn put(&mut self, file: File) {
+    pub fn put(&mut self, file: File)
+        ensures { ChangesFile self.old.current self.old self.new }
+    {
         self.put_at(self.current, file);
     }
 
     /// Puts a file into that place.
-    pub fn put_at(&mut self, slot: Slot, file: File) {
+    pub fn put_at(&mut self, slot: Slot, file: File)
+        ensures { ChangesFile slot self.old self.new }
+    {
         match slot {
             Slot::F => self.f = file,
             Slot::G => self.g = file,
@@ -88,11 +97,16 @@ impl Session {
     }
 
     /// Whether each answer is to say if a growth was refused.
-    pub fn tells_refusals(&self) -> bool {
+    pub fn tells_refusals(&self) -> bool
+        ensures { result ≡ self.now.tells_refusals }
+    {
         self.tells_refusals
     }
 
-    pub fn tell_refusals(&mut self, on: bool) {
+    /// Whether answers say so from now on.
+    pub fn tell_refusals(&mut self, on: bool)
+        ensures { self.new ≡ record self.old { tells_refusals = on } }
+    {
         self.tells_refusals = on;
     }
 }

@@ -1,6 +1,9 @@
 //! The words of a line.
-ghost use Rattle.std.specs.Prelude.{◌≡◌, Ok, Some, IfOk, IfSome};
-ghost use Rattle.hex.specs.Hex.{decode_of};
+ghost use Rattle.std.specs.Prelude.{◌≡◌, ℕ, List, Ok, IfOk, IfSome, IsSome};
+ghost use Rattle.std.specs.List.{list_any};
+ghost use Rattle.std.specs.Char.{is_ascii_uppercase};
+ghost use Rattle.hex.specs.Hex.{IsBytes, decode_of, encode_lower};
+ghost use Rattle.gix_config_script.specs.Words.{StandsFor, word_of_bytes};
 
 use crate::refusal::Refusal;
 use crate::session::Slot;
@@ -79,8 +82,12 @@ pub fn words_of<'a>(alloc: Global, line: &'a [u8]) -> Result<Vec<Word<'a>>, Allo
 }
 
 /// A word with its bytes decoded, where it has such.
-fn word_of<'a>(alloc: Global, word: &'a [u8]) -> Result<Word<'a>, AllocError> {
-    if let Some(digits) = word.strip_prefix(b"x") {
+#[tactic(auto, using(crate::proofs::Digits::are_these))]
+fn word_of<'a>(alloc: Global, word: &'a [u8]) -> Result<Word<'a>, AllocError>
+    // What stands for bytes in an answer stands for the same bytes in a line.
+    ensures { (bytes : List ℕ) → IsBytes bytes → word.now ≡ word_of_bytes bytes → IfOk result (StandsFor bytes) }
+{
+    if let Some((b'x', digits)) = word.split_first() {
         if let Some(bytes) = decoded(alloc, digits)? {
             return Ok(Word::Bytes(bytes));
         }
@@ -89,10 +96,12 @@ fn word_of<'a>(alloc: Global, word: &'a [u8]) -> Result<Word<'a>, AllocError> {
 }
 
 /// The bytes that pairs of lower-case digits stand for; none where these are no such pairs.
+#[tactic(auto, using(crate::proofs::Digits::digits_are_lower, crate::proofs::Digits::decodes_back))]
 fn decoded(alloc: Global, digits: &[u8]) -> Result<Option<Vec<u8>>, AllocError>
-    ensures { IfOk result (λ found. IfSome found (λ bytes. decode_of digits.now ≡ Ok bytes.items)) }
+    ensures value { IfOk result (λ found. IfSome found (λ bytes. decode_of digits.now ≡ Ok bytes.items)) }
+    ensures found { (bytes : List ℕ) → IsBytes bytes → digits.now ≡ encode_lower bytes → IfOk result (λ found. IsSome found) }
 {
-    if digits.iter().any(|digit| digit.is_ascii_uppercase()) {
+    if has_upper_case(digits) {
         return Ok(None);
     }
     match hex::decode(alloc, digits) {
@@ -100,6 +109,12 @@ fn decoded(alloc: Global, digits: &[u8]) -> Result<Option<Vec<u8>>, AllocError>
         Err(FromHexError::OutOfMemory) => Err(AllocError),
         Err(_) => Ok(None),
     }
+}
+
+fn has_upper_case(text: &[u8]) -> bool
+    ensures { result ≡ list_any is_ascii_uppercase text.now }
+{
+    text.iter().any(|byte| byte.is_ascii_uppercase())
 }
 
 /// The key that three words tell: a section's name, a subsection or `-`, and the name of a value.

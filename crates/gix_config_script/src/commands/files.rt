@@ -1,4 +1,8 @@
 //! Commands on whole files, and on the state of the script.
+//!
+//! A command that is refused leaves that state as it was, and one that loads changes no other file.
+ghost use Rattle.std.specs.Prelude.{◌≡◌, OnErr};
+ghost use Rattle.gix_config_script.specs.Session.{ChangesFile};
 
 use super::parsing::kept_events;
 use crate::answer::{Answer, Outcome};
@@ -14,18 +18,26 @@ use std::alloc::Global;
 use std::borrow::CowSlice;
 
 /// `use SLOT`: makes a file the current one.
-pub fn select<'a>(session: &mut Session, words: &[Word<'_>]) -> Outcome<'a> {
+pub fn select<'a>(session: &mut Session, words: &[Word<'_>]) -> Outcome<'a>
+    ensures { OnErr result (session.new ≡ session.old) }
+{
     session.select(one_word(words)?.slot()?);
     Ok(Answer::Done)
 }
 
 /// `load BYTES`: the current file is that text, all of it.
-pub fn load<'a>(alloc: Global, session: &mut Session, words: &[Word<'_>]) -> Outcome<'a> {
+pub fn load<'a>(alloc: Global, session: &mut Session, words: &[Word<'_>]) -> Outcome<'a>
+    ensures others { ChangesFile session.old.current session.old session.new }
+    ensures err { OnErr result (session.new ≡ session.old) }
+{
     load_by(alloc, session, words, init::Options::default())
 }
 
 /// `lossy BYTES`: the current file is that text without blanks, line ends and comments.
-pub fn lossy<'a>(alloc: Global, session: &mut Session, words: &[Word<'_>]) -> Outcome<'a> {
+pub fn lossy<'a>(alloc: Global, session: &mut Session, words: &[Word<'_>]) -> Outcome<'a>
+    ensures others { ChangesFile session.old.current session.old session.new }
+    ensures err { OnErr result (session.new ≡ session.old) }
+{
     let options = init::Options {
         lossy: true,
         ..init::Options::default()
@@ -38,7 +50,10 @@ fn load_by<'a>(
     session: &mut Session,
     words: &[Word<'_>],
     options: init::Options<'_>,
-) -> Outcome<'a> {
+) -> Outcome<'a>
+    ensures others { ChangesFile session.old.current session.old session.new }
+    ensures err { OnErr result (session.new ≡ session.old) }
+{
     let text = one_word(words)?.bytes()?;
     let file = File::from_bytes_no_includes(alloc, text, session.meta()?, options)?;
     session.put(file);
@@ -47,7 +62,10 @@ fn load_by<'a>(
 
 /// `loadkept BYTES LETTERS`: the current file is made of the events of a text without some kinds, where they keep all
 /// entries.
-pub fn loadkept<'a>(alloc: Global, session: &mut Session, words: &[Word<'_>]) -> Outcome<'a> {
+pub fn loadkept<'a>(alloc: Global, session: &mut Session, words: &[Word<'_>]) -> Outcome<'a>
+    ensures others { ChangesFile session.old.current session.old session.new }
+    ensures err { OnErr result (session.new ≡ session.old) }
+{
     let events = kept_events(alloc, words)?;
     if !events.keeps_entries() {
         return Err(Refusal::Line);
@@ -58,7 +76,10 @@ pub fn loadkept<'a>(alloc: Global, session: &mut Session, words: &[Word<'_>]) ->
 }
 
 /// `new`: the current file is an empty one.
-pub fn new<'a>(alloc: Global, session: &mut Session, words: &[Word<'_>]) -> Outcome<'a> {
+pub fn new<'a>(alloc: Global, session: &mut Session, words: &[Word<'_>]) -> Outcome<'a>
+    ensures others { ChangesFile session.old.current session.old session.new }
+    ensures err { OnErr result (session.new ≡ session.old) }
+{
     no_words(words)?;
     let file = File::new(alloc, session.meta()?);
     session.put(file);
@@ -66,7 +87,9 @@ pub fn new<'a>(alloc: Global, session: &mut Session, words: &[Word<'_>]) -> Outc
 }
 
 /// `clone SLOT`: that file is a copy of the current one.
-pub fn clone<'a>(session: &mut Session, words: &[Word<'_>]) -> Outcome<'a> {
+pub fn clone<'a>(session: &mut Session, words: &[Word<'_>]) -> Outcome<'a>
+    ensures { OnErr result (session.new ≡ session.old) }
+{
     let slot = one_word(words)?.slot()?;
     let copy = session.file().try_clone()?;
     session.put_at(slot, copy);
@@ -144,14 +167,18 @@ fn print_failing<'a>(
 }
 
 /// `reset`: all is as at the start.
-pub fn reset<'a>(alloc: Global, session: &mut Session, words: &[Word<'_>]) -> Outcome<'a> {
+pub fn reset<'a>(alloc: Global, session: &mut Session, words: &[Word<'_>]) -> Outcome<'a>
+    ensures { OnErr result (session.new ≡ session.old) }
+{
     no_words(words)?;
     *session = Session::new(alloc)?;
     Ok(Answer::Done)
 }
 
 /// `refusals on`, `refusals off`: whether answers tell of refused growths.
-pub fn refusals<'a>(session: &mut Session, words: &[Word<'_>]) -> Outcome<'a> {
+pub fn refusals<'a>(session: &mut Session, words: &[Word<'_>]) -> Outcome<'a>
+    ensures { OnErr result (session.new ≡ session.old) }
+{
     match one_word(words)?.plain()? {
         b"on" => session.tell_refusals(true),
         b"off" => session.tell_refusals(false),
