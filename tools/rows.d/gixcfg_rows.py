@@ -1,6 +1,8 @@
 """The rows of `gixcfg`, run as they stand and under refused growths."""
 
 import itertools
+import os
+from concurrent.futures import ThreadPoolExecutor
 
 from gixcfg_process import Failed, ending
 from gixcfg_runs import Ending, ending_of, run_of
@@ -43,26 +45,27 @@ def run(rows, program, limit, report):
 
 def refuse(rows, program, limit, shim, report, table):
     """Makes each run whose streams don't fail with its first growth refused, then its second, until none is."""
-    for row in rows:
-        if not row.run.is_plain:
-            continue
-        try:
-            fault, refused = _refuse_one(row, program, limit, shim)
-        except Failed as stop:
-            fault, refused = f"nothing: {stop}", 0
-        table.add("gixcfg", refused)
-        if fault is None:
-            report.row_passed()
-        else:
-            report.row_failed(row.row, fault)
+    rows = [row for row in rows if row.run.is_plain]
+    # Each run is a process of its own, so that each processor has one.
+    with ThreadPoolExecutor(os.cpu_count()) as workers:
+        answers = workers.map(lambda row: _refuse_one(row, program, limit, shim), rows)
+        for row, (fault, refused) in zip(rows, answers):
+            table.add("gixcfg", refused)
+            if fault is None:
+                report.row_passed()
+            else:
+                report.row_failed(row.row, fault)
 
 
 def _refuse_one(row, program, limit, shim):
     """What was got in place of what is right, and how many growths were refused."""
     for number in itertools.count(1):
         variables = shim.whole_process(number)
-        got = ending(program, row.run, limit, variables)
-        was_refused = shim.was_refused()
+        try:
+            got = ending(program, row.run, limit, variables)
+        except Failed as fault:
+            return f"nothing: {fault}", number - 1
+        was_refused = shim.was_refused(variables)
         if got != row.wanted and not (was_refused and got == OUT_OF_MEMORY):
             return f"{got}, with growth {number} refused" if was_refused else got, number - 1
         if not was_refused:

@@ -1,5 +1,6 @@
 """The shim that refuses growths (tools/refuse.c), built into a temporary folder."""
 
+import itertools
 import subprocess
 from pathlib import Path
 
@@ -13,7 +14,8 @@ class Shim:
 
     def __init__(self, source, folder):
         self._library = Path(folder) / "refuse.so"
-        self._log = Path(folder) / "refused"
+        self._folder = Path(folder)
+        self._numbers = itertools.count()
         options = ["-shared", "-fPIC", "-O2", "-Wall", "-Wextra", "-Werror"]
         try:
             built = subprocess.run(["cc", *options, "-o", str(self._library), str(source)], stderr=subprocess.PIPE)
@@ -28,10 +30,10 @@ class Shim:
 
     def whole_process(self, number):
         """For any program: the growth of this number is refused."""
-        if self._log.exists():
-            self._log.unlink()
-        return {"LD_PRELOAD": str(self._library), "REFUSE_AT": str(number), "REFUSE_LOG": str(self._log)}
+        log = self._folder / f"refused-{next(self._numbers)}"
+        return {"LD_PRELOAD": str(self._library), "REFUSE_AT": str(number), "REFUSE_LOG": str(log)}
 
-    def was_refused(self):
-        """Whether the last whole process had a growth refused."""
-        return self._log.exists()
+    @staticmethod
+    def was_refused(variables):
+        """Whether the whole process that had these variables had a growth refused."""
+        return Path(variables["REFUSE_LOG"]).exists()
