@@ -9,6 +9,7 @@ use gitconf_text::parse::section::{Name, ValueName};
 use gix_config::file::{includes, init};
 use gix_config::path::interpolate;
 use gix_config::refusals::Refusal as _;
+use std::alloc::Global;
 use std::test::Fail;
 
 /// What no text can be refused by: the last line of all, no data left, and 4294967296 bytes.
@@ -140,38 +141,24 @@ fn comment(tag: u8, text: &'static [u8]) -> EventRef<'static> {
     EventRef::Comment { tag, text }
 }
 
-/// Events, also of those that no text has: the bytes that each is written as, and the text that it is shown as.
+/// Whether the event is written as these bytes, and shown as this text.
+fn is_written(alloc: Global, event: EventRef<'_>, bytes: &[u8], text: &str) -> Result<bool, Fail> {
+    let shown = format!(in alloc; "{event}")?;
+    let mut out = Vec::from_slice(alloc, b">")?;
+    event.write_to(&mut out)?;
+    Ok(
+        shown.as_str() == text
+            && event.to_bstring(alloc)?.as_bytes() == bytes
+            && out.strip_prefix(b">") == Some(bytes),
+    )
+}
+
+/// Events, also such as no text has: the bytes that each is written as, and the text that it is shown as.
 #[test]
 fn events_alone(rt: HostRuntime) -> Result<(), Fail> {
-    let rows: [(EventRef<'static>, &[u8], &str); 18] = [
+    let rows: [(EventRef<'static>, &[u8], &str); 8] = [
         (comment(b';', b" c"), b"; c", "; c"),
         (comment(b'#', b""), b"#", "#"),
-        (header(b"a", None, None), b"[a]", "[a]"),
-        (header(b"", None, None), b"[]", "[]"),
-        (header(b"", Some(b"."), Some(b"b")), b"[.b]", "[.b]"),
-        (
-            header(b"a", Some(b"."), Some(b"B\"\\")),
-            b"[a.B\"\\]",
-            "[a.B\"\\]",
-        ),
-        (header(b"a", Some(b" "), Some(b"")), b"[a \"\"]", "[a \"\"]"),
-        (
-            header(b"a", Some(b" \t"), Some(b"q\"uo\\te")),
-            b"[a \t\"q\\\"uo\\\\te\"]",
-            "[a \t\"q\\\"uo\\\\te\"]",
-        ),
-        (
-            header(b"a", Some(b"\t "), Some(b"\\\"b")),
-            b"[a\t \"\\\\\\\"b\"]",
-            "[a\t \"\\\\\\\"b\"]",
-        ),
-        (header(b"a", Some(b" "), None), b"[a]", "[a]"),
-        (header(b"a", None, Some(b"b")), b"[a]", "[a]"),
-        (
-            header(b"a", Some(b" "), Some(b"\xc3\xa4\"\xff\xe2\x82\"")),
-            b"[a \"\xc3\xa4\\\"\xff\xe2\x82\\\"\"]",
-            "[a \"ä\\\"\u{fffd}\u{fffd}\\\"\"]",
-        ),
         (EventRef::ValueNotDone(b"x "), b"x \\", "x \\"),
         (EventRef::ValueDone(b"y"), b"y", "y"),
         (EventRef::ValueDone(b""), b"", ""),
@@ -184,12 +171,38 @@ fn events_alone(rt: HostRuntime) -> Result<(), Fail> {
         (EventRef::KeyValueSeparator, b"=", "="),
     ];
     for (event, bytes, text) in rows {
-        assert_eq!(rt; format!(in rt.alloc(); "{event}")?.as_str(), text);
-        assert!(rt; event.to_bstring(rt.alloc())?.as_bytes() == bytes, "{text}");
-        let mut out = Vec::from_slice(rt.alloc(), b">")?;
-        event.write_to(&mut out)?;
-        assert!(rt; out.strip_prefix(b">") == Some(bytes), "{text}");
+        assert!(rt; is_written(rt.alloc(), event, bytes, text)?);
     }
+    Ok(())
+}
+
+/// A header, and what it is written as. One that isn't in UTF-8 is shown otherwise.
+#[test]
+fn headers_alone(rt: HostRuntime) -> Result<(), Fail> {
+    let rows: [(EventRef<'static>, &str); 9] = [
+        (header(b"a", None, None), "[a]"),
+        (header(b"", None, None), "[]"),
+        (header(b"", Some(b"."), Some(b"b")), "[.b]"),
+        (header(b"a", Some(b"."), Some(b"B\"\\")), "[a.B\"\\]"),
+        (header(b"a", Some(b" "), Some(b"")), "[a \"\"]"),
+        (
+            header(b"a", Some(b" \t"), Some(b"q\"uo\\te")),
+            "[a \t\"q\\\"uo\\\\te\"]",
+        ),
+        (
+            header(b"a", Some(b"\t "), Some(b"\\\"b")),
+            "[a\t \"\\\\\\\"b\"]",
+        ),
+        (header(b"a", Some(b" "), None), "[a]"),
+        (header(b"a", None, Some(b"b")), "[a]"),
+    ];
+    for (event, text) in rows {
+        assert!(rt; is_written(rt.alloc(), event, text.as_bytes(), text)?);
+    }
+    let event = header(b"a", Some(b" "), Some(b"\xc3\xa4\"\xff\xe2\x82\""));
+    let bytes = b"[a \"\xc3\xa4\\\"\xff\xe2\x82\\\"\"]";
+    let text = "[a \"ä\\\"\u{fffd}\u{fffd}\\\"\"]";
+    assert!(rt; is_written(rt.alloc(), event, bytes, text)?);
     Ok(())
 }
 

@@ -3,9 +3,31 @@
 use bstr::{BStr, BString};
 use gitconf_text::parse::section::{Name, ValueName, unvalidated};
 use gix_config::{AsKey, KeyRef};
-use std::cmp::Ordering;
+use std::alloc::Global;
 use std::str;
 use std::test::Fail;
+
+/// Whether both texts are the same name of a section. The second one is kept as it is spelled.
+fn is_same_name(alloc: Global, one: &[u8], other: &[u8]) -> Result<bool, Fail> {
+    let first = Name::try_from_bytes(alloc, one)?;
+    let second = Name::try_from(BString::from_slice(alloc, other)?)?;
+    let is_same = first == second;
+    if is_same != first.cmp(&second).is_eq() || second.to_owned()?.as_bytes() != other {
+        return Err(Fail::new("not ordered or not copied as it is"));
+    }
+    Ok(is_same)
+}
+
+/// The same of names of values.
+fn is_same_value_name(alloc: Global, one: &[u8], other: &[u8]) -> Result<bool, Fail> {
+    let first = ValueName::try_from_bytes(alloc, one)?;
+    let second = ValueName::try_from(BString::from_slice(alloc, other)?)?;
+    let is_same = first == second;
+    if is_same != first.cmp(&second).is_eq() || second.to_owned()?.as_bytes() != other {
+        return Err(Fail::new("not ordered or not copied as it is"));
+    }
+    Ok(is_same)
+}
 
 /// Two texts, and whether they are the same name.
 #[test]
@@ -19,17 +41,8 @@ fn names_have_no_case(rt: HostRuntime) -> Result<(), Fail> {
         (b"a-b", b"ab", false),
     ];
     for (one, other, is_same) in rows {
-        let shown = BStr::new(other);
-        let first = Name::try_from_bytes(rt.alloc(), one)?;
-        let second = Name::try_from(BString::from_slice(rt.alloc(), other)?)?;
-        assert_eq!(rt; first == second, is_same, "'{shown}'");
-        assert_eq!(rt; first.cmp(&second) == Ordering::Equal, is_same, "'{shown}'");
-        assert!(rt; second.to_owned()?.as_bytes() == other, "'{shown}'");
-        let first = ValueName::try_from_bytes(rt.alloc(), one)?;
-        let second = ValueName::try_from(BString::from_slice(rt.alloc(), other)?)?;
-        assert_eq!(rt; first == second, is_same, "'{shown}'");
-        assert_eq!(rt; first.cmp(&second) == Ordering::Equal, is_same, "'{shown}'");
-        assert!(rt; second.to_owned()?.as_bytes() == other, "'{shown}'");
+        assert_eq!(rt; is_same_name(rt.alloc(), one, other)?, is_same);
+        assert_eq!(rt; is_same_value_name(rt.alloc(), one, other)?, is_same);
     }
     Ok(())
 }

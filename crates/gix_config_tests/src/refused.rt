@@ -6,7 +6,7 @@
 //! its full answer. Before, it says that memory was wanting, and all is as it was. Without the shim it is made once.
 
 use super::events::{PRINTED, TEXT, WRITTEN, written};
-use gitconf_base::util::{SectionId, SectionTable};
+use super::tables::{CORE, LOWER, numbers, table_of, told};
 use gitconf_parse::event_ref::EventRef;
 use gitconf_parse::events::Events;
 use gitconf_parse::items::Items;
@@ -14,7 +14,6 @@ use gitconf_parse::laws::kept_entries_make_items;
 use gitconf_parse::sink::SinkFault;
 use gitconf_text::NoMemory;
 use gitconf_text::parse::section::{Name, ValueName};
-use gitconf_text::parse::span;
 use gitconf_text::value::{append_escaped, escape, normalize};
 use gix_config::file::Metadata;
 use gix_config::refusals::Refusal as _;
@@ -41,7 +40,7 @@ pub fn was_refused(alloc: Global) -> bool {
 }
 
 /// More than any call has growths.
-const MOST: usize = 1000;
+pub const MOST: usize = 1000;
 
 /// Makes the state and the call again and again, until no growth of the call is refused. Each answer has to fit the
 /// first pattern and its condition, or, where a growth was refused, the second pattern and its condition.
@@ -133,117 +132,15 @@ fn events(rt: HostRuntime) -> Result<(), Fail> {
     Ok(())
 }
 
-/// A table of `[core]`, with the content `c`, and `[remote "o"]`, with `r`.
-fn table_of_two(alloc: Global) -> Result<SectionTable<u8>, Fail> {
-    let mut table = SectionTable::new(alloc);
-    table.push(b"core", None, b'c')?;
-    table.push(b"remote", Some(b"o"), b'r')?;
-    Ok(table)
-}
-
-/// Whether the contents in order are these.
-fn has_contents(table: &SectionTable<u8>, contents: &[u8]) -> bool {
-    let mut left = contents;
-    for (_, content) in table.iter() {
-        match left.split_first() {
-            Some((first, rest)) if first == content => left = rest,
-            _ => return false,
-        }
-    }
-    left.is_empty()
-}
-
-/// Whether one section has these names, and this content.
-fn has_one(table: &SectionTable<u8>, name: &str, subsection: Option<&[u8]>, content: u8) -> bool {
-    let mut found: usize = 0;
-    for (_, held) in table.named(name, subsection) {
-        if *held != content {
-            return false;
-        }
-        found = found.saturating_add(1);
-    }
-    found == 1
-}
-
-/// Whether the table is the one that `table_of_two` made.
-fn is_as_made(table: &SectionTable<u8>, next: SectionId) -> bool {
-    has_contents(table, b"cr")
-        && has_one(table, "core", None, b'c')
-        && has_one(table, "remote", Some(b"o"), b'r')
-        && table.next_id() == next
-}
-
+/// A copy of a table has the same sections under the same numbers.
 #[test]
-fn copies_of_tables(rt: HostRuntime) -> Result<(), Fail> {
-    let table = table_of_two(rt.alloc())?;
-    let next = table.next_id();
+fn tables(rt: HostRuntime) -> Result<(), Fail> {
+    let table = table_of(rt.alloc(), &[(CORE, b'c'), (LOWER, b'r')])?;
+    let numbers = numbers(rt.alloc())?;
+    let expected: &[u8] = b"cr|c||r||r|-cr--------";
     each_refused!(rt, () = (), table.try_clone(),
-        Ok(copy) => is_as_made(&copy, next),
-        Err(NoMemory) => is_as_made(&table, next));
-    Ok(())
-}
-
-/// Puts `[Branch "main"]`, which holds `b`, last or behind the first section.
-fn put(table: &mut SectionTable<u8>, is_last: bool) -> Result<SectionId, span::Error> {
-    if is_last || table.is_empty() {
-        table.push(b"Branch", Some(b"main"), b'b')
-    } else {
-        table.insert_behind(0, b"Branch", Some(b"main"), b'b')
-    }
-}
-
-#[test]
-fn sections_put_into_tables(rt: HostRuntime) -> Result<(), Fail> {
-    let next = table_of_two(rt.alloc())?.next_id();
-    for (is_last, contents) in [(true, b"crb"), (false, b"cbr")] {
-        each_refused!(rt, mut table = table_of_two(rt.alloc())?, put(&mut table, is_last),
-            Ok(id) => id == next && has_contents(&table, contents) && has_one(&table, "branch", Some(b"main"), b'b'),
-            Err(error) => error.number() == 27 && is_as_made(&table, next));
-    }
-    Ok(())
-}
-
-fn rename_first(table: &mut SectionTable<u8>) -> Result<(), NoMemory> {
-    if table.is_empty() {
-        return Ok(());
-    }
-    table.rename(0, b"Branch", Some(b"main"))
-}
-
-#[test]
-fn renamed_sections(rt: HostRuntime) -> Result<(), Fail> {
-    let next = table_of_two(rt.alloc())?.next_id();
-    each_refused!(rt, mut table = table_of_two(rt.alloc())?, rename_first(&mut table),
-        Ok(()) => has_contents(&table, b"cr") && !table.has_name("core") && has_one(&table, "branch", Some(b"main"), b'c'),
-        Err(NoMemory) => is_as_made(&table, next));
-    Ok(())
-}
-
-/// A table of ten sections.
-fn table_of_ten(alloc: Global) -> Result<SectionTable<u8>, Fail> {
-    let mut table = SectionTable::new(alloc);
-    for content in b"0123456789" {
-        table.push(b"branch", None, *content)?;
-    }
-    Ok(table)
-}
-
-fn put_behind_first(
-    table: &mut SectionTable<u8>,
-    other: SectionTable<u8>,
-) -> Result<(), span::Error> {
-    if table.is_empty() {
-        return Ok(());
-    }
-    table.insert_all(1, other)
-}
-
-#[test]
-fn tables_put_into_tables(rt: HostRuntime) -> Result<(), Fail> {
-    let next = table_of_two(rt.alloc())?.next_id();
-    each_refused!(rt, (mut table, other) = (table_of_two(rt.alloc())?, table_of_ten(rt.alloc())?), put_behind_first(&mut table, other),
-        Ok(()) => has_contents(&table, b"c0123456789r"),
-        Err(error) => error.number() == 27 && is_as_made(&table, next));
+        Ok(copy) => told(rt.alloc(), &copy, &numbers)?.as_slice() == expected,
+        Err(NoMemory) => told(rt.alloc(), &table, &numbers)?.as_slice() == expected);
     Ok(())
 }
 

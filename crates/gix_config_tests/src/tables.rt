@@ -1,20 +1,26 @@
 //! The table of sections: its changes, and walks over it from both ends.
 
 use self::Step::{Change, Put, PutAll, Remove, Rename};
+use super::refused::{MOST, begin, was_refused};
 use gitconf_base::util::{SectionId, SectionTable};
+use gitconf_text::NoMemory;
+use gitconf_text::parse::span;
 use std::alloc::{AllocError, Global};
+use std::process::Abort;
 use std::test::Fail;
 
 /// A section's name and its subsection.
-type Names<'a> = (&'a [u8], Option<&'a [u8]>);
+pub type Names<'a> = (&'a [u8], Option<&'a [u8]>);
 
-const CORE: Names<'static> = (b"Core", None);
+pub const CORE: Names<'static> = (b"Core", None);
 
 const EMPTY: Names<'static> = (b"CORE", Some(b""));
 
-const LOWER: Names<'static> = (b"rEmote", Some(b"origin"));
+pub const LOWER: Names<'static> = (b"rEmote", Some(b"origin"));
 
 const UPPER: Names<'static> = (b"REMOTE", Some(b"Origin"));
+
+const BRANCH: Names<'static> = (b"branch", None);
 
 const OTHER: Names<'static> = (b"core", Some(b"\xff"));
 
@@ -33,22 +39,11 @@ enum Step<'a> {
     Change(usize, u8),
 }
 
-fn put(table: &mut SectionTable<u8>, at: usize, names: Names<'_>, content: u8) -> Result<(), Fail> {
-    let next = table.next_id();
-    let given = if at < table.len() {
-        table.insert_behind(at, names.0, names.1, content)?
-    } else {
-        table.push(names.0, names.1, content)?
-    };
-    if given == next {
-        Ok(())
-    } else {
-        Err(Fail::new("another number is given"))
-    }
-}
-
 /// A table of those sections, from which one was removed before.
-fn table_of(alloc: Global, sections: &[(Names<'_>, u8)]) -> Result<SectionTable<u8>, Fail> {
+pub fn table_of(
+    alloc: Global,
+    sections: &[(Names<'_>, u8)],
+) -> Result<SectionTable<u8>, span::Error> {
     let mut table = SectionTable::new(alloc);
     let first = table.push(b"x", None, b'x')?;
     for (names, content) in sections {
@@ -58,12 +53,25 @@ fn table_of(alloc: Global, sections: &[(Names<'_>, u8)]) -> Result<SectionTable<
     Ok(table)
 }
 
+fn put(
+    table: &mut SectionTable<u8>,
+    at: usize,
+    names: Names<'_>,
+    content: u8,
+) -> Result<SectionId, span::Error> {
+    if at < table.len() {
+        table.insert_behind(at, names.0, names.1, content)
+    } else {
+        table.push(names.0, names.1, content)
+    }
+}
+
 fn put_all(
     alloc: Global,
     table: &mut SectionTable<u8>,
     at: usize,
     sections: &[(Names<'_>, u8)],
-) -> Result<(), Fail> {
+) -> Result<(), span::Error> {
     let other = table_of(alloc, sections)?;
     if at <= table.len() {
         table.insert_all(at, other)?;
@@ -71,7 +79,7 @@ fn put_all(
     Ok(())
 }
 
-fn rename(table: &mut SectionTable<u8>, at: usize, names: Names<'_>) -> Result<(), Fail> {
+fn rename(table: &mut SectionTable<u8>, at: usize, names: Names<'_>) -> Result<(), NoMemory> {
     if at < table.len() {
         table.rename(at, names.0, names.1)?;
     }
@@ -84,15 +92,18 @@ fn change(table: &mut SectionTable<u8>, at: usize, content: u8) {
     }
 }
 
-/// Takes the step, and answers what was held by what was removed.
+/// Takes the step, and answers what stands under the number that was given, or what was removed.
 fn take(
     alloc: Global,
     table: &mut SectionTable<u8>,
     numbers: &[SectionId],
     step: Step<'_>,
-) -> Result<Option<u8>, Fail> {
+) -> Result<Option<u8>, span::Error> {
     match step {
-        Put(at, names, content) => put(table, at, names, content)?,
+        Put(at, names, content) => {
+            let id = put(table, at, names, content)?;
+            return Ok(table.get(id).copied());
+        }
         PutAll(at, sections) => put_all(alloc, table, at, sections)?,
         Remove(number) => {
             let id = numbers.get(number).copied().unwrap_or_default();
@@ -105,7 +116,7 @@ fn take(
 }
 
 /// The numbers that a table gives first.
-fn numbers(alloc: Global) -> Result<Vec<SectionId>, Fail> {
+pub fn numbers(alloc: Global) -> Result<Vec<SectionId>, Fail> {
     let mut numbers = Vec::new(alloc);
     let mut table = SectionTable::new(alloc);
     for _ in 0..11 {
@@ -116,7 +127,7 @@ fn numbers(alloc: Global) -> Result<Vec<SectionId>, Fail> {
 
 /// The contents of all sections, of those of four names, and of those with a name, with a `|` behind each of these
 /// lists; last what stands under each number.
-fn told(
+pub fn told(
     alloc: Global,
     table: &SectionTable<u8>,
     numbers: &[SectionId],
@@ -148,17 +159,70 @@ fn told(
     Ok(out)
 }
 
-/// A step, what was removed, and what is told of the table behind it.
+/// Takes the step, with each of its growths refused before, which leaves the table as it was.
+fn check_step<R: Abort + AllocGlobal>(
+    rt: &R,
+    table: &mut SectionTable<u8>,
+    numbers: &[SectionId],
+    step: Step<'_>,
+    answer: Option<u8>,
+) -> Result<(), Fail> {
+    let before = told(rt.alloc(), table, numbers)?;
+    for _ in 0..MOST {
+        begin(rt.alloc())?;
+        let taken = take(rt.alloc(), table, numbers, step);
+        let refused = was_refused(rt.alloc());
+        match taken {
+            Ok(taken) => {
+                assert!(rt; taken == answer);
+                return Ok(());
+            }
+            Err(error) => assert!(rt; refused && error.number() == 27),
+        }
+        assert!(rt; told(rt.alloc(), table, numbers)?.as_slice() == before.as_slice());
+    }
+    Err(Fail::new("too many growths"))
+}
+
+/// A step, its answer, and what is told of the table behind it.
 #[test]
 fn tables_are_changed(rt: HostRuntime) -> Result<(), Fail> {
-    let three = [(CORE, b'f'), ((b"other", None), b'g'), (UPPER, b'h')];
+    let three = [(CORE, b'f'), (BRANCH, b'g'), (UPPER, b'h')];
     let one = [(CORE, b'i')];
-    let rows: [(Step<'_>, Option<u8>, &[u8]); 17] = [
-        (Put(LAST, CORE, b'a'), None, b"a|a|||||a----------"),
-        (Put(LAST, LOWER, b'b'), None, b"ab|a||b||b|ab---------"),
-        (Put(LAST, UPPER, b'c'), None, b"abc|a||b|c|bc|abc--------"),
-        (Put(0, LOWER, b'd'), None, b"adbc|a||db|c|dbc|abcd-------"),
-        (Put(3, EMPTY, b'e'), None, b"adbce|a|e|db|c|dbc|abcde------"),
+    let ten = [
+        (BRANCH, b'0'),
+        (BRANCH, b'1'),
+        (BRANCH, b'2'),
+        (BRANCH, b'3'),
+        (BRANCH, b'4'),
+        (BRANCH, b'5'),
+        (BRANCH, b'6'),
+        (BRANCH, b'7'),
+        (BRANCH, b'8'),
+        (BRANCH, b'9'),
+    ];
+    let rows: [(Step<'_>, Option<u8>, &[u8]); 18] = [
+        (Put(LAST, CORE, b'a'), Some(b'a'), b"a|a|||||a----------"),
+        (
+            Put(LAST, LOWER, b'b'),
+            Some(b'b'),
+            b"ab|a||b||b|ab---------",
+        ),
+        (
+            Put(LAST, UPPER, b'c'),
+            Some(b'c'),
+            b"abc|a||b|c|bc|abc--------",
+        ),
+        (
+            Put(0, LOWER, b'd'),
+            Some(b'd'),
+            b"adbc|a||db|c|dbc|abcd-------",
+        ),
+        (
+            Put(3, EMPTY, b'e'),
+            Some(b'e'),
+            b"adbce|a|e|db|c|dbc|abcde------",
+        ),
         (Remove(1), Some(b'b'), b"adce|a|e|d|c|dc|a-cde------"),
         (Remove(1), None, b"adce|a|e|d|c|dc|a-cde------"),
         (Rename(2, CORE), None, b"adce|ac|e|d||d|a-cde------"),
@@ -169,23 +233,24 @@ fn tables_are_changed(rt: HostRuntime) -> Result<(), Fail> {
         (Remove(8), Some(b'i'), b"fghdce|fc|e|d|h|hd|--cdefgh---"),
         (
             Put(LAST, OTHER, b'j'),
-            None,
+            Some(b'j'),
             b"fghdcej|fc|e|d|h|hd|--cdefgh-j-",
         ),
         (Rename(5, LOWER), None, b"fghdcej|fc||de|h|hde|--cdefgh-j-"),
         (Change(1, b'k'), None, b"fkhdcej|fc||de|h|hde|--cdefkh-j-"),
         (Remove(10), None, b"fkhdcej|fc||de|h|hde|--cdefkh-j-"),
+        (
+            PutAll(1, &ten),
+            None,
+            b"f0123456789khdcej|fc||de|h|hde|--cdefkh-j0",
+        ),
     ];
     let numbers = numbers(rt.alloc())?;
     let mut table = SectionTable::new(rt.alloc());
-    for (row, (step, removed, expected)) in rows.iter().enumerate() {
-        let answer = take(rt.alloc(), &mut table, &numbers, *step)?;
-        assert!(rt; answer == *removed, "{row}");
-        assert!(rt;
-            told(rt.alloc(), &table, &numbers)?.as_slice() == *expected,
-            "{row}"
-        );
-        assert!(rt; table.get(SectionId::default()).is_none(), "{row}");
+    for (step, answer, expected) in rows {
+        check_step(&rt, &mut table, &numbers, step, answer)?;
+        assert!(rt; told(rt.alloc(), &table, &numbers)?.as_slice() == expected);
+        assert!(rt; table.get(SectionId::default()).is_none());
     }
     Ok(())
 }
