@@ -5,10 +5,9 @@ use crate::file::{includes, init, set_raw_value};
 use gitconf_base::values::path::interpolate;
 use gitconf_parse::error as parse;
 use gitconf_parse::sink::SinkFault;
-use gitconf_text::NoMemory;
 use gitconf_text::parse::section::{NameError, ValueNameError, header};
 use gitconf_text::parse::span;
-use gitconf_text::value;
+use gitconf_text::{NoMemory, value};
 
 /// What a call is refused by.
 pub trait Refusal {

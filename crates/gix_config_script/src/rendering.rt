@@ -8,12 +8,11 @@ use crate::answer::{Answer, Outcome};
 use crate::kinds::letter_of;
 use crate::names::names_of;
 use crate::refusal::Refusal;
-use gix_config::NoMemory;
-use gix_config::refusals::Refusal as _;
-use gix_config::File;
 use gix_config::file::{SectionId, SectionRef};
 use gix_config::parse::{Error, EventRef};
+use gix_config::refusals::Refusal as _;
 use gix_config::value::normalize;
+use gix_config::{File, NoMemory};
 use std::alloc::Global;
 use std::fmt::Write;
 

@@ -11,9 +11,8 @@ use crate::refusal::Refusal;
 use crate::session::Session;
 use crate::words::{Word, all_bytes, no_words, one_word};
 use crate::writers::{FailingOnce, Failure};
-use gix_config::NoMemory;
-use gix_config::File;
 use gix_config::file::{SectionId, SectionRef, init};
+use gix_config::{File, NoMemory};
 use std::alloc::Global;
 use std::borrow::CowSlice;
 
