@@ -9,5 +9,3 @@ pub mod items;
 pub mod laws;
 mod reading;
 pub mod sink;
-#[cfg(test)]
-mod tests;
