@@ -31,3 +31,4 @@ pub mod EditValues
 pub mod EditOthers
 pub mod EditRows
 pub mod EditUsed
+pub mod EditorItems
