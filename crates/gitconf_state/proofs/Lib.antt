@@ -32,3 +32,4 @@ pub mod EditOthers
 pub mod EditRows
 pub mod EditUsed
 pub mod EditorItems
+pub mod EditsKeep

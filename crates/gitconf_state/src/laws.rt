@@ -18,7 +18,8 @@ ghost use Rattle.gitconf_state.specs.Loads.{IsFullLoad, IsLoad, IsPartLoad};
 ghost use Rattle.gitconf_state.specs.Inserted.{Inserted, IsByteForByte};
 ghost use Rattle.gitconf_state.specs.LineEnds.{file_line_end};
 ghost use Rattle.gitconf_state.specs.Lookup.{passing, last_value, all_values};
-ghost use Rattle.gitconf_state.specs.Edit.{is_entry_of, spacing_of, new_entry, set_value, new_section, is_target, section_with, set_raw_value, Edit, apply, apply_all, may_stand, is_edit, are_edits, is_clean_edit, with_used};
+ghost use Rattle.gitconf_state.specs.Edit.{is_entry_of, spacing_of, new_entry, set_value, new_section, is_target, section_with, set_raw_value, with_used};
+ghost use Rattle.gitconf_state.specs.Edits.{Edit, IsEdit, IsCleanEdit, AreEdits, AreCleanEdits, apply, apply_all, finds_or_makes};
 ghost use Rattle.gitconf_state.specs.Comments.{item_comments, comments_of, comments, comments_of_kept};
 
 /// A state loaded from a text has items of a text, also where a filter dropped blanks, line ends and comments. Loaded whole it is
@@ -72,19 +73,19 @@ pub fn comments_are_kept()
 
 /// An edit leaves a state that has items, and a clean one where its section has a name or a subsection. So do edits, one behind the other.
 pub fn edits_keep_states()
-    ensures items { (edit : Edit) (state : State) → is_edit edit state ≡ true → HasItems state → HasItems (apply edit state) }
-    ensures clean { (edit : Edit) (state : State) → is_clean_edit edit ≡ true → IsClean state → IsClean (apply edit state) }
-    ensures all_items { (edits : List Edit) (state : State) → are_edits edits state ≡ true → HasItems state → HasItems (apply_all edits state) }
-    ensures all_clean { (edits : List Edit) (state : State) → list_all is_clean_edit edits ≡ true → IsClean state → IsClean (apply_all edits state) }
+    ensures items { (edit : Edit) (state : State) → IsEdit edit state → HasItems state → HasItems (apply edit state) }
+    ensures clean { (edit : Edit) (state : State) → IsCleanEdit edit → IsClean state → IsClean (apply edit state) }
+    ensures all_items { (edits : List Edit) (state : State) → AreEdits edits state → HasItems state → HasItems (apply_all edits state) }
+    ensures all_clean { (edits : List Edit) (state : State) → AreCleanEdits edits → IsClean state → IsClean (apply_all edits state) }
 {}
 
 /// The text of an edited state is read back: it has the document that the edits leave. So it is from the bytes of an accepted text,
 /// loaded whole, through any list of edits, to the bytes that are written.
 pub fn edited_text_reads_back()
-    ensures state { (edits : List Edit) (state : State) → are_edits edits state ≡ true → list_all is_clean_edit edits ≡ true → HasItems state → IsClean state
+    ensures state { (edits : List Edit) (state : State) → AreEdits edits state → AreCleanEdits edits → HasItems state → IsClean state
         → Reads (printed (apply_all edits state)) (document_of (apply_all edits state)) }
     ensures text { (edits : List Edit) (text : List ℕ) (parts : List Part) (state : State) → IsText text parts → IsFullLoad parts state
-        → are_edits edits state ≡ true → list_all is_clean_edit edits ≡ true
+        → AreEdits edits state → AreCleanEdits edits
         → Reads (printed (apply_all edits state)) (document_of (apply_all edits state)) }
 {}
 
@@ -92,7 +93,7 @@ pub fn edited_text_reads_back()
 /// this number leave that of all edits, one behind the other, but for it.
 pub fn used_bytes_are_not_asked()
     ensures edits { (edits : List Edit) (used : ℕ) (state : State) → apply_all edits (with_used used state) ≡ with_used used (apply_all edits state) }
-    ensures names { (edits : List Edit) (used : ℕ) (state : State) → are_edits edits (with_used used state) ≡ are_edits edits state }
+    ensures names { (edits : List Edit) (used : ℕ) (state : State) → AreEdits edits state → AreEdits edits (with_used used state) }
     ensures text { (used : ℕ) (state : State) → printed (with_used used state) ≡ printed state }
     ensures document { (used : ℕ) (state : State) → document_of (with_used used state) ≡ document_of state }
 {}
@@ -100,10 +101,10 @@ pub fn used_bytes_are_not_asked()
 /// A value that was set is found by its name, subsection and key, where the look-up keeps the sections that the edit keeps and
 /// would keep a new one.
 pub fn set_value_is_found()
-    ensures found { (name : List ℕ) (subsection : Option (List ℕ)) (key value : List ℕ) (state : State) → may_stand name subsection (λ _. true) state ≡ true
+    ensures found { (name : List ℕ) (subsection : Option (List ℕ)) (key value : List ℕ) (state : State) → finds_or_makes name subsection (λ _. true) state ≡ true
         → last_value name subsection key (λ _. true) (set_raw_value name subsection key (λ _. true) value state) ≡ Some value }
     ensures filtered { (name : List ℕ) (subsection : Option (List ℕ)) (key : List ℕ) (keeps : Meta → Bool) (value : List ℕ) (state : State)
-        → may_stand name subsection keeps state ≡ true → keeps state.meta ≡ true
+        → finds_or_makes name subsection keeps state ≡ true → keeps state.meta ≡ true
         → last_value name subsection key keeps (set_raw_value name subsection key keeps value state) ≡ Some value }
 {}
 
@@ -150,7 +151,7 @@ pub fn set_value_leaves_others()
         × (all_values other_name other_subsection other other_keeps (set_raw_value name subsection key keeps value state)
         ≡ all_values other_name other_subsection other other_keeps state) }
     ensures sections { (name : List ℕ) (subsection : Option (List ℕ)) (key : List ℕ) (keeps : Meta → Bool) (value : List ℕ) (state : State)
-        → (other_name : List ℕ) (other_subsection : Option (List ℕ)) (other_keeps : Meta → Bool) → may_stand name subsection keeps state ≡ true
+        → (other_name : List ℕ) (other_subsection : Option (List ℕ)) (other_keeps : Meta → Bool) → finds_or_makes name subsection keeps state ≡ true
         → (is_same_name name other_name ≡ false) ⊎ (subsection ≡ other_subsection → ⊥)
         → passing other_name other_subsection other_keeps (set_raw_value name subsection key keeps value state) ≡ passing other_name other_subsection other_keeps state }
 {}

@@ -1,6 +1,6 @@
-use Rattle.gitconf_state.specs.Edit.{apply_all}
+use Rattle.gitconf_state.specs.Edits.{apply_all}
 use Rattle.gitconf_state.proofs.ReadsBack.{all_reads_back}
-use Rattle.gitconf_state.proofs.EditItems.{apply_all_items, apply_all_clean}
+use Rattle.gitconf_state.proofs.EditsKeep.{apply_all_items, apply_all_clean}
 use Rattle.gitconf_state.proofs.LoadingClean.{full_has_items, full_is_clean}
 use Rattle.gitconf_state.proofs.laws.edited_text_reads_back.Goals as goal
 

@@ -1,4 +1,4 @@
-use Rattle.gitconf_state.proofs.EditItems.{apply_items, apply_clean, apply_all_items, apply_all_clean}
+use Rattle.gitconf_state.proofs.EditsKeep.{apply_items, apply_clean, apply_all_items, apply_all_clean}
 use Rattle.gitconf_state.proofs.laws.edits_keep_states.Goals as goal
 
 pub returns-clause-items : goal.returns-clause-items
