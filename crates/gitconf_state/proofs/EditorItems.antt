@@ -193,18 +193,18 @@ behind_old_is keeps (EntryItem e ∷ items) all =
     go false one all = all
 
 -- An entry that is written anew.
-pub written_at_is : (place : ℕ) (stands keeps_line_end : Bool) (key value : List ℕ) (items : List Item) → is_value_name key ≡ true → list_all is_item items ≡ true
-    → list_all is_item (written_at place stands keeps_line_end key value items) ≡ true
-written_at_is place stands keeps key value items named all = go stands
+pub written_at_is : (editor : Editor) (place : ℕ) (stands keeps_line_end : Bool) (key value : List ℕ) (items : List Item) → IsEditor editor → is_value_name key ≡ true → list_all is_item items ≡ true
+    → list_all is_item (written_at editor place stands keeps_line_end key value items) ≡ true
+written_at_is editor place stands keeps key value items is named all = go stands
   where
     rest : (t : Bool) → list_all is_item (if t then behind_old keeps (drop place items) else drop place items) ≡ true
     rest true = behind_old_is keeps (drop place items) (drop_all is_item place items all)
     rest false = drop_all is_item place items all
-    go : (t : Bool) → list_all is_item (take place items ++ entry_made (spacing_of items) key (Some value) ∷ (if t then behind_old keeps (drop place items) else drop place items)) ≡ true
-    go t = all_append is_item (take place items) (entry_made (spacing_of items) key (Some value) ∷ (if t then behind_old keeps (drop place items) else drop place items))
+    go : (t : Bool) → list_all is_item (take place items ++ entry_made editor.spacing key (Some value) ∷ (if t then behind_old keeps (drop place items) else drop place items)) ≡ true
+    go t = all_append is_item (take place items) (entry_made editor.spacing key (Some value) ∷ (if t then behind_old keeps (drop place items) else drop place items))
         (take_all is_item place items all)
-        (both_hold (is_item (entry_made (spacing_of items) key (Some value))) (list_all is_item (if t then behind_old keeps (drop place items) else drop place items))
-        (entry_made_is (spacing_of items) key (Some value) (spacing_fits items all) named) (rest t))
+        (both_hold (is_item (entry_made editor.spacing key (Some value))) (list_all is_item (if t then behind_old keeps (drop place items) else drop place items))
+        (entry_made_is editor.spacing key (Some value) (record { before = is.before; behind = is.behind }) named) (rest t))
 
 -- Blanks that stand alone are spaces and tabs, where they were.
 
@@ -273,13 +273,13 @@ behind_old_blank keeps (EntryItem e ∷ items) all = go keeps
     go true = all_append has_blanks (kept_line_end e.assigned items) items (kept_line_end_blank e.assigned items) all
     go false = all
 
-pub written_at_blank : (place : ℕ) (stands keeps_line_end : Bool) (key value : List ℕ) (items : List Item) → list_all has_blanks items ≡ true
-    → list_all has_blanks (written_at place stands keeps_line_end key value items) ≡ true
-written_at_blank place stands keeps key value items all = go stands
+pub written_at_blank : (editor : Editor) (place : ℕ) (stands keeps_line_end : Bool) (key value : List ℕ) (items : List Item) → list_all has_blanks items ≡ true
+    → list_all has_blanks (written_at editor place stands keeps_line_end key value items) ≡ true
+written_at_blank editor place stands keeps key value items all = go stands
   where
     rest : (t : Bool) → list_all has_blanks (if t then behind_old keeps (drop place items) else drop place items) ≡ true
     rest true = behind_old_blank keeps (drop place items) (drop_all has_blanks place items all)
     rest false = drop_all has_blanks place items all
-    go : (t : Bool) → list_all has_blanks (take place items ++ entry_made (spacing_of items) key (Some value) ∷ (if t then behind_old keeps (drop place items) else drop place items)) ≡ true
-    go t = all_append has_blanks (take place items) (entry_made (spacing_of items) key (Some value) ∷ (if t then behind_old keeps (drop place items) else drop place items))
+    go : (t : Bool) → list_all has_blanks (take place items ++ entry_made editor.spacing key (Some value) ∷ (if t then behind_old keeps (drop place items) else drop place items)) ≡ true
+    go t = all_append has_blanks (take place items) (entry_made editor.spacing key (Some value) ∷ (if t then behind_old keeps (drop place items) else drop place items))
         (take_all has_blanks place items all) (rest t)

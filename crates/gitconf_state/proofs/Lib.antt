@@ -33,3 +33,4 @@ pub mod EditRows
 pub mod EditUsed
 pub mod EditorItems
 pub mod EditsKeep
+pub mod EditorRows

@@ -137,11 +137,11 @@ abbrev pub behind_old : (keeps_line_end : Bool) → List Item → List Item
 behind_old keeps_line_end (EntryItem e ∷ behind) = (if keeps_line_end then kept_line_end e.assigned behind else []) ++ behind
 behind_old keeps_line_end behind = behind
 
--- An entry is written anew at a place, by the name that is given and with the body's blanks: in place of the one that stands there, or
+-- An entry is written anew at a place, by the name that is given and with the editor's blanks: in place of the one that stands there, or
 -- where one was taken out.
-abbrev pub written_at : (place : ℕ) → (stands keeps_line_end : Bool) → (key value : List ℕ) → List Item → List Item
-written_at place stands keeps_line_end key value items =
-    take place items ++ entry_made (spacing_of items) key (Some value)
+abbrev pub written_at : Editor → (place : ℕ) → (stands keeps_line_end : Bool) → (key value : List ℕ) → List Item → List Item
+written_at editor place stands keeps_line_end key value items =
+    take place items ++ entry_made editor.spacing key (Some value)
     ∷ (if stands then behind_old keeps_line_end (drop place items) else drop place items)
 
 -- the entry at a place is taken out alone

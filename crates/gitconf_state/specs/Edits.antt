@@ -6,15 +6,16 @@ use Rattle.gitconf_text.specs.Bytes.{is_blank}
 use Rattle.gitconf_text.specs.Names.{is_made_name, is_valid_or_none, is_value_name}
 use Rattle.gitconf_text.specs.Text.{begins, are_line_ends}
 use Rattle.gitconf_text.specs.Part.{Item, BlanksItem, LineEndsItem, CommentItem, EntryItem}
-use Rattle.gitconf_text.specs.Token.{Token, HeaderToken, NewlineToken, ValueToken, WhitespaceToken, SeparatorToken, item_tokens}
+use Rattle.gitconf_text.specs.Header.{spelled_header}
+use Rattle.gitconf_text.specs.Token.{Token, item_tokens}
 use Rattle.gitconf_base.specs.Metadata.{Meta}
 use Rattle.gitconf_base.specs.declared.source.Trust.{Trust}
 use Rattle.gitconf_state.specs.State.{SectionState, State, HasSectionItems, HasItems, entries_of}
 use Rattle.gitconf_state.specs.LineEnds.{file_line_end, ends_line}
 use Rattle.gitconf_state.specs.Lookup.{is_named}
 use Rattle.gitconf_state.specs.Clean.{is_nameless, IsClean, IsCleanSection}
-use Rattle.gitconf_state.specs.Edit.{made_header, new_section, is_target, set_raw_value, set_raw_value_tokens, replaced_value, old_value, update_last}
-use Rattle.gitconf_state.specs.Editors.{Editor, pushed, line_made, line_end_pushed, value_set, removed, popped, popped_entry, written_at, deleted_at}
+use Rattle.gitconf_state.specs.Edit.{made_header, new_section, is_target, is_entry_of, set_raw_value, set_raw_value_tokens, replaced_value, old_value, token_bytes, value_tokens_of}
+use Rattle.gitconf_state.specs.Editors.{Editor, entry_made, pushed, line_made, line_end_pushed, value_set, removed, popped, popped_entry, written_at, deleted_at}
 
 -- a section that stands in no file, and the bytes of its buffer
 pub record Detached : Type 0 where
@@ -118,7 +119,7 @@ pub data Edit : Type 0 where
   SetValue : (number : ℕ) (editor : Editor) (key value : List ℕ) → Edit
   Remove : (number : ℕ) (key : List ℕ) → Edit
   Pop : (number : ℕ) → Edit
-  WriteAt : (number place : ℕ) (stands keeps_line_end : Bool) (key value : List ℕ) → Edit
+  WriteAt : (number : ℕ) (editor : Editor) (place : ℕ) (stands keeps_line_end : Bool) (key value : List ℕ) → Edit
   DeleteAt : (number place : ℕ) → Edit
   Rename : (number : ℕ) (name : List ℕ) (subsection : Option (List ℕ)) → Edit
   RenameAll : (name : List ℕ) (subsection : Option (List ℕ)) (keeps : Meta → Bool) (new_name : List ℕ) (new_subsection : Option (List ℕ)) → Edit
@@ -138,7 +139,7 @@ apply (PushLineEnd number editor) state = change_items number (line_end_pushed e
 apply (SetValue number editor key value) state = change_items number (value_set editor key value) state
 apply (Remove number key) state = change_items number (removed key) state
 apply (Pop number) state = change_items number popped state
-apply (WriteAt number place stands keeps_line_end key value) state = change_items number (written_at place stands keeps_line_end key value) state
+apply (WriteAt number editor place stands keeps_line_end key value) state = change_items number (written_at editor place stands keeps_line_end key value) state
 apply (DeleteAt number place) state = change_items number (deleted_at place) state
 apply (Rename number name subsection) state = change_numbered number (renamed name subsection) state
 apply (RenameAll name subsection keeps new_name new_subsection) state =
@@ -183,6 +184,32 @@ answer (RemoveSection name subsection keeps) state = Gone (last_or None (filter 
 answer (RemoveNumbered number) state = Gone (numbered number state)
 answer _ state = Done
 
+-- the tokens that setting a value makes by an editor: those of `=` and its blanks too, where the entry has none
+abbrev pub value_set_tokens : Editor → (key value : List ℕ) → List Item → List Token
+value_set_tokens editor key value items = elim (last_or None (filter (is_entry_of key) items)) [
+  | None ↦ flat_map item_tokens (line_made editor key (Some value) None)
+  | Some i ↦ value_tokens_of editor.spacing value i
+]
+
+-- the items of the section of a number
+abbrev pub items_of_numbered : (number : ℕ) → State → List Item
+items_of_numbered number state = elim (numbered number state) [ None ↦ [] | Some s ↦ s.items ]
+
+-- How many bytes the tokens have that an edit makes; of a section or a file that is put in, its buffer's bytes and a line end.
+abbrev pub new_bytes : Edit → State → ℕ
+new_bytes (SetRawValue name subsection key keeps value) state = token_bytes (set_raw_value_tokens name subsection key keeps value state)
+new_bytes (Push number editor key value comment) state = token_bytes (flat_map item_tokens (line_made editor key value comment))
+new_bytes (PushLineEnd number editor) state = length editor.line_end
+new_bytes (SetValue number editor key value) state = token_bytes (value_set_tokens editor key value (items_of_numbered number state))
+new_bytes (WriteAt number editor place stands keeps_line_end key value) state = token_bytes (item_tokens (entry_made editor.spacing key (Some value)))
+new_bytes (Rename number name subsection) state = length (spelled_header (made_header name subsection))
+new_bytes (RenameAll name subsection keeps new_name new_subsection) state =
+    length (flat_map (λ (s : SectionState). spelled_header (made_header new_name new_subsection)) (filter (is_target name subsection keeps) state.sections))
+new_bytes (NewSection name subsection) state = length (spelled_header (made_header name subsection)) + length (file_line_end state)
+new_bytes (PushSection detached) state = detached.used + length (file_line_end state)
+new_bytes (Append other) state = other.used + length (file_line_end state)
+new_bytes _ state = 0
+
 -- a section that passes stands, or one may be made of these names
 abbrev pub finds_or_makes : (name : List ℕ) → (subsection : Option (List ℕ)) → (keeps : Meta → Bool) → State → Bool
 finds_or_makes name subsection keeps state = list_any (is_target name subsection keeps) state.sections || (is_made_name name && is_valid_or_none subsection)
@@ -199,7 +226,7 @@ IsEdit (SetRawValue name subsection key keeps value) state = (is_value_name key 
 IsEdit (Push number editor key value comment) state = IsEditor editor × (is_value_name key ≡ true)
 IsEdit (PushLineEnd number editor) state = IsEditor editor
 IsEdit (SetValue number editor key value) state = IsEditor editor × (is_value_name key ≡ true)
-IsEdit (WriteAt number place stands keeps_line_end key value) state = is_value_name key ≡ true
+IsEdit (WriteAt number editor place stands keeps_line_end key value) state = IsEditor editor × (is_value_name key ≡ true)
 IsEdit (Rename number name subsection) state = (is_made_name name && is_valid_or_none subsection) ≡ true
 IsEdit (RenameAll name subsection keeps new_name new_subsection) state = (is_made_name new_name && is_valid_or_none new_subsection) ≡ true
 IsEdit (NewSection name subsection) state = (is_made_name name && is_valid_or_none subsection) ≡ true

@@ -71,7 +71,8 @@ pub fn comments_are_kept()
         → AllByRecursion (λ s. (parts : List Part) → IsText (printed_section s) parts → comments_of parts ≡ flat_map item_comments s.items) state.sections }
 {}
 
-/// An edit leaves a state that has items, and a clean one where its section has a name or a subsection. So do edits, one behind the other.
+/// An edit leaves a state that has items, where what it writes may stand in a text; and a clean one, where its headers have a name or a
+/// subsection and what it puts in is clean. So do edits, one behind the other.
 pub fn edits_keep_states()
     ensures items { (edit : Edit) (state : State) → IsEdit edit state → HasItems state → HasItems (apply edit state) }
     ensures clean { (edit : Edit) (state : State) → IsCleanEdit edit → IsClean state → IsClean (apply edit state) }
@@ -79,11 +80,18 @@ pub fn edits_keep_states()
     ensures all_clean { (edits : List Edit) (state : State) → AreCleanEdits edits → IsClean state → IsClean (apply_all edits state) }
 {}
 
-/// The text of an edited state is read back: it has the document that the edits leave. So it is from the bytes of an accepted text,
-/// loaded whole, through any list of edits, to the bytes that are written.
+/// The text of an edited state is read back: it has the document that the edits leave, whole, of the sections that a filter keeps, and of
+/// each section alone, with its comments. So it is from the bytes of an accepted text, loaded whole, through any list of edits, to the
+/// bytes that are written.
 pub fn edited_text_reads_back()
     ensures state { (edits : List Edit) (state : State) → AreEdits edits state → AreCleanEdits edits → HasItems state → IsClean state
         → Reads (printed (apply_all edits state)) (document_of (apply_all edits state)) }
+    ensures kept { (edits : List Edit) (keeps : SectionState → Bool) (state : State) → AreEdits edits state → AreCleanEdits edits → HasItems state → IsClean state
+        → Reads (printed_kept keeps (apply_all edits state)) (document_of_kept keeps (apply_all edits state)) }
+    ensures section { (edits : List Edit) (state : State) → AreEdits edits state → AreCleanEdits edits → HasItems state → IsClean state
+        → AllByRecursion (λ s. Reads (printed_section s) (record { front = []; sections = section_document s ∷ [] })) (apply_all edits state).sections }
+    ensures comments { (edits : List Edit) (keeps : SectionState → Bool) (state : State) → AreEdits edits state → AreCleanEdits edits → HasItems state → IsClean state
+        → (parts : List Part) → IsText (printed_kept keeps (apply_all edits state)) parts → comments_of parts ≡ comments_of_kept keeps (apply_all edits state) }
     ensures text { (edits : List Edit) (text : List ℕ) (parts : List Part) (state : State) → IsText text parts → IsFullLoad parts state
         → AreEdits edits state → AreCleanEdits edits
         → Reads (printed (apply_all edits state)) (document_of (apply_all edits state)) }
