@@ -34,3 +34,4 @@ pub mod EditUsed
 pub mod EditorItems
 pub mod EditsKeep
 pub mod EditorRows
+pub mod EditNumbers

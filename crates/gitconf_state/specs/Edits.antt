@@ -259,3 +259,25 @@ AreEdits (edit ∷ edits) state = IsEdit edit state × AreEdits edits (apply edi
 abbrev pub AreCleanEdits : List Edit → Type 0
 AreCleanEdits [] = Unit {0}
 AreCleanEdits (edit ∷ edits) = IsCleanEdit edit × AreCleanEdits edits
+
+-- the number of the section that an editor's edit is about
+abbrev pub edited_number : Edit → Option ℕ
+edited_number (Push number editor key value comment) = Some number
+edited_number (PushLineEnd number editor) = Some number
+edited_number (SetValue number editor key value) = Some number
+edited_number (Remove number key) = Some number
+edited_number (Pop number) = Some number
+edited_number (WriteAt number editor place stands keeps_line_end key value) = Some number
+edited_number (DeleteAt number place) = Some number
+edited_number (Rename number name subsection) = Some number
+edited_number (SetTrust number trust) = Some number
+edited_number _ = None
+
+-- All but the section of a number is as it was, and each section has the number that it had.
+pub record IsOneChanged (number : ℕ) (old new : State) : Type 0 where
+  pub front : new.front ≡ old.front
+  pub meta_stays : new.meta ≡ old.meta
+  pub next_stays : new.next ≡ old.next
+  pub used_stays : new.used ≡ old.used
+  pub numbers : map (λ s. s.number) new.sections ≡ map (λ s. s.number) old.sections
+  pub others : filter (λ s. not (s.number == number)) new.sections ≡ filter (λ s. not (s.number == number)) old.sections

@@ -1,5 +1,5 @@
 //! What holds of the definitions, for all states: each law is a function that does nothing.
-ghost use Rattle.std.specs.Prelude.{◌≡◌, ◌⊎◌, Bool, true, false, List, [], ℕ, map, ◌∷◌, ◌++◌, ◌+◌, Option, Some};
+ghost use Rattle.std.specs.Prelude.{◌≡◌, ◌≤◌, ◌⊎◌, Bool, true, false, List, [], ℕ, map, ◌∷◌, ◌++◌, ◌+◌, Option, Some};
 ghost use Rattle.std.specs.Option.{option_map};
 ghost use Rattle.std.specs.List.{list_all, list_any, AllByRecursion, flat_map};
 ghost use Rattle.gitconf_text.specs.Value.{escaped};
@@ -11,7 +11,8 @@ ghost use Rattle.gitconf_base.specs.Metadata.{Meta};
 ghost use Rattle.gitconf_parse.specs.EventRef.{Shown};
 ghost use Rattle.gitconf_parse.specs.EventList.{keeps_entry_token};
 ghost use Rattle.gitconf_parse.specs.TokenDocument.{keeps_meaning};
-ghost use Rattle.gitconf_state.specs.State.{State, HasItems, document_of, entries_of, SectionState, section_document, document_of_kept};
+ghost use Rattle.gitconf_base.specs.Sections.{no_number};
+ghost use Rattle.gitconf_state.specs.State.{State, AreNumbered, HasItems, IsState, document_of, entries_of, SectionState, section_document, document_of_kept};
 ghost use Rattle.gitconf_state.specs.Printing.{printed, printed_kept, printed_section};
 ghost use Rattle.gitconf_state.specs.Clean.{IsClean};
 ghost use Rattle.gitconf_state.specs.Loads.{IsFullLoad, IsLoad, IsPartLoad};
@@ -19,7 +20,7 @@ ghost use Rattle.gitconf_state.specs.Inserted.{Inserted, IsByteForByte};
 ghost use Rattle.gitconf_state.specs.LineEnds.{file_line_end};
 ghost use Rattle.gitconf_state.specs.Lookup.{passing, last_value, all_values};
 ghost use Rattle.gitconf_state.specs.Edit.{is_entry_of, spacing_of, new_entry, set_value, new_section, is_target, section_with, set_raw_value, with_used};
-ghost use Rattle.gitconf_state.specs.Edits.{Edit, IsEdit, IsCleanEdit, AreEdits, AreCleanEdits, apply, apply_all, finds_or_makes};
+ghost use Rattle.gitconf_state.specs.Edits.{Edit, IsEdit, IsCleanEdit, AreEdits, AreCleanEdits, apply, apply_all, edited_number, finds_or_makes, IsOneChanged};
 ghost use Rattle.gitconf_state.specs.Comments.{item_comments, comments_of, comments, comments_of_kept};
 
 /// A state loaded from a text has items of a text, also where a filter dropped blanks, line ends and comments. Loaded whole it is
@@ -72,12 +73,19 @@ pub fn comments_are_kept()
 {}
 
 /// An edit leaves a state that has items, where what it writes may stand in a text; and a clean one, where its headers have a name or a
-/// subsection and what it puts in is clean. So do edits, one behind the other.
+/// subsection and what it puts in is clean. So do edits, one behind the other. They give no number twice.
 pub fn edits_keep_states()
     ensures items { (edit : Edit) (state : State) → IsEdit edit state → HasItems state → HasItems (apply edit state) }
     ensures clean { (edit : Edit) (state : State) → IsCleanEdit edit → IsClean state → IsClean (apply edit state) }
     ensures all_items { (edits : List Edit) (state : State) → AreEdits edits state → HasItems state → HasItems (apply_all edits state) }
     ensures all_clean { (edits : List Edit) (state : State) → AreCleanEdits edits → IsClean state → IsClean (apply_all edits state) }
+    ensures numbers { (edits : List Edit) (state : State) → AreNumbered state.next state.sections → AreNumbered (apply_all edits state).next (apply_all edits state).sections }
+    ensures state { (edits : List Edit) (state : State) → AreEdits edits state → IsState state → (apply_all edits state).next ≤ no_number → IsState (apply_all edits state) }
+{}
+
+/// An editor's edit changes the section of its number alone, and no section's number.
+pub fn an_editor_changes_one_section()
+    ensures { (edit : Edit) (number : ℕ) (state : State) → edited_number edit ≡ Some number → IsOneChanged number state (apply edit state) }
 {}
 
 /// The text of an edited state is read back: it has the document that the edits leave, whole, of the sections that a filter keeps, and of
