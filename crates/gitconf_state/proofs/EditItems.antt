@@ -16,16 +16,15 @@ use Rattle.gitconf_parse.proofs.Subsections.{reads_back}
 use Rattle.gitconf_parse.proofs.ByteLaws.{name_byte_header}
 use Rattle.gitconf_parse.proofs.ValueAgain.{both_true, line_end_is}
 use Rattle.gitconf_parse.proofs.RunLaws.{false_not}
-use Rattle.gitconf_parse.proofs.Shown.{all_push}
 use Rattle.gitconf_base.specs.Metadata.{Meta}
-use Rattle.gitconf_state.specs.State.{SectionState, State, is_value, is_assigned, is_item, is_header, HasSectionItems, HasItems}
+use Rattle.gitconf_state.specs.State.{SectionState, State, is_value, is_assigned, is_item, is_header, HasSectionItems}
 use Rattle.gitconf_state.specs.LineEnds.{file_line_end}
-use Rattle.gitconf_state.specs.Clean.{is_nameless, has_blanks, IsCleanSection, IsClean}
+use Rattle.gitconf_state.specs.Clean.{has_blanks, IsCleanSection}
 use Rattle.gitconf_state.specs.Edit.{is_entry_of, is_any_entry, Spacing, leading_blanks, separator_blanks, spacing_of, assigned_value, with_value, new_entry, set_value, made_header, new_section, is_target, section_with}
 use Rattle.gitconf_state.specs.Edits.{finds_or_makes}
 use Rattle.gitconf_state.proofs.LoadingFilters.{both_hold}
 use Rattle.gitconf_state.proofs.InsertingLineEnds.{is_told_line_end}
-use Rattle.gitconf_state.proofs.EditLists.{update_last_all, update_last_holds}
+use Rattle.gitconf_state.proofs.EditLists.{update_last_all}
 
 -- a text that is one value
 value_is : (text : List ℕ) → begins is_blank text ≡ false → are_paired false (units_of text) ≡ true → ends is_white text ≡ false

@@ -1,6 +1,6 @@
 -- Edits give no number twice, and those of editors change one section.
 use Rattle.std.proofs.lemmas.Bool.{eqb-true}
-use Rattle.std.proofs.Common.{◌≡◌, ℕ, zero, suc, ◌+◌, ◌<◌, ◌≤◌, Bool, true, false, not, List, [], ◌∷◌, ◌++◌, length, Option, Some, None, refl, ap, sym, subst, ◌∙◌, append_assoc, append-nil, arith}
+use Rattle.std.proofs.Common.{◌≡◌, ℕ, ◌+◌, ◌<◌, Bool, true, false, not, List, [], ◌∷◌, ◌++◌, length, Option, Some, None, refl, ap, sym, subst, ◌∙◌, append_assoc, append-nil, arith}
 use Rattle.std.specs.Prelude.{◌==◌, map, filter, if◌then◌else◌}
 use Rattle.std.specs.List.{list_any, AllByRecursion}
 use Rattle.gitconf_text.specs.Part.{Item}
@@ -9,7 +9,7 @@ use Rattle.gitconf_state.specs.LineEnds.{file_line_end}
 use Rattle.gitconf_state.specs.Edit.{update_last, new_section, is_target, section_with, set_raw_value}
 use Rattle.gitconf_base.specs.Metadata.{Meta}
 use Rattle.gitconf_state.proofs.EditLists.{update_last_holds}
-use Rattle.gitconf_state.specs.Edits.{change_numbered, renamed, with_trust, picked, without_numbered, joined, held_behind_last, numbered_from, appended, Edit, SetRawValue, Push, PushLineEnd, SetValue, Remove, Pop, WriteAt, DeleteAt, Rename, RenameAll, NewSection, PushSection, RemoveSection, RemoveNumbered, Append, SetTrust, SetMeta, apply, apply_all, edited_number, IsOneChanged}
+use Rattle.gitconf_state.specs.Edits.{change_numbered, renamed, with_trust, picked, without_numbered, held_behind_last, numbered_from, Edit, SetRawValue, Push, PushLineEnd, SetValue, Remove, Pop, WriteAt, DeleteAt, Rename, RenameAll, NewSection, PushSection, RemoveSection, RemoveNumbered, Append, SetTrust, SetMeta, apply, apply_all, edited_number, IsOneChanged}
 
 -- sections that are changed keep their numbers
 apart_mapped : (number : ℕ) (change : SectionState → SectionState) → ((s : SectionState) → (change s).number ≡ s.number) → (sections : List SectionState) → AllByRecursion (λ t. (t.number == number) ≡ false) sections
@@ -101,6 +101,7 @@ updated next test change keeps (s ∷ sections) all = go (list_any test sections
     here : (t : Bool) → AreNumbered next (elim t as (λ _. List SectionState) [ true ↦ change s ∷ sections | false ↦ s ∷ sections ])
     here true = (subst (λ n. n < next) (sym (keeps s)) all.0, subst (λ n. AllByRecursion (λ t. (t.number == n) ≡ false) sections) (sym (keeps s)) all.1, all.2)
     here false = all
+
     go : (t : Bool) → list_any test sections ≡ t → AreNumbered next (update_last test change sections) → AreNumbered next (update_last test change (s ∷ sections))
     go true e later = rw (e, update_last) (all.0, apart_updated s.number test change keeps sections all.1, later)
     go false e later = rw (e, update_last) (here (test s))
@@ -171,10 +172,13 @@ others_stay number change keeps (s ∷ sections) = go (s.number == number) refl 
   where
     other : SectionState → Bool
     other t = not (t.number == number)
+
     chosen : SectionState → SectionState
     chosen t = if t.number == number then change t else t
+
     number_stays : (chosen s).number ≡ s.number
     number_stays = chosen_number (s.number == number) s (change s) (keeps s)
+
     go : (t : Bool) → (s.number == number) ≡ t → filter other (map chosen sections) ≡ filter other sections → filter other (chosen s ∷ map chosen sections) ≡ filter other (s ∷ sections)
     go true e later =
         filter_dropped other (chosen s) (map chosen sections) (ap (λ n. not (n == number)) number_stays ∙ ap not e) ∙ later ∙ sym (filter_dropped other s sections (ap not e))

@@ -1,7 +1,7 @@
 -- No edit asks how many bytes the buffer has.
 use Rattle.std.proofs.Common.{◌≡◌, ℕ, Bool, true, false, List, [], ◌∷◌, Option, Some, None, refl, ap, sym, subst, ◌∙◌}
 use Rattle.std.specs.List.{list_any}
-use Rattle.gitconf_state.specs.State.{State, SectionState}
+use Rattle.gitconf_state.specs.State.{State}
 use Rattle.gitconf_state.specs.Edit.{is_target, set_raw_value, with_used}
 use Rattle.gitconf_state.specs.Edits.{picked, without_numbered, Edit, SetRawValue, Push, PushLineEnd, SetValue, Remove, Pop, WriteAt, DeleteAt, Rename, RenameAll, NewSection, PushSection, RemoveSection, RemoveNumbered, Append, SetTrust, SetMeta, apply, apply_all, IsEdit, AreEdits}
 

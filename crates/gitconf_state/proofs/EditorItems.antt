@@ -3,20 +3,20 @@ use Rattle.std.proofs.Common.{◌≡◌, ℕ, zero, suc, ◌+◌, Bool, true, fa
 use Rattle.std.specs.Prelude.{◌==◌, ◌&&◌, map, if◌then◌else◌}
 use Rattle.std.specs.List.{list_all, list_any}
 use Rattle.gitconf_text.specs.Bytes.{is_blank, is_whitespace}
-use Rattle.gitconf_text.specs.Text.{begins, ends, are_line_ends, is_line_end}
+use Rattle.gitconf_text.specs.Text.{begins, ends, is_line_end}
 use Rattle.gitconf_text.specs.Names.{is_value_name}
 use Rattle.gitconf_text.specs.Unit.{is_white}
-use Rattle.gitconf_text.specs.Value.{Piece, Value, spelled_value, value_units, are_paired}
+use Rattle.gitconf_text.specs.Value.{Piece, spelled_value, value_units, are_paired}
 use Rattle.gitconf_text.specs.Part.{Assigned, Item, BlanksItem, LineEndsItem, CommentItem, EntryItem}
 use Rattle.gitconf_parse.proofs.ValueAgain.{both_true}
 use Rattle.gitconf_state.specs.State.{is_item, is_piece, is_value, is_assigned}
 use Rattle.gitconf_state.specs.Clean.{has_blanks}
-use Rattle.gitconf_state.specs.Edit.{Spacing, spacing_of, leading_item, with_value, is_entry_of, is_any_entry, assigned_value, update_last}
-use Rattle.gitconf_state.specs.Editors.{Editor, entry_made, comment_text, comment_made, end_made, line_made, pushed, line_end_pushed, value_set, Cut, cut_last, unless_blanks, without_last_blanks, without_first_line_ends, removed, popped, last_line_end, is_before_comment, line_end_item, kept_line_end, behind_old, written_at, deleted_at}
+use Rattle.gitconf_state.specs.Edit.{Spacing, leading_item, with_value, is_entry_of, is_any_entry}
+use Rattle.gitconf_state.specs.Editors.{Editor, entry_made, comment_text, comment_made, end_made, line_made, pushed, line_end_pushed, value_set, Cut, cut_last, without_last_blanks, without_first_line_ends, removed, popped, last_line_end, is_before_comment, line_end_item, kept_line_end, behind_old, written_at, deleted_at}
 use Rattle.gitconf_state.specs.Edits.{IsEditor, has_blank_leading}
 use Rattle.gitconf_state.proofs.LoadingFilters.{both_hold}
 use Rattle.gitconf_state.proofs.EditLists.{update_last_all}
-use Rattle.gitconf_state.proofs.EditItems.{FitsSpacing, EntryParts, entry_is, entry_parts, spacing_fits, with_value_is, with_value_blank, one_line_end, all_append}
+use Rattle.gitconf_state.proofs.EditItems.{FitsSpacing, entry_is, entry_parts, with_value_is, with_value_blank, one_line_end, all_append}
 
 -- parts of a list that passes
 take_all : {A : Type 0} (p : A → Bool) (n : ℕ) (xs : List A) → list_all p xs ≡ true → list_all p (take n xs) ≡ true
@@ -48,6 +48,7 @@ cut_passes p test (i ∷ items) all c is =
         let h : ([], (i, items)) ≡ c = cc in
         subst (CutPasses p) h (record { before = refl; found = one; behind = all })
     here false same one all = absurd (cc)
+
     go : (o : Cut) → cut_last test items ≡ o → ((d : List Item × (Item × List Item)) → cut_last test items ≡ Some d → CutPasses p d) → p i ≡ true → list_all p items ≡ true → CutPasses p c
     go None e later one all = here (test i) (rw (e, cut_last) at is) one all
     go (Some d) e later one all =
@@ -169,12 +170,15 @@ kept_line_end_is (Some a) behind is = go a.value.last
   where
     front : Bool
     front = not (begins is_blank (spelled_value a.value)) && are_paired false (value_units a.value)
+
     value : list_all is_piece a.value.pieces ≡ true
     value = (both_true front (list_all is_piece a.value.pieces) (both_true (front && list_all is_piece a.value.pieces) (not (ends is_white a.value.last))
         (both_true (list_all is_blank a.blanks) (is_value a.value) is).1).0).1
+
     here : (t : Bool) → list_all is_item (if t then line_end_item (last_line_end a.value.pieces) else []) ≡ true
     here true = last_line_end_is a.value.pieces value
     here false = refl
+
     go : (last : List ℕ) → list_all is_item (elim last as (λ _. List Item) [ [] ↦ if is_before_comment behind then line_end_item (last_line_end a.value.pieces) else [] | b ∷ l ↦ [] ]) ≡ true
     go [] = here (is_before_comment behind)
     go (b ∷ l) = refl
@@ -200,6 +204,7 @@ written_at_is editor place stands keeps key value items is named all = go stands
     rest : (t : Bool) → list_all is_item (if t then behind_old keeps (drop place items) else drop place items) ≡ true
     rest true = behind_old_is keeps (drop place items) (drop_all is_item place items all)
     rest false = drop_all is_item place items all
+
     go : (t : Bool) → list_all is_item (take place items ++ entry_made editor.spacing key (Some value) ∷ (if t then behind_old keeps (drop place items) else drop place items)) ≡ true
     go t = all_append is_item (take place items) (entry_made editor.spacing key (Some value) ∷ (if t then behind_old keeps (drop place items) else drop place items))
         (take_all is_item place items all)
@@ -258,6 +263,7 @@ kept_line_end_blank (Some a) behind = go a.value.last
     here : (t : Bool) → list_all has_blanks (if t then line_end_item (last_line_end a.value.pieces) else []) ≡ true
     here true = line_end_item_blank (last_line_end a.value.pieces)
     here false = refl
+
     go : (last : List ℕ) → list_all has_blanks (elim last as (λ _. List Item) [ [] ↦ if is_before_comment behind then line_end_item (last_line_end a.value.pieces) else [] | b ∷ l ↦ [] ]) ≡ true
     go [] = here (is_before_comment behind)
     go (b ∷ l) = refl
@@ -280,6 +286,7 @@ written_at_blank editor place stands keeps key value items all = go stands
     rest : (t : Bool) → list_all has_blanks (if t then behind_old keeps (drop place items) else drop place items) ≡ true
     rest true = behind_old_blank keeps (drop place items) (drop_all has_blanks place items all)
     rest false = drop_all has_blanks place items all
+
     go : (t : Bool) → list_all has_blanks (take place items ++ entry_made editor.spacing key (Some value) ∷ (if t then behind_old keeps (drop place items) else drop place items)) ≡ true
     go t = all_append has_blanks (take place items) (entry_made editor.spacing key (Some value) ∷ (if t then behind_old keeps (drop place items) else drop place items))
         (take_all has_blanks place items all) (rest t)

@@ -1,8 +1,7 @@
 -- Worked rows: what the definitions of editors and of whole sections say of single states, by computation.
 use Prim.Native.String.{String}
-use Rattle.std.proofs.Common.{◌≡◌, ℕ, ◌+◌, List, [], ◌∷◌, true, false, Option, Some, None, length, refl, codes}
+use Rattle.std.proofs.Common.{◌≡◌, ℕ, List, [], ◌∷◌, true, false, Some, None, length, refl, codes}
 use Rattle.std.specs.Prelude.{map}
-use Rattle.std.specs.List.{list_any}
 use Rattle.gitconf_text.specs.Value.{Piece}
 use Rattle.gitconf_text.specs.Header.{Header, PlainHeader, DottedHeader, QuotedHeader}
 use Rattle.gitconf_text.specs.Part.{Item, BlanksItem, LineEndsItem, CommentItem, EntryItem}
@@ -12,7 +11,7 @@ use Rattle.gitconf_state.specs.State.{SectionState, State}
 use Rattle.gitconf_state.specs.Printing.{printed}
 use Rattle.gitconf_state.specs.Edit.{is_entry_of}
 use Rattle.gitconf_state.specs.Editors.{Editor, editor_of, cut_last}
-use Rattle.gitconf_state.specs.Edits.{Detached, Edit, Push, PushLineEnd, SetValue, Remove, Pop, WriteAt, DeleteAt, Rename, RenameAll, NewSection, PushSection, RemoveSection, RemoveNumbered, Append, SetTrust, SetMeta, Answer, Raw, Entry, Number, Gone, answer, apply, apply_all, numbered}
+use Rattle.gitconf_state.specs.Edits.{Detached, Edit, Push, PushLineEnd, SetValue, Remove, Pop, WriteAt, DeleteAt, Rename, RenameAll, NewSection, PushSection, RemoveSection, RemoveNumbered, Append, SetTrust, SetMeta, Raw, Entry, Number, answer, apply, apply_all, numbered}
 
 abbrev blanks : String → Item
 blanks run = BlanksItem (codes run)

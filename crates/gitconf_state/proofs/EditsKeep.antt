@@ -1,20 +1,19 @@
 -- Edits leave a state that has items, and clean ones a clean state.
-use Rattle.std.proofs.Common.{◌≡◌, ℕ, ◌+◌, Bool, true, false, not, List, [], ◌∷◌, ◌++◌, Option, Some, None, refl, ap, sym, ◌∙◌}
+use Rattle.std.proofs.Common.{◌≡◌, ℕ, ◌+◌, Bool, true, false, not, List, [], ◌∷◌, ◌++◌, Option, Some, None, refl}
 use Rattle.std.specs.Prelude.{◌==◌, ◌&&◌, ◌||◌, map, filter, if◌then◌else◌}
-use Rattle.std.specs.List.{list_all, list_any, last_or, AllByRecursion}
+use Rattle.std.specs.List.{list_all, list_any, AllByRecursion}
 use Rattle.gitconf_text.specs.Names.{is_made_name, is_value_name, is_valid_or_none}
 use Rattle.gitconf_text.specs.Part.{Item, BlanksItem, LineEndsItem, CommentItem, EntryItem}
 use Rattle.gitconf_parse.proofs.ValueAgain.{both_true}
-use Rattle.gitconf_parse.proofs.RunLaws.{false_not}
 use Rattle.gitconf_parse.proofs.Shown.{all_push}
 use Rattle.gitconf_base.specs.Metadata.{Meta}
-use Rattle.gitconf_state.specs.State.{SectionState, State, is_item, is_header, entries_of, HasSectionItems, HasItems}
+use Rattle.gitconf_state.specs.State.{SectionState, State, is_item, entries_of, HasSectionItems, HasItems}
 use Rattle.gitconf_state.specs.LineEnds.{file_line_end, ends_line}
-use Rattle.gitconf_state.specs.Printing.{Open, Closed, OpenKey, OpenKeyAndBlanks, OpenValue, OpenComment, after}
+use Rattle.gitconf_state.specs.Printing.{Open, Closed, after}
 use Rattle.gitconf_state.specs.Clean.{is_nameless, is_entry, has_blanks, stand_apart, may_stand, IsCleanSection, IsClean}
 use Rattle.gitconf_state.specs.Edit.{made_header, new_section, is_target, section_with, set_raw_value}
-use Rattle.gitconf_state.specs.Editors.{Editor, pushed, line_end_pushed, value_set, removed, popped, written_at, deleted_at}
-use Rattle.gitconf_state.specs.Edits.{change_numbered, change_items, renamed, with_trust, with_sections, with_last, picked, without_numbered, begins_with, between, joined, held_behind_last, numbered_from, appended, Edit, SetRawValue, Push, PushLineEnd, SetValue, Remove, Pop, WriteAt, DeleteAt, Rename, RenameAll, NewSection, PushSection, RemoveSection, RemoveNumbered, Append, SetTrust, SetMeta, apply, apply_all, finds_or_makes, IsEdit, IsCleanEdit, AreEdits, AreCleanEdits}
+use Rattle.gitconf_state.specs.Editors.{pushed, line_end_pushed, value_set, removed, popped, written_at, deleted_at}
+use Rattle.gitconf_state.specs.Edits.{change_numbered, change_items, renamed, with_trust, picked, without_numbered, begins_with, between, joined, held_behind_last, numbered_from, appended, Edit, SetRawValue, Push, PushLineEnd, SetValue, Remove, Pop, WriteAt, DeleteAt, Rename, RenameAll, NewSection, PushSection, RemoveSection, RemoveNumbered, Append, SetTrust, SetMeta, apply, apply_all, finds_or_makes, IsEdit, IsCleanEdit, AreEdits, AreCleanEdits}
 use Rattle.gitconf_state.proofs.LoadingFilters.{both_hold}
 use Rattle.gitconf_state.proofs.LoadingClean.{stand_anywhere}
 use Rattle.gitconf_state.proofs.EditLists.{update_last_holds}
@@ -186,6 +185,7 @@ appended_items other state more has = record {
   where
     closes : is_item (LineEndsItem (file_line_end state)) ≡ true
     closes = one_line_end (file_line_end state) (file_line_end_is state)
+
     front : (sections : List SectionState) → list_all is_item (elim sections as (λ _. List Item) [ [] ↦ joined (file_line_end state) state.front other.front | s ∷ ss ↦ state.front ]) ≡ true
     front [] = joined_passes is_item (file_line_end state) state.front other.front closes has.front more.front
     front (s ∷ ss) = has.front
@@ -208,6 +208,7 @@ appended_clean other state more none clean = record {
     blanks : (sections : List SectionState) → list_all has_blanks (elim sections as (λ _. List Item) [ [] ↦ joined (file_line_end state) state.front other.front | s ∷ ss ↦ state.front ]) ≡ true
     blanks [] = joined_passes has_blanks (file_line_end state) state.front other.front refl clean.blanks more.blanks
     blanks (s ∷ ss) = clean.blanks
+
     names : (sections : List SectionState) → stand_apart Closed (elim sections as (λ _. List Item) [ [] ↦ joined (file_line_end state) state.front other.front | s ∷ ss ↦ state.front ]) ≡ true
     names [] = apart_behind Closed state.front (between (file_line_end state) state.front other.front ++ other.front) clean.names
         (between_no_entries (file_line_end state) state.front other.front none)

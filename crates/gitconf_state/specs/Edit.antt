@@ -1,8 +1,8 @@
 -- Edits: each is one update of the list of sections, and its answer.
 -- Source: gix-config; that an entry without `=` gets one is this project's own rule.
-use Rattle.std.specs.Prelude.{ℕ, ◌+◌, Bool, true, false, not, List, [], ◌∷◌, ◌++◌, ◌&&◌, ◌||◌, filter, Option, Some, None, length, flat_map}
-use Rattle.std.specs.List.{fold, last_or, list_any}
-use Rattle.gitconf_text.specs.Names.{is_made_name, is_same_name, is_valid_or_none, is_value_name}
+use Rattle.std.specs.Prelude.{ℕ, ◌+◌, Bool, true, false, List, [], ◌∷◌, ◌++◌, ◌&&◌, filter, Option, Some, None, length, flat_map}
+use Rattle.std.specs.List.{last_or, list_any}
+use Rattle.gitconf_text.specs.Names.{is_same_name}
 use Rattle.gitconf_text.specs.Value.{raw_of, escaped}
 use Rattle.gitconf_text.specs.Header.{Header, PlainHeader, QuotedHeader}
 use Rattle.gitconf_text.specs.Part.{Assigned, Item, BlanksItem, LineEndsItem, CommentItem, EntryItem}
@@ -11,7 +11,6 @@ use Rattle.gitconf_parse.specs.EventRef.{escaped_subsection}
 use Rattle.gitconf_base.specs.Metadata.{Meta}
 use Rattle.gitconf_state.specs.State.{SectionState, State}
 use Rattle.gitconf_state.specs.LineEnds.{file_line_end}
-use Rattle.gitconf_state.specs.Clean.{is_nameless}
 use Rattle.gitconf_state.specs.Lookup.{is_named}
 
 -- the last element that passes is changed

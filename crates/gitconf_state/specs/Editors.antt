@@ -1,14 +1,14 @@
 -- What editors of a section write among its items: pushed entries and line ends, values that are set, entries that are taken out.
 -- Source: gix-config; that separator blanks keep their order, and that an entry without `=` gets one, are this project's own rules.
-use Rattle.std.specs.Prelude.{ℕ, ◌+◌, Bool, true, false, not, List, [], ◌∷◌, ◌++◌, ◌&&◌, ◌==◌, map, take, drop, Option, Some, None, if◌then◌else◌}
+use Rattle.std.specs.Prelude.{ℕ, ◌+◌, Bool, true, false, not, List, [], ◌∷◌, ◌++◌, ◌==◌, map, take, drop, Option, Some, None, if◌then◌else◌}
 use Rattle.std.specs.List.{list_any}
 use Rattle.gitconf_text.specs.Bytes.{is_whitespace}
 use Rattle.gitconf_text.specs.Text.{begins}
-use Rattle.gitconf_text.specs.Value.{Piece, escaped, plain, raw_of}
+use Rattle.gitconf_text.specs.Value.{Piece, plain}
 use Rattle.gitconf_text.specs.Part.{Assigned, Item, BlanksItem, LineEndsItem, CommentItem, EntryItem}
 use Rattle.gitconf_state.specs.State.{SectionState, State}
 use Rattle.gitconf_state.specs.LineEnds.{file_line_end, section_line_end}
-use Rattle.gitconf_state.specs.Edit.{Spacing, spacing_of, leading_item, assigned_value, with_value, is_entry_of, is_any_entry, update_last, item_raw, old_value}
+use Rattle.gitconf_state.specs.Edit.{Spacing, spacing_of, leading_item, assigned_value, with_value, is_entry_of, is_any_entry, update_last, item_raw}
 
 -- An editor: the blanks that it writes, as they were when it was made, the line end, and whether one stands behind what is pushed.
 pub record Editor : Type 0 where

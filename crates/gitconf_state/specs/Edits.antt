@@ -1,7 +1,7 @@
 -- The edits of a file: each is one update of its state, and its answer.
 -- Source: gix-config.
-use Rattle.std.specs.Prelude.{◌≡◌, ◌⊎◌, ◌<◌, ℕ, ◌+◌, Bool, true, false, not, List, [], ◌∷◌, ◌++◌, ◌&&◌, ◌||◌, ◌==◌, nat_eq, filter, map, Option, Some, None, length, flat_map, if◌then◌else◌}
-use Rattle.std.specs.List.{fold, last_or, list_all, list_any, starts_with, AllByRecursion}
+use Rattle.std.specs.Prelude.{◌≡◌, ℕ, ◌+◌, Bool, true, false, not, List, [], ◌∷◌, ◌++◌, ◌&&◌, ◌||◌, ◌==◌, nat_eq, filter, map, Option, Some, None, length, flat_map, if◌then◌else◌}
+use Rattle.std.specs.List.{fold, last_or, list_all, list_any, starts_with}
 use Rattle.gitconf_text.specs.Bytes.{is_blank}
 use Rattle.gitconf_text.specs.Names.{is_made_name, is_valid_or_none, is_value_name}
 use Rattle.gitconf_text.specs.Text.{begins, are_line_ends}
@@ -12,7 +12,6 @@ use Rattle.gitconf_base.specs.Metadata.{Meta}
 use Rattle.gitconf_base.specs.declared.source.Trust.{Trust}
 use Rattle.gitconf_state.specs.State.{SectionState, State, HasSectionItems, HasItems, entries_of}
 use Rattle.gitconf_state.specs.LineEnds.{file_line_end, ends_line}
-use Rattle.gitconf_state.specs.Lookup.{is_named}
 use Rattle.gitconf_state.specs.Clean.{is_nameless, IsClean, IsCleanSection}
 use Rattle.gitconf_state.specs.Edit.{made_header, new_section, is_target, is_entry_of, set_raw_value, set_raw_value_tokens, replaced_value, old_value, token_bytes, value_tokens_of}
 use Rattle.gitconf_state.specs.Editors.{Editor, entry_made, pushed, line_made, line_end_pushed, value_set, removed, popped, popped_entry, written_at, deleted_at}
