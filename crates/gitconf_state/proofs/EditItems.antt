@@ -1,4 +1,4 @@
--- An edit leaves a state that has items, and a clean one where the section that it makes has a name or a subsection.
+-- A value that is set leaves the items of a state, and blanks that are spaces and tabs.
 use Rattle.std.proofs.Common.{◌≡◌, ℕ, Bool, true, false, not, List, [], ◌∷◌, ◌++◌, Option, Some, None, refl, ap, sym, ◌∙◌, append-nil, inl, inr}
 use Rattle.std.specs.Prelude.{◌==◌, ◌&&◌, ◌||◌, flat_map}
 use Rattle.std.specs.List.{list_all, list_any}
@@ -16,15 +16,15 @@ use Rattle.gitconf_parse.proofs.Subsections.{reads_back}
 use Rattle.gitconf_parse.proofs.ByteLaws.{name_byte_header}
 use Rattle.gitconf_parse.proofs.ValueAgain.{both_true, line_end_is}
 use Rattle.gitconf_parse.proofs.RunLaws.{false_not}
-use Rattle.gitconf_parse.proofs.Shown.{all_push}
 use Rattle.gitconf_base.specs.Metadata.{Meta}
-use Rattle.gitconf_state.specs.State.{SectionState, State, is_value, is_assigned, is_item, is_header, HasSectionItems, HasItems}
+use Rattle.gitconf_state.specs.State.{SectionState, State, is_value, is_assigned, is_item, is_header, HasSectionItems}
 use Rattle.gitconf_state.specs.LineEnds.{file_line_end}
-use Rattle.gitconf_state.specs.Clean.{is_nameless, has_blanks, IsCleanSection, IsClean}
-use Rattle.gitconf_state.specs.Edit.{is_entry_of, is_any_entry, Spacing, leading_blanks, separator_blanks, spacing_of, assigned_value, with_value, new_entry, set_value, made_header, new_section, is_target, section_with, set_raw_value, Edit, SetRawValue, apply, apply_all, may_stand, is_edit, are_edits, is_clean_edit}
+use Rattle.gitconf_state.specs.Clean.{has_blanks, IsCleanSection}
+use Rattle.gitconf_state.specs.Edit.{is_entry_of, is_any_entry, Spacing, leading_blanks, separator_blanks, spacing_of, assigned_value, with_value, new_entry, set_value, made_header, new_section, is_target, section_with}
+use Rattle.gitconf_state.specs.Edits.{finds_or_makes}
 use Rattle.gitconf_state.proofs.LoadingFilters.{both_hold}
 use Rattle.gitconf_state.proofs.InsertingLineEnds.{is_told_line_end}
-use Rattle.gitconf_state.proofs.EditLists.{update_last_all, update_last_holds}
+use Rattle.gitconf_state.proofs.EditLists.{update_last_all}
 
 -- a text that is one value
 value_is : (text : List ℕ) → begins is_blank text ≡ false → are_paired false (units_of text) ≡ true → ends is_white text ≡ false
@@ -158,34 +158,13 @@ new_section_is name subsection state made valid =
     record { header = made_header_is name subsection made valid; items = rw (one_line_end (file_line_end state) (file_line_end_is state)) refl; held = refl }
 
 -- where none stands, the names are such as a header may have
-pub may_be_made : (name : List ℕ) (subsection : Option (List ℕ)) (keeps : Meta → Bool) (state : State) → may_stand name subsection keeps state ≡ true
+pub may_be_made : (name : List ℕ) (subsection : Option (List ℕ)) (keeps : Meta → Bool) (state : State) → finds_or_makes name subsection keeps state ≡ true
     → list_any (is_target name subsection keeps) state.sections ≡ false → (is_made_name name ≡ true) × (is_valid_or_none subsection ≡ true)
 may_be_made name subsection keeps state may none =
-    both_true (is_made_name name) (is_valid_or_none subsection) (let h : may_stand name subsection keeps state ≡ true = may in rw (none, may_stand) at h)
-
--- An edit leaves a state with items.
-pub apply_items : (edit : Edit) (state : State) → is_edit edit state ≡ true → HasItems state → HasItems (apply edit state)
-apply_items (SetRawValue name subsection key keeps value) state is has =
-    let b = both_true (is_value_name key) (may_stand name subsection keeps state) is in
-    go (list_any (is_target name subsection keeps) state.sections) refl b.0 b.1
-  where
-    go : (t : Bool) → list_any (is_target name subsection keeps) state.sections ≡ t → is_value_name key ≡ true → may_stand name subsection keeps state ≡ true
-        → HasItems (set_raw_value name subsection key keeps value state)
-    go true e named may = rw (e, set_raw_value) (record {
-      front = has.front;
-      sections = update_last_holds (is_target name subsection keeps) (section_with (file_line_end state) key value) HasSectionItems
-          (λ s one. section_with_is (file_line_end state) key value s named (file_line_end_is state) one) state.sections has.sections;
-    })
-    go false e named may =
-        let made = may_be_made name subsection keeps state may e in
-        rw (e, set_raw_value) (record {
-          front = has.front;
-          sections = all_push HasSectionItems state.sections (section_with (file_line_end state) key value (new_section name subsection state)) has.sections
-              (section_with_is (file_line_end state) key value (new_section name subsection state) named (file_line_end_is state) (new_section_is name subsection state made.0 made.1));
-        })
+    both_true (is_made_name name) (is_valid_or_none subsection) (let h : finds_or_makes name subsection keeps state ≡ true = may in rw (none, finds_or_makes) at h)
 
 -- blanks, if there are any, are spaces and tabs
-abbrev are_blanks : Option (List ℕ) → Bool
+abbrev pub are_blanks : Option (List ℕ) → Bool
 are_blanks None = true
 are_blanks (Some run) = list_all is_blank run
 
@@ -215,7 +194,7 @@ new_entry_blank spacing line_end key value is = go spacing.leading refl
     go (Some run) e = rw e (both_hold (list_all is_blank run) true (ap are_blanks (sym e) ∙ is) refl)
 
 -- another value changes no blanks that stand alone
-with_value_blank : (spacing : Spacing) (value : List ℕ) (i : Item) → has_blanks i ≡ true → has_blanks (with_value spacing value i) ≡ true
+pub with_value_blank : (spacing : Spacing) (value : List ℕ) (i : Item) → has_blanks i ≡ true → has_blanks (with_value spacing value i) ≡ true
 with_value_blank spacing value (BlanksItem run) is = is
 with_value_blank spacing value (LineEndsItem run) is = is
 with_value_blank spacing value (CommentItem tag text) is = is
@@ -234,39 +213,6 @@ set_value_blank line_end key value items all = go (list_any (is_entry_of key) it
     go false e = rw (e, set_value) (all_append has_blanks items (new_entry (spacing_of items) line_end key value) all (new_entry_blank (spacing_of items) line_end key value (spacing_blank items all)))
 
 -- a section with the value is clean
-section_with_clean : (line_end key value : List ℕ) (s : SectionState) → IsCleanSection s → IsCleanSection (section_with line_end key value s)
+pub section_with_clean : (line_end key value : List ℕ) (s : SectionState) → IsCleanSection s → IsCleanSection (section_with line_end key value s)
 section_with_clean line_end key value s clean =
     record { named = clean.named; blanks = set_value_blank line_end key value s.items clean.blanks; held_blanks = clean.held_blanks; held = clean.held }
-
--- An edit leaves a clean state.
-pub apply_clean : (edit : Edit) (state : State) → is_clean_edit edit ≡ true → IsClean state → IsClean (apply edit state)
-apply_clean (SetRawValue name subsection key keeps value) state is clean = go (list_any (is_target name subsection keeps) state.sections) refl
-  where
-    go : (t : Bool) → list_any (is_target name subsection keeps) state.sections ≡ t → IsClean (set_raw_value name subsection key keeps value state)
-    go true e = rw (e, set_raw_value) (record {
-      sections = update_last_holds (is_target name subsection keeps) (section_with (file_line_end state) key value) IsCleanSection
-          (λ s one. section_with_clean (file_line_end state) key value s one) state.sections clean.sections;
-      blanks = clean.blanks;
-      names = clean.names;
-    })
-    go false e = rw (e, set_raw_value) (record {
-      sections = all_push IsCleanSection state.sections (section_with (file_line_end state) key value (new_section name subsection state)) clean.sections
-          (section_with_clean (file_line_end state) key value (new_section name subsection state)
-          (record { named = false_not (is_nameless (made_header name subsection)) is; blanks = refl; held_blanks = refl; held = refl }));
-      blanks = clean.blanks;
-      names = clean.names;
-    })
-
--- Edits, one behind the other, leave a state with items.
-pub apply_all_items : (edits : List Edit) (state : State) → are_edits edits state ≡ true → HasItems state → HasItems (apply_all edits state)
-apply_all_items [] state all has = has
-apply_all_items (edit ∷ edits) state all has =
-    let b = both_true (is_edit edit state) (are_edits edits (apply edit state)) all in
-    apply_all_items edits (apply edit state) b.1 (apply_items edit state b.0 has)
-
--- and a clean one
-pub apply_all_clean : (edits : List Edit) (state : State) → list_all is_clean_edit edits ≡ true → IsClean state → IsClean (apply_all edits state)
-apply_all_clean [] state all clean = clean
-apply_all_clean (edit ∷ edits) state all clean =
-    let b = both_true (is_clean_edit edit) (list_all is_clean_edit edits) all in
-    apply_all_clean edits (apply edit state) b.1 (apply_clean edit state b.0 clean)

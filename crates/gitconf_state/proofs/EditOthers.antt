@@ -15,7 +15,8 @@ use Rattle.gitconf_base.specs.Metadata.{Meta}
 use Rattle.gitconf_state.specs.State.{SectionState, State}
 use Rattle.gitconf_state.specs.LineEnds.{file_line_end}
 use Rattle.gitconf_state.specs.Lookup.{is_named, passing, entries_of_key, deciding, last_value, meaning, all_values}
-use Rattle.gitconf_state.specs.Edit.{is_entry_of, spacing_of, new_entry, set_value, new_section, is_target, section_with, set_raw_value, may_stand}
+use Rattle.gitconf_state.specs.Edit.{is_entry_of, spacing_of, new_entry, set_value, new_section, is_target, section_with, set_raw_value}
+use Rattle.gitconf_state.specs.Edits.{finds_or_makes}
 use Rattle.gitconf_parse.proofs.ValueAgain.{both_true}
 use Rattle.gitconf_parse.proofs.ByteLaws.{refuted}
 use Rattle.gitconf_state.proofs.EditItems.{may_be_made}
@@ -245,7 +246,7 @@ named_once name other_name subsection other_subsection s differ is = refuted (is
 
 -- The sections of another name or subsection stay, whatever the filter.
 pub set_value_leaves_sections : (name : List ℕ) (subsection : Option (List ℕ)) (key : List ℕ) (keeps : Meta → Bool) (value : List ℕ) (state : State)
-    → (other_name : List ℕ) (other_subsection : Option (List ℕ)) (other_keeps : Meta → Bool) → may_stand name subsection keeps state ≡ true
+    → (other_name : List ℕ) (other_subsection : Option (List ℕ)) (other_keeps : Meta → Bool) → finds_or_makes name subsection keeps state ≡ true
     → (is_same_name name other_name ≡ false) ⊎ (subsection ≡ other_subsection → ⊥)
     → passing other_name other_subsection other_keeps (set_raw_value name subsection key keeps value state) ≡ passing other_name other_subsection other_keeps state
 set_value_leaves_sections name subsection key keeps value state other_name other_subsection other_keeps may differ = go (list_any (is_target name subsection keeps) state.sections) refl

@@ -7,7 +7,8 @@ use Rattle.gitconf_text.specs.Part.{Item, BlanksItem, LineEndsItem, CommentItem,
 use Rattle.gitconf_base.specs.Metadata.{api_meta}
 use Rattle.gitconf_state.specs.State.{SectionState, State}
 use Rattle.gitconf_state.specs.Printing.{printed}
-use Rattle.gitconf_state.specs.Edit.{replaced_value, Edit, SetRawValue, apply, apply_all}
+use Rattle.gitconf_state.specs.Edit.{replaced_value}
+use Rattle.gitconf_state.specs.Edits.{Edit, SetRawValue, apply, apply_all}
 
 abbrev blanks : String → Item
 blanks run = BlanksItem (codes run)

@@ -18,7 +18,8 @@ use Rattle.gitconf_parse.proofs.Subsections.{reads_back}
 use Rattle.gitconf_state.specs.State.{SectionState, State, entries_of}
 use Rattle.gitconf_state.specs.LineEnds.{file_line_end}
 use Rattle.gitconf_state.specs.Lookup.{is_named, passing, deciding, last_value}
-use Rattle.gitconf_state.specs.Edit.{is_entry_of, Spacing, spacing_of, assigned_value, with_value, leading_item, set_value, made_header, new_section, is_target, section_with, set_raw_value, may_stand}
+use Rattle.gitconf_state.specs.Edit.{is_entry_of, Spacing, spacing_of, assigned_value, with_value, leading_item, set_value, made_header, new_section, is_target, section_with, set_raw_value}
+use Rattle.gitconf_state.specs.Edits.{finds_or_makes}
 use Rattle.gitconf_state.proofs.LoadingFilters.{both_hold}
 use Rattle.gitconf_state.proofs.EditLists.{last_at, last_given, filter_both}
 use Rattle.gitconf_state.proofs.EditItems.{valid_no_feed, may_be_made}
@@ -173,7 +174,7 @@ found_last name subsection key keeps value state line_end before s behind is tar
 
 -- A value that was set is found with the same filter.
 pub set_value_is_found : (name : List ℕ) (subsection : Option (List ℕ)) (key : List ℕ) (keeps : Meta → Bool) (value : List ℕ) (state : State)
-    → may_stand name subsection keeps state ≡ true → keeps state.meta ≡ true
+    → finds_or_makes name subsection keeps state ≡ true → keeps state.meta ≡ true
     → last_value name subsection key keeps (set_raw_value name subsection key keeps value state) ≡ Some value
 set_value_is_found name subsection key keeps value state may kept = go (list_any (is_target name subsection keeps) state.sections) refl
   where

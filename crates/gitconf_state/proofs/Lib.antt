@@ -31,3 +31,7 @@ pub mod EditValues
 pub mod EditOthers
 pub mod EditRows
 pub mod EditUsed
+pub mod EditorItems
+pub mod EditsKeep
+pub mod EditorRows
+pub mod EditNumbers

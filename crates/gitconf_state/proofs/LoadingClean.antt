@@ -110,7 +110,7 @@ full_is_clean parts state fits load =
     (names_stand Closed state.front (flat_map own_section_parts state.sections) own_fit tt)
 
 -- without an entry, all may stand anywhere
-stand_anywhere : (before : Open) (items : List Item) → entries_of items ≡ [] → stand_apart before items ≡ true
+pub stand_anywhere : (before : Open) (items : List Item) → entries_of items ≡ [] → stand_apart before items ≡ true
 stand_anywhere before [] none = refl
 stand_anywhere before (BlanksItem run ∷ items) none = rw (stands_anywhere before (BlanksItem run) refl) (stand_anywhere _ items none)
 stand_anywhere before (LineEndsItem run ∷ items) none = rw (stands_anywhere before (LineEndsItem run) refl) (stand_anywhere _ items none)

@@ -1,8 +1,8 @@
 -- Edits: each is one update of the list of sections, and its answer.
 -- Source: gix-config; that an entry without `=` gets one is this project's own rule.
-use Rattle.std.specs.Prelude.{ℕ, ◌+◌, Bool, true, false, not, List, [], ◌∷◌, ◌++◌, ◌&&◌, ◌||◌, filter, Option, Some, None, length, flat_map}
-use Rattle.std.specs.List.{fold, last_or, list_any}
-use Rattle.gitconf_text.specs.Names.{is_made_name, is_same_name, is_valid_or_none, is_value_name}
+use Rattle.std.specs.Prelude.{ℕ, ◌+◌, Bool, true, false, List, [], ◌∷◌, ◌++◌, ◌&&◌, filter, Option, Some, None, length, flat_map}
+use Rattle.std.specs.List.{last_or, list_any}
+use Rattle.gitconf_text.specs.Names.{is_same_name}
 use Rattle.gitconf_text.specs.Value.{raw_of, escaped}
 use Rattle.gitconf_text.specs.Header.{Header, PlainHeader, QuotedHeader}
 use Rattle.gitconf_text.specs.Part.{Assigned, Item, BlanksItem, LineEndsItem, CommentItem, EntryItem}
@@ -11,7 +11,6 @@ use Rattle.gitconf_parse.specs.EventRef.{escaped_subsection}
 use Rattle.gitconf_base.specs.Metadata.{Meta}
 use Rattle.gitconf_state.specs.State.{SectionState, State}
 use Rattle.gitconf_state.specs.LineEnds.{file_line_end}
-use Rattle.gitconf_state.specs.Clean.{is_nameless}
 use Rattle.gitconf_state.specs.Lookup.{is_named}
 
 -- the last element that passes is changed
@@ -115,16 +114,6 @@ new_section name subsection state = record {
   held = [];
 }
 
--- the state with a section more
-abbrev pub with_new_section : (name : List ℕ) → (subsection : Option (List ℕ)) → State → State
-with_new_section name subsection state = record {
-  front = state.front;
-  meta = state.meta;
-  next = state.next + 1;
-  used = state.used;
-  sections = state.sections ++ new_section name subsection state ∷ [];
-}
-
 -- a section that has the name and subsection and passes
 abbrev pub is_target : (name : List ℕ) → (subsection : Option (List ℕ)) → (keeps : Meta → Bool) → SectionState → Bool
 is_target name subsection keeps s = is_named name subsection s && keeps s.meta
@@ -194,39 +183,6 @@ set_raw_value_tokens name subsection key keeps value state = elim (last_or None 
 abbrev pub token_bytes : List Token → ℕ
 token_bytes tokens = length (flat_map spelled_token tokens)
 
--- the edits of a file
-pub data Edit : Type 0 where
-  SetRawValue : (name : List ℕ) (subsection : Option (List ℕ)) (key : List ℕ) (keeps : Meta → Bool) (value : List ℕ) → Edit
-
--- the tokens that an edit makes
-abbrev pub new_tokens : Edit → State → List Token
-new_tokens (SetRawValue name subsection key keeps value) state = set_raw_value_tokens name subsection key keeps value state
-
--- an edit that was done
-abbrev pub apply : Edit → State → State
-apply (SetRawValue name subsection key keeps value) state = set_raw_value name subsection key keeps value state
-
 -- a state whose buffer has so many bytes
 abbrev pub with_used : (used : ℕ) → State → State
 with_used used state = record { front = state.front; meta = state.meta; next = state.next; used = used; sections = state.sections }
-
--- edits, one behind the other
-abbrev pub apply_all : List Edit → State → State
-apply_all edits state = fold (λ s e. apply e s) state edits
-
--- a section that passes stands, or one may be made of these names
-abbrev pub may_stand : (name : List ℕ) → (subsection : Option (List ℕ)) → (keeps : Meta → Bool) → State → Bool
-may_stand name subsection keeps state = list_any (is_target name subsection keeps) state.sections || (is_made_name name && is_valid_or_none subsection)
-
--- the names that an edit writes are such as a text may have
-abbrev pub is_edit : Edit → State → Bool
-is_edit (SetRawValue name subsection key keeps value) state = is_value_name key && may_stand name subsection keeps state
-
--- those of edits, one behind the other
-abbrev pub are_edits : List Edit → State → Bool
-are_edits [] state = true
-are_edits (edit ∷ edits) state = is_edit edit state && are_edits edits (apply edit state)
-
--- and the section is not one without a name and a subsection
-abbrev pub is_clean_edit : Edit → Bool
-is_clean_edit (SetRawValue name subsection key keeps value) = not (is_nameless (made_header name subsection))

@@ -7,3 +7,5 @@ pub mod Comments
 pub mod Loads
 pub mod Inserted
 pub mod Edit
+pub mod Editors
+pub mod Edits

@@ -1,5 +1,5 @@
 -- The state of a file: what stands before its first section, and its sections, as spelled; and the document that it says.
-use Rattle.std.specs.Prelude.{◌≡◌, ℕ, Bool, true, false, not, List, [], ◌∷◌, ◌&&◌, ◌==◌, map, filter, flat_map, Option, Some, None}
+use Rattle.std.specs.Prelude.{◌≡◌, ◌<◌, ◌≤◌, ℕ, Bool, true, false, not, List, [], ◌∷◌, ◌&&◌, ◌==◌, map, filter, flat_map, Option, Some, None}
 use Rattle.std.specs.List.{list_all, AllByRecursion}
 use Rattle.gitconf_text.specs.Bytes.{is_blank, is_name_byte, is_header_byte}
 use Rattle.gitconf_text.specs.Text.{begins, ends, are_line_ends, is_line_end}
@@ -10,6 +10,7 @@ use Rattle.gitconf_text.specs.Names.{is_value_name}
 use Rattle.gitconf_text.specs.Part.{Assigned, Item, BlanksItem, LineEndsItem, CommentItem, EntryItem}
 use Rattle.gitconf_text.specs.Document.{DocumentEntry, DocumentSection, Document, document_entry}
 use Rattle.gitconf_base.specs.Metadata.{Meta}
+use Rattle.gitconf_base.specs.Sections.{no_number}
 
 -- a section: its number, its header as spelled, where it comes from, its body, and the items held behind it, which were
 -- the front of a file that was appended
@@ -84,3 +85,14 @@ pub record HasSectionItems (s : SectionState) : Type 0 where
 pub record HasItems (state : State) : Type 0 where
   pub front : list_all is_item state.front ≡ true
   pub sections : AllByRecursion HasSectionItems state.sections
+
+-- each number is below the next one to be given, and stands once
+abbrev pub AreNumbered : (next : ℕ) → List SectionState → Type 0
+AreNumbered next [] = Unit {0}
+AreNumbered next (s ∷ sections) = (s.number < next) × AllByRecursion (λ t. (t.number == s.number) ≡ false) sections × AreNumbered next sections
+
+-- What holds of every state: its items are such as a text may have, no number was given twice, and the greatest was not given.
+pub record IsState (state : State) : Type 0 where
+  pub items : HasItems state
+  pub numbers : AreNumbered state.next state.sections
+  pub within : state.next ≤ no_number

@@ -1,5 +1,5 @@
 //! What holds of the definitions, for all states: each law is a function that does nothing.
-ghost use Rattle.std.specs.Prelude.{◌≡◌, ◌⊎◌, Bool, true, false, List, [], ℕ, map, ◌∷◌, ◌++◌, ◌+◌, Option, Some};
+ghost use Rattle.std.specs.Prelude.{◌≡◌, ◌≤◌, ◌⊎◌, Bool, true, false, List, [], ℕ, map, ◌∷◌, ◌++◌, ◌+◌, Option, Some};
 ghost use Rattle.std.specs.Option.{option_map};
 ghost use Rattle.std.specs.List.{list_all, list_any, AllByRecursion, flat_map};
 ghost use Rattle.gitconf_text.specs.Value.{escaped};
@@ -11,14 +11,16 @@ ghost use Rattle.gitconf_base.specs.Metadata.{Meta};
 ghost use Rattle.gitconf_parse.specs.EventRef.{Shown};
 ghost use Rattle.gitconf_parse.specs.EventList.{keeps_entry_token};
 ghost use Rattle.gitconf_parse.specs.TokenDocument.{keeps_meaning};
-ghost use Rattle.gitconf_state.specs.State.{State, HasItems, document_of, entries_of, SectionState, section_document, document_of_kept};
+ghost use Rattle.gitconf_base.specs.Sections.{no_number};
+ghost use Rattle.gitconf_state.specs.State.{State, AreNumbered, HasItems, IsState, document_of, entries_of, SectionState, section_document, document_of_kept};
 ghost use Rattle.gitconf_state.specs.Printing.{printed, printed_kept, printed_section};
 ghost use Rattle.gitconf_state.specs.Clean.{IsClean};
 ghost use Rattle.gitconf_state.specs.Loads.{IsFullLoad, IsLoad, IsPartLoad};
 ghost use Rattle.gitconf_state.specs.Inserted.{Inserted, IsByteForByte};
 ghost use Rattle.gitconf_state.specs.LineEnds.{file_line_end};
 ghost use Rattle.gitconf_state.specs.Lookup.{passing, last_value, all_values};
-ghost use Rattle.gitconf_state.specs.Edit.{is_entry_of, spacing_of, new_entry, set_value, new_section, is_target, section_with, set_raw_value, Edit, apply, apply_all, may_stand, is_edit, are_edits, is_clean_edit, with_used};
+ghost use Rattle.gitconf_state.specs.Edit.{is_entry_of, spacing_of, new_entry, set_value, new_section, is_target, section_with, set_raw_value, with_used};
+ghost use Rattle.gitconf_state.specs.Edits.{Edit, IsEdit, IsCleanEdit, AreEdits, AreCleanEdits, apply, apply_all, edited_number, finds_or_makes, IsOneChanged};
 ghost use Rattle.gitconf_state.specs.Comments.{item_comments, comments_of, comments, comments_of_kept};
 
 /// A state loaded from a text has items of a text, also where a filter dropped blanks, line ends and comments. Loaded whole it is
@@ -70,21 +72,36 @@ pub fn comments_are_kept()
         → AllByRecursion (λ s. (parts : List Part) → IsText (printed_section s) parts → comments_of parts ≡ flat_map item_comments s.items) state.sections }
 {}
 
-/// An edit leaves a state that has items, and a clean one where its section has a name or a subsection. So do edits, one behind the other.
+/// An edit leaves a state that has items, where what it writes may stand in a text; and a clean one, where its headers have a name or a
+/// subsection and what it puts in is clean. So do edits, one behind the other. They give no number twice.
 pub fn edits_keep_states()
-    ensures items { (edit : Edit) (state : State) → is_edit edit state ≡ true → HasItems state → HasItems (apply edit state) }
-    ensures clean { (edit : Edit) (state : State) → is_clean_edit edit ≡ true → IsClean state → IsClean (apply edit state) }
-    ensures all_items { (edits : List Edit) (state : State) → are_edits edits state ≡ true → HasItems state → HasItems (apply_all edits state) }
-    ensures all_clean { (edits : List Edit) (state : State) → list_all is_clean_edit edits ≡ true → IsClean state → IsClean (apply_all edits state) }
+    ensures items { (edit : Edit) (state : State) → IsEdit edit state → HasItems state → HasItems (apply edit state) }
+    ensures clean { (edit : Edit) (state : State) → IsCleanEdit edit → IsClean state → IsClean (apply edit state) }
+    ensures all_items { (edits : List Edit) (state : State) → AreEdits edits state → HasItems state → HasItems (apply_all edits state) }
+    ensures all_clean { (edits : List Edit) (state : State) → AreCleanEdits edits → IsClean state → IsClean (apply_all edits state) }
+    ensures numbers { (edits : List Edit) (state : State) → AreNumbered state.next state.sections → AreNumbered (apply_all edits state).next (apply_all edits state).sections }
+    ensures state { (edits : List Edit) (state : State) → AreEdits edits state → IsState state → (apply_all edits state).next ≤ no_number → IsState (apply_all edits state) }
 {}
 
-/// The text of an edited state is read back: it has the document that the edits leave. So it is from the bytes of an accepted text,
-/// loaded whole, through any list of edits, to the bytes that are written.
+/// An editor's edit changes the section of its number alone, and no section's number.
+pub fn an_editor_changes_one_section()
+    ensures { (edit : Edit) (number : ℕ) (state : State) → edited_number edit ≡ Some number → IsOneChanged number state (apply edit state) }
+{}
+
+/// The text of an edited state is read back: it has the document that the edits leave, whole, of the sections that a filter keeps, and of
+/// each section alone, with its comments. So it is from the bytes of an accepted text, loaded whole, through any list of edits, to the
+/// bytes that are written.
 pub fn edited_text_reads_back()
-    ensures state { (edits : List Edit) (state : State) → are_edits edits state ≡ true → list_all is_clean_edit edits ≡ true → HasItems state → IsClean state
+    ensures state { (edits : List Edit) (state : State) → AreEdits edits state → AreCleanEdits edits → HasItems state → IsClean state
         → Reads (printed (apply_all edits state)) (document_of (apply_all edits state)) }
+    ensures kept { (edits : List Edit) (keeps : SectionState → Bool) (state : State) → AreEdits edits state → AreCleanEdits edits → HasItems state → IsClean state
+        → Reads (printed_kept keeps (apply_all edits state)) (document_of_kept keeps (apply_all edits state)) }
+    ensures section { (edits : List Edit) (state : State) → AreEdits edits state → AreCleanEdits edits → HasItems state → IsClean state
+        → AllByRecursion (λ s. Reads (printed_section s) (record { front = []; sections = section_document s ∷ [] })) (apply_all edits state).sections }
+    ensures comments { (edits : List Edit) (keeps : SectionState → Bool) (state : State) → AreEdits edits state → AreCleanEdits edits → HasItems state → IsClean state
+        → (parts : List Part) → IsText (printed_kept keeps (apply_all edits state)) parts → comments_of parts ≡ comments_of_kept keeps (apply_all edits state) }
     ensures text { (edits : List Edit) (text : List ℕ) (parts : List Part) (state : State) → IsText text parts → IsFullLoad parts state
-        → are_edits edits state ≡ true → list_all is_clean_edit edits ≡ true
+        → AreEdits edits state → AreCleanEdits edits
         → Reads (printed (apply_all edits state)) (document_of (apply_all edits state)) }
 {}
 
@@ -92,7 +109,7 @@ pub fn edited_text_reads_back()
 /// this number leave that of all edits, one behind the other, but for it.
 pub fn used_bytes_are_not_asked()
     ensures edits { (edits : List Edit) (used : ℕ) (state : State) → apply_all edits (with_used used state) ≡ with_used used (apply_all edits state) }
-    ensures names { (edits : List Edit) (used : ℕ) (state : State) → are_edits edits (with_used used state) ≡ are_edits edits state }
+    ensures names { (edits : List Edit) (used : ℕ) (state : State) → AreEdits edits state → AreEdits edits (with_used used state) }
     ensures text { (used : ℕ) (state : State) → printed (with_used used state) ≡ printed state }
     ensures document { (used : ℕ) (state : State) → document_of (with_used used state) ≡ document_of state }
 {}
@@ -100,10 +117,10 @@ pub fn used_bytes_are_not_asked()
 /// A value that was set is found by its name, subsection and key, where the look-up keeps the sections that the edit keeps and
 /// would keep a new one.
 pub fn set_value_is_found()
-    ensures found { (name : List ℕ) (subsection : Option (List ℕ)) (key value : List ℕ) (state : State) → may_stand name subsection (λ _. true) state ≡ true
+    ensures found { (name : List ℕ) (subsection : Option (List ℕ)) (key value : List ℕ) (state : State) → finds_or_makes name subsection (λ _. true) state ≡ true
         → last_value name subsection key (λ _. true) (set_raw_value name subsection key (λ _. true) value state) ≡ Some value }
     ensures filtered { (name : List ℕ) (subsection : Option (List ℕ)) (key : List ℕ) (keeps : Meta → Bool) (value : List ℕ) (state : State)
-        → may_stand name subsection keeps state ≡ true → keeps state.meta ≡ true
+        → finds_or_makes name subsection keeps state ≡ true → keeps state.meta ≡ true
         → last_value name subsection key keeps (set_raw_value name subsection key keeps value state) ≡ Some value }
 {}
 
@@ -150,7 +167,7 @@ pub fn set_value_leaves_others()
         × (all_values other_name other_subsection other other_keeps (set_raw_value name subsection key keeps value state)
         ≡ all_values other_name other_subsection other other_keeps state) }
     ensures sections { (name : List ℕ) (subsection : Option (List ℕ)) (key : List ℕ) (keeps : Meta → Bool) (value : List ℕ) (state : State)
-        → (other_name : List ℕ) (other_subsection : Option (List ℕ)) (other_keeps : Meta → Bool) → may_stand name subsection keeps state ≡ true
+        → (other_name : List ℕ) (other_subsection : Option (List ℕ)) (other_keeps : Meta → Bool) → finds_or_makes name subsection keeps state ≡ true
         → (is_same_name name other_name ≡ false) ⊎ (subsection ≡ other_subsection → ⊥)
         → passing other_name other_subsection other_keeps (set_raw_value name subsection key keeps value state) ≡ passing other_name other_subsection other_keeps state }
 {}

@@ -7,7 +7,8 @@ use Rattle.bstr.specs.Owned.{bstring_bytes}
 use Rattle.gitconf_text.specs.Names.{is_made_name, is_valid_or_none, is_value_name}
 use Rattle.gitconf_base.specs.Metadata.{Meta}
 use Rattle.gitconf_base.specs.Sections.{no_number}
-use Rattle.gitconf_state.specs.Edit.{SetRawValue, apply, is_target, new_section, new_tokens, replaced_value, section_with, token_bytes, with_used}
+use Rattle.gitconf_state.specs.Edit.{is_target, new_section, replaced_value, section_with, with_used}
+use Rattle.gitconf_state.specs.Edits.{SetRawValue, apply, new_bytes}
 use Rattle.gitconf_state.specs.LineEnds.{file_line_end}
 use Rattle.gitconf_state.specs.State.{State}
 use Rattle.gitconf_text.specs.declared.parse.section.header.Error.TheVariants.{InvalidName, InvalidSubSection}
@@ -63,4 +64,4 @@ pub record IsSet (name : List ℕ) (subsection : Option (List ℕ)) (key : List 
       ↔ ((is_value_name key ≡ true) × (list_any (is_target name subsection keeps) old.sections ≡ false) × (is_made_name name ≡ true) × (is_valid_or_none subsection ≡ false))
   pub ok : OnOk result (new ≡ with_used new.used (apply (SetRawValue name subsection key keeps value) old))
   pub answer : IfOk result (λ o. option_map bstring_bytes o ≡ replaced_value name subsection key keeps old)
-  pub used : EditGrows result set_number (token_bytes (new_tokens (SetRawValue name subsection key keeps value) old)) old new
+  pub used : EditGrows result set_number (new_bytes (SetRawValue name subsection key keeps value) old) old new

@@ -1,0 +1,149 @@
+-- What editors of a section write among its items: pushed entries and line ends, values that are set, entries that are taken out.
+-- Source: gix-config; that separator blanks keep their order, and that an entry without `=` gets one, are this project's own rules.
+use Rattle.std.specs.Prelude.{ℕ, ◌+◌, Bool, true, false, not, List, [], ◌∷◌, ◌++◌, ◌==◌, map, take, drop, Option, Some, None, if◌then◌else◌}
+use Rattle.std.specs.List.{list_any}
+use Rattle.gitconf_text.specs.Bytes.{is_whitespace}
+use Rattle.gitconf_text.specs.Text.{begins}
+use Rattle.gitconf_text.specs.Value.{Piece, plain}
+use Rattle.gitconf_text.specs.Part.{Assigned, Item, BlanksItem, LineEndsItem, CommentItem, EntryItem}
+use Rattle.gitconf_state.specs.State.{SectionState, State}
+use Rattle.gitconf_state.specs.LineEnds.{file_line_end, section_line_end}
+use Rattle.gitconf_state.specs.Edit.{Spacing, spacing_of, leading_item, assigned_value, with_value, is_entry_of, is_any_entry, update_last, item_raw}
+
+-- An editor: the blanks that it writes, as they were when it was made, the line end, and whether one stands behind what is pushed.
+pub record Editor : Type 0 where
+  pub spacing : Spacing
+  pub line_end : List ℕ
+  pub ends : Bool
+
+-- the editor of a section in a file uses the file's line end, that of a section alone its own
+abbrev pub editor_of : State → SectionState → Editor
+editor_of state s = record { spacing = spacing_of s.items; line_end = file_line_end state; ends = true }
+
+abbrev pub editor_alone : SectionState → Editor
+editor_alone s = record { spacing = spacing_of s.items; line_end = section_line_end s; ends = true }
+
+-- an entry that is made: with the editor's blanks around `=`, or the name alone
+abbrev pub entry_made : Spacing → (key : List ℕ) → (value : Option (List ℕ)) → Item
+entry_made spacing key None = EntryItem (record { name = key; blanks = []; assigned = None })
+entry_made spacing key (Some value) = EntryItem (record { name = key; blanks = spacing.before; assigned = assigned_value spacing.behind value })
+
+-- the text of a comment that is made: behind a space where it doesn't begin with white space, each LF turned to a space
+abbrev pub comment_text : List ℕ → List ℕ
+comment_text text = (if begins (λ b. not (is_whitespace b)) text then 32 ∷ [] else []) ++ map (λ b. if b == 10 then 32 else b) text
+
+-- a comment behind an entry that is made
+abbrev pub comment_made : Option (List ℕ) → List Item
+comment_made None = []
+comment_made (Some text) = BlanksItem (32 ∷ []) ∷ CommentItem 35 (comment_text text) ∷ []
+
+-- the line end behind what is pushed, unless it is switched off
+abbrev pub end_made : Editor → List Item
+end_made editor = if editor.ends then LineEndsItem editor.line_end ∷ [] else []
+
+-- a line that is pushed: a key with a value or without one, and with a comment or without one
+abbrev pub line_made : Editor → (key : List ℕ) → (value comment : Option (List ℕ)) → List Item
+line_made editor key value comment =
+    leading_item editor.spacing.leading ++ entry_made editor.spacing key value ∷ (comment_made comment ++ end_made editor)
+
+abbrev pub pushed : Editor → (key : List ℕ) → (value comment : Option (List ℕ)) → List Item → List Item
+pushed editor key value comment items = items ++ line_made editor key value comment
+
+-- a line end is pushed by itself
+abbrev pub line_end_pushed : Editor → List Item → List Item
+line_end_pushed editor items = items ++ LineEndsItem editor.line_end ∷ []
+
+-- the key's last entry has the value, or a line with it is pushed
+abbrev pub value_set : Editor → (key value : List ℕ) → List Item → List Item
+value_set editor key value items = elim (list_any (is_entry_of key) items) [
+  | true ↦ update_last (is_entry_of key) (with_value editor.spacing value) items
+  | false ↦ pushed editor key (Some value) None items
+]
+
+-- a list cut at its last element that passes: what stands before it, and behind it
+abbrev pub Cut : Type 0
+Cut = Option (List Item × (Item × List Item))
+
+abbrev pub cut_last : (Item → Bool) → List Item → Cut
+cut_last test [] = None
+cut_last test (i ∷ items) = elim (cut_last test items) [
+  | Some c ↦ Some (i ∷ c.0, c.1)
+  | None ↦ elim (test i) [ true ↦ Some ([], (i, items)) | false ↦ None ]
+]
+
+-- an item that is no blanks
+abbrev pub unless_blanks : Item → List Item
+unless_blanks (BlanksItem run) = []
+unless_blanks i = i ∷ []
+
+-- the items but for blanks at their end
+abbrev pub without_last_blanks : List Item → List Item
+without_last_blanks [] = []
+without_last_blanks (i ∷ []) = unless_blanks i
+without_last_blanks (i ∷ j ∷ items) = i ∷ without_last_blanks (j ∷ items)
+
+-- the items but for line ends at their front
+abbrev pub without_first_line_ends : List Item → List Item
+without_first_line_ends (LineEndsItem run ∷ items) = items
+without_first_line_ends items = items
+
+-- the key's last entry is taken out, with the blanks directly before it and the line ends directly behind it
+abbrev pub removed : (key : List ℕ) → List Item → List Item
+removed key items = elim (cut_last (is_entry_of key) items) [
+  | None ↦ items
+  | Some c ↦ without_last_blanks c.0 ++ without_first_line_ends c.1.1
+]
+
+-- the last entry is taken out, with the blanks directly before it and all that stands behind it; without an entry all is
+abbrev pub popped : List Item → List Item
+popped items = elim (cut_last is_any_entry items) [ None ↦ [] | Some c ↦ without_last_blanks c.0 ]
+
+-- the key and the meaning of an entry
+abbrev pub entry_told : Item → Option (List ℕ × List ℕ)
+entry_told (EntryItem e) = Some (e.name, plain (item_raw (EntryItem e)))
+entry_told _ = None
+
+-- the key and the meaning of the entry that `popped` takes out; no value counts as an empty one
+abbrev pub popped_entry : List Item → Option (List ℕ × List ℕ)
+popped_entry items = elim (cut_last is_any_entry items) [
+  | None ↦ None
+  | Some c ↦ entry_told c.1.0
+]
+
+-- the line end of the last piece that goes on
+abbrev pub last_line_end : List Piece → List ℕ
+last_line_end [] = []
+last_line_end (p ∷ []) = p.line_end
+last_line_end (p ∷ q ∷ pieces) = last_line_end (q ∷ pieces)
+
+-- a comment comes next, blanks aside
+abbrev pub is_before_comment : List Item → Bool
+is_before_comment (BlanksItem run ∷ items) = is_before_comment items
+is_before_comment (CommentItem tag text ∷ items) = true
+is_before_comment _ = false
+
+-- a line end as an item, where there is one
+abbrev pub line_end_item : List ℕ → List Item
+line_end_item [] = []
+line_end_item (b ∷ run) = LineEndsItem (b ∷ run) ∷ []
+
+-- the last line end of a value that ends in an empty last piece, where a comment comes next: it keeps the comment off the new value
+abbrev pub kept_line_end : Option Assigned → (behind : List Item) → List Item
+kept_line_end None behind = []
+kept_line_end (Some a) behind = elim a.value.last [ [] ↦ if is_before_comment behind then line_end_item (last_line_end a.value.pieces) else [] | b ∷ last ↦ [] ]
+
+-- what stays of the entry at the front when its value is written anew: its last line end or nothing; and the items behind it
+abbrev pub behind_old : (keeps_line_end : Bool) → List Item → List Item
+behind_old keeps_line_end (EntryItem e ∷ behind) = (if keeps_line_end then kept_line_end e.assigned behind else []) ++ behind
+behind_old keeps_line_end behind = behind
+
+-- An entry is written anew at a place, by the name that is given and with the editor's blanks: in place of the one that stands there, or
+-- where one was taken out.
+abbrev pub written_at : Editor → (place : ℕ) → (stands keeps_line_end : Bool) → (key value : List ℕ) → List Item → List Item
+written_at editor place stands keeps_line_end key value items =
+    take place items ++ entry_made editor.spacing key (Some value)
+    ∷ (if stands then behind_old keeps_line_end (drop place items) else drop place items)
+
+-- the entry at a place is taken out alone
+abbrev pub deleted_at : (place : ℕ) → List Item → List Item
+deleted_at place items = take place items ++ drop (place + 1) items

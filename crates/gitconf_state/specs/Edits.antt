@@ -1,0 +1,282 @@
+-- The edits of a file: each is one update of its state, and its answer.
+-- Source: gix-config.
+use Rattle.std.specs.Prelude.{◌≡◌, ℕ, ◌+◌, Bool, true, false, not, List, [], ◌∷◌, ◌++◌, ◌&&◌, ◌||◌, ◌==◌, nat_eq, filter, map, Option, Some, None, length, flat_map, if◌then◌else◌}
+use Rattle.std.specs.List.{fold, last_or, list_all, list_any, starts_with}
+use Rattle.gitconf_text.specs.Bytes.{is_blank}
+use Rattle.gitconf_text.specs.Names.{is_made_name, is_valid_or_none, is_value_name}
+use Rattle.gitconf_text.specs.Text.{begins, are_line_ends}
+use Rattle.gitconf_text.specs.Part.{Item, BlanksItem, LineEndsItem, CommentItem, EntryItem}
+use Rattle.gitconf_text.specs.Header.{spelled_header}
+use Rattle.gitconf_text.specs.Token.{Token, item_tokens}
+use Rattle.gitconf_base.specs.Metadata.{Meta}
+use Rattle.gitconf_base.specs.declared.source.Trust.{Trust}
+use Rattle.gitconf_state.specs.State.{SectionState, State, HasSectionItems, HasItems, entries_of}
+use Rattle.gitconf_state.specs.LineEnds.{file_line_end, ends_line}
+use Rattle.gitconf_state.specs.Clean.{is_nameless, IsClean, IsCleanSection}
+use Rattle.gitconf_state.specs.Edit.{made_header, new_section, is_target, is_entry_of, set_raw_value, set_raw_value_tokens, replaced_value, old_value, token_bytes, value_tokens_of}
+use Rattle.gitconf_state.specs.Editors.{Editor, entry_made, pushed, line_made, line_end_pushed, value_set, removed, popped, popped_entry, written_at, deleted_at}
+
+-- a section that stands in no file, and the bytes of its buffer
+pub record Detached : Type 0 where
+  pub section : SectionState
+  pub used : ℕ
+
+-- the section of a number is changed
+abbrev pub change_numbered : (number : ℕ) → (SectionState → SectionState) → State → State
+change_numbered number change state = record {
+  front = state.front;
+  meta = state.meta;
+  next = state.next;
+  used = state.used;
+  sections = map (λ s. if s.number == number then change s else s) state.sections;
+}
+
+-- the items of the section of a number are changed
+abbrev pub change_items : (number : ℕ) → (List Item → List Item) → State → State
+change_items number change =
+    change_numbered number (λ s. record { number = s.number; header = s.header; meta = s.meta; items = change s.items; held = s.held })
+
+-- a section with a header that is made
+abbrev pub renamed : (name : List ℕ) → (subsection : Option (List ℕ)) → SectionState → SectionState
+renamed name subsection s = record { number = s.number; header = made_header name subsection; meta = s.meta; items = s.items; held = s.held }
+
+abbrev pub with_trust : Trust → SectionState → SectionState
+with_trust trust s = record {
+  number = s.number;
+  header = s.header;
+  meta = record { path = s.meta.path; source = s.meta.source; level = s.meta.level; trust = trust };
+  items = s.items;
+  held = s.held;
+}
+
+-- the state with these sections
+abbrev pub with_sections : List SectionState → State → State
+with_sections sections state = record { front = state.front; meta = state.meta; next = state.next; used = state.used; sections = sections }
+
+-- the state with a section more behind all others, under the next number
+abbrev pub with_last : SectionState → State → State
+with_last s state = record {
+  front = state.front;
+  meta = state.meta;
+  next = state.next + 1;
+  used = state.used;
+  sections = state.sections ++ record { number = state.next; header = s.header; meta = s.meta; items = s.items; held = s.held } ∷ [];
+}
+
+-- the number of the last section of the name and subsection that passes
+abbrev pub picked : (name : List ℕ) → (subsection : Option (List ℕ)) → (keeps : Meta → Bool) → State → Option ℕ
+picked name subsection keeps state = elim (last_or None (filter (is_target name subsection keeps) state.sections)) [ None ↦ None | Some s ↦ Some s.number ]
+
+-- the state without the section of a number; what is held behind it goes with it
+abbrev pub without_numbered : (number : ℕ) → State → State
+without_numbered number state = with_sections (filter (λ s. not (s.number == number)) state.sections) state
+
+-- Items behind items: where these aren't empty and don't end with a line end, one goes between, unless the others begin with it.
+abbrev pub begins_with : (line_end : List ℕ) → List Item → Bool
+begins_with line_end [] = true
+begins_with line_end (BlanksItem run ∷ items) = starts_with nat_eq run line_end
+begins_with line_end (LineEndsItem run ∷ items) = starts_with nat_eq run line_end
+begins_with line_end (CommentItem tag text ∷ items) = starts_with nat_eq text line_end
+begins_with line_end (EntryItem e ∷ items) = false
+
+abbrev pub between : (line_end : List ℕ) → (items others : List Item) → List Item
+between line_end [] others = []
+between line_end (i ∷ items) others =
+    if ends_line line_end (i ∷ items) || begins_with line_end others then [] else LineEndsItem line_end ∷ []
+
+abbrev pub joined : (line_end : List ℕ) → (items others : List Item) → List Item
+joined line_end items others = items ++ (between line_end items others ++ others)
+
+-- the items are held behind the last section
+abbrev pub held_behind_last : (line_end : List ℕ) → (others : List Item) → List SectionState → List SectionState
+held_behind_last line_end others [] = []
+held_behind_last line_end others (s ∷ []) =
+    record { number = s.number; header = s.header; meta = s.meta; items = s.items; held = joined line_end s.held others } ∷ []
+held_behind_last line_end others (s ∷ t ∷ sections) = s ∷ held_behind_last line_end others (t ∷ sections)
+
+-- sections under numbers from the first one on
+abbrev pub numbered_from : (first : ℕ) → List SectionState → List SectionState
+numbered_from first [] = []
+numbered_from first (s ∷ sections) =
+    record { number = first; header = s.header; meta = s.meta; items = s.items; held = s.held } ∷ numbered_from (first + 1) sections
+
+-- The other's sections stand last, under new numbers. Its front is held behind our last section, or joins our front where we have none.
+abbrev pub appended : (other : State) → State → State
+appended other state = record {
+  front = elim state.sections [ [] ↦ joined (file_line_end state) state.front other.front | s ∷ sections ↦ state.front ];
+  meta = state.meta;
+  next = state.next + length other.sections;
+  used = state.used;
+  sections = held_behind_last (file_line_end state) other.front state.sections ++ numbered_from state.next other.sections;
+}
+
+-- The edits of a file. An editor stands on a section by its number, the editors of values on a place among its items.
+pub data Edit : Type 0 where
+  SetRawValue : (name : List ℕ) (subsection : Option (List ℕ)) (key : List ℕ) (keeps : Meta → Bool) (value : List ℕ) → Edit
+  Push : (number : ℕ) (editor : Editor) (key : List ℕ) (value comment : Option (List ℕ)) → Edit
+  PushLineEnd : (number : ℕ) (editor : Editor) → Edit
+  SetValue : (number : ℕ) (editor : Editor) (key value : List ℕ) → Edit
+  Remove : (number : ℕ) (key : List ℕ) → Edit
+  Pop : (number : ℕ) → Edit
+  WriteAt : (number : ℕ) (editor : Editor) (place : ℕ) (stands keeps_line_end : Bool) (key value : List ℕ) → Edit
+  DeleteAt : (number place : ℕ) → Edit
+  Rename : (number : ℕ) (name : List ℕ) (subsection : Option (List ℕ)) → Edit
+  RenameAll : (name : List ℕ) (subsection : Option (List ℕ)) (keeps : Meta → Bool) (new_name : List ℕ) (new_subsection : Option (List ℕ)) → Edit
+  NewSection : (name : List ℕ) (subsection : Option (List ℕ)) → Edit
+  PushSection : Detached → Edit
+  RemoveSection : (name : List ℕ) (subsection : Option (List ℕ)) (keeps : Meta → Bool) → Edit
+  RemoveNumbered : (number : ℕ) → Edit
+  Append : State → Edit
+  SetTrust : (number : ℕ) (trust : Trust) → Edit
+  SetMeta : Meta → Edit
+
+-- an edit that was done
+abbrev pub apply : Edit → State → State
+apply (SetRawValue name subsection key keeps value) state = set_raw_value name subsection key keeps value state
+apply (Push number editor key value comment) state = change_items number (pushed editor key value comment) state
+apply (PushLineEnd number editor) state = change_items number (line_end_pushed editor) state
+apply (SetValue number editor key value) state = change_items number (value_set editor key value) state
+apply (Remove number key) state = change_items number (removed key) state
+apply (Pop number) state = change_items number popped state
+apply (WriteAt number editor place stands keeps_line_end key value) state = change_items number (written_at editor place stands keeps_line_end key value) state
+apply (DeleteAt number place) state = change_items number (deleted_at place) state
+apply (Rename number name subsection) state = change_numbered number (renamed name subsection) state
+apply (RenameAll name subsection keeps new_name new_subsection) state =
+    with_sections (map (λ s. if is_target name subsection keeps s then renamed new_name new_subsection s else s) state.sections) state
+apply (NewSection name subsection) state = with_last (new_section name subsection state) state
+apply (PushSection detached) state = with_last detached.section state
+apply (RemoveSection name subsection keeps) state = elim (picked name subsection keeps state) [ None ↦ state | Some number ↦ without_numbered number state ]
+apply (RemoveNumbered number) state = without_numbered number state
+apply (Append other) state = appended other state
+apply (SetTrust number trust) state = change_numbered number (with_trust trust) state
+apply (SetMeta meta) state = record { front = state.front; meta = meta; next = state.next; used = state.used; sections = state.sections }
+
+-- edits, one behind the other
+abbrev pub apply_all : List Edit → State → State
+apply_all edits state = fold (λ s e. apply e s) state edits
+
+-- the section of a number
+abbrev pub numbered : (number : ℕ) → State → Option SectionState
+numbered number state = last_or None (filter (λ s. s.number == number) state.sections)
+
+-- what an edit tells of a section's items
+abbrev pub told_of : {A : Type 0} → (number : ℕ) → (List Item → Option A) → State → Option A
+told_of number told state = elim (numbered number state) [ None ↦ None | Some s ↦ told s.items ]
+
+-- what edits answer: nothing, a raw text that was there, a key and a meaning, a number, a section that was taken out
+pub data Answer : Type 0 where
+  Done : Answer
+  Raw : Option (List ℕ) → Answer
+  Entry : Option (List ℕ × List ℕ) → Answer
+  Number : ℕ → Answer
+  Gone : Option SectionState → Answer
+
+-- the answer of an edit, by the state before it
+abbrev pub answer : Edit → State → Answer
+answer (SetRawValue name subsection key keeps value) state = Raw (replaced_value name subsection key keeps state)
+answer (SetValue number editor key value) state = Raw (told_of number (old_value key) state)
+answer (Remove number key) state = Raw (told_of number (old_value key) state)
+answer (Pop number) state = Entry (told_of number popped_entry state)
+answer (NewSection name subsection) state = Number state.next
+answer (PushSection detached) state = Number state.next
+answer (RemoveSection name subsection keeps) state = Gone (last_or None (filter (is_target name subsection keeps) state.sections))
+answer (RemoveNumbered number) state = Gone (numbered number state)
+answer _ state = Done
+
+-- the tokens that setting a value makes by an editor: those of `=` and its blanks too, where the entry has none
+abbrev pub value_set_tokens : Editor → (key value : List ℕ) → List Item → List Token
+value_set_tokens editor key value items = elim (last_or None (filter (is_entry_of key) items)) [
+  | None ↦ flat_map item_tokens (line_made editor key (Some value) None)
+  | Some i ↦ value_tokens_of editor.spacing value i
+]
+
+-- the items of the section of a number
+abbrev pub items_of_numbered : (number : ℕ) → State → List Item
+items_of_numbered number state = elim (numbered number state) [ None ↦ [] | Some s ↦ s.items ]
+
+-- How many bytes the tokens have that an edit makes; of a section or a file that is put in, its buffer's bytes and a line end.
+abbrev pub new_bytes : Edit → State → ℕ
+new_bytes (SetRawValue name subsection key keeps value) state = token_bytes (set_raw_value_tokens name subsection key keeps value state)
+new_bytes (Push number editor key value comment) state = token_bytes (flat_map item_tokens (line_made editor key value comment))
+new_bytes (PushLineEnd number editor) state = length editor.line_end
+new_bytes (SetValue number editor key value) state = token_bytes (value_set_tokens editor key value (items_of_numbered number state))
+new_bytes (WriteAt number editor place stands keeps_line_end key value) state = token_bytes (item_tokens (entry_made editor.spacing key (Some value)))
+new_bytes (Rename number name subsection) state = length (spelled_header (made_header name subsection))
+new_bytes (RenameAll name subsection keeps new_name new_subsection) state =
+    length (flat_map (λ (s : SectionState). spelled_header (made_header new_name new_subsection)) (filter (is_target name subsection keeps) state.sections))
+new_bytes (NewSection name subsection) state = length (spelled_header (made_header name subsection)) + length (file_line_end state)
+new_bytes (PushSection detached) state = detached.used + length (file_line_end state)
+new_bytes (Append other) state = other.used + length (file_line_end state)
+new_bytes _ state = 0
+
+-- a section that passes stands, or one may be made of these names
+abbrev pub finds_or_makes : (name : List ℕ) → (subsection : Option (List ℕ)) → (keeps : Meta → Bool) → State → Bool
+finds_or_makes name subsection keeps state = list_any (is_target name subsection keeps) state.sections || (is_made_name name && is_valid_or_none subsection)
+
+-- An editor writes blanks round `=`, and line ends.
+pub record IsEditor (editor : Editor) : Type 0 where
+  pub before : list_all is_blank editor.spacing.before ≡ true
+  pub behind : list_all is_blank editor.spacing.behind ≡ true
+  pub line_end : (begins (λ _. true) editor.line_end && are_line_ends editor.line_end) ≡ true
+
+-- what an edit writes may stand in a text: the names of values and of sections, and what comes from elsewhere
+abbrev pub IsEdit : Edit → State → Type 0
+IsEdit (SetRawValue name subsection key keeps value) state = (is_value_name key && finds_or_makes name subsection keeps state) ≡ true
+IsEdit (Push number editor key value comment) state = IsEditor editor × (is_value_name key ≡ true)
+IsEdit (PushLineEnd number editor) state = IsEditor editor
+IsEdit (SetValue number editor key value) state = IsEditor editor × (is_value_name key ≡ true)
+IsEdit (WriteAt number editor place stands keeps_line_end key value) state = IsEditor editor × (is_value_name key ≡ true)
+IsEdit (Rename number name subsection) state = (is_made_name name && is_valid_or_none subsection) ≡ true
+IsEdit (RenameAll name subsection keeps new_name new_subsection) state = (is_made_name new_name && is_valid_or_none new_subsection) ≡ true
+IsEdit (NewSection name subsection) state = (is_made_name name && is_valid_or_none subsection) ≡ true
+IsEdit (PushSection detached) state = HasSectionItems detached.section
+IsEdit (Append other) state = HasItems other
+IsEdit _ state = Unit {0}
+
+-- blanks that are pushed before a key are spaces and tabs
+abbrev pub has_blank_leading : Editor → Bool
+has_blank_leading editor = elim editor.spacing.leading [ None ↦ true | Some run ↦ list_all is_blank run ]
+
+-- An edit that leaves a clean state clean: a header that is made has a name or a subsection, and what is put in is clean; an appended file has
+-- no entry in its front.
+abbrev pub IsCleanEdit : Edit → Type 0
+IsCleanEdit (SetRawValue name subsection key keeps value) = is_nameless (made_header name subsection) ≡ false
+IsCleanEdit (Push number editor key value comment) = has_blank_leading editor ≡ true
+IsCleanEdit (SetValue number editor key value) = has_blank_leading editor ≡ true
+IsCleanEdit (Rename number name subsection) = is_nameless (made_header name subsection) ≡ false
+IsCleanEdit (RenameAll name subsection keeps new_name new_subsection) = is_nameless (made_header new_name new_subsection) ≡ false
+IsCleanEdit (NewSection name subsection) = is_nameless (made_header name subsection) ≡ false
+IsCleanEdit (PushSection detached) = IsCleanSection detached.section
+IsCleanEdit (Append other) = IsClean other × (entries_of other.front ≡ [])
+IsCleanEdit _ = Unit {0}
+
+-- those of edits, one behind the other
+abbrev pub AreEdits : List Edit → State → Type 0
+AreEdits [] state = Unit {0}
+AreEdits (edit ∷ edits) state = IsEdit edit state × AreEdits edits (apply edit state)
+
+abbrev pub AreCleanEdits : List Edit → Type 0
+AreCleanEdits [] = Unit {0}
+AreCleanEdits (edit ∷ edits) = IsCleanEdit edit × AreCleanEdits edits
+
+-- the number of the section that an editor's edit is about
+abbrev pub edited_number : Edit → Option ℕ
+edited_number (Push number editor key value comment) = Some number
+edited_number (PushLineEnd number editor) = Some number
+edited_number (SetValue number editor key value) = Some number
+edited_number (Remove number key) = Some number
+edited_number (Pop number) = Some number
+edited_number (WriteAt number editor place stands keeps_line_end key value) = Some number
+edited_number (DeleteAt number place) = Some number
+edited_number (Rename number name subsection) = Some number
+edited_number (SetTrust number trust) = Some number
+edited_number _ = None
+
+-- All but the section of a number is as it was, and each section has the number that it had.
+pub record IsOneChanged (number : ℕ) (old new : State) : Type 0 where
+  pub front : new.front ≡ old.front
+  pub meta_stays : new.meta ≡ old.meta
+  pub next_stays : new.next ≡ old.next
+  pub used_stays : new.used ≡ old.used
+  pub numbers : map (λ s. s.number) new.sections ≡ map (λ s. s.number) old.sections
+  pub others : filter (λ s. not (s.number == number)) new.sections ≡ filter (λ s. not (s.number == number)) old.sections
