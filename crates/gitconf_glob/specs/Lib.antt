@@ -1,0 +1,3 @@
+pub mod Bracket
+pub mod Pattern
+pub mod Rows
