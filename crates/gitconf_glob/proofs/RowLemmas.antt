@@ -1,8 +1,10 @@
 -- The rows that are filled are those of the definition.
-use Rattle.std.proofs.Common.{◌≡◌, ℕ, zero, suc, ◌+◌, ◌-◌, ◌≤◌, ◌<◌, Bool, true, false, not, List, [], ◌∷◌, length, map, get_or, drop, replicate, All, refl, ap, sym, subst, ◌∙◌, arith}
+use Rattle.std.proofs.Common.{◌≡◌, ◌≢◌, ℕ, zero, suc, ◌+◌, ◌-◌, ◌≤◌, ◌<◌, Bool, true, false, not, List, [], ◌∷◌, length, map, get_or, drop, take, set, replicate, All, refl, ap, sym, subst, ◌∙◌, arith}
 use Rattle.std.specs.Prelude.{◌&&◌, ◌||◌, ◌==◌}
-use Rattle.std.proofs.lemmas.List.{drop_more, length-map}
-use Rattle.gitconf_glob.specs.Pattern.{Element, Front, Nothing, One, Run, Rest, Folders, front, takes, one, run, matches}
+use Rattle.std.proofs.lemmas.List.{drop_all, drop_more, drop-set, drop-drop, get_or-drop, length-drop, length-map, take_all}
+use Rattle.std.proofs.lemmas.Bool.{eqb-true, eqb-false}
+use Rattle.std.proofs.Math.Seq.{drop-length}
+use Rattle.gitconf_glob.specs.Pattern.{Element, Front, Nothing, One, Run, Rest, Folders, front, takes, takes_first, one, run, is_empty, matches}
 use Rattle.gitconf_glob.specs.Rows.{tails, cells, rows_of, is_fresh_at, IsTable}
 use Rattle.gitconf_glob.specs.Cells.{one_cells, run_cells, folder_cells, last_cells, cells_at, AreLong}
 use Rattle.gitconf_glob.specs.Shapes.{FitsIn}
@@ -177,3 +179,103 @@ pub row_from : (ignore_case fresh : Bool) (b : ℕ) (p text : List ℕ) (f : Fro
     → below ≡ rows_of ignore_case (b == 47) p text → cells_at ignore_case f text below ≡ cells ignore_case fresh (b ∷ p) text
 row_from ignore_case fresh b p text f below shape fits is =
     (λ i. cells_at ignore_case (shape i) text (is i)) ∙ row_is ignore_case fresh b p text (subst (FitsIn (length p + 1)) shape fits)
+
+-- a slice up to the end is what is left
+pub rest_is : {X : Type 0} (xs : List X) (i : ℕ) → take (length xs - i) (drop i xs) ≡ drop i xs
+rest_is xs i = take_all (length xs - i) (drop i xs) (rw length-drop (omega arith))
+
+-- the last row is filled
+pub last_filled : {X : Type 0} (shown : X → List Bool) (rows : List X) (row : X) (ignore_case fresh : Bool) (p text : List ℕ) → length rows ≡ length p + 1 → shown row ≡ last_cells text
+    → map shown (drop (length p) (set rows (length p) row)) ≡ rows_of ignore_case fresh (drop (length p) p) text
+unfolding rows_of
+last_filled shown rows row ignore_case fresh p text count is =
+    ap (map shown) (drop-set rows (length p) row (omega (arith, count)))
+    ∙ (λ i. (is ∙ last_row_is ignore_case fresh text) i ∷ map shown (drop_all (length p + 1) rows (omega (arith, count)) i))
+    ∙ sym (ap (λ q. rows_of ignore_case fresh q text) (drop-length p))
+
+-- a row is filled over those behind it
+pub row_filled : {X : Type 0} (shown : X → List Bool) (rows : List X) (row : X) (ignore_case fresh here : Bool) (p rest text : List ℕ) (k j : ℕ) → j ≡ k + 1 → k < length p
+    → length rows ≡ length p + 1 → map shown (drop j rows) ≡ rows_of ignore_case (is_fresh_at fresh j p) (drop j p) text
+    → here ≡ is_fresh_at fresh k p → rest ≡ drop (k + 1) p → shown row ≡ cells ignore_case here (get_or p k 0 ∷ rest) text
+    → map shown (drop k (set rows k row)) ≡ rows_of ignore_case (is_fresh_at fresh k p) (drop k p) text
+row_filled shown rows row ignore_case fresh here p rest text k j next within count same here_is rest_here is =
+    ap (map shown) (drop-set rows k row (omega (arith, count, within)))
+    ∙ (λ i. (is ∙ λ n. cells ignore_case (here_is n) (get_or p k 0 ∷ rest_here n) text) i ∷ later i)
+    ∙ sym (rows_step ignore_case fresh p text k within)
+  where
+    one_more : j ≡ suc k
+    one_more = omega (arith, next)
+    later : map shown (drop (k + 1) rows) ≡ rows_of ignore_case (get_or p k 0 == 47) (drop (k + 1) p) text
+    later = ap (λ n. map shown (drop n rows)) (sym next) ∙ same ∙ (λ i. rows_of ignore_case (is_fresh_at fresh (one_more i) p) (drop (next i) p) text)
+
+-- the mark of a place behind the front
+fresh_behind : (p : List ℕ) (i more : ℕ) → is_fresh_at (get_or p i 0 == 47) more (drop (i + 1) p) ≡ is_fresh_at true (i + (1 + more)) p
+fresh_behind p i zero = ap (λ n. is_fresh_at true n p) one_more
+  where
+    one_more : suc i ≡ i + (1 + 0)
+    one_more = omega arith
+fresh_behind p i (suc more) = ap (λ b. b == 47) (get_or-drop (i + 1) p more 0) ∙ ap (λ n. is_fresh_at true n p) more_than_one
+  where
+    more_than_one : suc (i + 1 + more) ≡ i + (1 + suc more)
+    more_than_one = omega arith
+
+-- what a pattern's rest matches is what its front does
+by_front : (ignore_case : Bool) (p text : List ℕ) (i : ℕ) (f : Front) (here : Bool) (rest : List ℕ) → i < length p → here ≡ is_fresh_at true i p → rest ≡ drop (i + 1) p
+    → f ≡ front here (get_or p i 0) rest → matches ignore_case 0 (is_fresh_at true i p) (drop i p) text ≡ matched ignore_case f (get_or p i 0 == 47) (drop (i + 1) p) text
+by_front ignore_case p text i f here rest within here_is rest_here is =
+    ap (λ q. matches ignore_case 0 (is_fresh_at true i p) q text) (drop_more p i 0 within)
+    ∙ sym (matched_is ignore_case (is_fresh_at true i p) (get_or p i 0) (drop (i + 1) p) text)
+    ∙ ap (λ g. matched ignore_case g (get_or p i 0 == 47) (drop (i + 1) p) text) (sym (is ∙ λ k. front (here_is k) (get_or p i 0) (rest_here k)))
+
+pub nothing_matches : (ignore_case : Bool) (p text : List ℕ) (i : ℕ) (f : Front) (here : Bool) (rest : List ℕ) → i < length p → here ≡ is_fresh_at true i p → rest ≡ drop (i + 1) p
+    → f ≡ front here (get_or p i 0) rest → f ≡ Nothing → matches ignore_case 0 (is_fresh_at true i p) (drop i p) text ≡ false
+nothing_matches ignore_case p text i f here rest within here_is rest_here is shape =
+    by_front ignore_case p text i f here rest within here_is rest_here is ∙ ap (λ g. matched ignore_case g (get_or p i 0 == 47) (drop (i + 1) p) text) shape
+
+-- the next byte isn't taken
+pub one_stops : (ignore_case : Bool) (p text : List ℕ) (i : ℕ) (f : Front) (here : Bool) (rest : List ℕ) (element : Element) (more : ℕ) → i < length p → here ≡ is_fresh_at true i p
+    → rest ≡ drop (i + 1) p → f ≡ front here (get_or p i 0) rest → f ≡ One element more → takes_first (takes ignore_case element) text ≡ false
+    → matches ignore_case 0 (is_fresh_at true i p) (drop i p) text ≡ false
+one_stops ignore_case p text i f here rest element more within here_is rest_here is shape stops =
+    by_front ignore_case p text i f here rest within here_is rest_here is ∙ ap (λ g. matched ignore_case g (get_or p i 0 == 47) (drop (i + 1) p) text) shape
+    ∙ not_taken (takes ignore_case element) (matches ignore_case more (get_or p i 0 == 47) (drop (i + 1) p)) text stops
+  where
+    not_taken : (test : ℕ → Bool) (rest : List ℕ → Bool) (text : List ℕ) → takes_first test text ≡ false → one test rest text ≡ false
+    not_taken test rest [] stops = refl
+    not_taken test rest (b ∷ text) stops = ap (λ c. c && rest text) stops
+
+-- the next byte is taken
+pub one_goes_on : (ignore_case : Bool) (p text : List ℕ) (i j : ℕ) (f : Front) (here : Bool) (rest : List ℕ) (element : Element) (more : ℕ) → i < length p → here ≡ is_fresh_at true i p
+    → rest ≡ drop (i + 1) p → f ≡ front here (get_or p i 0) rest → f ≡ One element more → more < length rest + 1 → j < length text → takes_first (takes ignore_case element) (drop j text) ≡ true
+    → matches ignore_case 0 (is_fresh_at true i p) (drop i p) (drop j text)
+      ≡ matches ignore_case 0 (is_fresh_at true (i + (1 + more)) p) (drop (i + (1 + more)) p) (drop (j + 1) text)
+one_goes_on ignore_case p text i j f here rest element more within here_is rest_here is shape fits text_within taken =
+    by_front ignore_case p (drop j text) i f here rest within here_is rest_here is ∙ ap (λ g. matched ignore_case g (get_or p i 0 == 47) (drop (i + 1) p) (drop j text)) shape
+    ∙ ap (one (takes ignore_case element) (matches ignore_case more (get_or p i 0 == 47) (drop (i + 1) p))) (drop_more text j 0 text_within)
+    ∙ ap (λ c. c && matches ignore_case more (get_or p i 0 == 47) (drop (i + 1) p) (drop (j + 1) text)) (sym (ap (takes_first (takes ignore_case element)) (drop_more text j 0 text_within)) ∙ taken)
+    ∙ skipped ignore_case (get_or p i 0 == 47) more (drop (i + 1) p) (drop (j + 1) text) (let small : more < length (drop (i + 1) p) + 1 = subst (λ r. more < length r + 1) rest_here fits in omega (arith, small))
+    ∙ (λ k. matches ignore_case 0 (fresh_behind p i more k) ((drop-drop more (i + 1) p ∙ ap (λ n. drop n p) behind) k) (drop (j + 1) text))
+  where
+    behind : i + 1 + more ≡ i + (1 + more)
+    behind = omega arith
+
+-- behind the whole pattern the text has to end
+pub at_end : (ignore_case : Bool) (p text : List ℕ) (i j : ℕ) → length p ≤ i → i ≤ length p → j ≤ length text
+    → (j == length text) ≡ matches ignore_case 0 (is_fresh_at true i p) (drop i p) (drop j text)
+unfolding matches
+at_end ignore_case p text i j past within text_within =
+    ends text j text_within ∙ sym (ap (λ q. matches ignore_case 0 (is_fresh_at true i p) q (drop j text)) (drop_all i p past))
+  where
+    ends : (text : List ℕ) (j : ℕ) → j ≤ length text → (j == length text) ≡ is_empty (drop j text)
+    ends text j within = go (j == length text) refl
+      where
+        go : (c : Bool) → (j == length text) ≡ c → (j == length text) ≡ is_empty (drop j text)
+        go true e = e ∙ sym (ap is_empty (drop_all j text (let h = eqb-true j (length text) e in omega (arith, h))))
+        go false e = e ∙ sym (ap is_empty (drop_more text j 0 (let differs : j ≢ length text = eqb-false j (length text) e in omega (arith, within, differs))))
+
+-- the first row has a cell
+pub first_row_long : (ignore_case fresh : Bool) (p text : List ℕ) (rows : List (List Bool)) → rows ≡ rows_of ignore_case fresh p text → 0 < length (get_or rows 0 [])
+first_row_long ignore_case fresh p text rows is =
+    let long : length (get_or (rows_of ignore_case fresh p text) 0 []) ≡ length text + 1
+      = rows_long ignore_case fresh p text 0 [] (let h = rows_count ignore_case fresh p text in omega (arith, h)) in
+    subst (λ rs. 0 < length (get_or rs 0 [])) (sym is) (omega (arith, long))

@@ -65,6 +65,11 @@ front fresh b p =
     if b == 92 then escape p else
     if b == 91 then one_of p else One (Literal b) 0
 
+-- the first byte passes the test
+abbrev pub takes_first : (test : ℕ → Bool) → List ℕ → Bool
+takes_first test [] = false
+takes_first test (b ∷ text) = test b
+
 -- a byte that the test passes, and a text that the rest matches
 abbrev pub one : (test : ℕ → Bool) (rest : List ℕ → Bool) → List ℕ → Bool
 one test rest [] = false

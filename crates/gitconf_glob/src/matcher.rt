@@ -1,11 +1,23 @@
 //! Whether a text matches a pattern.
-ghost use Rattle.std.specs.Prelude.{◌≡◌, true, IfOk};
-ghost use Rattle.gitconf_glob.specs.Pattern.{matches};
+ghost use Rattle.std.specs.Prelude.{◌≡◌, ◌<◌, true, length, drop, IfOk};
+ghost use Rattle.gitconf_glob.specs.Pattern.{takes, takes_first, matches};
+ghost use Rattle.gitconf_glob.specs.Shapes.{element_of};
 
-use crate::front::{read_front, Front};
-use crate::table::{is_fresh_at, rows_of};
+use crate::front::{read_front, Element, Front};
+use crate::table::{first_cell, is_fresh_at, rows_of};
 use gitconf_text::NoMemory;
 use std::alloc::Global;
+
+/// Whether the byte at a place of the text is there and taken.
+fn takes_at(element: &Element, ignore_case: bool, text: &[u8], j: usize) -> bool
+    ensures value { result ≡ takes_first (takes ignore_case (element_of element.now)) (drop j text.now) }
+    ensures within { result ≡ true → j < length text.now }
+{
+    match text.get(j) {
+        Some(b) => element.takes(ignore_case, *b),
+        None => false,
+    }
+}
 
 /// Whether the text matches the rest of a pattern, by the table of the two.
 fn matches_by_rows(
@@ -18,13 +30,15 @@ fn matches_by_rows(
     ensures { IfOk result (λ it. it ≡ matches ignore_case 0 fresh pattern.now text.now) }
 {
     let rows = rows_of(alloc, fresh, pattern, text, ignore_case)?;
-    Ok(rows[0][0])
+    Ok(first_cell(&rows))
 }
 
 /// Whether the path pattern matches the text, where letters are compared without ASCII case if `ignore_case` is set.
 ///
-/// A front of the pattern without `*` is compared byte by byte, in time linear in the text, and takes memory for the
-/// members of a bracket alone. From the first `*` on the table of the rest of both is filled, as `Table::fill` does.
+/// What stands in front of the pattern's first `*` is compared byte by byte: that takes time linear in the pattern and
+/// the text (brackets as `Table::fill` tells it), and memory for the members of one bracket at a time. So a pattern
+/// without `*` and `[` takes no memory. From the first `*` on the whole table of what is left of both is filled, at the
+/// cost of `Table::fill`: a row is filled from any row below it, so two rows at a time would not do.
 ///
 /// # Errors
 ///
@@ -39,7 +53,7 @@ pub fn wildmatch(alloc: Global, pattern: &[u8], text: &[u8], ignore_case: bool) 
         match read_front(alloc, fresh, pattern[i], &pattern[i + 1..])? {
             Front::Nothing => return Ok(false),
             Front::One(element, more) => {
-                if j == text.len() || !element.takes(ignore_case, text[j]) {
+                if !takes_at(&element, ignore_case, text, j) {
                     return Ok(false);
                 }
                 i += 1 + more;

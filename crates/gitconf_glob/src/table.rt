@@ -1,5 +1,5 @@
 //! The table of a matcher: for each end of a pattern and each end of a text whether the one matches the other.
-ghost use Rattle.std.specs.Prelude.{◌≡◌, ◌+◌, ◌≤◌, ◌<◌, ◌==◌, ◌&&◌, ◌||◌, not, [], ◌∷◌, All, length, map, vec_items, get_or, IfOk};
+ghost use Rattle.std.specs.Prelude.{◌≡◌, ◌+◌, ◌≤◌, ◌<◌, ◌==◌, ◌&&◌, ◌||◌, not, false, [], ◌∷◌, All, length, map, vec_items, get_or, IfOk};
 ghost use Rattle.gitconf_glob.specs.Pattern as spec;
 ghost use Rattle.gitconf_glob.specs.Rows.{cells, rows_of, is_fresh_at, IsTable};
 ghost use Rattle.gitconf_glob.specs.Cells.{one_cells, run_cells, folder_cells, cells_at, last_cells, AreLong};
@@ -85,6 +85,15 @@ fn row_at(rows: &[Vec<bool>], k: usize) -> &[bool]
     ensures { result.now ≡ get_or (map vec_items rows.now) k [] }
 {
     &rows[k]
+}
+
+/// The first cell of the first row.
+pub(crate) fn first_cell(rows: &[Vec<bool>]) -> bool
+    requires some { 0 < length rows.now }
+    requires long { 0 < length (get_or (map vec_items rows.now) 0 []) }
+    ensures { result ≡ get_or (get_or (map vec_items rows.now) 0 []) 0 false }
+{
+    row_at(rows, 0)[0]
 }
 
 /// The row of a front, from the rows below it, the next one first.
@@ -204,9 +213,14 @@ impl Table {
 
     /// The table of a pattern and a text, where letters are compared without ASCII case if `ignore_case` is set.
     ///
-    /// It takes `pattern.len() + 1` rows of `text.len() + 1` cells, a growth for each, and the time of a step for each
-    /// cell. A cell of a bracket takes a step for each of its members, and a row of a bracket reads the bytes up to its
-    /// `]` once.
+    /// It takes memory for `pattern.len() + 1` rows of `text.len() + 1` cells, a growth for each row, and beside them for
+    /// the members of one bracket at a time. No product of the two lengths is computed.
+    ///
+    /// The time is that of a step for each cell, where the pattern has no `[`. A row that stands at a `[` reads the bytes
+    /// up to its `]` once, behind each `[:` also those up to the next `]`, and each of its cells takes a step for each
+    /// member. So brackets that don't hold a `[` add no more than the product of the lengths once again. Where a
+    /// bracket of `n` bytes is made of `[`, the time is that of `n * n` steps for each place of the text, and where it is
+    /// made of `[:`, of `n * n * n` steps besides.
     ///
     /// # Errors
     ///
