@@ -1,5 +1,5 @@
 -- Filling a row from the end of the text: one step of each loop.
-use Rattle.std.proofs.Common.{◌≡◌, ℕ, zero, suc, ◌+◌, ◌≤◌, ◌<◌, Bool, true, false, not, List, [], ◌∷◌, length, get_or, drop, set, replicate, refl, ap, sym, ◌∙◌, arith, add-zero}
+use Rattle.std.proofs.Common.{◌≡◌, ℕ, suc, ◌+◌, ◌<◌, Bool, true, false, not, List, [], ◌∷◌, length, get_or, drop, set, replicate, refl, ap, sym, ◌∙◌, arith}
 use Rattle.std.specs.Prelude.{◌&&◌, ◌||◌, ◌==◌}
 use Rattle.std.proofs.lemmas.List.{drop-set, drop_more, get_or-drop}
 use Rattle.gitconf_glob.specs.Cells.{one_cells, run_cells, folder_cells, last_cells}
@@ -19,7 +19,7 @@ unfolding one_cells
 one_step test text below row i j cell next within row_long below_long same is =
     set_at row i cell _ (omega arith) (ap (λ k. drop k row) (sym next) ∙ same ∙ ap (λ k. one_cells test (drop k text) (drop k below)) next)
     ∙ ap (λ c. c ∷ one_cells test (drop (i + 1) text) (drop (i + 1) below))
-        (is ∙ ap (λ c. c && test (get_or text i 0)) (sym (front_cell below (i + 1))))
+    (is ∙ ap (λ c. c && test (get_or text i 0)) (sym (front_cell below (i + 1))))
     ∙ sym (λ k. one_cells test (drop_more text i 0 within k) (drop_more below i false (omega arith) k))
 
 pub run_step : (slashes : Bool) (text : List ℕ) (below row : List Bool) (i j : ℕ) (cell : Bool) → j ≡ i + 1 → i < length text → length row ≡ length text + 1 → length below ≡ length text + 1
@@ -29,8 +29,8 @@ unfolding run_cells
 run_step slashes text below row i j cell next within row_long below_long same is =
     set_at row i cell _ (omega arith) later
     ∙ ap (λ c. c ∷ run_cells slashes (drop (i + 1) text) (drop (i + 1) below))
-        (is ∙ ap (λ c. get_or below i false || (slashes || not (get_or text i 0 == 47)) && c)
-          (sym (front_cell row (i + 1)) ∙ ap (λ cs. get_or cs 0 false) later))
+    (is ∙ ap (λ c. get_or below i false || (slashes || not (get_or text i 0 == 47)) && c)
+    (sym (front_cell row (i + 1)) ∙ ap (λ cs. get_or cs 0 false) later))
     ∙ sym (λ k. run_cells slashes (drop_more text i 0 within k) (drop_more below i false (omega arith) k))
   where
     later : drop (i + 1) row ≡ run_cells slashes (drop (i + 1) text) (drop (i + 1) below)
@@ -54,7 +54,7 @@ unfolding folder_cells
 folders_step text below behind row i j reached cell next within row_long below_long behind_long same reaches is =
     set_at row i cell _ (omega arith) (ap (λ k. drop k row) (sym next) ∙ same ∙ ap (λ k. folder_cells (drop k text) (drop k below) (drop k behind)) next)
     ∙ ap (λ c. c ∷ folder_cells (drop (i + 1) text) (drop (i + 1) below) (drop (i + 1) behind))
-        (is ∙ ap (λ c. c || get_or behind i false) (reaches ∙ λ k. get_or (run_cells true (drop_more text i 0 within k) (drop_more below i false (omega arith) k)) 0 false))
+    (is ∙ ap (λ c. c || get_or behind i false) (reaches ∙ λ k. get_or (run_cells true (drop_more text i 0 within k) (drop_more below i false (omega arith) k)) 0 false))
     ∙ sym (λ k. folder_cells (drop_more text i 0 within k) (drop_more below i false (omega arith) k) (drop_more behind i false (omega arith) k))
 
 pub ruleset folding = (reached_step, folders_step)

@@ -1,5 +1,5 @@
 -- The rows that are filled are those of the definition.
-use Rattle.std.proofs.Common.{◌≡◌, ◌≢◌, ℕ, zero, suc, ◌+◌, ◌-◌, ◌≤◌, ◌<◌, Bool, true, false, not, List, [], ◌∷◌, length, map, get_or, drop, take, set, replicate, All, refl, ap, sym, subst, ◌∙◌, arith}
+use Rattle.std.proofs.Common.{◌≡◌, ◌≢◌, ℕ, zero, suc, ◌+◌, ◌-◌, ◌≤◌, ◌<◌, Bool, true, false, not, List, [], ◌∷◌, length, map, get_or, drop, take, set, replicate, refl, ap, sym, subst, ◌∙◌, arith}
 use Rattle.std.specs.Prelude.{◌&&◌, ◌||◌, ◌==◌}
 use Rattle.std.proofs.lemmas.List.{drop_all, drop_more, drop-set, drop-drop, get_or-drop, length-drop, length-map, take_all}
 use Rattle.std.proofs.lemmas.Bool.{eqb-true, eqb-false}
@@ -58,7 +58,7 @@ unfolding tails run_cells folder_cells run
 folders_is rest behind [] = ap (λ c. c ∷ []) (or_comm (rest []) (behind []))
 folders_is rest behind (b ∷ text) = λ i.
     ((ap (λ cs. get_or cs 0 false || behind (b ∷ text)) (run_is true rest (b ∷ text))
-      ∙ ap (λ c. c || behind (b ∷ text)) (first_tail (run true rest) (b ∷ text)) ∙ or_comm (run true rest (b ∷ text)) (behind (b ∷ text))) i) ∷ folders_is rest behind text i
+    ∙ ap (λ c. c || behind (b ∷ text)) (first_tail (run true rest) (b ∷ text)) ∙ or_comm (run true rest (b ∷ text)) (behind (b ∷ text))) i) ∷ folders_is rest behind text i
 
 -- a cell that is the same for each end
 same_is : (cell : Bool) (text : List ℕ) → replicate (length text + 1) cell ≡ map (λ t. cell) (tails text)
@@ -80,11 +80,12 @@ nth_row ignore_case fresh (suc k) (b ∷ p) text within = nth_row ignore_case (b
 -- what a front matches, with the rest of the pattern behind its first byte
 abbrev pub matched : (ignore_case : Bool) → Front → (slash : Bool) (p text : List ℕ) → Bool
 matched ignore_case f slash p text = elim f [
-    Nothing ↦ false
+  | Nothing ↦ false
   | One element more ↦ one (takes ignore_case element) (matches ignore_case more slash p) text
   | Run slashes more ↦ run slashes (matches ignore_case more slash p) text
   | Rest ↦ true
-  | Folders more ↦ matches ignore_case (more + 1) slash p text || run true (matches ignore_case more slash p) text ]
+  | Folders more ↦ matches ignore_case (more + 1) slash p text || run true (matches ignore_case more slash p) text
+]
 
 -- a pattern matches what its front does
 matched_is : (ignore_case fresh : Bool) (b : ℕ) (p text : List ℕ) → matched ignore_case (front fresh b p) (b == 47) p text ≡ matches ignore_case 0 fresh (b ∷ p) text
@@ -149,7 +150,7 @@ skipped ignore_case fresh (suc (suc i)) (b ∷ p) text within = skipped ignore_c
 -- the first row and the rows below it
 pub rows_step : (ignore_case fresh : Bool) (p text : List ℕ) (i : ℕ) → i < length p
     → rows_of ignore_case (is_fresh_at fresh i p) (drop i p) text
-      ≡ cells ignore_case (is_fresh_at fresh i p) (get_or p i 0 ∷ drop (i + 1) p) text ∷ rows_of ignore_case (get_or p i 0 == 47) (drop (i + 1) p) text
+    ≡ cells ignore_case (is_fresh_at fresh i p) (get_or p i 0 ∷ drop (i + 1) p) text ∷ rows_of ignore_case (get_or p i 0 == 47) (drop (i + 1) p) text
 unfolding rows_of
 rows_step ignore_case fresh p text i within = ap (λ q. rows_of ignore_case (is_fresh_at fresh i p) q text) (drop_more p i 0 within)
 
@@ -159,7 +160,7 @@ table_is ignore_case p text rows is = rw is (record {
   rows_count = rows_count ignore_case true p text;
   cells_count = rows_long ignore_case true p text;
   cell = λ i j within_p within_t. ap (λ row. get_or row j false) (nth_row ignore_case true i p text within_p)
-    ∙ nth_tail (matches ignore_case i true p) text j within_t ∙ skipped ignore_case true i p (drop j text) within_p;
+      ∙ nth_tail (matches ignore_case i true p) text j within_t ∙ skipped ignore_case true i p (drop j text) within_p;
 })
 
 -- the first cell of the first row
@@ -205,6 +206,7 @@ row_filled shown rows row ignore_case fresh here p rest text k j next within cou
   where
     one_more : j ≡ suc k
     one_more = omega (arith, next)
+
     later : map shown (drop (k + 1) rows) ≡ rows_of ignore_case (get_or p k 0 == 47) (drop (k + 1) p) text
     later = ap (λ n. map shown (drop n rows)) (sym next) ∙ same ∙ (λ i. rows_of ignore_case (is_fresh_at fresh (one_more i) p) (drop (next i) p) text)
 
@@ -248,7 +250,7 @@ one_stops ignore_case p text i f here rest element more within here_is rest_here
 pub one_goes_on : (ignore_case : Bool) (p text : List ℕ) (i j : ℕ) (f : Front) (here : Bool) (rest : List ℕ) (element : Element) (more : ℕ) → i < length p → here ≡ is_fresh_at true i p
     → rest ≡ drop (i + 1) p → f ≡ front here (get_or p i 0) rest → f ≡ One element more → more < length rest + 1 → j < length text → takes_first (takes ignore_case element) (drop j text) ≡ true
     → matches ignore_case 0 (is_fresh_at true i p) (drop i p) (drop j text)
-      ≡ matches ignore_case 0 (is_fresh_at true (i + (1 + more)) p) (drop (i + (1 + more)) p) (drop (j + 1) text)
+    ≡ matches ignore_case 0 (is_fresh_at true (i + (1 + more)) p) (drop (i + (1 + more)) p) (drop (j + 1) text)
 one_goes_on ignore_case p text i j f here rest element more within here_is rest_here is shape fits text_within taken =
     by_front ignore_case p (drop j text) i f here rest within here_is rest_here is ∙ ap (λ g. matched ignore_case g (get_or p i 0 == 47) (drop (i + 1) p) (drop j text)) shape
     ∙ ap (one (takes ignore_case element) (matches ignore_case more (get_or p i 0 == 47) (drop (i + 1) p))) (drop_more text j 0 text_within)
@@ -277,5 +279,5 @@ at_end ignore_case p text i j past within text_within =
 pub first_row_long : (ignore_case fresh : Bool) (p text : List ℕ) (rows : List (List Bool)) → rows ≡ rows_of ignore_case fresh p text → 0 < length (get_or rows 0 [])
 first_row_long ignore_case fresh p text rows is =
     let long : length (get_or (rows_of ignore_case fresh p text) 0 []) ≡ length text + 1
-      = rows_long ignore_case fresh p text 0 [] (let h = rows_count ignore_case fresh p text in omega (arith, h)) in
+    = rows_long ignore_case fresh p text 0 [] (let h = rows_count ignore_case fresh p text in omega (arith, h)) in
     subst (λ rs. 0 < length (get_or rs 0 [])) (sym is) (omega (arith, long))

@@ -64,8 +64,9 @@ class_named name =
 -- how many bytes the name has that stands between `[:` and `:]`, read behind `[:`: a `:` stands before the first `]`
 abbrev pub name_length : List ℕ → Option ℕ
 name_length p = elim (position (λ b. b == 93) p) [
-    None ↦ None
-  | Some n ↦ if ltb 0 n && get_or p (pred n) 0 == 58 then Some (pred n) else None ]
+  | None ↦ None
+  | Some n ↦ if ltb 0 n && get_or p (pred n) 0 == 58 then Some (pred n) else None
+]
 
 -- the byte that stands first, or the one behind a backslash; and how many bytes it has behind its first one
 abbrev pub literal : List ℕ → Option (ℕ × ℕ)
@@ -81,10 +82,11 @@ goes_on (b ∷ c ∷ p) = b == 45 && not (c == 93)
 -- a byte or a range
 abbrev pub byte_or_range : List ℕ → Option (Member × ℕ)
 byte_or_range p = elim (literal p) [
-    None ↦ None
+  | None ↦ None
   | Some low ↦ if goes_on (drop (low.1 + 1) p)
       then option_map (λ (high : ℕ × ℕ). (Range low.0 high.0, low.1 + 2 + high.1)) (literal (drop (low.1 + 2) p))
-      else Some (Byte low.0, low.1) ]
+      else Some (Byte low.0, low.1)
+]
 
 -- how many bytes the name of a class has, where one stands first
 abbrev pub class_length : List ℕ → Option ℕ
@@ -95,8 +97,9 @@ class_length (b ∷ c ∷ p) = if b == 91 && c == 58 then name_length p else Non
 -- A member, and how many bytes it has behind its first one. There is none where a byte is missing, or for a class that isn't known.
 unfoldable pub member : List ℕ → Option (Member × ℕ)
 member p = elim (class_length p) [
-    None ↦ byte_or_range p
-  | Some n ↦ option_map (λ (c : Class). (Named c, n + 3)) (class_named (take n (drop 2 p))) ]
+  | None ↦ byte_or_range p
+  | Some n ↦ option_map (λ (c : Class). (Named c, n + 3)) (class_named (take n (drop 2 p)))
+]
 
 -- Members up to the `]`, with the place behind it: n bytes were passed, skip more belong to the last member.
 -- A `]` where the first member is looked for is a member.
@@ -104,8 +107,9 @@ unfoldable pub members_from : (read : List Member) (first n skip : ℕ) → List
 members_from read first n skip [] = None
 members_from read first n (suc skip) (b ∷ p) = members_from read first (n + 1) skip p
 members_from read first n zero (b ∷ p) = elim (b == 93 && ltb first n) [
-    true ↦ Some (read, n + 1)
-  | false ↦ elim (member (b ∷ p)) [ None ↦ None | Some m ↦ members_from (read ++ m.0 ∷ []) first (n + 1) m.1 p ] ]
+  | true ↦ Some (read, n + 1)
+  | false ↦ elim (member (b ∷ p)) [ None ↦ None | Some m ↦ members_from (read ++ m.0 ∷ []) first (n + 1) m.1 p ]
+]
 
 -- `!` or `^`
 abbrev pub negates : List ℕ → Bool

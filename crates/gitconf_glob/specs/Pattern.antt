@@ -91,8 +91,9 @@ unfoldable pub matches : (ignore_case : Bool) (skip : ℕ) (fresh : Bool) (patte
 matches ignore_case skip fresh [] text = is_empty text
 matches ignore_case (suc skip) fresh (b ∷ p) text = matches ignore_case skip (b == 47) p text
 matches ignore_case zero fresh (b ∷ p) text = elim (front fresh b p) [
-    Nothing ↦ false
+  | Nothing ↦ false
   | One element more ↦ one (takes ignore_case element) (matches ignore_case more (b == 47) p) text
   | Run slashes more ↦ run slashes (matches ignore_case more (b == 47) p) text
   | Rest ↦ true
-  | Folders more ↦ matches ignore_case (more + 1) (b == 47) p text || run true (matches ignore_case more (b == 47) p) text ]
+  | Folders more ↦ matches ignore_case (more + 1) (b == 47) p text || run true (matches ignore_case more (b == 47) p) text
+]

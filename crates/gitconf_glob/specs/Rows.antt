@@ -27,4 +27,4 @@ pub record IsTable (ignore_case : Bool) (pattern text : List ℕ) (rows : List (
   pub rows_count : length rows ≡ length pattern + 1
   pub cells_count : All (λ row. length row ≡ length text + 1) rows
   pub cell : (i j : ℕ) → i ≤ length pattern → j ≤ length text
-    → get_or (get_or rows i []) j false ≡ matches ignore_case 0 (is_fresh_at true i pattern) (drop i pattern) (drop j text)
+      → get_or (get_or rows i []) j false ≡ matches ignore_case 0 (is_fresh_at true i pattern) (drop i pattern) (drop j text)

@@ -266,9 +266,5 @@ fn members_begin(text: &[u8]) -> usize
     ensures value { result ≡ spec.members_begin text.now }
     ensures within { result ≤ length text.now }
 {
-    if negates(text) {
-        1
-    } else {
-        0
-    }
+    if negates(text) { 1 } else { 0 }
 }

@@ -3,7 +3,7 @@ ghost use Rattle.std.specs.Prelude.{◌≡◌, ◌+◌, ◌≤◌, length, IfOk}
 ghost use Rattle.gitconf_glob.specs.Pattern as spec;
 ghost use Rattle.gitconf_glob.specs.Shapes.{element_of, front_of, FitsIn};
 
-use crate::bracket::{bracket, is_taken, negates, Member};
+use crate::bracket::{Member, bracket, is_taken, negates};
 use gitconf_text::NoMemory;
 use std::alloc::Global;
 

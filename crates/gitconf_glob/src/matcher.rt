@@ -3,7 +3,7 @@ ghost use Rattle.std.specs.Prelude.{◌≡◌, ◌<◌, true, length, drop, IfOk
 ghost use Rattle.gitconf_glob.specs.Pattern.{takes, takes_first, matches};
 ghost use Rattle.gitconf_glob.specs.Shapes.{element_of};
 
-use crate::front::{read_front, Element, Front};
+use crate::front::{Element, Front, read_front};
 use crate::table::{first_cell, is_fresh_at, rows_of};
 use gitconf_text::NoMemory;
 use std::alloc::Global;
@@ -43,7 +43,12 @@ fn matches_by_rows(
 /// # Errors
 ///
 /// Only where memory is wanting.
-pub fn wildmatch(alloc: Global, pattern: &[u8], text: &[u8], ignore_case: bool) -> Result<bool, NoMemory>
+pub fn wildmatch(
+    alloc: Global,
+    pattern: &[u8],
+    text: &[u8],
+    ignore_case: bool,
+) -> Result<bool, NoMemory>
     ensures { IfOk result (λ it. it ≡ matches ignore_case 0 true pattern.now text.now) }
 {
     let mut i = 0;

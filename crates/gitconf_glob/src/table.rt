@@ -5,7 +5,7 @@ ghost use Rattle.gitconf_glob.specs.Rows.{cells, rows_of, is_fresh_at, IsTable};
 ghost use Rattle.gitconf_glob.specs.Cells.{one_cells, run_cells, folder_cells, cells_at, last_cells, AreLong};
 ghost use Rattle.gitconf_glob.specs.Shapes.{element_of, front_of, FitsIn};
 
-use crate::front::{read_front, Element, Front};
+use crate::front::{Element, Front, read_front};
 use gitconf_text::NoMemory;
 use std::alloc::Global;
 use std::marker::Model;
@@ -111,9 +111,20 @@ fn row_of(
 {
     let mut row = vec![in alloc; matches!(shape, Front::Rest); text.len() + 1]?;
     match shape {
-        Front::One(element, more) => fill_one(&mut row, text, row_at(below, *more), element, ignore_case),
+        Front::One(element, more) => fill_one(
+            &mut row,
+            text,
+            row_at(below, *more),
+            element,
+            ignore_case,
+        ),
         Front::Run(slashes, more) => fill_run(&mut row, text, row_at(below, *more), *slashes),
-        Front::Folders(more) => fill_folders(&mut row, text, row_at(below, *more), row_at(below, *more + 1)),
+        Front::Folders(more) => fill_folders(
+            &mut row,
+            text,
+            row_at(below, *more),
+            row_at(below, *more + 1),
+        ),
         Front::Nothing | Front::Rest => {}
     }
     Ok(row)
@@ -186,7 +197,15 @@ pub(crate) fn rows_of(
         i -= 1;
         let fresh_here = is_fresh_at(fresh, i, pattern);
         let rest = &pattern[i + 1..];
-        rows[i] = pattern_row(alloc, fresh_here, pattern[i], rest, text, ignore_case, &rows[i + 1..])?;
+        rows[i] = pattern_row(
+            alloc,
+            fresh_here,
+            pattern[i],
+            rest,
+            text,
+            ignore_case,
+            &rows[i + 1..],
+        )?;
     }
     Ok(rows)
 }
@@ -225,7 +244,12 @@ impl Table {
     /// # Errors
     ///
     /// Only where memory is wanting.
-    pub fn fill(alloc: Global, pattern: &[u8], text: &[u8], ignore_case: bool) -> Result<Table, NoMemory>
+    pub fn fill(
+        alloc: Global,
+        pattern: &[u8],
+        text: &[u8],
+        ignore_case: bool,
+    ) -> Result<Table, NoMemory>
         ensures { IfOk result (λ table. IsTable ignore_case pattern.now text.now table) }
     {
         let rows = rows_of(alloc, true, pattern, text, ignore_case)?;

@@ -1,6 +1,5 @@
-use Rattle.std.proofs.Common.{◌≡◌, ◌<◌, ◌∙◌, arith, length, get_or, [], sym, subst, ap, false}
+use Rattle.std.proofs.Common.{◌∙◌, arith, ap}
 use Rattle.std.specs.Prelude.{map, vec_items}
-use Rattle.gitconf_glob.specs.Rows.{rows_of}
 use Rattle.gitconf_glob.proofs.RowLemmas.{below_count, first_cell, first_row_long}
 use Rattle.gitconf_glob.proofs.matcher.matches_by_rows.Goals as goal
 

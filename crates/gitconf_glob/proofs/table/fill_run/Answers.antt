@@ -1,5 +1,5 @@
-use Rattle.std.proofs.Common.{rules, arith, length-set, ◌∙◌}
-use Rattle.std.specs.Prelude.{◌+◌, ◌-◌}
+use Rattle.std.proofs.Common.{arith, length-set, ◌∙◌}
+use Rattle.std.specs.Prelude.{◌-◌}
 use Rattle.gitconf_glob.proofs.Filling.{run_step}
 use Rattle.gitconf_glob.proofs.table.fill_run.Goals as goal
 

@@ -1,7 +1,5 @@
 use Rattle.std.proofs.Common.{◌≡◌, ◌+◌, ◌≤◌, drop, length}
-use Rattle.gitconf_glob.specs.Cells.{one_cells, run_cells, folder_cells}
-use Rattle.gitconf_glob.specs.Pattern.{takes}
-use Rattle.gitconf_glob.specs.Shapes.{element_of}
+use Rattle.gitconf_glob.specs.Cells.{run_cells}
 use Rattle.gitconf_glob.proofs.table.fill_run.Given as goal
 
 abbrev pub invariant-loop-j : goal.invariant-loop-j

@@ -15,5 +15,5 @@ row_of-requires-clause-long c = subst (AreLong c.args.text.now) (sym c.requires)
 pub returns : goal.returns
 returns c = subst (λ cs. IfOk c.row_of.result (λ row. row.items ≡ cs))
     (row_from c.args.ignore_case c.args.fresh c.args.first c.args.rest.now c.args.text.now (front_of c.in_ok-shape.shape) (map vec_items c.args.below.now)
-      c.in_ok-shape.ensures.value c.in_ok-shape.ensures.within c.requires)
+    c.in_ok-shape.ensures.value c.in_ok-shape.ensures.within c.requires)
     c.row_of.ensures

@@ -1,4 +1,4 @@
-use Rattle.std.proofs.Common.{◌+◌, ◌-◌, ◌∙◌, arith, length, length-set}
+use Rattle.std.proofs.Common.{◌+◌, ◌-◌, ◌∙◌, arith, length-set}
 use Rattle.std.specs.Prelude.{vec_items}
 use Rattle.gitconf_glob.proofs.RowLemmas.{last_filled, row_filled, rest_is}
 use Rattle.gitconf_glob.proofs.table.rows_of.Goals as goal

@@ -1,0 +1,2 @@
+pub mod HomesLemmas
+pub mod PathLemmas

@@ -1,0 +1,6 @@
+//! Values of git's configuration with a meaning of their own.
+#![tactic(auto)]
+
+pub mod path;
+
+pub use path::{interpolate::Homes, Path};
