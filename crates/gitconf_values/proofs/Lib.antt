@@ -1,2 +1,3 @@
 pub mod HomesLemmas
 pub mod PathLemmas
+pub mod TextLemmas

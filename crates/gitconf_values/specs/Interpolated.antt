@@ -2,6 +2,8 @@
 -- Source: the manual page of `git-config`, "Values", the entry `pathname`.
 use Rattle.std.specs.Prelude.{◌≡◌, ℕ, ◌+◌, Bool, true, false, if◌then◌else◌, List, [], ◌∷◌, ◌==◌, Option, Some, None, Result, Ok, Err, drop, take, length, position, codes, string_bytes}
 use Rattle.std.specs.Str.{bytes_eq, is_utf8}
+use Rattle.std.specs.Borrow.{Bor}
+use Rattle.std.specs.declared.str.Utf8Error.{Utf8Error}
 use Rattle.std.specs.declared.string.String.{String}
 use Rattle.std.specs.declared.alloc.Global.{Global}
 use Rattle.gitconf_values.specs.declared.path.interpolate.Error.{Error}
@@ -52,3 +54,8 @@ abbrev pub Gives : Result (String Global) Error → Result (List ℕ) ℕ → Ty
 Gives (Ok text) answer = answer ≡ Ok (string_bytes text)
 Gives (Err Memory) answer = Unit {0}
 Gives (Err e) answer = answer ≡ Err (interpolate_number e)
+
+-- bytes are read as text exactly where they are UTF-8
+abbrev pub Reads : Result (Bor (List ℕ)) Utf8Error → (bytes : List ℕ) → Type 0
+Reads (Ok text) bytes = (text.now ≡ bytes) × (is_utf8 bytes ≡ true)
+Reads (Err e) bytes = is_utf8 bytes ≡ false

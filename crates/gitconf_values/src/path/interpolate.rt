@@ -1,6 +1,10 @@
 //! What the shorthands at the front of a path stand for: `%(prefix)/`, `~/` and `~user/`.
-ghost use Rattle.std.specs.Prelude.{◌≡◌};
+ghost use Rattle.std.specs.Prelude.{◌≡◌, ◌==◌, position};
+ghost use Rattle.std.specs.Option.{option_copied};
+ghost use Rattle.gitconf_values.specs.Interpolated as spec;
+ghost use Rattle.gitconf_values.specs.Interpolated.{Gives, Reads};
 
+use super::join;
 use gitconf_text::NoMemory;
 use std::alloc::{AllocError, AllocFailed, Global};
 use std::collections::BTreeMap;
@@ -103,4 +107,103 @@ impl Homes {
             None => None,
         }
     }
+}
+
+/// The bytes as text.
+fn text(bytes: &[u8]) -> Result<&str, Utf8Error>
+    ensures { Reads result bytes.now }
+{
+    str::from_utf8(bytes)
+}
+
+/// What stands behind a beginning.
+fn behind<'a>(beginning: &[u8], path: &'a [u8]) -> Option<&'a [u8]>
+    ensures { option_copied result ≡ spec.behind beginning.now path.now }
+{
+    path.strip_prefix(beginning)
+}
+
+/// Where the first slash stands.
+fn first_slash(text: &[u8]) -> Option<usize>
+    ensures { result ≡ position (λ b. b == 47) text.now }
+{
+    text.iter().position(|b| *b == b'/')
+}
+
+/// A path by itself.
+fn plain(alloc: Global, path: &[u8]) -> Result<String, Error>
+    ensures { Gives result (spec.plain path.now) }
+{
+    match text(path) {
+        Ok(path) => match String::from_str(alloc, path) {
+            Ok(path) => Ok(path),
+            Err(_) => Err(Error::Memory),
+        },
+        Err(err) => Err(Error::Utf8Conversion { what: "path", err }),
+    }
+}
+
+/// What is left of a path, in a folder that has to be there; `what` names it in a refusal.
+fn below(alloc: Global, folder: Option<&str>, rest: &[u8], what: &'static str) -> Result<String, Error>
+    ensures { Gives result (spec.below (option_copied folder.entry) rest.now) }
+{
+    let Some(folder) = folder else {
+        return Err(Error::Missing { what });
+    };
+    match text(rest) {
+        Ok(rest) => match join(alloc, folder, rest) {
+            Ok(path) => Ok(path),
+            Err(_) => Err(Error::Memory),
+        },
+        Err(err) => Err(Error::Utf8Conversion { what: "path", err }),
+    }
+}
+
+/// What is left of a path, in the folder of a user.
+fn below_user(alloc: Global, homes: Option<&Homes>, user: &[u8], rest: &[u8]) -> Result<String, Error>
+    ensures { Gives result (spec.below_user (option_copied homes.entry) user.now rest.now) }
+{
+    match text(user) {
+        Ok(user) => match homes {
+            Some(homes) => below(alloc, homes.get(user), rest, "home folder of the user"),
+            None => Err(Error::Missing { what: "table of users" }),
+        },
+        Err(err) => Err(Error::UsernameConversion(err)),
+    }
+}
+
+/// A path behind its `~`: that of a user where a slash follows.
+fn of_user(alloc: Global, homes: Option<&Homes>, behind: &[u8], path: &[u8]) -> Result<String, Error>
+    ensures { Gives result (spec.of_user (option_copied homes.entry) behind.now path.now) }
+{
+    match first_slash(behind) {
+        Some(n) => below_user(alloc, homes, &behind[..n], &behind[n + 1..]),
+        None => plain(alloc, path),
+    }
+}
+
+/// A path that begins with none of the folders named so far.
+fn of_user_or_plain(alloc: Global, homes: Option<&Homes>, path: &[u8]) -> Result<String, Error>
+    ensures { Gives result (spec.of_user_or_plain (option_copied homes.entry) path.now) }
+{
+    match path {
+        [b'~', behind @ ..] => of_user(alloc, homes, behind, path),
+        _ => plain(alloc, path),
+    }
+}
+
+/// What a path stands for.
+pub(super) fn interpolated(alloc: Global, path: &[u8], context: Context<'_>) -> Result<String, Error>
+    ensures { Gives result (spec.interpolated (option_copied context.entry.git_install_dir) (option_copied context.entry.home_dir) (option_copied context.entry.home_for_user) path.now) }
+{
+    if path.is_empty() {
+        return Err(Error::Missing { what: "path" });
+    }
+    if let Some(rest) = behind(b"%(prefix)/".as_slice(), path) {
+        return below(alloc, context.git_install_dir, rest, "git install dir");
+    }
+    if let Some(rest) = behind(b"~/".as_slice(), path) {
+        return below(alloc, context.home_dir, rest, "home dir");
+    }
+    of_user_or_plain(alloc, context.home_for_user, path)
 }
