@@ -1,13 +1,13 @@
 -- What a path stands for: `%(prefix)/`, `~/` and `~user/` at its front.
 -- Source: the manual page of `git-config`, "Values", the entry `pathname`.
-use Rattle.std.specs.Prelude.{◌≡◌, ℕ, ◌+◌, Bool, true, false, if◌then◌else◌, List, [], ◌∷◌, ◌==◌, Option, Some, None, Result, Ok, Err, drop, take, length, position, codes, string_bytes}
+use Rattle.std.specs.Prelude.{◌≡◌, ℕ, ◌+◌, true, false, if◌then◌else◌, List, [], ◌∷◌, ◌==◌, Option, Some, None, Result, Ok, Err, drop, take, length, position, codes, string_bytes}
 use Rattle.std.specs.Str.{bytes_eq, is_utf8}
 use Rattle.std.specs.Borrow.{Bor}
 use Rattle.std.specs.declared.str.Utf8Error.{Utf8Error}
 use Rattle.std.specs.declared.string.String.{String}
 use Rattle.std.specs.declared.alloc.Global.{Global}
 use Rattle.gitconf_values.specs.declared.path.interpolate.Error.{Error}
-use Rattle.gitconf_values.specs.declared.path.interpolate.Error.TheVariants.{Missing, Utf8Conversion, UsernameConversion, Memory}
+use Rattle.gitconf_values.specs.declared.path.interpolate.Error.TheVariants.{Memory}
 use Rattle.gitconf_values.specs.Homes.{folder_of, interpolate_number}
 use Rattle.gitconf_values.specs.Paths.{join, is_empty}
 
@@ -31,8 +31,9 @@ below_user homes user rest = if is_utf8 user then elim homes [ None ↦ Err 12 |
 -- a path behind its `~`, which is of a user where a slash follows
 abbrev pub of_user : (homes : Option (List (List ℕ × List ℕ))) (behind path : List ℕ) → Result (List ℕ) ℕ
 of_user homes behind path = elim (position (λ b. b == 47) behind) [
-    None ↦ plain path
-  | Some n ↦ below_user homes (take n behind) (drop (n + 1) behind) ]
+  | None ↦ plain path
+  | Some n ↦ below_user homes (take n behind) (drop (n + 1) behind)
+]
 
 -- a path that begins with none of the folders named so far
 abbrev pub of_user_or_plain : (homes : Option (List (List ℕ × List ℕ))) (path : List ℕ) → Result (List ℕ) ℕ
@@ -44,10 +45,12 @@ of_user_or_plain homes (b ∷ rest) = if b == 126 then of_user homes rest (b ∷
 abbrev pub interpolated : (install home : Option (List ℕ)) (homes : Option (List (List ℕ × List ℕ))) (path : List ℕ) → Result (List ℕ) ℕ
 interpolated install home homes path = if is_empty path then Err 12 else
     elim (behind (codes "%(prefix)/") path) [
-        Some rest ↦ below install rest
+      | Some rest ↦ below install rest
       | None ↦ elim (behind (codes "~/") path) [
-            Some rest ↦ below home rest
-          | None ↦ of_user_or_plain homes path ] ]
+        | Some rest ↦ below home rest
+        | None ↦ of_user_or_plain homes path
+      ]
+    ]
 
 -- a call gives that text or is refused with that number, or memory was wanting
 abbrev pub Gives : Result (String Global) Error → Result (List ℕ) ℕ → Type 0

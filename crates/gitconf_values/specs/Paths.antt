@@ -17,8 +17,9 @@ last_slash (suc n) path = elim (get_or path n 0 == 47) [ true ↦ Some n | false
 abbrev pub parent_length : (path : List ℕ) → Option ℕ
 parent_length path = if trimmed_length (length path) path == 0 then None else
     elim (last_slash (trimmed_length (length path) path) path) [
-        None ↦ Some 0
-      | Some at ↦ Some (if trimmed_length at path == 0 then 1 else trimmed_length at path) ]
+      | None ↦ Some 0
+      | Some at ↦ Some (if trimmed_length at path == 0 then 1 else trimmed_length at path)
+    ]
 
 abbrev pub parent : (path : List ℕ) → Option (List ℕ)
 parent path = elim (parent_length path) [ None ↦ None | Some n ↦ Some (take n path) ]

@@ -3,4 +3,5 @@
 
 pub mod path;
 
-pub use path::{interpolate::Homes, Path};
+pub use path::Path;
+pub use path::interpolate::Homes;

@@ -1,7 +1,6 @@
 //! Paths as configuration writes them: the folder that one stands in, joined ones, and what their shorthands stand for.
 ghost use Rattle.std.specs.Prelude.{◌≡◌, ◌<◌, ◌≤◌, ◌&&◌, IfOk, IfSome, length, string_bytes};
 ghost use Rattle.std.specs.Option.{option_copied};
-ghost use Rattle.std.specs.Str.{IsCharBoundary};
 ghost use Rattle.gitconf_values.specs.Paths as spec;
 
 pub mod interpolate;
@@ -56,6 +55,15 @@ fn parent_length(path: &[u8]) -> Option<usize>
     };
     let left = trimmed_length(path, at);
     Some(if left == 0 { 1 } else { left })
+}
+
+/// The folder that a path stands in, as a part of the path. There is none for an empty path and for slashes alone, it
+/// is empty for a name alone, and slashes at the end of either count for nothing. It takes no memory.
+pub fn parent(path: &str) -> Option<&str>
+    ensures { option_copied result ≡ spec.parent path.now }
+{
+    let length = parent_length(path.as_bytes())?;
+    Some(&path[..length])
 }
 
 /// Whether a slash stands first.
@@ -118,7 +126,9 @@ impl From<BString> for Path {
     ghost from_gives = { λ bytes path. path ≡ bstring_bytes bytes };
 
     fn from(value: BString) -> Path {
-        Path { value: value.into_vec() }
+        Path {
+            value: value.into_vec(),
+        }
     }
 }
 

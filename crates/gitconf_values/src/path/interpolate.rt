@@ -144,7 +144,12 @@ fn plain(alloc: Global, path: &[u8]) -> Result<String, Error>
 }
 
 /// What is left of a path, in a folder that has to be there; `what` names it in a refusal.
-fn below(alloc: Global, folder: Option<&str>, rest: &[u8], what: &'static str) -> Result<String, Error>
+fn below(
+    alloc: Global,
+    folder: Option<&str>,
+    rest: &[u8],
+    what: &'static str,
+) -> Result<String, Error>
     ensures { Gives result (spec.below (option_copied folder.entry) rest.now) }
 {
     let Some(folder) = folder else {
@@ -160,20 +165,32 @@ fn below(alloc: Global, folder: Option<&str>, rest: &[u8], what: &'static str) -
 }
 
 /// What is left of a path, in the folder of a user.
-fn below_user(alloc: Global, homes: Option<&Homes>, user: &[u8], rest: &[u8]) -> Result<String, Error>
+fn below_user(
+    alloc: Global,
+    homes: Option<&Homes>,
+    user: &[u8],
+    rest: &[u8],
+) -> Result<String, Error>
     ensures { Gives result (spec.below_user (option_copied homes.entry) user.now rest.now) }
 {
     match text(user) {
         Ok(user) => match homes {
             Some(homes) => below(alloc, homes.get(user), rest, "home folder of the user"),
-            None => Err(Error::Missing { what: "table of users" }),
+            None => Err(Error::Missing {
+                what: "table of users",
+            }),
         },
         Err(err) => Err(Error::UsernameConversion(err)),
     }
 }
 
 /// A path behind its `~`: that of a user where a slash follows.
-fn of_user(alloc: Global, homes: Option<&Homes>, behind: &[u8], path: &[u8]) -> Result<String, Error>
+fn of_user(
+    alloc: Global,
+    homes: Option<&Homes>,
+    behind: &[u8],
+    path: &[u8],
+) -> Result<String, Error>
     ensures { Gives result (spec.of_user (option_copied homes.entry) behind.now path.now) }
 {
     match first_slash(behind) {
@@ -193,7 +210,11 @@ fn of_user_or_plain(alloc: Global, homes: Option<&Homes>, path: &[u8]) -> Result
 }
 
 /// What a path stands for.
-pub(super) fn interpolated(alloc: Global, path: &[u8], context: Context<'_>) -> Result<String, Error>
+pub(super) fn interpolated(
+    alloc: Global,
+    path: &[u8],
+    context: Context<'_>,
+) -> Result<String, Error>
     ensures { Gives result (spec.interpolated (option_copied context.entry.git_install_dir) (option_copied context.entry.home_dir) (option_copied context.entry.home_for_user) path.now) }
 {
     if path.is_empty() {
