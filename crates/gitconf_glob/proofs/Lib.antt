@@ -1,0 +1,4 @@
+pub mod Members
+pub mod Filling
+pub mod RowLemmas
+pub mod PatternRows

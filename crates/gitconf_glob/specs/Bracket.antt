@@ -1,0 +1,125 @@
+-- What stands behind a `[` of a pattern: members up to a `]`, and the bytes that they take.
+-- Source: the wildmatch of Git; which texts are members is this project's own rule.
+use Rattle.std.specs.Prelude.{ℕ, zero, suc, pred, leb, ltb, ◌+◌, Bool, true, false, not, if◌then◌else◌, List, [], ◌∷◌, ◌++◌, ◌&&◌, ◌||◌, ◌==◌, Option, Some, None, take, drop, get_or, position, codes}
+use Rattle.std.specs.List.{list_any}
+use Rattle.std.specs.Option.{option_map}
+use Rattle.std.specs.Str.{bytes_eq}
+use Rattle.std.specs.Char.{is_ascii_alphanumeric, is_ascii_alphabetic, is_ascii_control, is_ascii_digit, is_ascii_graphic, is_ascii_lowercase, is_ascii_punctuation, is_ascii_uppercase, is_ascii_hexdigit, to_ascii_lowercase, to_ascii_uppercase}
+use Rattle.gitconf_glob.specs.declared.bracket.Class.{Class}
+use Rattle.gitconf_glob.specs.declared.bracket.Class.TheVariants as class
+use Rattle.gitconf_glob.specs.declared.bracket.Member.{Member}
+use Rattle.gitconf_glob.specs.declared.bracket.Member.TheVariants.{Byte, Range, Named}
+
+-- a byte from one to another, both counted in
+abbrev pub is_between : (low high b : ℕ) → Bool
+is_between low high b = leb low b && leb b high
+
+-- the bytes of a class
+abbrev pub is_in_class : Class → ℕ → Bool
+is_in_class class.Alnum b = is_ascii_alphanumeric b
+is_in_class class.Alpha b = is_ascii_alphabetic b
+is_in_class class.Blank b = b == 32 || b == 9
+is_in_class class.Cntrl b = is_ascii_control b
+is_in_class class.Digit b = is_ascii_digit b
+is_in_class class.Graph b = is_ascii_graphic b
+is_in_class class.Lower b = is_ascii_lowercase b
+is_in_class class.Print b = b == 32 || is_ascii_graphic b
+is_in_class class.Punct b = is_ascii_punctuation b
+is_in_class class.Space b = is_between 9 13 b || b == 32
+is_in_class class.Upper b = is_ascii_uppercase b
+is_in_class class.Xdigit b = is_ascii_hexdigit b
+
+-- the bytes of a member
+abbrev pub is_of : (b : ℕ) → Member → Bool
+is_of b (Byte m) = b == m
+is_of b (Range low high) = is_between low high b
+is_of b (Named c) = is_in_class c b
+
+-- one of the members takes the byte; without case, its lower or its upper form
+abbrev pub is_of_any : (ignore_case : Bool) → List Member → ℕ → Bool
+is_of_any ignore_case members b = if ignore_case
+    then list_any (is_of (to_ascii_lowercase b)) members || list_any (is_of (to_ascii_uppercase b)) members
+    else list_any (is_of b) members
+
+-- A bracket takes a byte of its members, a negated one any other; neither takes `/`.
+abbrev pub is_taken : (ignore_case negated : Bool) → List Member → ℕ → Bool
+is_taken ignore_case negated members b = not (b == 47) && (if negated then not (is_of_any ignore_case members b) else is_of_any ignore_case members b)
+
+-- the class of a name
+abbrev pub class_named : List ℕ → Option Class
+class_named name =
+    if bytes_eq name (codes "alnum") then Some class.Alnum else
+    if bytes_eq name (codes "alpha") then Some class.Alpha else
+    if bytes_eq name (codes "blank") then Some class.Blank else
+    if bytes_eq name (codes "cntrl") then Some class.Cntrl else
+    if bytes_eq name (codes "digit") then Some class.Digit else
+    if bytes_eq name (codes "graph") then Some class.Graph else
+    if bytes_eq name (codes "lower") then Some class.Lower else
+    if bytes_eq name (codes "print") then Some class.Print else
+    if bytes_eq name (codes "punct") then Some class.Punct else
+    if bytes_eq name (codes "space") then Some class.Space else
+    if bytes_eq name (codes "upper") then Some class.Upper else
+    if bytes_eq name (codes "xdigit") then Some class.Xdigit else None
+
+-- how many bytes the name has that stands between `[:` and `:]`, read behind `[:`: a `:` stands before the first `]`
+abbrev pub name_length : List ℕ → Option ℕ
+name_length p = elim (position (λ b. b == 93) p) [
+  | None ↦ None
+  | Some n ↦ if ltb 0 n && get_or p (pred n) 0 == 58 then Some (pred n) else None
+]
+
+-- the byte that stands first, or the one behind a backslash; and how many bytes it has behind its first one
+abbrev pub literal : List ℕ → Option (ℕ × ℕ)
+literal [] = None
+literal (b ∷ p) = if b == 92 then elim p [ [] ↦ None | c ∷ q ↦ Some (c, 1) ] else Some (b, 0)
+
+-- a `-` and a byte other than `]`: a range goes on
+abbrev pub goes_on : List ℕ → Bool
+goes_on [] = false
+goes_on (b ∷ []) = false
+goes_on (b ∷ c ∷ p) = b == 45 && not (c == 93)
+
+-- a byte or a range
+abbrev pub byte_or_range : List ℕ → Option (Member × ℕ)
+byte_or_range p = elim (literal p) [
+  | None ↦ None
+  | Some low ↦ if goes_on (drop (low.1 + 1) p)
+      then option_map (λ (high : ℕ × ℕ). (Range low.0 high.0, low.1 + 2 + high.1)) (literal (drop (low.1 + 2) p))
+      else Some (Byte low.0, low.1)
+]
+
+-- how many bytes the name of a class has, where one stands first
+abbrev pub class_length : List ℕ → Option ℕ
+class_length [] = None
+class_length (b ∷ []) = None
+class_length (b ∷ c ∷ p) = if b == 91 && c == 58 then name_length p else None
+
+-- A member, and how many bytes it has behind its first one. There is none where a byte is missing, or for a class that isn't known.
+unfoldable pub member : List ℕ → Option (Member × ℕ)
+member p = elim (class_length p) [
+  | None ↦ byte_or_range p
+  | Some n ↦ option_map (λ (c : Class). (Named c, n + 3)) (class_named (take n (drop 2 p)))
+]
+
+-- Members up to the `]`, with the place behind it: n bytes were passed, skip more belong to the last member.
+-- A `]` where the first member is looked for is a member.
+unfoldable pub members_from : (read : List Member) (first n skip : ℕ) → List ℕ → Option (List Member × ℕ)
+members_from read first n skip [] = None
+members_from read first n (suc skip) (b ∷ p) = members_from read first (n + 1) skip p
+members_from read first n zero (b ∷ p) = elim (b == 93 && ltb first n) [
+  | true ↦ Some (read, n + 1)
+  | false ↦ elim (member (b ∷ p)) [ None ↦ None | Some m ↦ members_from (read ++ m.0 ∷ []) first (n + 1) m.1 p ]
+]
+
+-- `!` or `^`
+abbrev pub negates : List ℕ → Bool
+negates [] = false
+negates (b ∷ p) = b == 33 || b == 94
+
+-- where the members begin
+abbrev pub members_begin : List ℕ → ℕ
+members_begin p = if negates p then 1 else 0
+
+-- the members of a bracket, read behind its `[`, and how many bytes it has there; none where it takes nothing
+abbrev pub bracket : List ℕ → Option (List Member × ℕ)
+bracket p = members_from [] (members_begin p) (members_begin p) 0 (drop (members_begin p) p)

@@ -1,0 +1,5 @@
+pub mod Bracket
+pub mod Pattern
+pub mod Rows
+pub mod Shapes
+pub mod Cells

@@ -1,0 +1,131 @@
+//! What stands at a pattern's front.
+ghost use Rattle.std.specs.Prelude.{◌≡◌, ◌+◌, ◌≤◌, length, IfOk};
+ghost use Rattle.gitconf_glob.specs.Pattern as spec;
+ghost use Rattle.gitconf_glob.specs.Shapes.{element_of, front_of, FitsIn};
+
+use crate::bracket::{Member, bracket, is_taken, negates};
+use gitconf_text::NoMemory;
+use std::alloc::Global;
+
+/// What takes one byte of the text.
+#[derive(Drop)]
+pub enum Element {
+    Literal(u8),
+    /// Any byte but `/`.
+    AnyByte,
+    /// A bracket: whether it is negated, and its members.
+    OneOf(bool, Vec<Member>),
+}
+
+/// What stands at a pattern's front. A number counts the bytes behind the first one that belong to it.
+#[derive(Drop)]
+pub enum Front {
+    /// What no text matches.
+    Nothing,
+    One(Element, usize),
+    /// Stars that take a run of bytes, with `/` or without.
+    Run(bool, usize),
+    /// Stars at the pattern's end that take any text.
+    Rest,
+    /// Stars before a `/`, which take a run of bytes, or nothing together with that `/`.
+    Folders(usize),
+}
+
+impl Element {
+    ghost use Rattle.std.specs.Prelude.{◌≡◌};
+    ghost use Rattle.gitconf_glob.specs.Pattern as spec;
+    ghost use Rattle.gitconf_glob.specs.Shapes.{element_of};
+
+    /// Whether the byte is taken.
+    pub fn takes(&self, ignore_case: bool, b: u8) -> bool
+        ensures { result ≡ spec.takes ignore_case (element_of self.now) b }
+    {
+        match self {
+            Element::Literal(byte) => {
+                if ignore_case {
+                    byte.to_ascii_lowercase() == b.to_ascii_lowercase()
+                } else {
+                    *byte == b
+                }
+            }
+            Element::AnyByte => b != b'/',
+            Element::OneOf(negated, members) => is_taken(ignore_case, *negated, members, b),
+        }
+    }
+}
+
+/// How many stars stand first.
+#[tactic(auto, unfolding(crate::specs::Pattern::stars_from))]
+fn count_stars(text: &[u8]) -> usize
+    ensures value { result ≡ spec.stars_from 0 text.now }
+    ensures within { result ≤ length text.now }
+{
+    let mut i = 0;
+    while i < text.len() && text[i] == b'*' {
+        i += 1;
+    }
+    i
+}
+
+/// Several stars at the pattern's start or behind `/`, with `more` of them behind the first one, before `text`.
+fn wide(more: usize, text: &[u8]) -> Front
+    ensures { front_of result ≡ spec.wide more text.now }
+{
+    match text {
+        [] => Front::Rest,
+        [b'/', ..] => Front::Folders(more),
+        [b'\\', b'/', ..] => Front::Run(true, more),
+        _ => Front::Run(false, more),
+    }
+}
+
+/// Stars, with `text` behind the first one.
+fn stars(fresh: bool, text: &[u8]) -> Front
+    ensures value { front_of result ≡ spec.stars fresh text.now }
+    ensures within { FitsIn (length text.now + 1) (front_of result) }
+{
+    let more = count_stars(text);
+    if fresh && more > 0 {
+        wide(more, &text[more..])
+    } else {
+        Front::Run(false, more)
+    }
+}
+
+/// What a backslash makes of the text behind it: the byte there itself.
+fn escape(text: &[u8]) -> Front
+    ensures value { front_of result ≡ spec.escape text.now }
+    ensures within { FitsIn (length text.now + 1) (front_of result) }
+{
+    match text {
+        [b, ..] => Front::One(Element::Literal(*b), 1),
+        [] => Front::Nothing,
+    }
+}
+
+/// A bracket, with `text` behind its `[`.
+fn one_of(alloc: Global, text: &[u8]) -> Result<Front, NoMemory>
+    ensures value { IfOk result (λ f. front_of f ≡ spec.one_of text.now) }
+    ensures within { IfOk result (λ f. FitsIn (length text.now + 1) (front_of f)) }
+{
+    match bracket(alloc, text)? {
+        Some((members, more)) => Ok(Front::One(Element::OneOf(negates(text), members), more)),
+        None => Ok(Front::Nothing),
+    }
+}
+
+/// What stands at the front of a pattern: its first byte with the rest behind it, `fresh` at the start of all or
+/// behind `/`. Takes memory for a bracket's members alone.
+#[tactic(auto, unfolding(crate::specs::Pattern::front))]
+pub fn read_front(alloc: Global, fresh: bool, first: u8, rest: &[u8]) -> Result<Front, NoMemory>
+    ensures value { IfOk result (λ f. front_of f ≡ spec.front fresh first rest.now) }
+    ensures within { IfOk result (λ f. FitsIn (length rest.now + 1) (front_of f)) }
+{
+    match first {
+        b'*' => Ok(stars(fresh, rest)),
+        b'?' => Ok(Front::One(Element::AnyByte, 0)),
+        b'\\' => Ok(escape(rest)),
+        b'[' => one_of(alloc, rest),
+        _ => Ok(Front::One(Element::Literal(first), 0)),
+    }
+}

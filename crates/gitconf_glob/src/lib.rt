@@ -1,0 +1,10 @@
+//! Path patterns, as git's configuration has them in conditions on includes: Git's wildmatch in path mode.
+#![tactic(auto)]
+
+pub mod bracket;
+pub mod front;
+pub mod matcher;
+pub mod table;
+
+pub use matcher::wildmatch;
+pub use table::Table;

@@ -1,0 +1,265 @@
+//! The table of a matcher: for each end of a pattern and each end of a text whether the one matches the other.
+ghost use Rattle.std.specs.Prelude.{◌≡◌, ◌+◌, ◌≤◌, ◌<◌, ◌==◌, ◌&&◌, ◌||◌, not, false, [], ◌∷◌, All, length, map, vec_items, get_or, IfOk};
+ghost use Rattle.gitconf_glob.specs.Pattern as spec;
+ghost use Rattle.gitconf_glob.specs.Rows.{cells, rows_of, is_fresh_at, IsTable};
+ghost use Rattle.gitconf_glob.specs.Cells.{one_cells, run_cells, folder_cells, cells_at, last_cells, AreLong};
+ghost use Rattle.gitconf_glob.specs.Shapes.{element_of, front_of, FitsIn};
+
+use crate::front::{Element, Front, read_front};
+use gitconf_text::NoMemory;
+use std::alloc::Global;
+use std::marker::Model;
+
+/// The cell of what takes one byte, from the cell behind it.
+fn one_cell(behind: bool, element: &Element, ignore_case: bool, b: u8) -> bool
+    ensures { result ≡ (behind && spec.takes ignore_case (element_of element.now) b) }
+{
+    behind && element.takes(ignore_case, b)
+}
+
+/// The cell of a run, from the cell of what stands behind the run, and the run's own for the text behind the byte.
+fn run_cell(below: bool, slashes: bool, b: u8, later: bool) -> bool
+    ensures { result ≡ (below || (slashes || not (b == 47)) && later) }
+{
+    below || (slashes || b != b'/') && later
+}
+
+/// Whether one of two holds.
+fn either(a: bool, b: bool) -> bool
+    ensures { result ≡ (a || b) }
+{
+    a || b
+}
+
+/// Fills the row of what takes one byte, from the row behind it.
+#[tactic(auto, unfolding(crate::specs::Cells::one_cells))]
+fn fill_one(row: &mut [bool], text: &[u8], below: &[bool], element: &Element, ignore_case: bool)
+    requires row { length row.old ≡ length text.now + 1 }
+    requires below { length below.now ≡ length text.now + 1 }
+    ensures { row.new ≡ one_cells (spec.takes ignore_case (element_of element.now)) text.now below.now }
+{
+    let mut j = text.len();
+    row[j] = false;
+    while j > 0 {
+        j -= 1;
+        row[j] = one_cell(below[j + 1], element, ignore_case, text[j]);
+    }
+}
+
+/// Fills the row of a run, from the row behind it.
+#[tactic(auto, unfolding(crate::specs::Cells::run_cells))]
+fn fill_run(row: &mut [bool], text: &[u8], below: &[bool], slashes: bool)
+    requires row { length row.old ≡ length text.now + 1 }
+    requires below { length below.now ≡ length text.now + 1 }
+    ensures { row.new ≡ run_cells slashes text.now below.now }
+{
+    let mut j = text.len();
+    row[j] = below[j];
+    while j > 0 {
+        j -= 1;
+        row[j] = run_cell(below[j], slashes, text[j], row[j + 1]);
+    }
+}
+
+/// Fills the row of a run before a `/`, from the row of the `/` and the one behind it.
+#[tactic(auto, unfolding(crate::specs::Cells::run_cells, crate::specs::Cells::folder_cells))]
+fn fill_folders(row: &mut [bool], text: &[u8], below: &[bool], behind: &[bool])
+    requires row { length row.old ≡ length text.now + 1 }
+    requires below { length below.now ≡ length text.now + 1 }
+    requires behind { length behind.now ≡ length text.now + 1 }
+    ensures { row.new ≡ folder_cells text.now below.now behind.now }
+{
+    let mut j = text.len();
+    let mut reached = below[j];
+    row[j] = either(reached, behind[j]);
+    while j > 0 {
+        j -= 1;
+        reached = run_cell(below[j], true, text[j], reached);
+        row[j] = either(reached, behind[j]);
+    }
+}
+
+/// A row of those below.
+fn row_at(rows: &[Vec<bool>], k: usize) -> &[bool]
+    requires { k < length rows.now }
+    ensures { result.now ≡ get_or (map vec_items rows.now) k [] }
+{
+    &rows[k]
+}
+
+/// The first cell of the first row.
+pub(crate) fn first_cell(rows: &[Vec<bool>]) -> bool
+    requires some { 0 < length rows.now }
+    requires long { 0 < length (get_or (map vec_items rows.now) 0 []) }
+    ensures { result ≡ get_or (get_or (map vec_items rows.now) 0 []) 0 false }
+{
+    row_at(rows, 0)[0]
+}
+
+/// The row of a front, from the rows below it, the next one first.
+#[tactic(auto, using(crate::proofs::RowLemmas::long_row))]
+fn row_of(
+    alloc: Global,
+    shape: &Front,
+    text: &[u8],
+    ignore_case: bool,
+    below: &[Vec<bool>],
+) -> Result<Vec<bool>, NoMemory>
+    requires fits { FitsIn (length below.now) (front_of shape.now) }
+    requires long { AreLong text.now (map vec_items below.now) }
+    ensures { IfOk result (λ row. row.items ≡ cells_at ignore_case (front_of shape.now) text.now (map vec_items below.now)) }
+{
+    let mut row = vec![in alloc; matches!(shape, Front::Rest); text.len() + 1]?;
+    match shape {
+        Front::One(element, more) => fill_one(
+            &mut row,
+            text,
+            row_at(below, *more),
+            element,
+            ignore_case,
+        ),
+        Front::Run(slashes, more) => fill_run(&mut row, text, row_at(below, *more), *slashes),
+        Front::Folders(more) => fill_folders(
+            &mut row,
+            text,
+            row_at(below, *more),
+            row_at(below, *more + 1),
+        ),
+        Front::Nothing | Front::Rest => {}
+    }
+    Ok(row)
+}
+
+/// The row behind the whole pattern: it matches the empty text alone.
+#[tactic(auto, using(crate::proofs::Filling::last_is))]
+fn last_row(alloc: Global, text: &[u8]) -> Result<Vec<bool>, NoMemory>
+    ensures { IfOk result (λ row. row.items ≡ last_cells text.now) }
+{
+    let mut row = vec![in alloc; false; text.len() + 1]?;
+    row[text.len()] = true;
+    Ok(row)
+}
+
+/// The row of a pattern: its first byte with the rest behind it, `fresh` at the start of all or behind `/`.
+fn pattern_row(
+    alloc: Global,
+    fresh: bool,
+    first: u8,
+    rest: &[u8],
+    text: &[u8],
+    ignore_case: bool,
+    below: &[Vec<bool>],
+) -> Result<Vec<bool>, NoMemory>
+    requires { map vec_items below.now ≡ rows_of ignore_case (first == 47) rest.now text.now }
+    ensures { IfOk result (λ row. row.items ≡ cells ignore_case fresh (first ∷ rest.now) text.now) }
+{
+    let shape = read_front(alloc, fresh, first, rest)?;
+    row_of(alloc, &shape, text, ignore_case, below)
+}
+
+/// Whether a place of a pattern stands behind `/`; `fresh` tells it of its start.
+pub(crate) fn is_fresh_at(fresh: bool, i: usize, pattern: &[u8]) -> bool
+    requires { i ≤ length pattern.now }
+    ensures { result ≡ is_fresh_at fresh i pattern.now }
+{
+    if i == 0 {
+        fresh
+    } else {
+        pattern[i - 1] == b'/'
+    }
+}
+
+/// As many rows as asked for, all of them empty.
+fn empty_rows(alloc: Global, count: usize) -> Result<Vec<Vec<bool>>, NoMemory>
+    ensures { IfOk result (λ rows. length rows.items ≡ count) }
+{
+    let mut rows = Vec::with_capacity(alloc, count)?;
+    while rows.len() < count {
+        rows.push(Vec::new(alloc))?;
+    }
+    Ok(rows)
+}
+
+/// The rows of a pattern's ends, its own first. They are filled from the last one to the first.
+pub(crate) fn rows_of(
+    alloc: Global,
+    fresh: bool,
+    pattern: &[u8],
+    text: &[u8],
+    ignore_case: bool,
+) -> Result<Vec<Vec<bool>>, NoMemory>
+    ensures { IfOk result (λ rows. map vec_items rows.items ≡ rows_of ignore_case fresh pattern.now text.now) }
+{
+    let mut rows = empty_rows(alloc, pattern.len() + 1)?;
+    let mut i = pattern.len();
+    rows[i] = last_row(alloc, text)?;
+    while i > 0 {
+        i -= 1;
+        let fresh_here = is_fresh_at(fresh, i, pattern);
+        let rest = &pattern[i + 1..];
+        rows[i] = pattern_row(
+            alloc,
+            fresh_here,
+            pattern[i],
+            rest,
+            text,
+            ignore_case,
+            &rows[i + 1..],
+        )?;
+    }
+    Ok(rows)
+}
+
+/// The table of a pattern and a text: a row for each place of the pattern and one for its end, each with a cell for
+/// each place of the text and one for its end. A cell tells whether the pattern from its place on matches the text
+/// from its place on.
+#[derive(Drop)]
+pub struct Table {
+    rows: Vec<Vec<bool>>,
+}
+
+impl Model for Table {
+    ghost use Rattle.std.specs.Prelude.{Bool, List, map, vec_items};
+
+    ghost Value = { List (List Bool) };
+
+    ghost view = { λ t. map vec_items t.rows.items };
+}
+
+impl Table {
+    ghost use Rattle.std.specs.Prelude.{◌≡◌, IfOk, map, vec_items};
+    ghost use Rattle.gitconf_glob.specs.Rows.{IsTable};
+
+    /// The table of a pattern and a text, where letters are compared without ASCII case if `ignore_case` is set.
+    ///
+    /// It takes memory for `pattern.len() + 1` rows of `text.len() + 1` cells, a growth for each row, and beside them for
+    /// the members of one bracket at a time. No product of the two lengths is computed.
+    ///
+    /// The time is that of a step for each cell, where the pattern has no `[`. A row that stands at a `[` reads the bytes
+    /// up to its `]` once, behind each `[:` also those up to the next `]`, and each of its cells takes a step for each
+    /// member. So brackets that don't hold a `[` add no more than the product of the lengths once again. Where a
+    /// bracket of `n` bytes is made of `[`, the time is that of `n * n` steps for each place of the text, and where it is
+    /// made of `[:`, of `n * n * n` steps besides.
+    ///
+    /// # Errors
+    ///
+    /// Only where memory is wanting.
+    pub fn fill(
+        alloc: Global,
+        pattern: &[u8],
+        text: &[u8],
+        ignore_case: bool,
+    ) -> Result<Table, NoMemory>
+        ensures { IfOk result (λ table. IsTable ignore_case pattern.now text.now table) }
+    {
+        let rows = rows_of(alloc, true, pattern, text, ignore_case)?;
+        Ok(Table { rows })
+    }
+
+    /// The rows, that of the whole pattern first.
+    pub fn rows(&self) -> &[Vec<bool>]
+        ensures { map vec_items result.now ≡ self.now }
+    {
+        &self.rows
+    }
+}

@@ -1,0 +1,4 @@
+pub mod HomesLemmas
+pub mod PathLemmas
+pub mod TextLemmas
+pub mod Boundaries

@@ -1,0 +1,3 @@
+pub mod Homes
+pub mod Paths
+pub mod Interpolated

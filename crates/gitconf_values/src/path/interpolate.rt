@@ -1,0 +1,230 @@
+//! What the shorthands at the front of a path stand for: `%(prefix)/`, `~/` and `~user/`.
+ghost use Rattle.std.specs.Prelude.{◌≡◌, ◌==◌, position};
+ghost use Rattle.std.specs.Option.{option_copied};
+ghost use Rattle.gitconf_values.specs.Interpolated as spec;
+ghost use Rattle.gitconf_values.specs.Interpolated.{Gives, Reads};
+
+use super::join;
+use gitconf_text::NoMemory;
+use std::alloc::{AllocError, AllocFailed, Global};
+use std::collections::BTreeMap;
+use std::marker::Model;
+use std::str::Utf8Error;
+use thiserror::Error;
+
+/// What the shorthands of a path stand for. What is `None` can't be asked for, and a path that needs it is refused.
+/// The default has nothing.
+#[derive(Clone, Copy, Default)]
+pub struct Context<'a> {
+    /// The folder where git is installed, for `%(prefix)/`.
+    pub git_install_dir: Option<&'a str>,
+    /// The home folder of the user who runs the program, for `~/`.
+    pub home_dir: Option<&'a str>,
+    /// The home folders of users, for `~user/`.
+    pub home_for_user: Option<&'a Homes>,
+}
+
+/// How a path is refused whose shorthand is to be replaced.
+#[derive(Debug, Drop, Error)]
+pub enum Error {
+    /// The path is empty, or a folder, a table of users or a user is not there: refusal 12.
+    #[error("{what} is missing")]
+    Missing { what: &'static str },
+    /// What is left of the path isn't UTF-8: refusal 13.
+    #[error("Ill-formed UTF-8 in {what}")]
+    Utf8Conversion { what: &'static str, err: Utf8Error },
+    /// The name of the user isn't UTF-8: refusal 14.
+    #[error("Ill-formed UTF-8 in username")]
+    UsernameConversion(Utf8Error),
+    /// A growth was refused: refusal 27.
+    #[error("out of memory")]
+    Memory,
+}
+
+impl From<NoMemory> for Error {
+    ghost use Rattle.gitconf_values.specs.declared.path.interpolate.Error.TheVariants.{Memory};
+
+    ghost from_gives = { λ _ e. e ≡ Memory };
+
+    fn from(_e: NoMemory) -> Error {
+        Error::Memory
+    }
+}
+
+/// A table from users to their home folders.
+#[derive(Drop)]
+pub struct Homes {
+    folders: BTreeMap<String, String>,
+}
+
+impl Model for Homes {
+    ghost use Rattle.std.specs.Prelude.{ℕ, List};
+    ghost use Rattle.gitconf_values.specs.Homes.{homes_of};
+
+    ghost Value = { List (List ℕ × List ℕ) };
+
+    ghost view = { λ h. homes_of h.folders.entries };
+}
+
+impl Homes {
+    ghost use Rattle.std.specs.Prelude.{◌≡◌, [], OnOk, OnErr, ℕ, List, None, Some, cond, string_bytes};
+    ghost use Rattle.std.specs.Option.{option_copied};
+    ghost use Rattle.std.specs.Str.{bytes_eq};
+    ghost use Rattle.gitconf_values.specs.Homes.{folder_of, with_home};
+
+    /// A table without users. Takes no memory.
+    pub fn new(alloc: Global) -> Homes
+        ensures { result ≡ [] }
+    {
+        Homes {
+            folders: BTreeMap::new(alloc),
+        }
+    }
+
+    /// Gives a user that folder, in place of the one that was given before. Takes a walk down a tree of the users.
+    ///
+    /// # Errors
+    ///
+    /// Want of memory, which comes for a new user alone. The table then is as it was.
+    pub fn insert(&mut self, user: String, folder: String) -> Result<(), NoMemory>
+        ensures ok { OnOk result (self.new ≡ with_home (string_bytes user) (string_bytes folder) self.old) }
+        ensures err { OnErr result (self.new ≡ self.old) }
+        ensures absent { OnErr result (folder_of (string_bytes user) self.old ≡ None) }
+        // The user has the folder, and each other user what it had.
+        ensures last { OnOk result ((asked : List ℕ) → folder_of asked self.new
+            ≡ cond (bytes_eq (string_bytes user) asked) (Some (string_bytes folder)) (folder_of asked self.old)) }
+    {
+        self.folders.insert(user, folder)?;
+        Ok(())
+    }
+
+    /// The folder of a user, or `None` where it has none. Takes no memory, and a walk down a tree of the users.
+    pub fn get(&self, user: &str) -> Option<&str>
+        ensures { option_copied result ≡ folder_of user.now self.now }
+    {
+        match self.folders.get(user) {
+            Some(folder) => Some(folder.as_str()),
+            None => None,
+        }
+    }
+}
+
+/// The bytes as text.
+fn text(bytes: &[u8]) -> Result<&str, Utf8Error>
+    ensures { Reads result bytes.now }
+{
+    str::from_utf8(bytes)
+}
+
+/// What stands behind a beginning.
+fn behind<'a>(beginning: &[u8], path: &'a [u8]) -> Option<&'a [u8]>
+    ensures { option_copied result ≡ spec.behind beginning.now path.now }
+{
+    path.strip_prefix(beginning)
+}
+
+/// Where the first slash stands.
+fn first_slash(text: &[u8]) -> Option<usize>
+    ensures { result ≡ position (λ b. b == 47) text.now }
+{
+    text.iter().position(|b| *b == b'/')
+}
+
+/// A path by itself.
+fn plain(alloc: Global, path: &[u8]) -> Result<String, Error>
+    ensures { Gives result (spec.plain path.now) }
+{
+    match text(path) {
+        Ok(path) => match String::from_str(alloc, path) {
+            Ok(path) => Ok(path),
+            Err(_) => Err(Error::Memory),
+        },
+        Err(err) => Err(Error::Utf8Conversion { what: "path", err }),
+    }
+}
+
+/// What is left of a path, in a folder that has to be there; `what` names it in a refusal.
+fn below(
+    alloc: Global,
+    folder: Option<&str>,
+    rest: &[u8],
+    what: &'static str,
+) -> Result<String, Error>
+    ensures { Gives result (spec.below (option_copied folder.entry) rest.now) }
+{
+    let Some(folder) = folder else {
+        return Err(Error::Missing { what });
+    };
+    match text(rest) {
+        Ok(rest) => match join(alloc, folder, rest) {
+            Ok(path) => Ok(path),
+            Err(_) => Err(Error::Memory),
+        },
+        Err(err) => Err(Error::Utf8Conversion { what: "path", err }),
+    }
+}
+
+/// What is left of a path, in the folder of a user.
+fn below_user(
+    alloc: Global,
+    homes: Option<&Homes>,
+    user: &[u8],
+    rest: &[u8],
+) -> Result<String, Error>
+    ensures { Gives result (spec.below_user (option_copied homes.entry) user.now rest.now) }
+{
+    match text(user) {
+        Ok(user) => match homes {
+            Some(homes) => below(alloc, homes.get(user), rest, "home folder of the user"),
+            None => Err(Error::Missing {
+                what: "table of users",
+            }),
+        },
+        Err(err) => Err(Error::UsernameConversion(err)),
+    }
+}
+
+/// A path behind its `~`: that of a user where a slash follows.
+fn of_user(
+    alloc: Global,
+    homes: Option<&Homes>,
+    behind: &[u8],
+    path: &[u8],
+) -> Result<String, Error>
+    ensures { Gives result (spec.of_user (option_copied homes.entry) behind.now path.now) }
+{
+    match first_slash(behind) {
+        Some(n) => below_user(alloc, homes, &behind[..n], &behind[n + 1..]),
+        None => plain(alloc, path),
+    }
+}
+
+/// A path that begins with none of the folders named so far.
+fn of_user_or_plain(alloc: Global, homes: Option<&Homes>, path: &[u8]) -> Result<String, Error>
+    ensures { Gives result (spec.of_user_or_plain (option_copied homes.entry) path.now) }
+{
+    match path {
+        [b'~', behind @ ..] => of_user(alloc, homes, behind, path),
+        _ => plain(alloc, path),
+    }
+}
+
+/// What a path stands for.
+pub(super) fn interpolated(
+    alloc: Global,
+    path: &[u8],
+    context: Context<'_>,
+) -> Result<String, Error>
+    ensures { Gives result (spec.interpolated (option_copied context.entry.git_install_dir) (option_copied context.entry.home_dir) (option_copied context.entry.home_for_user) path.now) }
+{
+    if path.is_empty() {
+        return Err(Error::Missing { what: "path" });
+    }
+    if let Some(rest) = behind(b"%(prefix)/".as_slice(), path) {
+        return below(alloc, context.git_install_dir, rest, "git install dir");
+    }
+    if let Some(rest) = behind(b"~/".as_slice(), path) {
+        return below(alloc, context.home_dir, rest, "home dir");
+    }
+    of_user_or_plain(alloc, context.home_for_user, path)
+}
