@@ -1,5 +1,4 @@
 pub mod KeyLemmas
 pub mod KeyRows
 pub mod SectionLemmas
-pub mod HomesLemmas
 pub mod TableClones

@@ -6,4 +6,3 @@ pub mod Sections
 pub mod Rows
 pub mod SectionIters
 pub mod SectionLoan
-pub mod Homes

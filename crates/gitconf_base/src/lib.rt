@@ -8,4 +8,3 @@ pub mod laws;
 pub mod meta;
 pub mod source;
 pub mod util;
-pub mod values;

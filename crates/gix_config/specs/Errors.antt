@@ -1,8 +1,8 @@
 -- The refusals of files and of includes, of what they come from; want of memory has one case in each.
 use Rattle.std.specs.Prelude.{ℕ, ◌==◌, if◌then◌else◌}
-use Rattle.gitconf_base.specs.declared.values.path.interpolate.Error.{Error as Interpolate}
-use Rattle.gitconf_base.specs.declared.values.path.interpolate.Error.TheVariants as interpolate
-use Rattle.gitconf_base.specs.Homes.{interpolate_number}
+use Rattle.gitconf_values.specs.declared.path.interpolate.Error.{Error as Interpolate}
+use Rattle.gitconf_values.specs.declared.path.interpolate.Error.TheVariants as interpolate
+use Rattle.gitconf_values.specs.Homes.{interpolate_number}
 use Rattle.gitconf_parse.specs.ParseError.{Refusal}
 use Rattle.gix_config.specs.declared.file.includes.Error.{Error as Includes}
 use Rattle.gix_config.specs.declared.file.includes.Error.TheVariants as includes

@@ -1,6 +1,6 @@
 -- What the makers of options make.
 use Rattle.std.specs.Prelude.{true, false, None}
-use Rattle.gitconf_base.specs.declared.values.path.interpolate.Context.{Context as Folders}
+use Rattle.gitconf_values.specs.declared.path.interpolate.Context.{Context as Folders}
 use Rattle.gix_config.specs.declared.file.includes.conditional.Context.{Context}
 use Rattle.gix_config.specs.declared.file.includes.Options.{Options}
 

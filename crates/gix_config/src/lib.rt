@@ -2,12 +2,14 @@
 #![tactic(auto)]
 
 pub mod file;
+pub mod glob;
 pub mod parse;
 pub mod refusals;
 pub mod value;
+pub mod values;
 
 pub use file::File;
 pub use gitconf_base::key::{AsKey, KeyRef};
 pub use gitconf_base::source::{self, Source};
-pub use gitconf_base::values::{self, path};
 pub use gitconf_text::NoMemory;
+pub use gitconf_values::path::{self, Path};

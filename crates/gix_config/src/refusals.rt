@@ -2,7 +2,7 @@
 ghost use Rattle.std.specs.Prelude.{◌≡◌};
 
 use crate::file::{includes, init, set_raw_value};
-use gitconf_base::values::path::interpolate;
+use gitconf_values::path::interpolate;
 use gitconf_parse::error as parse;
 use gitconf_parse::sink::SinkFault;
 use gitconf_text::parse::section::{NameError, ValueNameError, header};
@@ -107,7 +107,7 @@ impl Refusal for set_raw_value::Error {
 }
 
 impl Refusal for interpolate::Error {
-    ghost use Rattle.gitconf_base.specs.Homes.{interpolate_number};
+    ghost use Rattle.gitconf_values.specs.Homes.{interpolate_number};
 
     ghost number_of = { interpolate_number };
 

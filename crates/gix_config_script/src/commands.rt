@@ -4,6 +4,7 @@ mod edits;
 mod files;
 mod lookups;
 mod parsing;
+mod paths;
 mod sections;
 mod values;
 
@@ -30,6 +31,9 @@ pub fn outcome_of<'a>(
 
         b"decode" => values::decode(alloc, words),
         b"escape" => values::escape(alloc, words),
+
+        b"match" => paths::matches(alloc, words),
+        b"interpolate" => paths::interpolate(alloc, words),
 
         b"string" => lookups::string(session.file(), words),
         b"stringkey" => lookups::stringkey(session.file(), words),

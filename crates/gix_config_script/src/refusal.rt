@@ -4,6 +4,7 @@ use gix_config::NoMemory;
 use gix_config::file::{init, set_raw_value};
 use gix_config::parse::section::{NameError, ValueNameError};
 use gix_config::parse::{Error, SinkFault};
+use gix_config::path::interpolate;
 use gix_config::refusals::Refusal as _;
 use std::alloc::{AllocError, AllocFailed};
 
@@ -40,6 +41,12 @@ impl From<init::Error> for Refusal {
 
 impl From<set_raw_value::Error> for Refusal {
     fn from(refusal: set_raw_value::Error) -> Refusal {
+        Refusal::Numbered(refusal.number())
+    }
+}
+
+impl From<interpolate::Error> for Refusal {
+    fn from(refusal: interpolate::Error) -> Refusal {
         Refusal::Numbered(refusal.number())
     }
 }

@@ -60,6 +60,15 @@ impl Word<'_> {
         digits.parse::<usize>().map_err(|_| Refusal::Line)
     }
 
+    /// `true` or `false`.
+    pub fn flag(&self) -> Result<bool, Refusal> {
+        match self.plain()? {
+            b"true" => Ok(true),
+            b"false" => Ok(false),
+            _ => Err(Refusal::Line),
+        }
+    }
+
     /// The place of a file.
     pub fn slot(&self) -> Result<Slot, Refusal> {
         match self.plain()? {

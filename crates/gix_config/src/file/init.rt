@@ -3,7 +3,7 @@ ghost use Rattle.std.specs.Prelude.{◌≡◌};
 
 use crate::file::{File, includes};
 use gitconf_base::meta::Metadata;
-use gitconf_base::values::path::interpolate;
+use gitconf_values::path::interpolate;
 use gitconf_parse::error as parse;
 use gitconf_store::store::Store;
 use gitconf_text::NoMemory;

@@ -1,2 +1,0 @@
-//! Paths as configuration writes them.
-pub mod interpolate;
