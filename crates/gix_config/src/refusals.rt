@@ -2,12 +2,12 @@
 ghost use Rattle.std.specs.Prelude.{◌≡◌};
 
 use crate::file::{includes, init, set_raw_value};
-use gitconf_values::path::interpolate;
 use gitconf_parse::error as parse;
 use gitconf_parse::sink::SinkFault;
 use gitconf_text::parse::section::{NameError, ValueNameError, header};
 use gitconf_text::parse::span;
 use gitconf_text::{NoMemory, value};
+use gitconf_values::path::interpolate;
 
 /// What a call is refused by.
 pub trait Refusal {

@@ -5,11 +5,11 @@ ghost use Rattle.gix_config.specs.Options.{no_conditions, no_follow, follow, str
 pub mod conditional;
 
 use gitconf_base::host::FileFault;
-use gitconf_values::Homes;
-use gitconf_values::path::interpolate;
 use gitconf_parse::error as parse;
 use gitconf_text::NoMemory;
 use gitconf_text::parse::span;
+use gitconf_values::Homes;
+use gitconf_values::path::interpolate;
 use thiserror::Error;
 
 /// How includes are refused.

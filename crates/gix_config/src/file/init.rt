@@ -3,11 +3,11 @@ ghost use Rattle.std.specs.Prelude.{◌≡◌};
 
 use crate::file::{File, includes};
 use gitconf_base::meta::Metadata;
-use gitconf_values::path::interpolate;
 use gitconf_parse::error as parse;
 use gitconf_store::store::Store;
 use gitconf_text::NoMemory;
 use gitconf_text::parse::span;
+use gitconf_values::path::interpolate;
 use std::alloc::{AllocError, AllocFailed, Global};
 use std::rc::Rc;
 use thiserror::Error;
