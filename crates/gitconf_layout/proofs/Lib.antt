@@ -1,0 +1,3 @@
+pub mod LastBytes
+pub mod Passes
+pub mod Staying
