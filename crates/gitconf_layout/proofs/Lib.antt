@@ -1,3 +1,4 @@
 pub mod LastBytes
 pub mod Passes
+pub mod Rows
 pub mod Staying

@@ -1,6 +1,6 @@
 -- What the lines write, each with its end where it stays, is the text of the lines that stay.
 use Rattle.std.proofs.Common.{◌≡◌, ◌≤◌, ◌<◌, ℕ, ◌+◌, ◌-◌, Bool, true, false, not, List, [], ◌∷◌, ◌++◌, Option, Some, None, refl, ap, sym, subst, ◌∙◌, append_assoc, append-nil, arith}
-use Rattle.std.specs.Prelude.{◌==◌, ◌&&◌, ◌||◌, nat_lt}
+use Rattle.std.specs.Prelude.{◌==◌, ◌&&◌, ◌||◌, nat_lt, is_none}
 use Rattle.std.specs.List.{list_any}
 use Rattle.std.proofs.lemmas.Bool.{ltb-true, ltb-false, ne_eqb}
 use Rattle.gitconf_parse.specs.EventRef.{Shown, ShownComment, ShownHeader, ShownValueName, ShownValue, ShownNewline, ShownUnfinished, ShownLast, ShownBlanks, ShownSeparator}
@@ -17,13 +17,19 @@ or_assoc : (a b c : Bool) → ((a || b) || c) ≡ (a || (b || c))
 or_assoc true b c = refl
 or_assoc false b c = refl
 
+or_swap : (a b c : Bool) → ((a || b) || c) ≡ (b || (a || c))
+or_swap true true c = refl
+or_swap true false c = refl
+or_swap false true c = refl
+or_swap false false c = refl
+
 or_false : (a : Bool) → (a || false) ≡ a
 or_false true = refl
 or_false false = refl
 
 behind_line-section : (p : Place) (line : List Shown) → (behind_line p line).in_section ≡ (p.in_section || list_any is_shown_header line)
 behind_line-section p [] = sym (or_false p.in_section)
-behind_line-section p (t ∷ line) = behind_line-section (behind_token p t) line ∙ or_assoc p.in_section (is_shown_header t) (list_any is_shown_header line)
+behind_line-section p (t ∷ line) = behind_line-section (behind_token p t) line ∙ or_swap (is_shown_header t) p.in_section (list_any is_shown_header line)
 
 behind_line-room : (p : Place) (line : List Shown) → (behind_line p line).room ≡ p.room
 behind_line-room p [] = refl
@@ -100,10 +106,10 @@ blank_text o s (ShownValue bytes ∷ line) h = absurd (cc)
 blank_text o s (ShownUnfinished bytes ∷ line) h = absurd (cc)
 blank_text o s (ShownLast bytes ∷ line) h = absurd (cc)
 blank_text o s (ShownSeparator ∷ line) h = absurd (cc)
-blank_text o s (ShownNewline run ∷ line) h = blank_text o (s || false) line h
+blank_text o s (ShownNewline run ∷ line) h = blank_text o s line h
 blank_text o s (ShownBlanks run ∷ line) h =
-    let none : keeps_blanks o s Nothing line ≡ false = rw (no_comment line h) (and_false _) in
-    rw none (blank_text o (s || false) line h)
+    let none : keeps_blanks o s Nothing line ≡ false = rw (no_comment line h) (and_false (not s && is_none o.root_comment_indent)) in
+    rw none (blank_text o s line h)
 
 -- how many more blank lines may stay, where so many stand before
 abbrev left : (limit : Option ℕ) → (blank : ℕ) → Option ℕ

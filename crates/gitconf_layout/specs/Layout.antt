@@ -117,7 +117,7 @@ is_nothing Other = false
 
 -- Where comments before the first header have no indent of their own, blanks at the start of a line stay directly before one.
 abbrev pub keeps_blanks : Options → (in_section : Bool) → Before → (rest : List Shown) → Bool
-keeps_blanks options in_section before rest = not in_section && is_nothing before && is_none options.root_comment_indent && begins_comment rest
+keeps_blanks options in_section before rest = is_nothing before && not in_section && is_none options.root_comment_indent && begins_comment rest
 
 -- a text without the CR at its end, if there is one
 abbrev pub without_cr : List ℕ → List ℕ
@@ -144,7 +144,7 @@ set_token options in_section before (ShownLast bytes) rest = written (ShownLast 
 abbrev pub line_text : Options → (in_section : Bool) → Before → List Shown → List ℕ
 line_text options in_section before [] = []
 line_text options in_section before (t ∷ rest) =
-    set_token options in_section before t rest ++ line_text options (in_section || is_shown_header t) (behind before t) rest
+    set_token options in_section before t rest ++ line_text options (is_shown_header t || in_section) (behind before t) rest
 
 -- all but blanks and newlines
 abbrev pub is_content : Shown → Bool

@@ -17,7 +17,7 @@ first options = record { in_section = false; before = Nothing; room = options.ma
 
 -- behind a token, before the lines that it ends
 abbrev pub behind_token : Place → Shown → Place
-behind_token p t = record { in_section = p.in_section || is_shown_header t; before = behind p.before t; room = p.room }
+behind_token p t = record { in_section = is_shown_header t || p.in_section; before = behind p.before t; room = p.room }
 
 abbrev pub is_full : Option ℕ → Bool
 is_full None = false

@@ -108,8 +108,8 @@ fn begin_comment(text: &mut Vec<u8>, place: Place, options: &Options) -> Result<
 fn keeps_blanks(rest: EventIter<'_>, place: Place, options: &Options) -> bool
     ensures { result ≡ spec.keeps_blanks options.now place.in_section place.before (events_left rest.entry) }
 {
-    !place.in_section
-        && matches!(place.before, Before::Nothing)
+    matches!(place.before, Before::Nothing)
+        && !place.in_section
         && options.root_comment_indent.is_none()
         && begins_comment(rest)
 }
