@@ -4,3 +4,6 @@ pub mod Rows
 pub mod Staying
 pub mod SetHeaders
 pub mod SetEntries
+pub mod SetValues
+pub mod SetRuns
+pub mod Laid
