@@ -7,3 +7,5 @@ pub mod SetEntries
 pub mod SetValues
 pub mod SetRuns
 pub mod Laid
+pub mod LayoutLaws
+pub mod Closing

@@ -2,6 +2,7 @@
 #![tactic(auto)]
 
 pub mod format;
+pub mod laws;
 pub mod place;
 mod setting;
 mod trimming;
