@@ -1,17 +1,14 @@
 -- A text with one line end in the place of those at its end keeps its document and its comments.
-use Rattle.std.proofs.Common.{◌≡◌, ◌<◌, ℕ, ◌+◌, Bool, true, false, not, List, [], ◌∷◌, ◌++◌, length, Option, Some, None, inl, inr, refl, ap, sym, subst, ◌∙◌, append_assoc, append-nil, arith}
-use Rattle.std.specs.Prelude.{◌⊎◌, ◌==◌, ◌&&◌, ◌||◌, flat_map, if◌then◌else◌}
+use Rattle.std.proofs.Common.{◌≡◌, ℕ, Bool, true, false, not, List, [], ◌∷◌, ◌++◌, inl, inr, refl, ap, sym, subst, ◌∙◌}
+use Rattle.std.specs.Prelude.{◌⊎◌}
 use Rattle.std.specs.List.{list_all}
-use Rattle.std.proofs.lemmas.Bool.{eqb-true}
 use Rattle.gitconf_text.specs.Bytes.{is_blank, is_name_byte}
-use Rattle.gitconf_text.specs.Text.{begins, begins_line_end, are_line_ends, is_line_end, ends}
-use Rattle.gitconf_text.specs.Unit.{Class, LineFeed, Quote, Mark, Backslash, White, Other, class_of, is_mark, is_white, TextUnit, Escape, OpenEscape, Plain, units_behind, units_of}
-use Rattle.gitconf_text.specs.Value.{Piece, Value as ValueOf, may_follow_value, are_paired, value_units}
-use Rattle.gitconf_text.specs.Part.{Part}
-use Rattle.gitconf_parse.proofs.ValueAgain.{both_true, apart}
-use Rattle.gitconf_state.specs.Comments.{stripped}
+use Rattle.gitconf_text.specs.Text.{begins_line_end, is_line_end}
+use Rattle.gitconf_text.specs.Unit.{Class, LineFeed, Quote, Mark, Backslash, White, Other, class_of}
+use Rattle.gitconf_text.specs.Value.{may_follow_value}
+use Rattle.gitconf_parse.proofs.ValueAgain.{both_true}
 use Rattle.gitconf_state.specs.Printing.{Open, Closed, OpenKey, OpenKeyAndBlanks, OpenValue, OpenComment}
-use Rattle.gitconf_state.proofs.Follows.{may_follow, may_follow_key, may_follow_comment, line_end_cases, line_end_follows, blank_cases, mark_cases}
+use Rattle.gitconf_state.proofs.Follows.{may_follow, may_follow_key, may_follow_comment, line_end_cases, line_end_follows}
 use Rattle.gitconf_layout.specs.Layout.{is_cr_or_lf, trimmed}
 use Rattle.gitconf_layout.proofs.SetEntries.{one_line_end}
 
@@ -98,7 +95,7 @@ trimmed_follows e line OpenKey (b ∷ text) h =
     elim (trimmed_cases b text) [
       | inl none ↦ rw none.0 (line_end_follows OpenKey e (end_begins e line))
       | inr some ↦ let k : may_follow_key (b ∷ (trimmed text ++ e)) ≡ true = subst (λ t. may_follow_key (t ++ e) ≡ true) some (trimmed_key e line (b ∷ text) p.1) in
-        subst (λ t. may_follow OpenKey (t ++ e) ≡ true) (sym some) (rw p.0 k)
+          subst (λ t. may_follow OpenKey (t ++ e) ≡ true) (sym some) (rw p.0 k)
     ]
 
 -- a text before one of which something stays

@@ -1,18 +1,18 @@
 -- What one pass over the tokens of a text writes is a text with the same document and comments.
-use Rattle.std.proofs.Common.{◌≡◌, ◌<◌, ℕ, ◌+◌, Bool, true, false, not, List, [], ◌∷◌, ◌++◌, length, map, flat_map, Option, Some, None, inl, inr, refl, ap, sym, subst, ◌∙◌, append_assoc, append-nil, arith}
-use Rattle.std.specs.Prelude.{◌⊎◌, ◌==◌, ◌&&◌, ◌||◌, if◌then◌else◌}
+use Rattle.std.proofs.Common.{◌≡◌, ◌<◌, ℕ, Bool, true, false, not, List, [], ◌∷◌, ◌++◌, length, map, Option, Some, None, inl, inr, refl, ap, sym, subst, ◌∙◌, append_assoc, arith}
+use Rattle.std.specs.Prelude.{◌==◌, ◌&&◌, if◌then◌else◌}
 use Rattle.std.specs.List.{list_all}
 use Rattle.std.proofs.lemmas.List.{map-append}
 use Rattle.gitconf_text.specs.Bytes.{is_blank, is_name_byte}
-use Rattle.gitconf_text.specs.Text.{begins, begins_line_end, are_line_ends, is_line_end, ends}
-use Rattle.gitconf_text.specs.Unit.{is_mark, is_white}
-use Rattle.gitconf_text.specs.Value.{Piece, spelled_value, raw_of, FitsValue, may_follow_value, IsEnded}
+use Rattle.gitconf_text.specs.Text.{begins, begins_line_end, are_line_ends, is_line_end}
+use Rattle.gitconf_text.specs.Unit.{is_mark}
+use Rattle.gitconf_text.specs.Value.{Piece, spelled_value, FitsValue}
 use Rattle.gitconf_text.specs.Names.{is_value_name}
-use Rattle.gitconf_text.specs.Header.{Header, PlainHeader, DottedHeader, QuotedHeader, spelled_header, FitsHeader, name_of, subsection_of}
-use Rattle.gitconf_text.specs.Part.{Assigned, Entry, Item, BlanksItem, LineEndsItem, CommentItem, EntryItem, Part, ItemPart, HeaderPart, spelled_assigned, spelled_item, spelled_part, spelled, FitsAssigned, FitsItem, AreFit}
+use Rattle.gitconf_text.specs.Header.{Header, PlainHeader, DottedHeader, QuotedHeader, spelled_header, name_of, subsection_of}
+use Rattle.gitconf_text.specs.Part.{Assigned, Entry, BlanksItem, LineEndsItem, CommentItem, EntryItem, Part, ItemPart, HeaderPart, spelled_item, spelled, FitsItem, AreFit}
 use Rattle.gitconf_text.specs.Token.{HeaderToken, item_tokens, tokens_of}
 use Rattle.gitconf_text.specs.Document.{Document, with_part, gathered}
-use Rattle.gitconf_parse.specs.EventRef.{Shown, written}
+use Rattle.gitconf_parse.specs.EventRef.{written}
 use Rattle.gitconf_parse.specs.ShownEvents.{shown_token}
 use Rattle.gitconf_parse.proofs.ValueAgain.{both_true}
 use Rattle.gitconf_state.specs.Clean.{may_stand}
@@ -27,9 +27,9 @@ use Rattle.gitconf_layout.specs.declared.format.Options.{Options}
 use Rattle.gitconf_layout.specs.declared.place.Before.{Before}
 use Rattle.gitconf_layout.specs.declared.place.Before.TheVariants.{Nothing, Value, Other}
 use Rattle.gitconf_layout.specs.Layout.{is_nothing, keeps_blanks, before_name, before_comment, comment_text}
-use Rattle.gitconf_layout.specs.Setting.{behind_token, ends_text, ends_place, set_tokens}
+use Rattle.gitconf_layout.specs.Setting.{ends_text, ends_place, set_tokens}
 use Rattle.gitconf_layout.proofs.SetHeaders.{SameHeader, set_header}
-use Rattle.gitconf_layout.proofs.SetEntries.{at_place, gap, set_piece, set_value, set_assigned, gap_before, set_entry, room_behind, before_behind_value, behind_assigned, AssignedEnds, pass_entry}
+use Rattle.gitconf_layout.proofs.SetEntries.{at_place, gap, set_value, set_entry, room_behind, before_behind_value, behind_assigned, AssignedEnds, pass_entry}
 use Rattle.gitconf_layout.proofs.SetValues.{gap_blank, raw_same, Ways, ways, piece_ends, set_closed, set_bare}
 use Rattle.gitconf_layout.proofs.SetRuns.{IsRun, ends_run, ends_line, stripped_comment, comment_in_line, name_blank, comment_blank}
 
@@ -287,7 +287,7 @@ value_document o e en a document = ap (λ (raw : List ℕ). record { front = (re
 -- an entry with a value behind its indent
 set_valued : (o : Options) (e : List ℕ) (s : Bool) (b : Before) (state : Open) (en : Entry) (a : Assigned) (text : List ℕ) (document : Document) (comments : List (List ℕ)) → may_stand state (EntryItem en) ≡ true → meets state b ≡ true
     → is_value_name en.name ≡ true → Fitted ((en.name ++ (gap o ++ 61 ∷ (gap o ++ spelled_value (set_value e a.value)))) ++ text)
-        (with_part (ItemPart (EntryItem (record { name = en.name; blanks = gap o; assigned = Some (record { blanks = gap o; value = set_value e a.value }) }))) document) comments
+    (with_part (ItemPart (EntryItem (record { name = en.name; blanks = gap o; assigned = Some (record { blanks = gap o; value = set_value e a.value }) }))) document) comments
     → Laid state (before_name o s b ++ ((en.name ++ (gap o ++ 61 ∷ (gap o ++ spelled_value (set_value e a.value)))) ++ text)) (with_part (ItemPart (EntryItem (record { name = en.name; blanks = en.blanks; assigned = Some a }))) document) comments
 set_valued o e s b state en a text document comments stands m named f = record {
   fitted = put_blanks (before_name o s b) (name_blank o s b) (redocumented (value_document o e en a document) f);
@@ -318,11 +318,11 @@ relaid state text other document comments same l = subst (λ t. Laid state t doc
 -- the entry that ends a text with an open piece
 last_entry : (o : Options) (e : List ℕ) (en : Entry) (a : Assigned) (s : Bool) (b : Before) (r : Option ℕ) (parts : List Part) → parts ≡ [] → is_value_name en.name ≡ true → FitsValue (set_value e a.value) []
     → Fitted ((en.name ++ (gap o ++ 61 ∷ (gap o ++ spelled_value (set_value e a.value)))) ++ set_from o e s b r parts)
-        (with_part (ItemPart (EntryItem (record { name = en.name; blanks = gap o; assigned = Some (record { blanks = gap o; value = set_value e a.value }) }))) (gathered parts)) (comments_of parts)
+    (with_part (ItemPart (EntryItem (record { name = en.name; blanks = gap o; assigned = Some (record { blanks = gap o; value = set_value e a.value }) }))) (gathered parts)) (comments_of parts)
 unfolding set_tokens
 last_entry o e en a s b r parts none named fits =
     subst (λ parts. Fitted ((en.name ++ (gap o ++ 61 ∷ (gap o ++ spelled_value (set_value e a.value)))) ++ set_from o e s b r parts)
-        (with_part (ItemPart (EntryItem (record { name = en.name; blanks = gap o; assigned = Some (record { blanks = gap o; value = set_value e a.value }) }))) (gathered parts)) (comments_of parts))
+    (with_part (ItemPart (EntryItem (record { name = en.name; blanks = gap o; assigned = Some (record { blanks = gap o; value = set_value e a.value }) }))) (gathered parts)) (comments_of parts))
     (sym none)
     (put (ItemPart (EntryItem (record { name = en.name; blanks = gap o; assigned = Some (record { blanks = gap o; value = set_value e a.value }) }))) (named, gap_blank o, (gap_blank o, fits))
     (record { parts = []; same = refl; fits = tt; document_is = refl; comments_are = refl }))
@@ -363,7 +363,7 @@ laid_entry o e line name blanks (Some a) parts later state s b r m fits follows 
 
     go : Ways e a.value.pieces a.value.last (spelled parts)
         → Fitted ((en.name ++ (gap o ++ 61 ∷ (gap o ++ spelled_value (set_value e a.value)))) ++ text)
-            (with_part (ItemPart (EntryItem (record { name = en.name; blanks = gap o; assigned = Some (record { blanks = gap o; value = set_value e a.value }) }))) (gathered parts)) (comments_of parts)
+        (with_part (ItemPart (EntryItem (record { name = en.name; blanks = gap o; assigned = Some (record { blanks = gap o; value = set_value e a.value }) }))) (gathered parts)) (comments_of parts)
     go (inl closed) = put_value name (gap o) (record { blanks = gap o; value = set_value e a.value }) first.0 (gap_blank o) (set_closed o e a.value (spelled parts) value closed.0 closed.1) next.follows next.fitted
     go (inr bare) = last_entry o e en a s (before_behind_value a.value.pieces) (room_behind o a.value.pieces r) parts (no_parts parts fits.1 bare.0) first.0 (set_bare e a.value (spelled parts) value bare.1)
 
@@ -393,7 +393,7 @@ laid o e line (ItemPart (CommentItem tag text) ∷ parts) state s b r m fits fol
     let rest = map shown_token (tokens_of parts) in
     let later = laid o e line parts OpenComment s Other r refl fits.1 n.1 in
     let set = set_comment state (before_comment o s b) tag (comment_text text rest) (set_from o e s Other r parts) (gathered parts) (comments_of parts) (comment_blank o s b) fits.0.0
-        (comment_in_line text rest fits.0.1) (not_comment state tag text (spelled parts) first follows) later in
+    (comment_in_line text rest fits.0.1) (not_comment state tag text (spelled parts) first follows) later in
     record { fitted = recommented (ap (λ t. (tag ∷ t) ∷ comments_of parts) (stripped_comment text rest)) set.fitted; follows = set.follows }
 laid o e line (ItemPart (EntryItem en) ∷ parts) state s b r m fits follows = laid_entry o e line en.name en.blanks en.assigned parts (laid o e line parts) state s b r m fits follows
 laid o e line (HeaderPart h ∷ parts) state s b r m fits follows =

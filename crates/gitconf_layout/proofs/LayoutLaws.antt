@@ -1,5 +1,5 @@
 -- Laws of layouts.
-use Rattle.std.proofs.Common.{◌≡◌, ℕ, Bool, true, false, List, [], ◌∷◌, ◌++◌, map, Option, Some, None, inl, inr, refl, ap, sym, subst, ◌∙◌}
+use Rattle.std.proofs.Common.{◌≡◌, ℕ, Bool, true, false, List, [], ◌∷◌, map, inl, inr, refl}
 use Rattle.std.specs.Prelude.{◌==◌, if◌then◌else◌}
 use Rattle.std.specs.List.{list_any}
 use Rattle.gitconf_text.specs.Text.{ends, is_line_end}
@@ -19,7 +19,7 @@ use Rattle.gitconf_layout.specs.declared.place.Before.TheVariants.{Nothing}
 use Rattle.gitconf_layout.specs.Layout.{detected, line_end_of, lines_of, set_body, is_cr_or_lf, trimmed, with_one_line_end, laid_out, layout}
 use Rattle.gitconf_layout.specs.Kept.{Keeps, EndsOnce}
 use Rattle.gitconf_layout.proofs.Staying.{body_is}
-use Rattle.gitconf_layout.proofs.Laid.{Laid, laid}
+use Rattle.gitconf_layout.proofs.Laid.{laid}
 
 by_return : (cr : Bool) → is_line_end (if◌then◌else◌ {A = List ℕ} cr (13 ∷ 10 ∷ []) (10 ∷ [])) ≡ true
 by_return true = refl

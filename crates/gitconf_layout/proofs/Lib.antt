@@ -9,3 +9,4 @@ pub mod SetRuns
 pub mod Laid
 pub mod LayoutLaws
 pub mod Closing
+pub mod Ending

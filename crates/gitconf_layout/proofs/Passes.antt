@@ -1,15 +1,12 @@
 -- One pass over the tokens writes the lines that stay.
-use Rattle.std.proofs.Common.{◌≡◌, ◌≤◌, ◌<◌, ℕ, ◌+◌, ◌-◌, Bool, true, false, not, List, [], ◌∷◌, ◌++◌, Option, Some, None, refl, ap, sym, subst, ◌∙◌, append_assoc, append-nil, arith}
-use Rattle.std.specs.Prelude.{◌==◌, ◌&&◌, ◌||◌, nat_lt}
-use Rattle.std.specs.List.{list_any}
+use Rattle.std.proofs.Common.{◌≡◌, ℕ, Bool, true, false, List, [], ◌∷◌, ◌++◌, refl, ap, sym, ◌∙◌, append_assoc}
+use Rattle.std.specs.Prelude.{◌==◌}
 use Rattle.gitconf_parse.specs.EventRef.{Shown, ShownComment, ShownHeader, ShownValueName, ShownValue, ShownNewline, ShownUnfinished, ShownLast, ShownBlanks, ShownSeparator}
-use Rattle.gitconf_parse.specs.Sections.{is_shown_header}
 use Rattle.gitconf_layout.specs.declared.format.Options.{Options}
 use Rattle.gitconf_layout.specs.declared.place.Before.{Before}
-use Rattle.gitconf_layout.specs.declared.place.Before.TheVariants.{Nothing, Value, Other}
 use Rattle.gitconf_layout.specs.declared.place.Place.{Place}
-use Rattle.gitconf_layout.specs.Layout.{Lines, on_first_line, cut, line_ends_in, lines_of, behind, begins_comment, begins_newline, is_nothing, keeps_blanks, comment_text, before_comment, set_token, line_text, is_content, SetLine, set_lines, is_fewer, kept, joined, set_body}
-use Rattle.gitconf_layout.specs.Setting.{first, behind_token, is_full, is_dropped, one_less, on_next_line, end_text, ends_text, ends_place, set_tokens}
+use Rattle.gitconf_layout.specs.Layout.{Lines, on_first_line, cut, line_ends_in, lines_of, begins_comment, begins_newline, set_token, line_text}
+use Rattle.gitconf_layout.specs.Setting.{behind_token, on_next_line, end_text, ends_text, ends_place, set_tokens}
 
 -- behind the tokens of a line
 abbrev pub behind_line : Place → List Shown → Place

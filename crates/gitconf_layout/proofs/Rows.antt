@@ -1,10 +1,8 @@
 -- Worked rows, computed by the definition.
-use Rattle.std.proofs.Common.{◌≡◌, ℕ, Bool, true, false, List, [], ◌∷◌, ◌++◌, Option, Some, None, refl}
+use Rattle.std.proofs.Common.{◌≡◌, ℕ, false, List, [], ◌∷◌, ◌++◌, Some, None, refl}
 use Rattle.std.specs.Prelude.{codes}
 use Rattle.gitconf_parse.specs.EventRef.{Shown, ShownComment, ShownHeader, ShownValueName, ShownValue, ShownNewline, ShownUnfinished, ShownLast, ShownBlanks, ShownSeparator}
-use Rattle.gitconf_layout.specs.declared.format.Indent.TheVariants.{Tabs, Spaces}
-use Rattle.gitconf_layout.specs.declared.format.Newline.TheVariants.{Detect, Lf, CrLf}
-use Rattle.gitconf_layout.specs.declared.format.Options.{Options}
+use Rattle.gitconf_layout.specs.declared.format.Newline.TheVariants.{CrLf}
 use Rattle.gitconf_layout.specs.Layout.{default_options, laid_out}
 
 abbrev name : List ℕ → Shown

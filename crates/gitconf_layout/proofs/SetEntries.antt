@@ -1,12 +1,12 @@
 -- How the tokens of an entry are set.
-use Rattle.std.proofs.Common.{◌≡◌, ℕ, ◌+◌, Bool, true, false, List, [], ◌∷◌, ◌++◌, map, Option, Some, None, refl, ap, sym, subst, ◌∙◌, append_assoc, append-nil}
-use Rattle.std.specs.Prelude.{◌==◌, ◌&&◌, ◌||◌, flat_map, if◌then◌else◌}
+use Rattle.std.proofs.Common.{◌≡◌, ℕ, Bool, true, false, List, [], ◌∷◌, ◌++◌, map, Option, Some, None, refl, ap, sym, subst, ◌∙◌, append_assoc, append-nil}
+use Rattle.std.specs.Prelude.{◌==◌, flat_map, if◌then◌else◌}
 use Rattle.std.proofs.lemmas.List.{map-append}
 use Rattle.std.proofs.lemmas.Bool.{eqb-true}
 use Rattle.gitconf_text.specs.Text.{is_line_end}
 use Rattle.gitconf_text.specs.Value.{Piece, Value as ValueOf, spelled_value}
 use Rattle.gitconf_text.specs.Part.{Assigned, Entry, EntryItem, spelled_assigned, spelled_item}
-use Rattle.gitconf_text.specs.Token.{Token, NameToken, ValueToken, NewlineToken, ValueNotDoneToken, ValueDoneToken, WhitespaceToken, SeparatorToken, filled, piece_tokens, value_tokens, assigned_tokens, item_tokens}
+use Rattle.gitconf_text.specs.Token.{Token, NewlineToken, ValueNotDoneToken, ValueDoneToken, WhitespaceToken, filled, piece_tokens, value_tokens, assigned_tokens, item_tokens}
 use Rattle.gitconf_parse.specs.EventRef.{Shown, ShownNewline}
 use Rattle.gitconf_parse.specs.ShownEvents.{shown_token}
 use Rattle.gitconf_parse.proofs.ValueAgain.{both_true}
@@ -162,7 +162,7 @@ pass_assigned o e s r None rest ends = refl
 pass_assigned o e s r (Some a) rest ends =
     ap (λ t. if◌then◌else◌ {A = List ℕ} o.spaces_around_separator (32 ∷ 61 ∷ 32 ∷ []) (61 ∷ []) ++ set_tokens o e (at_place s Other r) t) (whole (filled WhitespaceToken a.blanks) (value_tokens a.value.pieces a.value.last))
     ∙ ap (λ t. if◌then◌else◌ {A = List ℕ} o.spaces_around_separator (32 ∷ 61 ∷ 32 ∷ []) (61 ∷ []) ++ t)
-        (pass_blanks o e s r a.blanks _ ∙ pass_value o e s r a.value.pieces a.value.last rest ends)
+    (pass_blanks o e s r a.blanks _ ∙ pass_value o e s r a.value.pieces a.value.last rest ends)
     ∙ ap (λ t. t ++ (spelled_value (set_value e a.value) ++ set_tokens o e (behind_assigned o s r (Some a)) rest)) (separator_is o.spaces_around_separator)
     ∙ regroup (gap o) (spelled_value (set_value e a.value)) _
   where

@@ -1,13 +1,13 @@
 -- A header is set as one with the same name and subsection.
-use Rattle.std.proofs.Common.{◌≡◌, ◌<◌, ℕ, ◌+◌, Bool, true, false, not, List, [], ◌∷◌, ◌++◌, length, Option, Some, None, refl, ap, sym, ◌∙◌, append_assoc, arith}
-use Rattle.std.specs.Prelude.{◌==◌, ◌&&◌, ◌||◌, flat_map, codes}
+use Rattle.std.proofs.Common.{◌≡◌, ◌<◌, ℕ, Bool, true, false, not, List, [], ◌∷◌, ◌++◌, length, Some, refl, ap, sym, append_assoc, arith}
+use Rattle.std.specs.Prelude.{◌==◌, ◌&&◌, flat_map, codes}
 use Rattle.std.specs.Char.{to_ascii_lowercase}
 use Rattle.std.specs.List.{list_all}
 use Rattle.std.specs.Str.{bytes_eq}
 use Rattle.std.proofs.lemmas.Bool.Decides.{nat_tests}
 use Rattle.std.proofs.lemmas.Str.Ascii.{lowercase-lowercase}
 use Rattle.gitconf_text.specs.Bytes.{is_blank, is_header_byte, fold}
-use Rattle.gitconf_text.specs.Unit.{class_of, TextUnit, Escape, OpenEscape, Plain, units_of}
+use Rattle.gitconf_text.specs.Unit.{TextUnit, Escape, OpenEscape, Plain, units_of}
 use Rattle.gitconf_text.specs.Header.{Header, PlainHeader, DottedHeader, QuotedHeader, spelled_header, is_subsection_unit, subsection_byte, unquoted, FitsHeader, name_of, subsection_of}
 use Rattle.gitconf_text.specs.Token.{HeaderToken}
 use Rattle.gitconf_parse.specs.EventRef.{written, escaped_subsection}

@@ -1,12 +1,11 @@
 -- The values of entries that are set may stand in a text.
-use Rattle.std.proofs.Common.{◌≡◌, ◌<◌, ℕ, Bool, true, false, not, List, [], ◌∷◌, ◌++◌, length, map, Option, Some, None, inl, inr, refl, ap, sym, subst, ◌∙◌, append_assoc, append-nil, arith}
-use Rattle.std.specs.Prelude.{◌⊎◌, ◌==◌, ◌&&◌, flat_map, if◌then◌else◌}
+use Rattle.std.proofs.Common.{◌≡◌, ℕ, Bool, true, false, List, [], ◌∷◌, ◌++◌, map, inl, inr, refl, ap, sym, subst, ◌∙◌, append-nil}
+use Rattle.std.specs.Prelude.{◌⊎◌, flat_map, if◌then◌else◌}
 use Rattle.std.specs.List.{list_all}
 use Rattle.gitconf_text.specs.Bytes.{is_blank}
 use Rattle.gitconf_text.specs.Text.{begins, ends, is_line_end}
-use Rattle.gitconf_text.specs.Unit.{TextUnit, units_of, is_white}
+use Rattle.gitconf_text.specs.Unit.{units_of, is_white}
 use Rattle.gitconf_text.specs.Value.{Piece, Value as ValueOf, spelled_value, raw_of, value_units, may_follow_value, are_paired, IsEnded, FitsValue}
-use Rattle.gitconf_text.specs.Part.{Assigned}
 use Rattle.gitconf_state.proofs.FittedEntry.{IsClosed}
 use Rattle.gitconf_layout.specs.declared.format.Options.{Options}
 use Rattle.gitconf_layout.proofs.SetEntries.{set_end, set_piece, set_value, gap, PieceEnd, PieceEnds}

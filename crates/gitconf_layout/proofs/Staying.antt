@@ -1,5 +1,5 @@
 -- What the lines write, each with its end where it stays, is the text of the lines that stay.
-use Rattle.std.proofs.Common.{◌≡◌, ◌≤◌, ◌<◌, ℕ, ◌+◌, ◌-◌, Bool, true, false, not, List, [], ◌∷◌, ◌++◌, Option, Some, None, refl, ap, sym, subst, ◌∙◌, append_assoc, append-nil, arith}
+use Rattle.std.proofs.Common.{◌≡◌, ◌≤◌, ◌<◌, ℕ, ◌+◌, ◌-◌, Bool, true, false, not, List, [], ◌∷◌, ◌++◌, Option, Some, None, refl, ap, sym, ◌∙◌, append_assoc, arith}
 use Rattle.std.specs.Prelude.{◌==◌, ◌&&◌, ◌||◌, nat_lt, is_none}
 use Rattle.std.specs.List.{list_any}
 use Rattle.std.proofs.lemmas.Bool.{ltb-true, ltb-false, ne_eqb}
@@ -9,8 +9,8 @@ use Rattle.gitconf_layout.specs.declared.format.Options.{Options}
 use Rattle.gitconf_layout.specs.declared.place.Before.{Before}
 use Rattle.gitconf_layout.specs.declared.place.Before.TheVariants.{Nothing, Value, Other}
 use Rattle.gitconf_layout.specs.declared.place.Place.{Place}
-use Rattle.gitconf_layout.specs.Layout.{Lines, lines_of, behind, begins_comment, is_nothing, keeps_blanks, set_token, line_text, is_content, SetLine, set_lines, is_fewer, kept, joined, set_body}
-use Rattle.gitconf_layout.specs.Setting.{first, behind_token, is_full, is_dropped, one_less, on_next_line, end_text, set_tokens}
+use Rattle.gitconf_layout.specs.Layout.{lines_of, behind, begins_comment, is_nothing, keeps_blanks, line_text, is_content, set_lines, is_fewer, kept, joined, set_body}
+use Rattle.gitconf_layout.specs.Setting.{first, behind_token, is_full, one_less, on_next_line, end_text, set_tokens}
 use Rattle.gitconf_layout.proofs.Passes.{behind_line, lines_text, pass}
 
 or_assoc : (a b c : Bool) → ((a || b) || c) ≡ (a || (b || c))
@@ -214,7 +214,7 @@ stay o e s limit blank (line ∷ ended) last =
     go true h f k content blanks =
         ap (λ x. text ++ (x ++ lines_text o e (on_next_line o q) ended last)) (end_content e q (behind_is true h))
         ∙ ap (λ p. text ++ (e ++ lines_text o e p ended last))
-            (next_content o q (behind_is true h) ∙ ap (λ u. at_start u o.max_consecutive_blank_lines) (behind_line-section (at_start s (left limit blank)) line) ∙ ap (at_start t) (sym (left_none o.max_consecutive_blank_lines)))
+        (next_content o q (behind_is true h) ∙ ap (λ u. at_start u o.max_consecutive_blank_lines) (behind_line-section (at_start s (left limit blank)) line) ∙ ap (at_start t) (sym (left_none o.max_consecutive_blank_lines)))
         ∙ ap (λ x. text ++ (e ++ x)) content
         ∙ sym (text_content o e s limit blank line ended last h)
     go false h true k content blanks =

@@ -11,7 +11,6 @@ use crate::setting::{line_end_of, set_tokens};
 use crate::trimming::end_with;
 use bstr::BString;
 use gitconf_parse::error::Error;
-
 use gitconf_parse::events::{EventIter, Events};
 use gitconf_text::NoMemory;
 use std::alloc::Global;
