@@ -1,0 +1,12 @@
+pub mod LastBytes
+pub mod Passes
+pub mod Rows
+pub mod Staying
+pub mod SetHeaders
+pub mod SetEntries
+pub mod SetValues
+pub mod SetRuns
+pub mod Laid
+pub mod LayoutLaws
+pub mod Closing
+pub mod Ending

@@ -1,0 +1,18 @@
+-- What a layout keeps of its input, and how it ends.
+use Rattle.std.specs.Prelude.{◌≡◌, ◌⊎◌, ℕ, true, false, List, [], ◌++◌}
+use Rattle.gitconf_text.specs.Text.{ends, is_line_end}
+use Rattle.gitconf_text.specs.Part.{Part}
+use Rattle.gitconf_text.specs.Document.{IsText, gathered}
+use Rattle.gitconf_state.specs.Comments.{comments_of}
+use Rattle.gitconf_layout.specs.Layout.{is_cr_or_lf}
+
+-- the text has the document of the parts, and their comments, each without the spaces, tabs and CRs at its end
+pub record Keeps (parts : List Part) (text : List ℕ) : Type 0 where
+  pub read : List Part
+  pub is_text : IsText text read
+  pub document : gathered read ≡ gathered parts
+  pub comments : comments_of read ≡ comments_of parts
+
+-- the text is empty, or one line end stands behind a front that ends with neither CR nor LF
+abbrev pub EndsOnce : (text : List ℕ) → Type 0
+EndsOnce text = (text ≡ []) ⊎ ((front : List ℕ) × (line_end : List ℕ) × (text ≡ front ++ line_end) × (ends is_cr_or_lf front ≡ false) × (is_line_end line_end ≡ true))

@@ -1,0 +1,68 @@
+-- What one pass over the tokens of a text writes.
+use Rattle.std.specs.Prelude.{ℕ, ◌-◌, Bool, true, false, List, [], ◌∷◌, ◌++◌, ◌==◌, ◌||◌, ◌&&◌, Option, Some, None}
+use Rattle.std.specs.Prelude as prelude
+use Rattle.gitconf_parse.specs.EventRef.{Shown}
+use Rattle.gitconf_parse.specs.Sections.{is_shown_header}
+use Rattle.gitconf_layout.specs.declared.format.Options.{Options}
+use Rattle.gitconf_layout.specs.declared.place.Before.TheVariants.{Nothing}
+use Rattle.gitconf_layout.specs.declared.place.Place.{Place}
+use Rattle.gitconf_layout.specs.Layout.{behind, is_nothing, line_ends_in, set_token}
+
+abbrev pub replicate : ℕ → ℕ → List ℕ
+replicate n b = prelude.replicate n b
+
+-- before the first token
+abbrev pub first : Options → Place
+first options = record { in_section = false; before = Nothing; room = options.max_leading_blank_lines }
+
+-- behind a token, before the lines that it ends
+abbrev pub behind_token : Place → Shown → Place
+behind_token p t = record { in_section = is_shown_header t || p.in_section; before = behind p.before t; room = p.room }
+
+abbrev pub is_full : Option ℕ → Bool
+is_full None = false
+is_full (Some n) = n == 0
+
+-- the line has nothing on it and may not stay
+abbrev pub is_dropped : Place → Bool
+is_dropped p = is_nothing p.before && is_full p.room
+
+abbrev pub one_less : Option ℕ → Option ℕ
+one_less None = None
+one_less (Some n) = Some (n - 1)
+
+-- behind the end of the line
+abbrev pub on_next_line : Options → Place → Place
+on_next_line options p = record {
+  in_section = p.in_section;
+  before = Nothing;
+  room = elim (is_nothing p.before) [ true ↦ one_less p.room | false ↦ options.max_consecutive_blank_lines ];
+}
+
+-- the line's end, if it stays
+abbrev pub end_text : (line_end : List ℕ) → Place → List ℕ
+end_text line_end p = elim (is_dropped p) [ true ↦ [] | false ↦ line_end ]
+
+-- the line ends that each LF of a run stands for
+unfoldable pub ends_text : Options → (line_end : List ℕ) → Place → List ℕ → List ℕ
+ends_text options line_end p [] = []
+ends_text options line_end p (b ∷ run) = elim (b == 10) [
+  | true ↦ end_text line_end p ++ ends_text options line_end (on_next_line options p) run
+  | false ↦ ends_text options line_end p run
+]
+
+-- behind a run
+unfoldable pub ends_place : Options → Place → List ℕ → Place
+ends_place options p [] = p
+ends_place options p (b ∷ run) = elim (b == 10) [
+  | true ↦ ends_place options (on_next_line options p) run
+  | false ↦ ends_place options p run
+]
+
+-- the text of the tokens from this place on
+unfoldable pub set_tokens : Options → (line_end : List ℕ) → Place → List Shown → List ℕ
+set_tokens options line_end p [] = []
+set_tokens options line_end p (t ∷ rest) =
+    set_token options p.in_section p.before t rest
+    ++ (ends_text options line_end (behind_token p t) (line_ends_in t)
+    ++ set_tokens options line_end (ends_place options (behind_token p t) (line_ends_in t)) rest)

@@ -1,0 +1,103 @@
+//! `normalize`, and what it may be asked for.
+ghost use Rattle.std.specs.Prelude.{◌≡◌, IfOk, IfErr};
+ghost use Rattle.bstr.specs.Owned.{bstring_bytes};
+ghost use Rattle.gitconf_parse.specs.EventResult.{IsRefused};
+ghost use Rattle.gitconf_parse.specs.EventIters.{events_left};
+ghost use Rattle.gitconf_layout.specs.Setting.{set_tokens};
+ghost use Rattle.gitconf_layout.specs.Layout.{default_options, IsLayout};
+ghost use Rattle.gitconf_layout.specs.Layout as spec;
+
+use crate::setting::{line_end_of, set_tokens};
+use crate::trimming::end_with;
+use bstr::BString;
+use gitconf_parse::error::Error;
+use gitconf_parse::events::{EventIter, Events};
+use gitconf_text::NoMemory;
+use std::alloc::Global;
+
+/// What stands before a comment or a name at the start of its line.
+#[derive(Clone, Copy, Debug, PartialEq, Eq)]
+pub enum Indent {
+    /// So many tabs.
+    Tabs(usize),
+    /// So many spaces.
+    Spaces(usize),
+}
+
+/// What lines end with.
+#[derive(Clone, Copy, Debug, PartialEq, Eq)]
+pub enum Newline {
+    /// CR and LF where the first newline of the text holds a CR, and else LF.
+    Detect,
+    /// LF.
+    Lf,
+    /// CR and LF.
+    CrLf,
+}
+
+/// How a text is laid out.
+#[derive(Clone, Copy, Debug, PartialEq, Eq)]
+pub struct Options {
+    /// What stands before a comment that no header stands before, where it has a line of its own. `None` leaves the blanks
+    /// that are there.
+    pub root_comment_indent: Option<Indent>,
+    /// What stands before a name or a comment behind a header, where it begins a line.
+    pub key_value_indent: Indent,
+    /// Whether a space stands on either side of `=`.
+    pub spaces_around_separator: bool,
+    /// What lines end with.
+    pub newline: Newline,
+    /// Whether a text that isn't empty ends with one line end.
+    pub ensure_trailing_newline: bool,
+    /// How many blank lines stay before the first line that isn't blank; `None` keeps them all.
+    pub max_leading_blank_lines: Option<usize>,
+    /// How many blank lines stay together behind that; `None` keeps them all.
+    pub max_consecutive_blank_lines: Option<usize>,
+}
+
+impl Default for Options {
+    ghost is_default = { λ o. o ≡ default_options };
+
+    /// Names behind a tab, ` = `, the line end that is there, one line end at the end, and all blank lines.
+    fn default() -> Options {
+        Options {
+            root_comment_indent: Some(Indent::Spaces(0)),
+            key_value_indent: Indent::Tabs(1),
+            spaces_around_separator: true,
+            newline: Newline::Detect,
+            ensure_trailing_newline: true,
+            max_leading_blank_lines: None,
+            max_consecutive_blank_lines: None,
+        }
+    }
+}
+
+/// The text, laid out by the options. Its document is the same.
+///
+/// The events of the text are read once. It takes memory for them and for the answer.
+///
+/// # Errors
+///
+/// Refusal 1 where the text has no document, with the line and the data from where it can't be read on; refusal 2 for
+/// more than 4294967295 bytes; refusal 27 for want of memory.
+pub fn normalize(alloc: Global, input: &[u8], options: Options) -> Result<BString, Error>
+    ensures set { IfOk result (λ text. IsLayout options input.now (bstring_bytes text)) }
+    ensures refused { IfErr result (IsRefused input.now) }
+{
+    let events = Events::from_bytes(alloc, input, None)?;
+    let text = laid_out(alloc, events.iter(), &options)?;
+    Ok(BString::new(text))
+}
+
+/// The text of these events, laid out.
+#[tactic(auto, using(crate::proofs::Staying::body_is), unfolding(crate::specs::Layout::laid_out))]
+fn laid_out(alloc: Global, events: EventIter<'_>, options: &Options) -> Result<Vec<u8>, NoMemory>
+    ensures { IfOk result (λ text. text.items ≡ spec.laid_out options.now (events_left events.entry)) }
+{
+    let line_end = line_end_of(options.newline, events);
+    let mut text = set_tokens(alloc, events, options, line_end)?;
+    if options.ensure_trailing_newline {
+        end_with(&mut text, line_end)?;
+    }
+    Ok(text)
+}

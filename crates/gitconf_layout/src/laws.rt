@@ -1,0 +1,19 @@
+//! What holds of layouts, for all texts and options: each law is a function that does nothing.
+ghost use Rattle.std.specs.Prelude.{◌≡◌, ℕ, List, true, false};
+ghost use Rattle.gitconf_text.specs.Part.{Part};
+ghost use Rattle.gitconf_text.specs.Document.{IsText};
+ghost use Rattle.gitconf_layout.specs.Kept.{Keeps, EndsOnce};
+ghost use Rattle.gitconf_layout.specs.Layout.{layout};
+ghost use Rattle.gitconf_layout.specs.declared.format.Options.{Options};
+
+/// The layout of a text has the text's document and its comments, where no line end is put at the end.
+///
+/// So no two tokens are joined, and none is swallowed or lost. Comments are compared without the blanks and CRs at their end.
+pub fn layouts_keep_documents()
+    ensures { (options : Options) (text : List ℕ) (parts : List Part) → IsText text parts → options.ensure_trailing_newline ≡ false → Keeps parts (layout options parts) }
+{}
+
+/// Where a line end at the end is asked for, a text that isn't empty ends with exactly one.
+pub fn layouts_end_once()
+    ensures { (options : Options) (parts : List Part) → options.ensure_trailing_newline ≡ true → EndsOnce (layout options parts) }
+{}
