@@ -20,7 +20,7 @@ use Rattle.gitconf_layout.proofs.SetValues.{begins_front, front_piece}
 use Rattle.gitconf_layout.proofs.Closing.{trimmed_some, trimmed_none, trimmed_same}
 
 -- bytes that pass a test that CR and LF don't pass
-all_apart : (p : ℕ → Bool) → p 13 ≡ false → p 10 ≡ false → (text : List ℕ) → list_all p text ≡ true → list_all (λ b. not (is_cr_or_lf b)) text ≡ true
+pub all_apart : (p : ℕ → Bool) → p 13 ≡ false → p 10 ≡ false → (text : List ℕ) → list_all p text ≡ true → list_all (λ b. not (is_cr_or_lf b)) text ≡ true
 all_apart p cr lf [] h = refl
 all_apart p cr lf (b ∷ text) h =
     let q = both_true (p b) (list_all p text) h in
@@ -56,7 +56,7 @@ line_ends_go (b ∷ run) h =
     go false e k = let l : (b == 13 && begins (λ c. c == 10) run) ≡ true = rw e at k in rw (eqb-true b 13 (both_true (b == 13) _ l).0) refl
 
 -- a value has no LF of its own
-no_feed : (escaped : Bool) (quoted : Bool) (text : List ℕ) → are_paired quoted (units_behind escaped text) ≡ true → list_all (λ b. not (b == 10)) text ≡ true
+pub no_feed : (escaped : Bool) (quoted : Bool) (text : List ℕ) → are_paired quoted (units_behind escaped text) ≡ true → list_all (λ b. not (b == 10)) text ≡ true
 no_feed true quoted [] h = refl
 no_feed false quoted [] h = refl
 no_feed true quoted (b ∷ text) h =
@@ -103,7 +103,7 @@ reclosed e p (q ∷ more) = p ∷ reclosed e q more
 abbrev pub Filled : List ℕ → Type 0
 Filled text = (b : ℕ) × (more : List ℕ) × (text ≡ b ∷ more)
 
-front_filled : (front rest : List ℕ) → Filled rest → Filled (front ++ rest)
+pub front_filled : (front rest : List ℕ) → Filled rest → Filled (front ++ rest)
 front_filled [] rest f = f
 front_filled (b ∷ front) rest f = (b, front ++ rest, refl)
 
@@ -111,7 +111,7 @@ end_goes : (line_end : List ℕ) → PieceEnd line_end → trimmed line_end ≡ 
 end_goes [] h = refl
 end_goes (b ∷ bytes) h = one_line_end (λ t. trimmed t ≡ []) refl refl (b ∷ bytes) h
 
-pieces_close : (e : List ℕ) (p : Piece) (pieces : List Piece) → PieceEnds (p ∷ pieces) → (trimmed (flat (p ∷ pieces)) ++ e ≡ flat (reclosed e p pieces)) × Filled (trimmed (flat (p ∷ pieces)))
+pub pieces_close : (e : List ℕ) (p : Piece) (pieces : List Piece) → PieceEnds (p ∷ pieces) → (trimmed (flat (p ∷ pieces)) ++ e ≡ flat (reclosed e p pieces)) × Filled (trimmed (flat (p ∷ pieces)))
 pieces_close e p [] ends_so =
     let same : trimmed (flat (p ∷ [])) ≡ p.text ++ 92 ∷ []
     = ap trimmed (append-nil (p.text ++ 92 ∷ p.line_end) ∙ sym (append_assoc p.text (92 ∷ []) p.line_end)) ∙ trimmed_none (p.text ++ 92 ∷ []) p.line_end (end_goes p.line_end ends_so.0) ∙ trimmed-other p.text 92 refl in
@@ -122,7 +122,7 @@ pieces_close e p (q ∷ more) ends_so =
     (ap (λ t. t ++ e) same ∙ append_assoc (p.text ++ 92 ∷ p.line_end) (trimmed (flat (q ∷ more))) e ∙ ap (λ t. (p.text ++ 92 ∷ p.line_end) ++ t) later.0,
     subst Filled (sym same) (front_filled (p.text ++ 92 ∷ p.line_end) (trimmed (flat (q ∷ more))) later.1))
 
-reclosed_raw : (e : List ℕ) (p : Piece) (pieces : List Piece) → flat_map (λ (p : Piece). p.text) (reclosed e p pieces) ≡ flat_map (λ (p : Piece). p.text) (p ∷ pieces)
+pub reclosed_raw : (e : List ℕ) (p : Piece) (pieces : List Piece) → flat_map (λ (p : Piece). p.text) (reclosed e p pieces) ≡ flat_map (λ (p : Piece). p.text) (p ∷ pieces)
 reclosed_raw e p [] = refl
 reclosed_raw e p (q ∷ more) = ap (λ t. p.text ++ t) (reclosed_raw e q more)
 
