@@ -15,10 +15,12 @@ use Rattle.gitconf_state.specs.Comments.{stripped}
 use Rattle.gitconf_state.proofs.FittedEntry.{IsClosed}
 use Rattle.gitconf_layout.specs.Layout.{is_cr_or_lf, trimmed}
 use Rattle.gitconf_layout.proofs.LastBytes.{trimmed-other}
+use Rattle.gitconf_layout.proofs.SetEntries.{PieceEnd, PieceEnds, one_line_end}
+use Rattle.gitconf_layout.proofs.SetValues.{begins_front, front_piece}
 use Rattle.gitconf_layout.proofs.Closing.{trimmed_some, trimmed_none, trimmed_same}
 
 -- bytes that pass a test that CR and LF don't pass
-all_apart : (p : ℕ → Bool) → p 13 ≡ false → p 10 ≡ false → (text : List ℕ) → list_all p text ≡ true → list_all (λ b. not (is_cr_or_lf b)) text ≡ true
+pub all_apart : (p : ℕ → Bool) → p 13 ≡ false → p 10 ≡ false → (text : List ℕ) → list_all p text ≡ true → list_all (λ b. not (is_cr_or_lf b)) text ≡ true
 all_apart p cr lf [] h = refl
 all_apart p cr lf (b ∷ text) h =
     let q = both_true (p b) (list_all p text) h in
@@ -54,7 +56,7 @@ line_ends_go (b ∷ run) h =
     go false e k = let l : (b == 13 && begins (λ c. c == 10) run) ≡ true = rw e at k in rw (eqb-true b 13 (both_true (b == 13) _ l).0) refl
 
 -- a value has no LF of its own
-no_feed : (escaped : Bool) (quoted : Bool) (text : List ℕ) → are_paired quoted (units_behind escaped text) ≡ true → list_all (λ b. not (b == 10)) text ≡ true
+pub no_feed : (escaped : Bool) (quoted : Bool) (text : List ℕ) → are_paired quoted (units_behind escaped text) ≡ true → list_all (λ b. not (b == 10)) text ≡ true
 no_feed true quoted [] h = refl
 no_feed false quoted [] h = refl
 no_feed true quoted (b ∷ text) h =
@@ -89,7 +91,63 @@ last_stays (b ∷ []) white lines = go (b == 13) refl (b == 10) refl
 last_stays (b ∷ c ∷ text) white lines =
     rw (trimmed, last_stays (c ∷ text) white (both_true (not (b == 10)) (list_all (λ b. not (b == 10)) (c ∷ text)) lines).1) refl
 
+abbrev pub flat : List Piece → List ℕ
+flat pieces = flat_map (λ (p : Piece). p.text ++ 92 ∷ p.line_end) pieces
+
 -- the pieces with the last one's line end replaced
-abbrev pub reclosed : (e : List ℕ) → List Piece → List Piece
-reclosed e [] = []
-reclosed e (p ∷ pieces) = elim pieces [ [] ↦ (record { text = p.text; line_end = e }) ∷ [] | q ∷ more ↦ p ∷ reclosed e pieces ]
+abbrev pub reclosed : (e : List ℕ) → Piece → List Piece → List Piece
+reclosed e p [] = (record { text = p.text; line_end = e }) ∷ []
+reclosed e p (q ∷ more) = p ∷ reclosed e q more
+
+-- something stays
+abbrev pub Filled : List ℕ → Type 0
+Filled text = (b : ℕ) × (more : List ℕ) × (text ≡ b ∷ more)
+
+pub front_filled : (front rest : List ℕ) → Filled rest → Filled (front ++ rest)
+front_filled [] rest f = f
+front_filled (b ∷ front) rest f = (b, front ++ rest, refl)
+
+end_goes : (line_end : List ℕ) → PieceEnd line_end → trimmed line_end ≡ []
+end_goes [] h = refl
+end_goes (b ∷ bytes) h = one_line_end (λ t. trimmed t ≡ []) refl refl (b ∷ bytes) h
+
+pub pieces_close : (e : List ℕ) (p : Piece) (pieces : List Piece) → PieceEnds (p ∷ pieces) → (trimmed (flat (p ∷ pieces)) ++ e ≡ flat (reclosed e p pieces)) × Filled (trimmed (flat (p ∷ pieces)))
+pieces_close e p [] ends_so =
+    let same : trimmed (flat (p ∷ [])) ≡ p.text ++ 92 ∷ []
+    = ap trimmed (append-nil (p.text ++ 92 ∷ p.line_end) ∙ sym (append_assoc p.text (92 ∷ []) p.line_end)) ∙ trimmed_none (p.text ++ 92 ∷ []) p.line_end (end_goes p.line_end ends_so.0) ∙ trimmed-other p.text 92 refl in
+    (ap (λ t. t ++ e) same ∙ append_assoc p.text (92 ∷ []) e ∙ sym (append-nil (p.text ++ 92 ∷ e)), subst Filled (sym same) (front_filled p.text (92 ∷ []) (92, [], refl)))
+pieces_close e p (q ∷ more) ends_so =
+    let later = pieces_close e q more ends_so.1 in
+    let same = trimmed_some (p.text ++ 92 ∷ p.line_end) (flat (q ∷ more)) later.1.0 later.1.1 later.1.2 in
+    (ap (λ t. t ++ e) same ∙ append_assoc (p.text ++ 92 ∷ p.line_end) (trimmed (flat (q ∷ more))) e ∙ ap (λ t. (p.text ++ 92 ∷ p.line_end) ++ t) later.0,
+    subst Filled (sym same) (front_filled (p.text ++ 92 ∷ p.line_end) (trimmed (flat (q ∷ more))) later.1))
+
+pub reclosed_raw : (e : List ℕ) (p : Piece) (pieces : List Piece) → flat_map (λ (p : Piece). p.text) (reclosed e p pieces) ≡ flat_map (λ (p : Piece). p.text) (p ∷ pieces)
+reclosed_raw e p [] = refl
+reclosed_raw e p (q ∷ more) = ap (λ t. p.text ++ t) (reclosed_raw e q more)
+
+reclosed_units : (e : List ℕ) (p : Piece) (pieces : List Piece) → flat_map (λ (p : Piece). units_of p.text) (reclosed e p pieces) ≡ flat_map (λ (p : Piece). units_of p.text) (p ∷ pieces)
+reclosed_units e p [] = refl
+reclosed_units e p (q ∷ more) = ap (λ t. units_of p.text ++ t) (reclosed_units e q more)
+
+reclosed_ends : (e : List ℕ) → is_line_end e ≡ true → (p : Piece) (pieces : List Piece) (last rest : List ℕ) → IsEnded (p ∷ pieces) last rest → list_all (λ (p : Piece). is_line_end p.line_end) (reclosed e p pieces) ≡ true
+reclosed_ends e line p [] last rest ended = rw line refl
+reclosed_ends e line p (q ∷ more) last rest ended = elim ended [
+  | inl next ↦ rw next.0 (reclosed_ends e line q more last rest next.1)
+  | inr bare ↦ absurd (let x : q ∷ more ≡ [] = bare.1 in cc)
+]
+
+-- what a value may be at the end, where its last piece is empty and stands behind others
+pub reclosed_value : (e : List ℕ) → is_line_end e ≡ true → (blanks : List ℕ) (p : Piece) (pieces : List Piece) (rest : List ℕ) → list_all is_blank blanks ≡ true → FitsValue (record { pieces = p ∷ pieces; last = [] }) rest
+    → IsClosed (record { blanks = blanks; value = record { pieces = reclosed e p pieces; last = [] } })
+reclosed_value e line blanks p pieces rest all fits = record {
+  blanks = all;
+  front = front_kept p pieces (begins_front (flat (p ∷ pieces) ++ []) rest fits.front);
+  units = ap (λ t. are_paired false (t ++ units_of [])) (reclosed_units e p pieces) ∙ fits.units;
+  pieces = reclosed_ends e line p pieces [] rest fits.end;
+  last = refl;
+}
+  where
+    front_kept : (p : Piece) (pieces : List Piece) → begins is_blank (flat (p ∷ pieces) ++ []) ≡ false → begins is_blank (flat (reclosed e p pieces) ++ []) ≡ false
+    front_kept p [] h = front_piece p.text p.line_end e [] [] h [] []
+    front_kept p (q ∷ more) h = front_piece p.text p.line_end p.line_end _ [] h (flat (reclosed e q more)) []

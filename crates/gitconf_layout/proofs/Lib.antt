@@ -10,3 +10,4 @@ pub mod Laid
 pub mod LayoutLaws
 pub mod Closing
 pub mod Ending
+pub mod Ended

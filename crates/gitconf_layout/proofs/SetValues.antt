@@ -34,11 +34,11 @@ units_same e v = ap (λ t. t ++ units_of v.last) (go v.pieces)
     go (p ∷ pieces) = ap (λ t. units_of p.text ++ t) (go pieces)
 
 -- what begins with no blank before others begins with none alone
-begins_front : (text rest : List ℕ) → begins is_blank (text ++ rest) ≡ false → begins is_blank text ≡ false
+pub begins_front : (text rest : List ℕ) → begins is_blank (text ++ rest) ≡ false → begins is_blank text ≡ false
 begins_front [] rest h = refl
 begins_front (b ∷ text) rest h = h
 
-front_piece : (text line_end other behind more : List ℕ) → begins is_blank (((text ++ 92 ∷ line_end) ++ behind) ++ more) ≡ false → (behind' more' : List ℕ) → begins is_blank (((text ++ 92 ∷ other) ++ behind') ++ more') ≡ false
+pub front_piece : (text line_end other behind more : List ℕ) → begins is_blank (((text ++ 92 ∷ line_end) ++ behind) ++ more) ≡ false → (behind' more' : List ℕ) → begins is_blank (((text ++ 92 ∷ other) ++ behind') ++ more') ≡ false
 front_piece [] line_end other behind more h behind' more' = refl
 front_piece (b ∷ text) line_end other behind more h behind' more' = h
 
