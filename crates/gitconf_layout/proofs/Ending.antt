@@ -118,9 +118,10 @@ pieces_close e p [] ends_so =
     (ap (λ t. t ++ e) same ∙ append_assoc p.text (92 ∷ []) e ∙ sym (append-nil (p.text ++ 92 ∷ e)), subst Filled (sym same) (front_filled p.text (92 ∷ []) (92, [], refl)))
 pieces_close e p (q ∷ more) ends_so =
     let later = pieces_close e q more ends_so.1 in
-    let same = trimmed_some (p.text ++ 92 ∷ p.line_end) (flat (q ∷ more)) later.1.0 later.1.1 later.1.2 in
-    (ap (λ t. t ++ e) same ∙ append_assoc (p.text ++ 92 ∷ p.line_end) (trimmed (flat (q ∷ more))) e ∙ ap (λ t. (p.text ++ 92 ∷ p.line_end) ++ t) later.0,
-    subst Filled (sym same) (front_filled (p.text ++ 92 ∷ p.line_end) (trimmed (flat (q ∷ more))) later.1))
+    let same = trimmed_some (p.text ++ 92 ∷ p.line_end) (flat (q ∷ more)) later.1.0 later.1.1 later.1.2 in (
+      ap (λ t. t ++ e) same ∙ append_assoc (p.text ++ 92 ∷ p.line_end) (trimmed (flat (q ∷ more))) e ∙ ap (λ t. (p.text ++ 92 ∷ p.line_end) ++ t) later.0,
+      subst Filled (sym same) (front_filled (p.text ++ 92 ∷ p.line_end) (trimmed (flat (q ∷ more))) later.1),
+    )
 
 pub reclosed_raw : (e : List ℕ) (p : Piece) (pieces : List Piece) → flat_map (λ (p : Piece). p.text) (reclosed e p pieces) ≡ flat_map (λ (p : Piece). p.text) (p ∷ pieces)
 reclosed_raw e p [] = refl
