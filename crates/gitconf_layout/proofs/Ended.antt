@@ -1,26 +1,26 @@
 -- A text whose end is replaced by one line end keeps its document and its comments.
-use Rattle.std.proofs.Common.{◌≡◌, ◌<◌, ℕ, ◌+◌, Bool, true, false, not, List, [], ◌∷◌, ◌++◌, length, map, Option, Some, None, inl, inr, refl, ap, sym, subst, ◌∙◌, append_assoc, append-nil, arith}
-use Rattle.std.specs.Prelude.{◌⊎◌, ◌==◌, ◌&&◌, ◌||◌, flat_map, if◌then◌else◌}
+use Rattle.std.proofs.Common.{◌≡◌, ◌<◌, ℕ, Bool, true, false, not, List, [], ◌∷◌, ◌++◌, length, Option, Some, None, inl, inr, refl, ap, sym, subst, ◌∙◌, append_assoc, append-nil, arith}
+use Rattle.std.specs.Prelude.{◌⊎◌, ◌==◌, ◌||◌, flat_map}
 use Rattle.std.specs.List.{list_all}
 use Rattle.std.proofs.lemmas.Bool.{eqb-true}
 use Rattle.gitconf_text.specs.Bytes.{is_blank, is_name_byte}
-use Rattle.gitconf_text.specs.Text.{begins, begins_line_end, are_line_ends, is_line_end, ends}
-use Rattle.gitconf_text.specs.Unit.{Class, LineFeed, Quote, Mark, Backslash, White, Other, class_of, is_mark, is_white, TextUnit, Escape, OpenEscape, Plain, units_behind, units_of}
-use Rattle.gitconf_text.specs.Value.{Piece, Value as ValueOf, spelled_value, raw_of, may_follow_value, is_value_escape, are_paired, value_units, IsEnded, FitsValue}
+use Rattle.gitconf_text.specs.Text.{begins, are_line_ends, is_line_end, ends}
+use Rattle.gitconf_text.specs.Unit.{Class, LineFeed, Quote, Mark, Backslash, White, Other, class_of, is_mark, is_white, TextUnit, Escape, OpenEscape, Plain, units_of}
+use Rattle.gitconf_text.specs.Value.{Piece, Value as ValueOf, spelled_value, is_value_escape, are_paired, IsEnded, FitsValue}
 use Rattle.gitconf_text.specs.Names.{is_value_name}
 use Rattle.gitconf_text.specs.Header.{Header, PlainHeader, DottedHeader, QuotedHeader, spelled_header}
-use Rattle.gitconf_text.specs.Part.{Assigned, Entry, Item, BlanksItem, LineEndsItem, CommentItem, EntryItem, Part, ItemPart, HeaderPart, spelled_part, spelled, FitsItem, FitsPart, AreFit}
+use Rattle.gitconf_text.specs.Part.{Assigned, BlanksItem, LineEndsItem, CommentItem, EntryItem, Part, ItemPart, HeaderPart, spelled_part, spelled, FitsItem, FitsPart, AreFit}
 use Rattle.gitconf_text.specs.Document.{Document, with_part, gathered}
 use Rattle.gitconf_parse.proofs.ValueAgain.{both_true, apart}
 use Rattle.gitconf_state.specs.Comments.{stripped, part_comments, comments_of}
-use Rattle.gitconf_state.specs.Printing.{Open, Closed, OpenKey, OpenValue, OpenComment, after_blanks, after}
-use Rattle.gitconf_state.proofs.Follows.{may_follow, may_follow_key, may_follow_comment, line_end_follows}
+use Rattle.gitconf_state.specs.Printing.{Closed, OpenKey, OpenValue, OpenComment, after_blanks}
+use Rattle.gitconf_state.proofs.Follows.{may_follow, may_follow_key, line_end_follows}
 use Rattle.gitconf_state.proofs.Fitted.{Fitted, put, respelled, put_blanks, put_line_ends}
 use Rattle.gitconf_state.proofs.FittedComment.{put_comment}
 use Rattle.gitconf_state.proofs.FittedEntry.{IsClosed, put_key, put_value}
-use Rattle.gitconf_state.proofs.LoadingNames.{Follows, is_line_closed, first_fits, behind_item}
-use Rattle.gitconf_layout.specs.Layout.{is_cr_or_lf, trimmed, with_one_line_end}
-use Rattle.gitconf_layout.proofs.SetEntries.{PieceEnds, one_line_end}
+use Rattle.gitconf_state.proofs.LoadingNames.{is_line_closed, first_fits, behind_item}
+use Rattle.gitconf_layout.specs.Layout.{trimmed, with_one_line_end}
+use Rattle.gitconf_layout.proofs.SetEntries.{one_line_end}
 use Rattle.gitconf_layout.proofs.SetValues.{begins_front, piece_ends}
 use Rattle.gitconf_layout.proofs.Closing.{trimmed_cases, end_begins, trimmed_follows, trimmed_some, trimmed_none, trimmed_same}
 use Rattle.gitconf_layout.proofs.Ending.{Filled, flat, reclosed, front_filled, pieces_close, reclosed_raw, reclosed_value, all_apart, blanks_stay, name_stays, header_stays, line_ends_go, no_feed, last_stays}
@@ -132,14 +132,14 @@ end_value : (e : List ℕ) → is_line_end e ≡ true → (name blanks between :
     → Closes e (spelled_part (entry_of name blanks between pieces last)) (with_part (entry_of name blanks between pieces last) no_entries) []
 end_value e line name blanks between pieces (c ∷ last) rest fits = elim (closed_or_bare pieces (c ∷ last) rest fits.2.1.end) [
   | inl closed ↦
-    let group = regroup_last name blanks between (flat pieces) (c ∷ last) in
-    let front = name ++ (blanks ++ 61 ∷ (between ++ flat pieces)) in
-    let paired = paired_rest (flat_map (λ (p : Piece). units_of p.text) pieces) (units_of (c ∷ last)) false fits.2.1.units in
-    let stays : trimmed (c ∷ last) ≡ c ∷ last = last_stays (c ∷ last) closed.1 (no_feed false paired.0 (c ∷ last) paired.1) in
-    stays_whole e (spelled_part (entry_of name blanks between pieces (c ∷ last))) (with_part (entry_of name blanks between pieces (c ∷ last)) no_entries) []
-    (ap trimmed group ∙ trimmed_some front (c ∷ last) c last stays ∙ ap (λ t. front ++ t) stays ∙ sym group)
-    (name_filled name (blanks ++ 61 ∷ (between ++ (flat pieces ++ (c ∷ last)))) fits.0)
-    (put_value name blanks (record { blanks = between; value = record { pieces = pieces; last = c ∷ last } }) fits.0 fits.1
+      let group = regroup_last name blanks between (flat pieces) (c ∷ last) in
+      let front = name ++ (blanks ++ 61 ∷ (between ++ flat pieces)) in
+      let paired = paired_rest (flat_map (λ (p : Piece). units_of p.text) pieces) (units_of (c ∷ last)) false fits.2.1.units in
+      let stays : trimmed (c ∷ last) ≡ c ∷ last = last_stays (c ∷ last) closed.1 (no_feed false paired.0 (c ∷ last) paired.1) in
+      stays_whole e (spelled_part (entry_of name blanks between pieces (c ∷ last))) (with_part (entry_of name blanks between pieces (c ∷ last)) no_entries) []
+      (ap trimmed group ∙ trimmed_some front (c ∷ last) c last stays ∙ ap (λ t. front ++ t) stays ∙ sym group)
+      (name_filled name (blanks ++ 61 ∷ (between ++ (flat pieces ++ (c ∷ last)))) fits.0)
+      (put_value name blanks (record { blanks = between; value = record { pieces = pieces; last = c ∷ last } }) fits.0 fits.1
       (is_closed between (record { pieces = pieces; last = c ∷ last }) rest fits.2.0 fits.2.1 closed.0 closed.1) (line_end_follows OpenValue e (end_begins e line)) (end_alone e line))
   | inr bare ↦ absurd (let x : c ∷ last ≡ [] = bare.1 in cc)
 ]
@@ -150,7 +150,7 @@ end_value e line name blanks between [] [] rest fits =
     (ap trimmed group ∙ trimmed_some (name ++ blanks) (61 ∷ between) 61 between stays ∙ ap (λ t. (name ++ blanks) ++ t) stays ∙ sym group)
     (name_filled name (blanks ++ 61 ∷ (between ++ [])) fits.0)
     (put_value name blanks (record { blanks = between; value = record { pieces = []; last = [] } }) fits.0 fits.1
-      (is_closed between (record { pieces = []; last = [] }) rest fits.2.0 fits.2.1 refl refl) (line_end_follows OpenValue e (end_begins e line)) (end_alone e line))
+    (is_closed between (record { pieces = []; last = [] }) rest fits.2.0 fits.2.1 refl refl) (line_end_follows OpenValue e (end_begins e line)) (end_alone e line))
 end_value e line name blanks between (p ∷ pieces) [] rest fits =
     let group = regroup_pieces name blanks between (flat (p ∷ pieces)) in
     let front = name ++ (blanks ++ 61 ∷ between) in
@@ -158,11 +158,11 @@ end_value e line name blanks between (p ∷ pieces) [] rest fits =
     let same : trimmed (spelled_part (entry_of name blanks between (p ∷ pieces) [])) ≡ front ++ trimmed (flat (p ∷ pieces))
     = ap trimmed group ∙ trimmed_some front (flat (p ∷ pieces)) close.1.0 close.1.1 close.1.2 in
     let f = put_value name blanks (record { blanks = between; value = record { pieces = reclosed e p pieces; last = [] } }) fits.0 fits.1
-      (reclosed_value e line between p pieces rest fits.2.0 fits.2.1) refl (record { parts = []; same = refl; fits = tt; document_is = refl; comments_are = refl }) in
+    (reclosed_value e line between p pieces rest fits.2.0 fits.2.1) refl (record { parts = []; same = refl; fits = tt; document_is = refl; comments_are = refl }) in
     inr (
       subst Filled (sym same) (front_filled front (trimmed (flat (p ∷ pieces))) close.1),
       respelled (append-nil _ ∙ regroup_pieces name blanks between (flat (reclosed e p pieces)) ∙ ap (λ t. front ++ t) (sym close.0) ∙ sym (append_assoc front (trimmed (flat (p ∷ pieces))) e) ∙ ap (λ t. t ++ e) (sym same))
-      (redocumented (ap (λ (raw : List ℕ). record { front = (record { name = name; raw = Some (raw ++ []) }) ∷ []; sections = [] }) (reclosed_raw e p pieces)) f),
+          (redocumented (ap (λ (raw : List ℕ). record { front = (record { name = name; raw = Some (raw ++ []) }) ∷ []; sections = [] }) (reclosed_raw e p pieces)) f),
     )
 
 -- a comment that loses CRs at its end is the same without its blanks and CRs there
@@ -224,7 +224,7 @@ end_part e line (ItemPart (CommentItem tag text)) rest fits =
     inr (
       (tag, trimmed text, same),
       respelled (ap (λ t. t ++ e) (sym same)) (recommented (ap (λ t. (tag ∷ t) ∷ []) (trimmed_stripped text fits.1))
-      (put_comment tag (trimmed text) fits.0 (trimmed_lines text fits.1) (line_end_follows OpenComment e (end_begins e line)) (end_alone e line))),
+          (put_comment tag (trimmed text) fits.0 (trimmed_lines text fits.1) (line_end_follows OpenComment e (end_begins e line)) (end_alone e line))),
     )
 end_part e line (HeaderPart h) rest fits = stays_whole e (spelled_header h) (with_part (HeaderPart h) no_entries) [] (header_stays h) (header_filled h) (put (HeaderPart h) fits (end_alone e line))
 end_part e line (ItemPart (EntryItem en)) rest fits = go en.name en.blanks en.assigned fits
@@ -243,16 +243,16 @@ closes e line (p ∷ parts) fits =
     let first = first_fits p parts fits in
     elim (closes e line parts fits.1) [
       | inl none ↦
-        subst (λ c. Closes e (spelled (p ∷ parts)) (gathered (p ∷ parts)) (part_comments p ++ c)) (sym none.2)
-        (subst (λ d. Closes e (spelled (p ∷ parts)) (with_part p d) (part_comments p ++ [])) (sym none.1)
-        (same_end (spelled_part p) (spelled parts) (with_part p no_entries) (part_comments p ++ []) (trimmed_none (spelled_part p) (spelled parts) none.0) (end_part e line p (spelled parts) first)))
+          subst (λ c. Closes e (spelled (p ∷ parts)) (gathered (p ∷ parts)) (part_comments p ++ c)) (sym none.2)
+          (subst (λ d. Closes e (spelled (p ∷ parts)) (with_part p d) (part_comments p ++ [])) (sym none.1)
+          (same_end (spelled_part p) (spelled parts) (with_part p no_entries) (part_comments p ++ []) (trimmed_none (spelled_part p) (spelled parts) none.0) (end_part e line p (spelled parts) first)))
       | inr some ↦
-        let same = trimmed_some (spelled_part p) (spelled parts) some.0.0 some.0.1 some.0.2 in
-        inr (
-          subst Filled (sym same) (front_filled (spelled_part p) (trimmed (spelled parts)) some.0),
-          respelled (sym (append_assoc (spelled_part p) (trimmed (spelled parts)) e) ∙ ap (λ t. t ++ e) (sym same))
-          (put_again e line p (spelled parts) (gathered parts) (comments_of parts) first some.0 some.1),
-        )
+          let same = trimmed_some (spelled_part p) (spelled parts) some.0.0 some.0.1 some.0.2 in
+          inr (
+            subst Filled (sym same) (front_filled (spelled_part p) (trimmed (spelled parts)) some.0),
+            respelled (sym (append_assoc (spelled_part p) (trimmed (spelled parts)) e) ∙ ap (λ t. t ++ e) (sym same))
+                (put_again e line p (spelled parts) (gathered parts) (comments_of parts) first some.0 some.1),
+          )
     ]
   where
     same_end : (front rest : List ℕ) (d : Document) (c : List (List ℕ)) → trimmed (front ++ rest) ≡ trimmed front → Closes e front d c → Closes e (front ++ rest) d c
