@@ -13,7 +13,7 @@ use Rattle.gitconf_layout.specs.Layout.{is_cr_or_lf, trimmed}
 use Rattle.gitconf_layout.proofs.SetEntries.{one_line_end}
 
 -- a byte stays where any behind it does, or where it is no CR and no LF
-trimmed_cases : (b : ℕ) (text : List ℕ) → ((trimmed (b ∷ text) ≡ []) × (is_cr_or_lf b ≡ true)) ⊎ (trimmed (b ∷ text) ≡ b ∷ trimmed text)
+pub trimmed_cases : (b : ℕ) (text : List ℕ) → ((trimmed (b ∷ text) ≡ []) × (is_cr_or_lf b ≡ true)) ⊎ (trimmed (b ∷ text) ≡ b ∷ trimmed text)
 trimmed_cases b text = go (trimmed text) refl (is_cr_or_lf b) refl
   where
     go : (rest : List ℕ) → trimmed text ≡ rest → (t : Bool) → is_cr_or_lf b ≡ t → ((trimmed (b ∷ text) ≡ []) × (is_cr_or_lf b ≡ true)) ⊎ (trimmed (b ∷ text) ≡ b ∷ trimmed text)
@@ -22,7 +22,7 @@ trimmed_cases b text = go (trimmed text) refl (is_cr_or_lf b) refl
     go [] h false k = inr (rw (h, trimmed, k) refl)
 
 -- a line end begins with a line end
-end_begins : (e : List ℕ) → is_line_end e ≡ true → begins_line_end e ≡ true
+pub end_begins : (e : List ℕ) → is_line_end e ≡ true → begins_line_end e ≡ true
 end_begins = one_line_end (λ e. begins_line_end e ≡ true) refl refl
 
 -- what begins with a line end does so when its end is replaced

@@ -1,17 +1,16 @@
 -- Parts at the end of a text, with one line end in the place of those behind them.
-use Rattle.std.proofs.Common.{◌≡◌, ◌<◌, ℕ, ◌+◌, Bool, true, false, not, List, [], ◌∷◌, ◌++◌, length, map, Option, Some, None, inl, inr, refl, ap, sym, subst, ◌∙◌, append_assoc, append-nil, arith}
-use Rattle.std.specs.Prelude.{◌⊎◌, ◌==◌, ◌&&◌, ◌||◌, flat_map, if◌then◌else◌}
+use Rattle.std.proofs.Common.{◌≡◌, ℕ, Bool, true, false, not, List, [], ◌∷◌, ◌++◌, inl, inr, refl, ap, sym, subst, ◌∙◌, append_assoc, append-nil}
+use Rattle.std.specs.Prelude.{◌==◌, ◌&&◌, flat_map, if◌then◌else◌}
 use Rattle.std.specs.List.{list_all}
 use Rattle.std.proofs.lemmas.Bool.{eqb-true}
 use Rattle.gitconf_text.specs.Bytes.{is_blank, is_name_byte}
 use Rattle.gitconf_text.specs.Text.{begins, begins_line_end, are_line_ends, is_line_end, ends}
-use Rattle.gitconf_text.specs.Unit.{Class, LineFeed, Quote, Mark, Backslash, White, Other, class_of, is_mark, is_white, TextUnit, Escape, OpenEscape, Plain, units_behind, units_of}
-use Rattle.gitconf_text.specs.Value.{Piece, Value as ValueOf, spelled_value, raw_of, may_follow_value, is_value_escape, are_paired, value_units, IsEnded, FitsValue}
+use Rattle.gitconf_text.specs.Unit.{Class, LineFeed, Quote, Mark, Backslash, White, Other, class_of, is_white, units_behind, units_of}
+use Rattle.gitconf_text.specs.Value.{Piece, is_value_escape, are_paired, IsEnded, FitsValue}
 use Rattle.gitconf_text.specs.Names.{is_value_name}
 use Rattle.gitconf_text.specs.Header.{Header, PlainHeader, DottedHeader, QuotedHeader, spelled_header}
 use Rattle.gitconf_parse.proofs.ValueAgain.{both_true, apart}
 use Rattle.gitconf_parse.proofs.ByteLaws.{letter_name_byte}
-use Rattle.gitconf_state.specs.Comments.{stripped}
 use Rattle.gitconf_state.proofs.FittedEntry.{IsClosed}
 use Rattle.gitconf_layout.specs.Layout.{is_cr_or_lf, trimmed}
 use Rattle.gitconf_layout.proofs.LastBytes.{trimmed-other}

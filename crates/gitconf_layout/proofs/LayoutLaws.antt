@@ -20,6 +20,7 @@ use Rattle.gitconf_layout.specs.Layout.{detected, line_end_of, lines_of, set_bod
 use Rattle.gitconf_layout.specs.Kept.{Keeps, EndsOnce}
 use Rattle.gitconf_layout.proofs.Staying.{body_is}
 use Rattle.gitconf_layout.proofs.Laid.{laid}
+use Rattle.gitconf_layout.proofs.Ended.{ended_fitted}
 
 by_return : (cr : Bool) → is_line_end (if◌then◌else◌ {A = List ℕ} cr (13 ∷ 10 ∷ []) (10 ∷ [])) ≡ true
 by_return true = refl
@@ -54,10 +55,20 @@ body_fitted o text parts is =
 fitted_keeps : (parts : List Part) (text : List ℕ) → Fitted text (gathered parts) (comments_of parts) → Keeps parts text
 fitted_keeps parts text f = record { read = f.parts; is_text = is_text f; document = f.document_is; comments = f.comments_are }
 
--- without a line end at the end the document and the comments stay
-pub keeps_open : (o : Options) (text : List ℕ) (parts : List Part) → IsText text parts → o.ensure_trailing_newline ≡ false → Keeps parts (layout o parts)
+-- the document and the comments stay
+pub keeps_document : (o : Options) (text : List ℕ) (parts : List Part) → IsText text parts → Keeps parts (layout o parts)
 unfolding laid_out
-keeps_open o text parts is h = rw h (fitted_keeps parts _ (body_fitted o text parts is))
+keeps_document o text parts is = go o.ensure_trailing_newline
+  where
+    tokens : List Shown
+    tokens = map shown_token (tokens_of parts)
+
+    e : List ℕ
+    e = line_end_of o.newline tokens
+
+    go : (ended : Bool) → Keeps parts (if ended then with_one_line_end e (set_body o e (lines_of tokens)) else set_body o e (lines_of tokens))
+    go true = fitted_keeps parts _ (ended_fitted e (line_end_is o.newline tokens) (set_body o e (lines_of tokens)) (gathered parts) (comments_of parts) (body_fitted o text parts is))
+    go false = fitted_keeps parts _ (body_fitted o text parts is)
 
 -- no CR or LF stands at the end
 trimmed_ends : (text : List ℕ) → ends is_cr_or_lf (trimmed text) ≡ false

@@ -7,7 +7,7 @@ pub mod SetEntries
 pub mod SetValues
 pub mod SetRuns
 pub mod Laid
-pub mod LayoutLaws
 pub mod Closing
 pub mod Ending
 pub mod Ended
+pub mod LayoutLaws

@@ -6,11 +6,11 @@ ghost use Rattle.gitconf_layout.specs.Kept.{Keeps, EndsOnce};
 ghost use Rattle.gitconf_layout.specs.Layout.{layout};
 ghost use Rattle.gitconf_layout.specs.declared.format.Options.{Options};
 
-/// The layout of a text has the text's document and its comments, where no line end is put at the end.
+/// The layout of a text has the text's document and its comments, by all options.
 ///
 /// So no two tokens are joined, and none is swallowed or lost. Comments are compared without the blanks and CRs at their end.
 pub fn layouts_keep_documents()
-    ensures { (options : Options) (text : List ℕ) (parts : List Part) → IsText text parts → options.ensure_trailing_newline ≡ false → Keeps parts (layout options parts) }
+    ensures { (options : Options) (text : List ℕ) (parts : List Part) → IsText text parts → Keeps parts (layout options parts) }
 {}
 
 /// Where a line end at the end is asked for, a text that isn't empty ends with exactly one.
