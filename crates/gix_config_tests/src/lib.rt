@@ -1,9 +1,7 @@
-//! What no script reaches: traits, texts of errors, filters that are asked, both ends of iterators, the limit of spans,
-//! options and metadata, tables, and growths that are refused in calls that no command makes.
+//! What no script reaches of events and files: texts of errors, filters that are asked, both ends of iterators, the limit of
+//! spans, options, and growths that are refused in calls that no command makes. What stands below is in `gitconf_tests`.
 #![tactic(auto)]
 
-#[cfg(test)]
-mod base;
 #[cfg(test)]
 mod events;
 #[cfg(test)]
@@ -11,13 +9,9 @@ mod files;
 #[cfg(test)]
 mod messages;
 #[cfg(test)]
-mod names;
-#[cfg(test)]
 mod options;
 #[cfg(test)]
 mod refused;
-#[cfg(test)]
-mod tables;
 #[cfg(test)]
 mod without_memory;
 #[cfg(test)]

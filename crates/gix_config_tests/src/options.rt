@@ -1,7 +1,7 @@
 //! Options of loads and of includes.
 
-use super::base::homes;
 use gitconf_base::host::{FileFault, Stage};
+use gitconf_tests::users::homes;
 use gix_config::file::includes::conditional;
 use gix_config::file::{includes, init};
 use gix_config::path::interpolate;

@@ -6,12 +6,12 @@
 //! its full answer. Before, it says that memory was wanting, and all is as it was. Without the shim it is made once.
 
 use super::events::{PRINTED, TEXT, WRITTEN, written};
-use super::tables::{CORE, LOWER, numbers, table_of, told};
 use gitconf_parse::event_ref::EventRef;
 use gitconf_parse::events::Events;
 use gitconf_parse::items::Items;
 use gitconf_parse::laws::kept_entries_make_items;
 use gitconf_parse::sink::SinkFault;
+use gitconf_tests::shim::{MOST, begin, was_refused};
 use gitconf_text::NoMemory;
 use gitconf_text::parse::section::{Name, ValueName};
 use gitconf_text::value::{append_escaped, escape, normalize};
@@ -19,28 +19,9 @@ use gix_config::file::Metadata;
 use gix_config::refusals::Refusal as _;
 use gix_config::values::Homes;
 use gix_config::{File, Source};
-use std::alloc::{AllocError, Global};
+use std::alloc::Global;
 use std::str;
 use std::test::Fail;
-
-const BEGIN: usize = 999_979;
-
-const END: usize = 999_983;
-
-/// From here on growths are counted, and one of them may be refused.
-pub fn begin(alloc: Global) -> Result<(), AllocError> {
-    let _block: Vec<u8> = Vec::with_capacity(alloc, BEGIN)?;
-    Ok(())
-}
-
-/// From here on no growth is refused. Whether one was refused since `begin`: then the shim refuses this one too.
-pub fn was_refused(alloc: Global) -> bool {
-    let block: Result<Vec<u8>, AllocError> = Vec::with_capacity(alloc, END);
-    block.is_err()
-}
-
-/// More than any call has growths.
-pub const MOST: usize = 1000;
 
 /// Makes the state and the call again and again, until no growth of the call is refused. Each answer has to fit the
 /// first pattern and its condition, or, where a growth was refused, the second pattern and its condition.
@@ -129,18 +110,6 @@ fn events(rt: HostRuntime) -> Result<(), Fail> {
     each_refused!(rt, () = (), event.to_bstring(rt.alloc()),
         Ok(text) => text.as_bytes() == b"[remote \"a \\\"longer\\\" name\"]".as_slice(),
         Err(NoMemory) => true);
-    Ok(())
-}
-
-/// A copy of a table has the same sections under the same numbers.
-#[test]
-fn tables(rt: HostRuntime) -> Result<(), Fail> {
-    let table = table_of(rt.alloc(), &[(CORE, b'c'), (LOWER, b'r')])?;
-    let numbers = numbers(rt.alloc())?;
-    let expected: &[u8] = b"cr|c||r||r|-cr--------";
-    each_refused!(rt, () = (), table.try_clone(),
-        Ok(copy) => told(rt.alloc(), &copy, &numbers)?.as_slice() == expected,
-        Err(NoMemory) => told(rt.alloc(), &table, &numbers)?.as_slice() == expected);
     Ok(())
 }
 

@@ -1,9 +1,9 @@
 //! Calls that take no memory: the shim refuses their first growth, and there is none.
 
-use super::base::homes;
 use super::events::TEXT;
-use super::refused::{begin, was_refused};
 use gitconf_parse::events::Events;
+use gitconf_tests::shim::{begin, was_refused};
+use gitconf_tests::users::homes;
 use gitconf_text::value::normalize;
 use gix_config::file::Metadata;
 use gix_config::{File, KeyRef};

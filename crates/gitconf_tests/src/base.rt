@@ -1,10 +1,10 @@
 //! Sources, metadata, and home folders.
 
+use crate::users::homes;
 use gitconf_base::host::{FileFault, Stage};
-use gitconf_base::source::{Kind, Trust};
-use gix_config::Source;
-use gix_config::file::Metadata;
-use gix_config::values::Homes;
+use gitconf_base::meta::Metadata;
+use gitconf_base::source::{Kind, Source, Trust};
+use gitconf_values::Homes;
 use std::alloc::{AllocError, Global};
 use std::test::Fail;
 
@@ -105,18 +105,6 @@ fn metadata_is_ordered_and_copied(rt: HostRuntime) -> Result<(), Fail> {
         }
     }
     Ok(())
-}
-
-/// These users, each with a folder.
-pub fn homes(alloc: Global, users: &[(&str, &str)]) -> Result<Homes, Fail> {
-    let mut homes = Homes::new(alloc);
-    for (user, folder) in users {
-        homes.insert(
-            String::from_str(alloc, user)?,
-            String::from_str(alloc, folder)?,
-        )?;
-    }
-    Ok(homes)
 }
 
 /// The last folder that was put in counts.

@@ -1,8 +1,8 @@
 //! Names without case, and keys of all types.
 
 use bstr::{BStr, BString};
+use gitconf_base::key::{AsKey, KeyRef};
 use gitconf_text::parse::section::{Name, ValueName, unvalidated};
-use gix_config::{AsKey, KeyRef};
 use std::alloc::Global;
 use std::str;
 use std::test::Fail;

@@ -1,7 +1,7 @@
 //! The table of sections: its changes, and walks over it from both ends.
 
 use self::Step::{Change, Put, PutAll, Remove, Rename};
-use super::refused::{MOST, begin, was_refused};
+use crate::shim::{MOST, begin, was_refused};
 use gitconf_base::util::{SectionId, SectionTable};
 use gitconf_text::NoMemory;
 use gitconf_text::parse::span;
@@ -12,11 +12,11 @@ use std::test::Fail;
 /// A section's name and its subsection.
 pub type Names<'a> = (&'a [u8], Option<&'a [u8]>);
 
-pub const CORE: Names<'static> = (b"Core", None);
+const CORE: Names<'static> = (b"Core", None);
 
 const EMPTY: Names<'static> = (b"CORE", Some(b""));
 
-pub const LOWER: Names<'static> = (b"rEmote", Some(b"origin"));
+const LOWER: Names<'static> = (b"rEmote", Some(b"origin"));
 
 const UPPER: Names<'static> = (b"REMOTE", Some(b"Origin"));
 
@@ -40,10 +40,7 @@ enum Step<'a> {
 }
 
 /// A table of those sections, from which one was removed before.
-pub fn table_of(
-    alloc: Global,
-    sections: &[(Names<'_>, u8)],
-) -> Result<SectionTable<u8>, span::Error> {
+fn table_of(alloc: Global, sections: &[(Names<'_>, u8)]) -> Result<SectionTable<u8>, span::Error> {
     let mut table = SectionTable::new(alloc);
     let first = table.push(b"x", None, b'x')?;
     for (names, content) in sections {
@@ -116,7 +113,7 @@ fn take(
 }
 
 /// The numbers that a table gives first.
-pub fn numbers(alloc: Global) -> Result<Vec<SectionId>, Fail> {
+fn numbers(alloc: Global) -> Result<Vec<SectionId>, Fail> {
     let mut numbers = Vec::new(alloc);
     let mut table = SectionTable::new(alloc);
     for _ in 0..11 {
@@ -127,7 +124,7 @@ pub fn numbers(alloc: Global) -> Result<Vec<SectionId>, Fail> {
 
 /// The contents of all sections, of those of four names, and of those with a name, with a `|` behind each of these
 /// lists; last what stands under each number.
-pub fn told(
+fn told(
     alloc: Global,
     table: &SectionTable<u8>,
     numbers: &[SectionId],
@@ -280,4 +277,26 @@ fn tables_are_walked_from_both_ends(rt: HostRuntime) -> Result<(), Fail> {
     assert!(rt; all.next() == Some((first, &'a')));
     assert_eq!(rt; all.count(), 2);
     Ok(())
+}
+
+/// A copy of a table has the same sections under the same numbers, and is had or refused with each growth.
+#[test]
+fn tables_are_copied(rt: HostRuntime) -> Result<(), Fail> {
+    let table = table_of(rt.alloc(), &[(CORE, b'c'), (LOWER, b'r')])?;
+    let numbers = numbers(rt.alloc())?;
+    let expected: &[u8] = b"cr|c||r||r|-cr--------";
+    for _ in 0..MOST {
+        begin(rt.alloc())?;
+        let answer = table.try_clone();
+        let refused = was_refused(rt.alloc());
+        assert!(rt; told(rt.alloc(), &table, &numbers)?.as_slice() == expected);
+        match answer {
+            Ok(copy) => {
+                assert!(rt; told(rt.alloc(), &copy, &numbers)?.as_slice() == expected);
+                return Ok(());
+            }
+            Err(NoMemory) => assert!(rt; refused),
+        }
+    }
+    Err(Fail::new("too many growths"))
 }
