@@ -206,7 +206,7 @@ def _check_case(case, tools, folder):
         words[1] = str(program)
     _make(case.program, program)
     called = [sys.executable, str(tools / "rows"), "--rows", str(rows), "--program", str(program), "--gixcfg", str(program)]
-    ran = subprocess.run(called + ["--limit", "1", *words], stdout=subprocess.PIPE, stderr=subprocess.STDOUT)
+    ran = subprocess.run(called + ["--limit", "4", *words], stdout=subprocess.PIPE, stderr=subprocess.STDOUT)
     told = ran.stdout.decode("utf-8", "replace")
     missing = [part for part in case.told if part not in told]
     is_right = told.endswith(f"{case.count}\n") and ran.returncode == (0 if case.count.endswith(" 0 failed") else 1)
