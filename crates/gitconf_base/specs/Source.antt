@@ -1,9 +1,14 @@
 -- The sources of configuration and their groups, as git-config's manual page names them under "FILES".
-use Rattle.std.specs.Prelude.{List, [], ◌∷◌}
+use Rattle.std.specs.Prelude.{Bool, true, ◌&&◌, List, [], ◌∷◌}
+use Rattle.std.specs.List.{list_all}
+use Rattle.std.specs.Ordering.{is_lt}
+use Rattle.std.specs.declared.cmp.Ordering.{Ordering}
 use Rattle.gitconf_base.specs.declared.source.Source.{Source}
 use Rattle.gitconf_base.specs.declared.source.Source.TheVariants as source
 use Rattle.gitconf_base.specs.declared.source.Kind.{Kind}
 use Rattle.gitconf_base.specs.declared.source.Kind.TheVariants as kind
+use Rattle.gitconf_base.specs.declared.source.Trust.{Trust}
+use Rattle.gitconf_base.specs.declared.source.Trust.TheVariants.{Reduced, Full}
 
 -- the group of a source
 abbrev pub kind_of : Source → Kind
@@ -25,3 +30,19 @@ sources_of kind.System = source.System ∷ []
 sources_of kind.Global = source.Git ∷ source.User ∷ []
 sources_of kind.Repository = source.Local ∷ source.Worktree ∷ []
 sources_of kind.Override = source.Env ∷ source.Cli ∷ source.Api ∷ []
+
+-- the places in the order in which they are read, lowest first; their groups; and trust
+abbrev pub sources_in_order : List Source
+sources_in_order =
+    source.GitInstallation ∷ source.System ∷ source.Git ∷ source.User ∷ source.Local ∷ source.Worktree ∷ source.Env ∷ source.Cli ∷ source.Api ∷ source.EnvOverride ∷ []
+
+abbrev pub kinds_in_order : List Kind
+kinds_in_order = kind.GitInstallation ∷ kind.System ∷ kind.Global ∷ kind.Repository ∷ kind.Override ∷ []
+
+abbrev pub trust_in_order : List Trust
+trust_in_order = Reduced ∷ Full ∷ []
+
+-- each comes before all behind it
+abbrev pub ascends : {A : Type 0} → (A → A → Ordering) → List A → Bool
+ascends cmp [] = true
+ascends cmp (x ∷ xs) = list_all (λ y. is_lt (cmp x y)) xs && ascends cmp xs

@@ -1,5 +1,5 @@
 -- What stands in a buffer stays where it is.
-use Rattle.std.proofs.Common.{◌≡◌, ℕ, ◌+◌, ◌<◌, ◌≤◌, ◌^◌, Result, Ok, Err, IsErrOf, List, [], ◌++◌, length, take, drop, refl, ap, sym, subst, ◌∙◌, arith, append_assoc, append-nil, length-append}
+use Rattle.std.proofs.Common.{◌≡◌, ℕ, ◌+◌, ◌<◌, ◌≤◌, ◌^◌, Result, Ok, Err, IsErrOf, List, [], ◌++◌, length, take, drop, refl, ap, sym, subst, ◌∙◌, arith, append_assoc, append-nil, length-append, inr}
 use Rattle.std.proofs.lemmas.List.{drop_at, take_all}
 use Rattle.gitconf_parse.specs.declared.event.Span.{Span}
 use Rattle.gitconf_parse.specs.Events.{bytes_of, SpanFits}
@@ -49,6 +49,7 @@ grows_none t n old new room is = record {
   room = let l = ap length is in omega (arith, room, l);
   grown = let l = ap length is in omega (arith, l);
   too_large = λ fault. absurd (cc);
+  known = tt;
 }
 
 -- the bytes of two steps
@@ -58,11 +59,12 @@ grows_then t r m n k a b c first second le = record {
   room = second.room;
   grown = let f = first.grown in let s = second.grown in omega (arith, f, s, le);
   too_large = λ fault. let f = first.grown in let s = second.too_large fault in omega (arith, f, s, le);
+  known = second.known;
 }
 
 -- a step that succeeds
 pub grows_ok : {T U : Type 0} (t : T) (u : U) (m k : ℕ) (a b : List ℕ) → Grows (Ok t) m a b → m ≤ k → Grows (Ok u) k a b
-grows_ok t u m k a b first le = record { extended = first.extended; room = first.room; grown = let f = first.grown in omega (arith, f, le); too_large = λ fault. absurd (cc) }
+grows_ok t u m k a b first le = record { extended = first.extended; room = first.room; grown = let f = first.grown in omega (arith, f, le); too_large = λ fault. absurd (cc); known = tt }
 
 -- one that is refused
 pub grows_err : {T U : Type 0} (e : ℕ) (m k : ℕ) (a b : List ℕ) → Grows {T = T} (Err e) m a b → m ≤ k → Grows {T = U} (Err e) k a b
@@ -71,6 +73,7 @@ grows_err {T} {U} e m k a b first le = record {
   room = first.room;
   grown = let f = first.grown in omega (arith, f, le);
   too_large = λ fault. let f = first.too_large (same fault) in omega (arith, f, le);
+  known = first.known;
 }
   where
     same : IsErrOf {T = U} (Err e) 3 → IsErrOf {T = T} (Err e) 3
@@ -83,6 +86,7 @@ grows_memory e n old new room is memory = record {
   room = let l = ap length is in omega (arith, room, l);
   grown = let l = ap length is in omega (arith, l);
   too_large = λ fault. absurd (let h : e ≡ 3 = cc in omega (arith, h, memory));
+  known = inr memory;
 }
 
 pub ruleset appending = (extended_by, same_extended, stands_last)

@@ -1,6 +1,6 @@
 -- The last element that passes a test: where it stands, what a list is when it is changed, and what look-ups then find.
 use Rattle.std.proofs.Common.{◌≡◌, Bool, true, false, List, [], ◌∷◌, ◌++◌, Option, Some, None, refl, ap}
-use Rattle.std.specs.Prelude.{◌&&◌, filter}
+use Rattle.std.specs.Prelude.{◌&&◌, filter, flat_map, map}
 use Rattle.std.specs.List.{list_all, list_any, last_or, filter_map, AllByRecursion}
 use Rattle.std.proofs.lemmas.Bool.{or_left, or_right}
 use Rattle.gitconf_parse.proofs.ValueAgain.{both_true}
@@ -118,3 +118,25 @@ filter_both {A} test other (x ∷ xs) = go (test x) (other x) refl refl (filter_
     go true true e f later = rw (e, f) (ap (λ t. x ∷ t) later)
     go true false e f later = rw (e, f) later
     go false o e f later = rw e later
+
+-- of a mapped list those that pass
+pub filter-mapped : {A B : Type 0} (test : B → Bool) (f : A → B) (xs : List A) → filter test (map f xs) ≡ map f (filter (λ x. test (f x)) xs)
+filter-mapped {A} {B} test f [] = refl
+filter-mapped {A} {B} test f (x ∷ xs) = go (test (f x)) refl (filter-mapped test f xs)
+  where
+    go : (t : Bool) → test (f x) ≡ t → filter test (map f xs) ≡ map f (filter (λ x. test (f x)) xs) → filter test (map f (x ∷ xs)) ≡ map f (filter (λ x. test (f x)) (x ∷ xs))
+    go true e later = rw e (ap (λ ys. f x ∷ ys) later)
+    go false e later = rw e later
+
+-- what they give
+pub given-mapped : {A B C : Type 0} (give : B → Option C) (f : A → B) (xs : List A) → filter_map give (map f xs) ≡ filter_map (λ x. give (f x)) xs
+given-mapped {A} {B} {C} give f [] = refl
+given-mapped {A} {B} {C} give f (x ∷ xs) = go (give (f x)) refl (given-mapped give f xs)
+  where
+    go : (o : Option C) → give (f x) ≡ o → filter_map give (map f xs) ≡ filter_map (λ x. give (f x)) xs → filter_map give (map f (x ∷ xs)) ≡ filter_map (λ x. give (f x)) (x ∷ xs)
+    go None e later = rw e later
+    go (Some y) e later = rw e (ap (λ ys. y ∷ ys) later)
+
+pub listed-mapped : {A B C : Type 0} (give : B → List C) (f : A → B) (xs : List A) → flat_map give (map f xs) ≡ flat_map (λ x. give (f x)) xs
+listed-mapped give f [] = refl
+listed-mapped give f (x ∷ xs) = ap (λ ys. give (f x) ++ ys) (listed-mapped give f xs)

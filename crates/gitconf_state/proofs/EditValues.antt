@@ -1,6 +1,6 @@
 -- A value that was set is the one that is found.
 use Rattle.std.proofs.Common.{◌≡◌, ℕ, Bool, true, false, List, [], ◌∷◌, ◌++◌, Option, Some, None, refl, ap, sym, ◌∙◌, append_assoc}
-use Rattle.std.specs.Prelude.{filter}
+use Rattle.std.specs.Prelude.{◌&&◌, filter, map}
 use Rattle.std.specs.Option.{option_eq, option_map}
 use Rattle.std.specs.List.{list_any, last_or, filter_map}
 use Rattle.std.specs.Str.{bytes_eq}
@@ -17,11 +17,12 @@ use Rattle.gitconf_base.specs.Metadata.{Meta}
 use Rattle.gitconf_parse.proofs.Subsections.{reads_back}
 use Rattle.gitconf_state.specs.State.{SectionState, State, entries_of}
 use Rattle.gitconf_state.specs.LineEnds.{file_line_end}
-use Rattle.gitconf_state.specs.Lookup.{is_named, passing, deciding, last_value}
+use Rattle.gitconf_state.specs.Lookup.{is_named, named, listing, listed, entries_of_key, deciding, last_value}
 use Rattle.gitconf_state.specs.Edit.{is_entry_of, Spacing, spacing_of, assigned_value, with_value, leading_item, set_value, made_header, new_section, is_target, section_with, set_raw_value}
 use Rattle.gitconf_state.specs.Edits.{finds_or_makes}
 use Rattle.gitconf_state.proofs.LoadingFilters.{both_hold}
-use Rattle.gitconf_state.proofs.EditLists.{last_at, last_given, filter_both}
+use Rattle.gitconf_state.proofs.EditLists.{last_at, last_given, filter_both, filter-mapped, given-mapped}
+use Rattle.gitconf_state.proofs.Listings.{last_value_is}
 use Rattle.gitconf_state.proofs.EditItems.{valid_no_feed, may_be_made}
 use Rattle.gitconf_state.proofs.EditPlaces.{set_value_at, set_value_new, set_raw_value_at, set_raw_value_new}
 
@@ -58,14 +59,14 @@ of_key-last key o (EntryItem d ∷ before) e behind same none = go (is_same_name
     go false is later = rw is (later o)
 
 -- an entry of this name whose value is what was written
-record Written (name value : List ℕ) (i : Item) : Type 0 where
-  entry : Entry
-  is : i ≡ EntryItem entry
-  same_name : entry.name ≡ name
-  assigned : option_map (λ (a : Assigned). a.value) entry.assigned ≡ Some (record { pieces = []; last = escaped value })
-  raw : (document_entry entry).raw ≡ Some (escaped value)
+pub record Written (name value : List ℕ) (i : Item) : Type 0 where
+  pub entry : Entry
+  pub is : i ≡ EntryItem entry
+  pub same_name : entry.name ≡ name
+  pub assigned : option_map (λ (a : Assigned). a.value) entry.assigned ≡ Some (record { pieces = []; last = escaped value })
+  pub raw : (document_entry entry).raw ≡ Some (escaped value)
 
-with_value_written : (spacing : Spacing) (value : List ℕ) (e : Entry) → Written e.name value (with_value spacing value (EntryItem e))
+pub with_value_written : (spacing : Spacing) (value : List ℕ) (e : Entry) → Written e.name value (with_value spacing value (EntryItem e))
 with_value_written spacing value e = go e.assigned refl
   where
     go : (o : Option Assigned) → e.assigned ≡ o → Written e.name value (with_value spacing value (EntryItem e))
@@ -95,7 +96,7 @@ set_value_entry line_end key value items before e behind is same none =
 
 -- what decides in items, as in a section
 abbrev pub decides : (key : List ℕ) → List Item → Option (List ℕ)
-decides key items = elim (last_or None (of_key key items)) [ None ↦ None | Some e ↦ e.raw ]
+decides key items = deciding (of_key key items)
 
 -- the last entry decides
 decides-last : (key value : List ℕ) (before : List Item) (e : Entry) (behind : List Item) → is_same_name key e.name ≡ true → (document_entry e).raw ≡ Some (escaped value)
@@ -148,13 +149,13 @@ pub made_name : (name : List ℕ) (subsection : Option (List ℕ)) → name_of (
 made_name name None = refl
 made_name name (Some s) = refl
 
-same_subsection : (subsection : Option (List ℕ)) → option_eq bytes_eq subsection subsection ≡ true
+pub same_subsection : (subsection : Option (List ℕ)) → option_eq bytes_eq subsection subsection ≡ true
 same_subsection None = refl
 same_subsection (Some s) = (bytes_decides s s).1 refl
 
 -- a new section is one of its name
 pub new_section_named : (name : List ℕ) (subsection : Option (List ℕ)) (state : State) → is_valid_or_none subsection ≡ true
-    → is_named name subsection (new_section name subsection state) ≡ true
+    → is_named name subsection (listing (new_section name subsection state)) ≡ true
 new_section_named name subsection state valid =
     both_hold (is_same_name name (name_of (made_header name subsection))) (option_eq bytes_eq (subsection_of (made_header name subsection)) subsection)
     (ap (is_same_name name) (made_name name subsection) ∙ same_name name)
@@ -164,21 +165,29 @@ new_section_named name subsection state valid =
 found_last : (name : List ℕ) (subsection : Option (List ℕ)) (key : List ℕ) (keeps : Meta → Bool) (value : List ℕ) (state : State)
     (line_end : List ℕ) (before : List SectionState) (s : SectionState) (behind : List SectionState) → state.sections ≡ before ++ section_with line_end key value s ∷ behind
     → is_target name subsection keeps s ≡ true → list_any (is_target name subsection keeps) behind ≡ false
-    → last_value name subsection key keeps state ≡ Some value
+    → last_value name subsection key keeps (listed state) ≡ Some value
 found_last name subsection key keeps value state line_end before s behind is target none =
-    let both : passing name subsection keeps state ≡ filter (is_target name subsection keeps) state.sections = filter_both (is_named name subsection) (λ s. keeps s.meta) state.sections in
-    ap (λ sections. option_map plain (last_or None (filter_map (deciding key) sections))) (both ∙ ap (filter (is_target name subsection keeps)) is)
-    ∙ ap (option_map plain) (last_given (is_target name subsection keeps) (deciding key) None before (section_with line_end key value s) behind (escaped value) target none
+    last_value_is name subsection key keeps (listed state)
+    ∙ ap (λ ss. option_map plain (last_or None (filter_map (λ s. deciding (entries_of_key key s)) ss))) both
+    ∙ ap (λ raws. option_map plain (last_or None raws)) (given-mapped (λ s. deciding (entries_of_key key s)) listing (filter (is_target name subsection keeps) state.sections))
+    ∙ ap (λ sections. option_map plain (last_or None (filter_map decides_in (filter (is_target name subsection keeps) sections)))) is
+    ∙ ap (option_map plain) (last_given (is_target name subsection keeps) decides_in None before (section_with line_end key value s) behind (escaped value) target none
     (set_value_decides line_end key value s.items))
     ∙ ap (λ t. Some t) (plain-escaped value)
+  where
+    decides_in : SectionState → Option (List ℕ)
+    decides_in s = deciding (entries_of_key key (listing s))
+
+    both : filter (λ s. keeps s.meta) (named name subsection (listed state)) ≡ map listing (filter (is_target name subsection keeps) state.sections)
+    both = filter_both (is_named name subsection) (λ s. keeps s.meta) (listed state) ∙ filter-mapped (λ s. is_named name subsection s && keeps s.meta) listing state.sections
 
 -- A value that was set is found with the same filter.
 pub set_value_is_found : (name : List ℕ) (subsection : Option (List ℕ)) (key : List ℕ) (keeps : Meta → Bool) (value : List ℕ) (state : State)
     → finds_or_makes name subsection keeps state ≡ true → keeps state.meta ≡ true
-    → last_value name subsection key keeps (set_raw_value name subsection key keeps value state) ≡ Some value
+    → last_value name subsection key keeps (listed (set_raw_value name subsection key keeps value state)) ≡ Some value
 set_value_is_found name subsection key keeps value state may kept = go (list_any (is_target name subsection keeps) state.sections) refl
   where
-    go : (t : Bool) → list_any (is_target name subsection keeps) state.sections ≡ t → last_value name subsection key keeps (set_raw_value name subsection key keeps value state) ≡ Some value
+    go : (t : Bool) → list_any (is_target name subsection keeps) state.sections ≡ t → last_value name subsection key keeps (listed (set_raw_value name subsection key keeps value state)) ≡ Some value
     go true some =
         let l = last_at (is_target name subsection keeps) state.sections some in
         found_last name subsection key keeps value (set_raw_value name subsection key keeps value state) (file_line_end state) l.before l.found l.behind
@@ -186,4 +195,4 @@ set_value_is_found name subsection key keeps value state may kept = go (list_any
     go false none =
         found_last name subsection key keeps value (set_raw_value name subsection key keeps value state) (file_line_end state) state.sections (new_section name subsection state) []
         (ap (λ state. state.sections) (set_raw_value_new name subsection key keeps value state none))
-        (both_hold (is_named name subsection (new_section name subsection state)) (keeps state.meta) (new_section_named name subsection state (may_be_made name subsection keeps state may none).1) kept) refl
+        (both_hold (is_named name subsection (listing (new_section name subsection state))) (keeps state.meta) (new_section_named name subsection state (may_be_made name subsection keeps state may none).1) kept) refl

@@ -26,8 +26,10 @@ pub mod ExactPrinting
 pub mod PrintingRows
 pub mod EditLists
 pub mod EditItems
+pub mod Listings
 pub mod EditPlaces
 pub mod EditValues
+pub mod KeyEntries
 pub mod EditOthers
 pub mod EditRows
 pub mod EditUsed
@@ -35,3 +37,4 @@ pub mod EditorItems
 pub mod EditsKeep
 pub mod EditorRows
 pub mod EditNumbers
+pub mod EditLeaves

@@ -11,7 +11,7 @@ use Rattle.gitconf_parse.specs.EventRef.{escaped_subsection}
 use Rattle.gitconf_base.specs.Metadata.{Meta}
 use Rattle.gitconf_state.specs.State.{SectionState, State}
 use Rattle.gitconf_state.specs.LineEnds.{file_line_end}
-use Rattle.gitconf_state.specs.Lookup.{is_named}
+use Rattle.gitconf_state.specs.Lookup.{is_named, listing}
 
 -- the last element that passes is changed
 abbrev pub update_last : {A : Type 0} → (A → Bool) → (A → A) → List A → List A
@@ -116,7 +116,7 @@ new_section name subsection state = record {
 
 -- a section that has the name and subsection and passes
 abbrev pub is_target : (name : List ℕ) → (subsection : Option (List ℕ)) → (keeps : Meta → Bool) → SectionState → Bool
-is_target name subsection keeps s = is_named name subsection s && keeps s.meta
+is_target name subsection keeps s = is_named name subsection (listing s) && keeps s.meta
 
 -- a section with the value
 abbrev pub section_with : (line_end key value : List ℕ) → SectionState → SectionState

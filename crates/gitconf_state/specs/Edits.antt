@@ -1,9 +1,11 @@
 -- The edits of a file: each is one update of its state, and its answer.
 -- Source: gix-config.
-use Rattle.std.specs.Prelude.{◌≡◌, ℕ, ◌+◌, Bool, true, false, not, List, [], ◌∷◌, ◌++◌, ◌&&◌, ◌||◌, ◌==◌, nat_eq, filter, map, Option, Some, None, length, flat_map, if◌then◌else◌}
+use Rattle.std.specs.Prelude.{◌≡◌, ℕ, ◌+◌, Bool, true, false, not, List, [], ◌∷◌, ◌++◌, ◌&&◌, ◌||◌, ◌==◌, nat_eq, filter, map, Option, Some, None, length, flat_map, take, drop, if◌then◌else◌}
 use Rattle.std.specs.List.{fold, last_or, list_all, list_any, starts_with}
+use Rattle.std.specs.Option.{option_eq}
+use Rattle.std.specs.Str.{bytes_eq}
 use Rattle.gitconf_text.specs.Bytes.{is_blank}
-use Rattle.gitconf_text.specs.Names.{is_made_name, is_valid_or_none, is_value_name}
+use Rattle.gitconf_text.specs.Names.{is_made_name, is_same_name, is_valid_or_none, is_value_name}
 use Rattle.gitconf_text.specs.Text.{begins, are_line_ends}
 use Rattle.gitconf_text.specs.Part.{Item, BlanksItem, LineEndsItem, CommentItem, EntryItem}
 use Rattle.gitconf_text.specs.Header.{spelled_header}
@@ -11,9 +13,10 @@ use Rattle.gitconf_text.specs.Token.{Token, item_tokens}
 use Rattle.gitconf_base.specs.Metadata.{Meta}
 use Rattle.gitconf_base.specs.declared.source.Trust.{Trust}
 use Rattle.gitconf_state.specs.State.{SectionState, State, HasSectionItems, HasItems, entries_of}
+use Rattle.gitconf_state.specs.Lookup.{is_named, listing}
 use Rattle.gitconf_state.specs.LineEnds.{file_line_end, ends_line}
 use Rattle.gitconf_state.specs.Clean.{is_nameless, IsClean, IsCleanSection}
-use Rattle.gitconf_state.specs.Edit.{made_header, new_section, is_target, is_entry_of, set_raw_value, set_raw_value_tokens, replaced_value, old_value, token_bytes, value_tokens_of}
+use Rattle.gitconf_state.specs.Edit.{made_header, new_section, is_target, is_entry_of, is_any_entry, set_raw_value, set_raw_value_tokens, replaced_value, old_value, token_bytes, value_tokens_of}
 use Rattle.gitconf_state.specs.Editors.{Editor, entry_made, pushed, line_made, line_end_pushed, value_set, removed, popped, popped_entry, written_at, deleted_at}
 
 -- a section that stands in no file, and the bytes of its buffer
@@ -280,3 +283,43 @@ pub record IsOneChanged (number : ℕ) (old new : State) : Type 0 where
   pub used_stays : new.used ≡ old.used
   pub numbers : map (λ s. s.number) new.sections ≡ map (λ s. s.number) old.sections
   pub others : filter (λ s. not (s.number == number)) new.sections ≡ filter (λ s. not (s.number == number)) old.sections
+
+-- whether a section of the first name and subsection has the other name and subsection
+abbrev pub is_same_section : (name : List ℕ) → (subsection : Option (List ℕ)) → (other : List ℕ) → (other_subsection : Option (List ℕ)) → Bool
+is_same_section name subsection other other_subsection = is_same_name other name && option_eq bytes_eq subsection other_subsection
+
+-- whether the section of a number has the name and subsection, and its items pass
+abbrev pub is_there : (number : ℕ) → (name : List ℕ) → (subsection : Option (List ℕ)) → (test : List Item → Bool) → State → Bool
+is_there number name subsection test state = list_any (λ s. s.number == number && (is_named name subsection (listing s) && test s.items)) state.sections
+
+-- whether the last entry of items, or the one at a place, is one of the key
+abbrev pub is_last_of : (key : List ℕ) → List Item → Bool
+is_last_of key items = elim (last_or None (filter is_any_entry items)) [ None ↦ false | Some i ↦ is_entry_of key i ]
+
+abbrev pub is_one_at : (place : ℕ) → (key : List ℕ) → List Item → Bool
+is_one_at place key items = list_any (is_entry_of key) (take 1 (drop place items))
+
+-- whether an edit is about a key: it names the key in a section of this name and subsection, or it names such a section as a whole
+abbrev pub is_about : Edit → (name : List ℕ) → (subsection : Option (List ℕ)) → (key : List ℕ) → State → Bool
+is_about (SetRawValue edited edited_subsection edited_key keeps value) name subsection key state =
+    is_same_name edited_key key && is_same_section edited edited_subsection name subsection
+is_about (Push number editor edited_key value comment) name subsection key state = is_there number name subsection (λ items. is_same_name edited_key key) state
+is_about (PushLineEnd number editor) name subsection key state = false
+is_about (SetValue number editor edited_key value) name subsection key state = is_there number name subsection (λ items. is_same_name edited_key key) state
+is_about (Remove number edited_key) name subsection key state = is_there number name subsection (λ items. is_same_name edited_key key) state
+is_about (Pop number) name subsection key state = is_there number name subsection (is_last_of key) state
+is_about (WriteAt number editor place stands keeps_line_end edited_key value) name subsection key state =
+    is_there number name subsection (λ items. is_same_name edited_key key || is_one_at place key items) state
+is_about (DeleteAt number place) name subsection key state = is_there number name subsection (is_one_at place key) state
+is_about (Rename number new_name new_subsection) name subsection key state =
+    is_same_section new_name new_subsection name subsection || is_there number name subsection (λ items. true) state
+is_about (RenameAll edited edited_subsection keeps new_name new_subsection) name subsection key state =
+    is_same_section new_name new_subsection name subsection || is_same_section edited edited_subsection name subsection
+is_about (NewSection new_name new_subsection) name subsection key state = false
+is_about (PushSection detached) name subsection key state = is_named name subsection (listing detached.section)
+is_about (RemoveSection edited edited_subsection keeps) name subsection key state =
+    elim (picked edited edited_subsection keeps state) [ None ↦ false | Some number ↦ is_there number name subsection (λ items. true) state ]
+is_about (RemoveNumbered number) name subsection key state = is_there number name subsection (λ items. true) state
+is_about (Append other) name subsection key state = list_any (λ s. is_named name subsection (listing s)) other.sections
+is_about (SetTrust number trust) name subsection key state = is_there number name subsection (λ items. true) state
+is_about (SetMeta meta) name subsection key state = false

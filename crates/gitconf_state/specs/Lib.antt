@@ -1,5 +1,6 @@
 pub mod State
 pub mod Lookup
+pub mod Equality
 pub mod LineEnds
 pub mod Printing
 pub mod Clean

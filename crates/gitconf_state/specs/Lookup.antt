@@ -1,51 +1,119 @@
--- What look-ups find: filters of the plain list of sections.
-use Rattle.std.specs.Prelude.{ℕ, Bool, List, [], ◌&&◌, map, filter, flat_map, Option, Some, None}
+-- What look-ups find: filters of the plain list of sections, each with its number, where it comes from, and its document.
+-- Source: the git-config manual; gix-config.
+use Rattle.std.specs.Prelude.{ℕ, ℤ, Bool, true, not, List, [], ◌∷◌, ◌&&◌, map, filter, flat_map, Option, Some, None, is_some, Result, if◌then◌else◌}
 use Rattle.std.specs.Option.{option_eq, option_map}
-use Rattle.std.specs.List.{last_or, filter_map}
+use Rattle.std.specs.List.{last_or, filter_map, list_any}
 use Rattle.std.specs.Str.{bytes_eq}
 use Rattle.gitconf_text.specs.Names.{is_same_name}
 use Rattle.gitconf_text.specs.Value.{plain}
-use Rattle.gitconf_text.specs.Header.{name_of, subsection_of}
-use Rattle.gitconf_text.specs.Document.{DocumentEntry}
+use Rattle.gitconf_text.specs.Document.{DocumentEntry, DocumentSection}
+use Rattle.gitconf_text.specs.Typed.{boolean_of, IntegerFault, integer_of}
 use Rattle.gitconf_base.specs.Metadata.{Meta}
-use Rattle.gitconf_state.specs.State.{SectionState, State, entries_of}
+use Rattle.gitconf_state.specs.State.{SectionState, State, section_document}
 
--- whether a section has the name, without case, and exactly the subsection
-abbrev pub is_named : (name : List ℕ) → (subsection : Option (List ℕ)) → SectionState → Bool
-is_named name subsection s = is_same_name name (name_of s.header) && option_eq bytes_eq (subsection_of s.header) subsection
+-- a section as look-ups see it: its number, where it comes from, and its document
+pub record Listed : Type 0 where
+  pub number : ℕ
+  pub meta : Meta
+  pub document : DocumentSection
+
+abbrev pub listing : SectionState → Listed
+listing s = record { number = s.number; meta = s.meta; document = section_document s }
+
+-- the sections of a state, in file order
+abbrev pub listed : State → List Listed
+listed state = map listing state.sections
+
+-- whether a section has the name, without case
+abbrev pub has_name : (name : List ℕ) → Listed → Bool
+has_name name s = is_same_name name s.document.name
+
+-- whether it has the name, and exactly the subsection
+abbrev pub is_named : (name : List ℕ) → (subsection : Option (List ℕ)) → Listed → Bool
+is_named name subsection s = has_name name s && option_eq bytes_eq s.document.subsection subsection
 
 -- the sections of a name and subsection, in file order
-abbrev pub named : (name : List ℕ) → (subsection : Option (List ℕ)) → State → List SectionState
-named name subsection state = filter (is_named name subsection) state.sections
+abbrev pub named : (name : List ℕ) → (subsection : Option (List ℕ)) → List Listed → List Listed
+named name subsection sections = filter (is_named name subsection) sections
 
 -- their numbers
-abbrev pub ids : (name : List ℕ) → (subsection : Option (List ℕ)) → State → List ℕ
-ids name subsection state = map (λ s. s.number) (named name subsection state)
+abbrev pub ids : (name : List ℕ) → (subsection : Option (List ℕ)) → List Listed → List ℕ
+ids name subsection sections = map (λ s. s.number) (named name subsection sections)
 
 -- those whose metadata passes
-abbrev pub passing : (name : List ℕ) → (subsection : Option (List ℕ)) → (keeps : Meta → Bool) → State → List SectionState
-passing name subsection keeps state = filter (λ s. keeps s.meta) (named name subsection state)
+abbrev pub passing : (name : List ℕ) → (subsection : Option (List ℕ)) → (keeps : Meta → Bool) → List Listed → List Listed
+passing name subsection keeps sections = filter (λ s. keeps s.meta) (named name subsection sections)
 
 -- the last passing section
-abbrev pub pick : (name : List ℕ) → (subsection : Option (List ℕ)) → (keeps : Meta → Bool) → State → Option SectionState
-pick name subsection keeps state = last_or None (passing name subsection keeps state)
+abbrev pub pick : (name : List ℕ) → (subsection : Option (List ℕ)) → (keeps : Meta → Bool) → List Listed → Option Listed
+pick name subsection keeps sections = last_or None (passing name subsection keeps sections)
 
 -- the entries of a key in a section, in order
-abbrev pub entries_of_key : (key : List ℕ) → SectionState → List DocumentEntry
-entries_of_key key s = filter (λ e. is_same_name key e.name) (entries_of s.items)
+abbrev pub entries_of_key : (key : List ℕ) → Listed → List DocumentEntry
+entries_of_key key s = filter (λ e. is_same_name key e.name) s.document.entries
 
--- the raw text that decides in a section: that of the key's last entry, if it has one
-abbrev pub deciding : (key : List ℕ) → SectionState → Option (List ℕ)
-deciding key s = elim (last_or None (entries_of_key key s)) [ None ↦ None | Some e ↦ e.raw ]
+-- what a section says of a key: its entries of the key, one or more, with its number and where it comes from
+pub record Said : Type 0 where
+  pub number : ℕ
+  pub meta : Meta
+  pub entries : List DocumentEntry
 
--- the meaning of the last raw text that decides in a passing section
-abbrev pub last_value : (name : List ℕ) → (subsection : Option (List ℕ)) → (key : List ℕ) → (keeps : Meta → Bool) → State → Option (List ℕ)
-last_value name subsection key keeps state = option_map plain (last_or None (filter_map (deciding key) (passing name subsection keeps state)))
+-- nothing, where it has no entry of the key
+abbrev pub said_of : (number : ℕ) → Meta → List DocumentEntry → List Said
+said_of number meta [] = []
+said_of number meta (e ∷ entries) = (record { number = number; meta = meta; entries = e ∷ entries }) ∷ []
+
+abbrev pub said_by : (key : List ℕ) → Listed → List Said
+said_by key s = said_of s.number s.meta (entries_of_key key s)
+
+-- what the sections of a name and subsection say of a key, in file order: look-ups of a key ask nothing else
+abbrev pub said : (name : List ℕ) → (subsection : Option (List ℕ)) → (key : List ℕ) → List Listed → List Said
+said name subsection key sections = flat_map (said_by key) (named name subsection sections)
+
+-- that of the sections whose metadata passes
+abbrev pub said_passing : (name : List ℕ) → (subsection : Option (List ℕ)) → (key : List ℕ) → (keeps : Meta → Bool) → List Listed → List Said
+said_passing name subsection key keeps sections = filter (λ s. keeps s.meta) (said name subsection key sections)
+
+-- the raw text that decides among the entries of a key: that of the last one, if it has one
+abbrev pub deciding : List DocumentEntry → Option (List ℕ)
+deciding entries = elim (last_or None entries) [ None ↦ None | Some e ↦ e.raw ]
+
+-- the meaning of the raw text that decides in the last passing section where one does
+abbrev pub last_value : (name : List ℕ) → (subsection : Option (List ℕ)) → (key : List ℕ) → (keeps : Meta → Bool) → List Listed → Option (List ℕ)
+last_value name subsection key keeps sections = option_map plain (last_or None (filter_map (λ s. deciding s.entries) (said_passing name subsection key keeps sections)))
+
+-- the number of the section in which it stands
+abbrev pub last_value_section : (name : List ℕ) → (subsection : Option (List ℕ)) → (key : List ℕ) → (keeps : Meta → Bool) → List Listed → Option ℕ
+last_value_section name subsection key keeps sections =
+    option_map (λ s. s.number) (last_or None (filter (λ s. is_some (deciding s.entries)) (said_passing name subsection key keeps sections)))
 
 -- what an entry means: no value counts as an empty one
 abbrev pub meaning : DocumentEntry → List ℕ
 meaning e = elim e.raw [ None ↦ [] | Some raw ↦ plain raw ]
 
 -- the meanings of all entries of the key in the passing sections, in order
-abbrev pub all_values : (name : List ℕ) → (subsection : Option (List ℕ)) → (key : List ℕ) → (keeps : Meta → Bool) → State → List (List ℕ)
-all_values name subsection key keeps state = map meaning (flat_map (entries_of_key key) (passing name subsection keeps state))
+abbrev pub all_values : (name : List ℕ) → (subsection : Option (List ℕ)) → (key : List ℕ) → (keeps : Meta → Bool) → List Listed → List (List ℕ)
+all_values name subsection key keeps sections = map meaning (flat_map (λ s. s.entries) (said_passing name subsection key keeps sections))
+
+-- the boolean of the key's last entry in the last passing section that has the key: true where it has no value, none where its value is
+-- no boolean
+abbrev pub boolean_value : (name : List ℕ) → (subsection : Option (List ℕ)) → (key : List ℕ) → (keeps : Meta → Bool) → List Listed → Option (Option Bool)
+boolean_value name subsection key keeps sections =
+    option_map (λ e. elim e.raw [ None ↦ Some true | Some raw ↦ boolean_of (plain raw) ])
+    (last_or None (filter_map (λ s. last_or None s.entries) (said_passing name subsection key keeps sections)))
+
+-- the integer of the last value, or why it has none
+abbrev pub integer_value : (name : List ℕ) → (subsection : Option (List ℕ)) → (key : List ℕ) → (keeps : Meta → Bool) → List Listed → Option (Result ℤ IntegerFault)
+integer_value name subsection key keeps sections = option_map integer_of (last_value name subsection key keeps sections)
+
+-- what a look-up misses: no section has the name, or none of these has the subsection, or these have no value of the key
+pub data Miss : Type 0 where
+  SectionMissing : Miss
+  SubSectionMissing : Miss
+  KeyMissing : Miss
+
+abbrev pub miss_of : (name : List ℕ) → (subsection : Option (List ℕ)) → List Listed → Miss
+miss_of name subsection sections =
+    if not (list_any (has_name name) sections) then SectionMissing
+    else if not (list_any (is_named name subsection) sections) then SubSectionMissing
+    else KeyMissing

@@ -1,5 +1,5 @@
 //! What holds of the definitions, for all states: each law is a function that does nothing.
-ghost use Rattle.std.specs.Prelude.{◌≡◌, ◌≤◌, ◌⊎◌, Bool, true, false, List, [], ℕ, map, ◌∷◌, ◌++◌, ◌+◌, Option, Some};
+ghost use Rattle.std.specs.Prelude.{◌≡◌, ◌≤◌, ◌⊎◌, Bool, true, false, List, [], ℕ, filter, map, ◌∷◌, ◌++◌, ◌+◌, Option, Some};
 ghost use Rattle.std.specs.Option.{option_map};
 ghost use Rattle.std.specs.List.{list_all, list_any, AllByRecursion, flat_map};
 ghost use Rattle.gitconf_text.specs.Value.{escaped};
@@ -18,9 +18,10 @@ ghost use Rattle.gitconf_state.specs.Clean.{IsClean};
 ghost use Rattle.gitconf_state.specs.Loads.{IsFullLoad, IsLoad, IsPartLoad};
 ghost use Rattle.gitconf_state.specs.Inserted.{Inserted, IsByteForByte};
 ghost use Rattle.gitconf_state.specs.LineEnds.{file_line_end};
-ghost use Rattle.gitconf_state.specs.Lookup.{passing, last_value, all_values};
+ghost use Rattle.gitconf_state.specs.Equality.{AreEqual};
+ghost use Rattle.gitconf_state.specs.Lookup.{is_named, listing, listed, said, last_value};
 ghost use Rattle.gitconf_state.specs.Edit.{is_entry_of, spacing_of, new_entry, set_value, new_section, is_target, section_with, set_raw_value, with_used};
-ghost use Rattle.gitconf_state.specs.Edits.{Edit, IsEdit, IsCleanEdit, AreEdits, AreCleanEdits, apply, apply_all, edited_number, finds_or_makes, IsOneChanged};
+ghost use Rattle.gitconf_state.specs.Edits.{Edit, is_about, IsEdit, IsCleanEdit, AreEdits, AreCleanEdits, apply, apply_all, edited_number, finds_or_makes, IsOneChanged};
 ghost use Rattle.gitconf_state.specs.Comments.{item_comments, comments_of, comments, comments_of_kept};
 
 /// A state loaded from a text has items of a text, also where a filter dropped blanks, line ends and comments. Loaded whole it is
@@ -114,14 +115,39 @@ pub fn used_bytes_are_not_asked()
     ensures document { (used : ℕ) (state : State) → document_of (with_used used state) ≡ document_of state }
 {}
 
+/// An edit leaves what is said of every key that it is not about: so all look-ups of these keys, whatever the filter, answer as before.
+pub fn edits_leave_other_keys()
+    ensures { (edit : Edit) (name : List ℕ) (subsection : Option (List ℕ)) (key : List ℕ) (state : State) → IsEdit edit state → is_about edit name subsection key state ≡ false
+        → said name subsection key (listed (apply edit state)) ≡ said name subsection key (listed state) }
+{}
+
+/// Look-ups ask the number of each section, where it comes from, and its document: states that agree in these are listed alike, and every
+/// look-up answers alike. So a lossy load of a text answers each of them as the full one.
+pub fn look_ups_ask_documents()
+    ensures listed { (one other : State) → map section_document one.sections ≡ map section_document other.sections
+        → map (λ s. s.number) one.sections ≡ map (λ s. s.number) other.sections → map (λ s. s.meta) one.sections ≡ map (λ s. s.meta) other.sections
+        → listed one ≡ listed other }
+    ensures lossy { (parts : List Part) (full lossy : State) → IsFullLoad parts full → IsLoad keeps_meaning parts lossy
+        → map (λ s. s.number) lossy.sections ≡ map (λ s. s.number) full.sections → map (λ s. s.meta) lossy.sections ≡ map (λ s. s.meta) full.sections
+        → listed lossy ≡ listed full }
+{}
+
+/// Equality of files is an equivalence. Files of the same sections in their documents are equal.
+pub fn equality_is_an_equivalence()
+    ensures same { (state : State) → AreEqual state state }
+    ensures turned { (one other : State) → AreEqual one other → AreEqual other one }
+    ensures chained { (one other third : State) → AreEqual one other → AreEqual other third → AreEqual one third }
+    ensures documents { (one other : State) → map section_document one.sections ≡ map section_document other.sections → AreEqual one other }
+{}
+
 /// A value that was set is found by its name, subsection and key, where the look-up keeps the sections that the edit keeps and
 /// would keep a new one.
 pub fn set_value_is_found()
     ensures found { (name : List ℕ) (subsection : Option (List ℕ)) (key value : List ℕ) (state : State) → finds_or_makes name subsection (λ _. true) state ≡ true
-        → last_value name subsection key (λ _. true) (set_raw_value name subsection key (λ _. true) value state) ≡ Some value }
+        → last_value name subsection key (λ _. true) (listed (set_raw_value name subsection key (λ _. true) value state)) ≡ Some value }
     ensures filtered { (name : List ℕ) (subsection : Option (List ℕ)) (key : List ℕ) (keeps : Meta → Bool) (value : List ℕ) (state : State)
         → finds_or_makes name subsection keeps state ≡ true → keeps state.meta ≡ true
-        → last_value name subsection key keeps (set_raw_value name subsection key keeps value state) ≡ Some value }
+        → last_value name subsection key keeps (listed (set_raw_value name subsection key keeps value state)) ≡ Some value }
 {}
 
 /// Setting a value changes the last section of the name and subsection that passes, and of it the items alone. Where none passes, a
@@ -157,17 +183,14 @@ pub fn set_value_changes_one_entry()
         → set_value line_end key value items ≡ items ++ new_entry (spacing_of items) line_end key value }
 {}
 
-/// Setting a value leaves the values of every other key, whatever the section and the filter, and the sections of every other name
-/// or subsection, whatever the filter.
+/// Setting a value leaves what is said of every other key, whatever the section, and the sections of every other name or subsection.
 pub fn set_value_leaves_others()
     ensures keys { (name : List ℕ) (subsection : Option (List ℕ)) (key : List ℕ) (keeps : Meta → Bool) (value : List ℕ) (state : State)
-        → (other_name : List ℕ) (other_subsection : Option (List ℕ)) (other : List ℕ) (other_keeps : Meta → Bool) → is_same_name key other ≡ false
-        → (last_value other_name other_subsection other other_keeps (set_raw_value name subsection key keeps value state)
-        ≡ last_value other_name other_subsection other other_keeps state)
-        × (all_values other_name other_subsection other other_keeps (set_raw_value name subsection key keeps value state)
-        ≡ all_values other_name other_subsection other other_keeps state) }
+        → (other_name : List ℕ) (other_subsection : Option (List ℕ)) (other : List ℕ) → is_same_name key other ≡ false
+        → said other_name other_subsection other (listed (set_raw_value name subsection key keeps value state)) ≡ said other_name other_subsection other (listed state) }
     ensures sections { (name : List ℕ) (subsection : Option (List ℕ)) (key : List ℕ) (keeps : Meta → Bool) (value : List ℕ) (state : State)
-        → (other_name : List ℕ) (other_subsection : Option (List ℕ)) (other_keeps : Meta → Bool) → finds_or_makes name subsection keeps state ≡ true
+        → (other_name : List ℕ) (other_subsection : Option (List ℕ)) → finds_or_makes name subsection keeps state ≡ true
         → (is_same_name name other_name ≡ false) ⊎ (subsection ≡ other_subsection → ⊥)
-        → passing other_name other_subsection other_keeps (set_raw_value name subsection key keeps value state) ≡ passing other_name other_subsection other_keeps state }
+        → filter (λ s. is_named other_name other_subsection (listing s)) (set_raw_value name subsection key keeps value state).sections
+        ≡ filter (λ s. is_named other_name other_subsection (listing s)) state.sections }
 {}

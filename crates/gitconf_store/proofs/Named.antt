@@ -22,7 +22,7 @@ use Rattle.gitconf_store.specs.Store.{section_under, section_state, state_of, Se
 
 -- a section of the table has a name where its header does
 pub named_so : (buffer copies name : List ℕ) (subsection : Option (List ℕ)) (e : SectionEntry Section) → SectionFits buffer copies e
-    → table.is_named name subsection e ≡ state.is_named name subsection (section_state buffer e)
+    → table.is_named name subsection e ≡ state.is_named name subsection (state.listing (section_state buffer e))
 named_so buffer copies name subsection e fits =
     let h = header_of buffer e.section.header in
     let same : is_same_name name e.name ≡ is_same_name name (name_of h) = ap (is_same_name name) fits.name ∙ has_name-new name (name_of h) 0 None e.section in
@@ -30,26 +30,26 @@ named_so buffer copies name subsection e fits =
 
 -- all of them
 pub named_shown : (buffer copies name : List ℕ) (subsection : Option (List ℕ)) (es : List (SectionEntry Section)) → AllByRecursion (SectionFits buffer copies) es
-    → map (λ (p : ℕ × Section). section_under buffer p.0 p.1) (map (λ (e : SectionEntry Section). (e.number, e.section)) (filter (table.is_named name subsection) es))
-    ≡ filter (state.is_named name subsection) (map (section_state buffer) es)
+    → map (λ (p : ℕ × Section). state.listing (section_under buffer p.0 p.1)) (map (λ (e : SectionEntry Section). (e.number, e.section)) (filter (table.is_named name subsection) es))
+    ≡ filter (state.is_named name subsection) (map state.listing (map (section_state buffer) es))
 named_shown buffer copies name subsection [] fits = refl
 named_shown buffer copies name subsection (e ∷ es) fits =
     go (table.is_named name subsection e) refl (sym (named_so buffer copies name subsection e fits.0)) (named_shown buffer copies name subsection es fits.1)
   where
-    go : (b : Bool) → table.is_named name subsection e ≡ b → state.is_named name subsection (section_state buffer e) ≡ table.is_named name subsection e
-        → map (λ (p : ℕ × Section). section_under buffer p.0 p.1) (map (λ (e : SectionEntry Section). (e.number, e.section)) (filter (table.is_named name subsection) es))
-        ≡ filter (state.is_named name subsection) (map (section_state buffer) es)
-        → map (λ (p : ℕ × Section). section_under buffer p.0 p.1) (map (λ (e : SectionEntry Section). (e.number, e.section)) (filter (table.is_named name subsection) (e ∷ es)))
-        ≡ filter (state.is_named name subsection) (map (section_state buffer) (e ∷ es))
-    go true is same others = rw (same, is) (ap (λ ss. section_state buffer e ∷ ss) others)
+    go : (b : Bool) → table.is_named name subsection e ≡ b → state.is_named name subsection (state.listing (section_state buffer e)) ≡ table.is_named name subsection e
+        → map (λ (p : ℕ × Section). state.listing (section_under buffer p.0 p.1)) (map (λ (e : SectionEntry Section). (e.number, e.section)) (filter (table.is_named name subsection) es))
+        ≡ filter (state.is_named name subsection) (map state.listing (map (section_state buffer) es))
+        → map (λ (p : ℕ × Section). state.listing (section_under buffer p.0 p.1)) (map (λ (e : SectionEntry Section). (e.number, e.section)) (filter (table.is_named name subsection) (e ∷ es)))
+        ≡ filter (state.is_named name subsection) (map state.listing (map (section_state buffer) (e ∷ es)))
+    go true is same others = rw (same, is) (ap (λ ss. state.listing (section_state buffer e) ∷ ss) others)
     go false is same others = rw (same, is) others
 
 -- the sections of a name, as the state has them
 pub found_in : (buffer copies : List ℕ) (front : List Item) (meta : Meta) (sections : table.Sections Section) (all : State) (name : List ℕ) (subsection : Option (List ℕ)) (lent : List ℕ) (it : Named Section)
     → lent ≡ buffer → AllSectionsFit buffer copies sections → named_left it ≡ table.named name subsection sections → state_of buffer front meta sections ≡ all
-    → named_sections lent it ≡ state.named name subsection all
+    → named_sections lent it ≡ state.named name subsection (state.listed all)
 found_in buffer copies front meta sections all name subsection lent it same fits left is =
-    ap (λ b. map (λ (p : ℕ × Section). section_under b p.0 p.1) (named_left it)) same
-    ∙ ap (map (λ (p : ℕ × Section). section_under buffer p.0 p.1)) left
+    ap (λ b. map (λ (p : ℕ × Section). state.listing (section_under b p.0 p.1)) (named_left it)) same
+    ∙ ap (map (λ (p : ℕ × Section). state.listing (section_under buffer p.0 p.1))) left
     ∙ named_shown buffer copies name subsection sections.entries fits
-    ∙ ap (λ (s : State). state.named name subsection s) is
+    ∙ ap (λ (s : State). state.named name subsection (state.listed s)) is

@@ -1,12 +1,12 @@
 -- A value that is set by its names.
-use Rattle.std.proofs.Common.{◌≡◌, ◌⊎◌, ℕ, ◌+◌, ◌≤◌, ◌^◌, Bool, true, false, List, [], ◌∷◌, ◌++◌, length, Option, Some, None, Result, Ok, Err, inl, refl, ap, sym, subst, ◌∙◌}
+use Rattle.std.proofs.Common.{◌≡◌, ◌⊎◌, ℕ, ◌+◌, ◌≤◌, ◌^◌, Bool, true, false, List, [], ◌∷◌, ◌++◌, length, Option, Some, None, Result, Ok, Err, inl, inr, refl, ap, sym, subst, ◌∙◌}
 use Rattle.std.specs.List.{list_any, last_or, slice_get}
 use Rattle.std.specs.Option.{option_map}
-use Rattle.std.specs.Prelude.{◌==◌, if◌then◌else◌, filter, IfErr, IfSome, IsErrOf, ◌↔◌}
+use Rattle.std.specs.Prelude.{◌==◌, if◌then◌else◌, filter, IfErr, IfSome, IsErrOf, IsOk, ◌↔◌}
 use Rattle.std.proofs.lemmas.Bool.{eqb-true}
 use Rattle.bstr.specs.declared.bstring.BString.{BString}
 use Rattle.bstr.specs.Owned.{bstring_bytes}
-use Rattle.gitconf_text.specs.HeaderErrors.{header_number}
+use Rattle.gitconf_text.specs.HeaderErrors.{header_number, of_span as header_of_span}
 use Rattle.gitconf_text.specs.Names.{is_made_name, is_valid_or_none, is_value_name}
 use Rattle.gitconf_text.specs.Token.{Token}
 use Rattle.gitconf_text.specs.declared.parse.section.header.Error.{Error as HeaderError}
@@ -22,7 +22,7 @@ use Rattle.gitconf_state.proofs.EditLists.{any_at, filter_none, last_passing}
 use Rattle.gitconf_state.proofs.EditPlaces.{set_raw_value_at, set_raw_value_new, replaced_value_at, replaced_value_none}
 use Rattle.gitconf_store.specs.declared.set_raw_value.Error.{Error}
 use Rattle.gitconf_store.specs.declared.set_raw_value.Error.TheVariants.{Header, Memory, Span}
-use Rattle.gitconf_store.specs.Edits.{update_at, set_at, set_new, EditGrows, IsSet, UsedGrows}
+use Rattle.gitconf_store.specs.Edits.{update_at, set_at, set_new, EditGrows, IsSet, UsedGrows, set_numbers}
 use Rattle.gitconf_store.specs.SetErrors.{of_header, of_span, set_number}
 
 -- a refusal's number stays what it was
@@ -36,6 +36,31 @@ number_of_span : (e : ℕ) → set_number (of_span e) ≡ e
 number_of_span e = go (e == 27) refl
   where
     go : (b : Bool) → (e == 27) ≡ b → set_number (if b then Memory else Span e) ≡ e
+    go true is = sym (eqb-true e 27 is)
+    go false is = refl
+
+-- the number is one of those that setting a value has
+abbrev pub Known : ℕ → Type 0
+Known n = list_any (λ number. number == n) set_numbers ≡ true
+
+-- the two of a place are
+pub span_known : (n : ℕ) → (n ≡ 3) ⊎ (n ≡ 27) → Known n
+span_known n (inl is) = subst Known (sym is) refl
+span_known n (inr is) = subst Known (sym is) refl
+
+-- so is what a header's test answers
+pub validated_known : (made valid : Bool) (r : Result (Unit {0}) HeaderError) → (IsErrOf r InvalidName ↔ (made ≡ false)) → (IsErrOf r InvalidSubSection ↔ ((made ≡ true) × (valid ≡ false)))
+    → (IsOk r ↔ ((made ≡ true) × (valid ≡ true))) → IfErr r (λ e. Known (header_number e))
+validated_known false valid r name subsection ok = subst (λ t. IfErr t (λ e. Known (header_number e))) (sym (name.1 refl)) refl
+validated_known true false r name subsection ok = subst (λ t. IfErr t (λ e. Known (header_number e))) (sym (subsection.1 (refl, refl))) refl
+validated_known true true (Ok t) name subsection ok = tt
+validated_known true true (Err e) name subsection ok = absurd (let h = ok.1 (refl, refl) in cc)
+
+-- and what is made of a refusal of a place
+pub made_of_span : (e : ℕ) → header_number (header_of_span e) ≡ e
+made_of_span e = go (e == 27) refl
+  where
+    go : (b : Bool) → (e == 27) ≡ b → header_number (if b then headers.Memory else headers.Span e) ≡ e
     go true is = sym (eqb-true e 27 is)
     go false is = refl
 
@@ -92,19 +117,18 @@ made_ok name subsection key keeps value old new r done none named valid made gro
   invalid_subsection = (λ fault. absurd (cc), λ all. absurd (let h = sym done ∙ valid.1 (all.2, all.3) in cc));
   ok = made ∙ ap (with_used new.used) (sym (set_raw_value_new name subsection key keeps value old none));
   answer = sym (replaced_value_none name subsection key keeps old none);
-  used = record {
-    grown = subst (λ ts. new.used ≤ old.used + token_bytes ts) (sym (tokens_new name subsection key keeps value old none)) grows.grown;
-    too_large = tt;
-  };
+  grown = subst (λ ts. new.used ≤ old.used + token_bytes ts) (sym (tokens_new name subsection key keeps value old none)) grows.grown;
+  too_large = tt;
+  known = tt;
 }
 
 -- None could be made.
 pub made_err : (name : List ℕ) (subsection : Option (List ℕ)) (key : List ℕ) (keeps : Meta → Bool) (value : List ℕ) (old new : State) (r : Result (Unit {0}) HeaderError) (e : HeaderError) (result : Result (Option BString) Error)
     → r ≡ Err e → result ≡ Err (of_header e) → is_value_name key ≡ true → list_any (is_target name subsection keeps) old.sections ≡ false
     → (IsErrOf r InvalidName ↔ (is_made_name name ≡ false)) → (IsErrOf r InvalidSubSection ↔ ((is_made_name name ≡ true) × (is_valid_or_none subsection ≡ false)))
-    → EditGrows r header_number (token_bytes (section_tokens (file_line_end old) name subsection key value)) old new
+    → EditGrows r header_number (token_bytes (section_tokens (file_line_end old) name subsection key value)) old new → IfErr r (λ e. Known (header_number e))
     → IsSet name subsection key keeps value result old new
-made_err name subsection key keeps value old new r e result fault is keyed none named valid grows = subst (λ t. IsSet name subsection key keeps value t old new) (sym is) (record {
+made_err name subsection key keeps value old new r e result fault is keyed none named valid grows is_known = subst (λ t. IsSet name subsection key keeps value t old new) (sym is) (record {
   invalid_name = (
     λ same. (keyed, none, named.0 (fault ∙ (let h : of_header e ≡ Header InvalidName = cc in ap Err (only_name e h)))),
     λ all. ap (λ e. Err (of_header e)) (let h = sym fault ∙ named.1 all.2 in let g : e ≡ InvalidName = cc in g),
@@ -115,11 +139,11 @@ made_err name subsection key keeps value old new r e result fault is keyed none 
   );
   ok = tt;
   answer = tt;
-  used = record {
-    grown = subst (λ ts. new.used ≤ old.used + token_bytes ts) (sym (tokens_new name subsection key keeps value old none)) grows.grown;
-    too_large = λ number. (subst (λ ts. header_number e ≡ 3 → (2 ^ 32 ≤ old.used + token_bytes ts) ⊎ (old.next ≡ no_number)) (sym (tokens_new name subsection key keeps value old none))
-        (subst (λ r. IfErr r (λ e. header_number e ≡ 3 → (2 ^ 32 ≤ old.used + token_bytes (section_tokens (file_line_end old) name subsection key value)) ⊎ (old.next ≡ no_number))) fault grows.too_large)) (sym (number_of_header e) ∙ number);
-  };
+  grown = subst (λ ts. new.used ≤ old.used + token_bytes ts) (sym (tokens_new name subsection key keeps value old none)) grows.grown;
+  too_large = λ number. elim (subst (λ ts. header_number e ≡ 3 → (2 ^ 32 ≤ old.used + token_bytes ts) ⊎ (old.next ≡ no_number)) (sym (tokens_new name subsection key keeps value old none))
+      (subst (λ r. IfErr r (λ e. header_number e ≡ 3 → (2 ^ 32 ≤ old.used + token_bytes (section_tokens (file_line_end old) name subsection key value)) ⊎ (old.next ≡ no_number))) fault grows.too_large)
+      (sym (number_of_header e) ∙ number)) [ inl passes ↦ inl passes | inr used_up ↦ inr (none, used_up) ];
+  known = subst Known (sym (number_of_header e)) (subst (λ r. IfErr r (λ e. Known (header_number e))) fault is_known);
 })
 
 -- what stands at the place
@@ -168,7 +192,9 @@ found_ok {T} name subsection key keeps value old new at t o bytes l set was same
   ok = set ∙ ap (with_used new.used) (set_last name subsection key keeps value old at l);
   answer = same ∙ subst (λ s. IfSome s (λ s. bytes ≡ old_value key s.items)) (at_last name subsection keeps old at l) was
       ∙ sym (replaced_value_at name subsection key keeps old l.before l.found l.behind l.is l.passes l.none);
-  used = let g = grown_at name subsection key keeps value old new at (Ok t) l used in record { grown = g.grown; too_large = tt };
+  grown = (grown_at name subsection key keeps value old new at (Ok t) l used).grown;
+  too_large = tt;
+  known = tt;
 }
   where
     stands : list_any (is_target name subsection keeps) old.sections ≡ false → ⊥
@@ -184,8 +210,9 @@ found_err {T} name subsection key keeps value old new at r e result l fault is u
   invalid_subsection = (λ same. absurd (no_header e InvalidSubSection (cc)), λ all. absurd (stands all.1));
   ok = tt;
   answer = tt;
-  used = let g = grown_at name subsection key keeps value old new at r l used in
-      record { grown = g.grown; too_large = λ number. inl (g.too_large (fault ∙ ap Err (sym (number_of_span e) ∙ number))) };
+  grown = (grown_at name subsection key keeps value old new at r l used).grown;
+  too_large = λ number. inl ((grown_at name subsection key keeps value old new at r l used).too_large (fault ∙ ap Err (sym (number_of_span e) ∙ number)));
+  known = subst Known (sym (number_of_span e)) (span_known e (subst (λ r. IfErr r (λ e. (e ≡ 3) ⊎ (e ≡ 27))) fault (grown_at name subsection key keeps value old new at r l used).known));
 })
   where
     stands : list_any (is_target name subsection keeps) old.sections ≡ false → ⊥

@@ -1,5 +1,5 @@
 -- What edits of a store change, by a section's place.
-use Rattle.std.specs.Prelude.{◌≡◌, ◌⊎◌, ◌↔◌, ℕ, zero, suc, ◌+◌, ◌≤◌, ◌^◌, Bool, true, false, List, [], ◌∷◌, ◌++◌, Option, Result, IsErrOf, IsErrAnd, IfErr, IfOk, OnOk}
+use Rattle.std.specs.Prelude.{◌≡◌, ◌⊎◌, ◌↔◌, ◌==◌, ℕ, zero, suc, ◌+◌, ◌≤◌, ◌^◌, Bool, true, false, List, [], ◌∷◌, ◌++◌, Option, Result, IsErrOf, IsErrAnd, IfErr, IfOk, OnOk}
 use Rattle.std.specs.List.{list_any}
 use Rattle.std.specs.Option.{option_map}
 use Rattle.bstr.specs.declared.bstring.BString.{BString}
@@ -32,10 +32,11 @@ set_at at key value state = record {
   sections = update_at at (section_with (file_line_end state) key value) state.sections;
 }
 
--- At most so many bytes more are used, and too large is answered only where they would pass the limit.
+-- At most so many bytes more are used. A refusal is that they are too many, only where they would pass the limit, or want of memory.
 pub record UsedGrows {T : Type 0} (result : Result T ℕ) (count old new : ℕ) : Type 0 where
   pub grown : new ≤ old + count
   pub too_large : IsErrOf result 3 → 2 ^ 32 ≤ old + count
+  pub known : IfErr result (λ e. (e ≡ 3) ⊎ (e ≡ 27))
 
 -- the state with a section more that has the value
 abbrev pub set_new : (name : List ℕ) → (subsection : Option (List ℕ)) → (key value : List ℕ) → State → State
@@ -56,7 +57,12 @@ pub record EditGrows {T E : Type 0} (result : Result T E) (number : E → ℕ) (
 abbrev pub IsRefusal : {T : Type 0} → Result T Error → ℕ → Type 0
 IsRefusal result number = IsErrAnd result (λ e. set_number e ≡ number)
 
--- How a value is set: as the edit says, with the raw text that it replaced. Refusals 4 and 5 are of a section that has to be made.
+-- the refusals that setting a value has
+abbrev pub set_numbers : List ℕ
+set_numbers = 3 ∷ 4 ∷ 5 ∷ 6 ∷ 27 ∷ []
+
+-- How a value is set: as the edit says, with the raw text that it replaced. Refusals 4 and 5 are of a section that has to be made. Refusal 3
+-- comes only where the new bytes would pass the limit, or where a section has to be made and no number is left.
 pub record IsSet (name : List ℕ) (subsection : Option (List ℕ)) (key : List ℕ) (keeps : Meta → Bool) (value : List ℕ) (result : Result (Option BString) Error) (old new : State) : Type 0 where
   pub invalid_name : IsErrOf result (Header InvalidName)
       ↔ ((is_value_name key ≡ true) × (list_any (is_target name subsection keeps) old.sections ≡ false) × (is_made_name name ≡ false))
@@ -64,4 +70,7 @@ pub record IsSet (name : List ℕ) (subsection : Option (List ℕ)) (key : List 
       ↔ ((is_value_name key ≡ true) × (list_any (is_target name subsection keeps) old.sections ≡ false) × (is_made_name name ≡ true) × (is_valid_or_none subsection ≡ false))
   pub ok : OnOk result (new ≡ with_used new.used (apply (SetRawValue name subsection key keeps value) old))
   pub answer : IfOk result (λ o. option_map bstring_bytes o ≡ replaced_value name subsection key keeps old)
-  pub used : EditGrows result set_number (new_bytes (SetRawValue name subsection key keeps value) old) old new
+  pub grown : new.used ≤ old.used + new_bytes (SetRawValue name subsection key keeps value) old
+  pub too_large : IfErr result (λ e. set_number e ≡ 3 → (2 ^ 32 ≤ old.used + new_bytes (SetRawValue name subsection key keeps value) old)
+      ⊎ ((list_any (is_target name subsection keeps) old.sections ≡ false) × (old.next ≡ no_number)))
+  pub known : IfErr result (λ e. list_any (λ number. number == set_number e) set_numbers ≡ true)

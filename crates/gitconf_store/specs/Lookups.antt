@@ -6,8 +6,7 @@ use Rattle.gitconf_base.specs.declared.util.by_name.Named.{Named}
 use Rattle.gitconf_base.specs.SectionIters.{named_left}
 use Rattle.gitconf_text.specs.Value.{plain}
 use Rattle.gitconf_base.specs.Metadata.{Meta}
-use Rattle.gitconf_state.specs.State.{SectionState}
-use Rattle.gitconf_state.specs.Lookup.{deciding}
+use Rattle.gitconf_state.specs.Lookup.{Listed, listing, entries_of_key, deciding}
 use Rattle.gitconf_store.specs.declared.section.Section.{Section}
 use Rattle.gitconf_store.specs.Store.{section_under}
 
@@ -17,9 +16,13 @@ IsFound bytes (Ok found) value = option_map bytes found ≡ value
 IsFound bytes (Err refusal) value = value ≢ None
 
 -- the sections of a name that are left
-abbrev pub named_sections : (buffer : List ℕ) → Named Section → List SectionState
-named_sections buffer it = map (λ (p : ℕ × Section). section_under buffer p.0 p.1) (named_left it)
+abbrev pub named_sections : (buffer : List ℕ) → Named Section → List Listed
+named_sections buffer it = map (λ (p : ℕ × Section). listing (section_under buffer p.0 p.1)) (named_left it)
+
+-- the raw text that decides in a section
+abbrev pub deciding_in : (key : List ℕ) → Listed → Option (List ℕ)
+deciding_in key s = deciding (entries_of_key key s)
 
 -- the meaning of the last raw text that decides in one of the sections, if their metadata passes
-abbrev pub last_among : (key : List ℕ) → (keeps : Meta → Bool) → List SectionState → Option (List ℕ)
-last_among key keeps sections = option_map plain (last_or None (filter_map (deciding key) (filter (λ s. keeps s.meta) sections)))
+abbrev pub last_among : (key : List ℕ) → (keeps : Meta → Bool) → List Listed → Option (List ℕ)
+last_among key keeps sections = option_map plain (last_or None (filter_map (deciding_in key) (filter (λ s. keeps s.meta) sections)))

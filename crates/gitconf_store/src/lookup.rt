@@ -9,10 +9,10 @@ ghost use Rattle.gitconf_text.specs.Names.{is_same_name};
 ghost use Rattle.gitconf_text.specs.Value.{raw_of};
 ghost use Rattle.gitconf_base.specs.Metadata.{Meta};
 ghost use Rattle.gitconf_parse.specs.Items.{entry_of, value_of};
-ghost use Rattle.gitconf_state.specs.Lookup.{deciding};
+ghost use Rattle.gitconf_state.specs.Lookup.{listing};
 ghost use Rattle.gitconf_state.specs.State.{entries_of};
 ghost use Rattle.gitconf_write.specs.Bodies.{items_of};
-ghost use Rattle.gitconf_store.specs.Lookups.{IsFound, last_among, named_sections};
+ghost use Rattle.gitconf_store.specs.Lookups.{IsFound, deciding_in, last_among, named_sections};
 ghost use Rattle.gitconf_store.specs.Store.{section_under};
 
 use crate::section::Section;
@@ -55,7 +55,7 @@ pub(crate) fn passes<F: FnMut(&Metadata) -> bool>(filter: &mut F, meta: &Metadat
 
 /// The value that decides in a section: that of the key's last entry, if it has one.
 fn deciding_value<'a>(buffer: &[u8], section: &'a Section, key: &[u8]) -> Option<&'a Assigned>
-    ensures { (number : _) → option_map (λ a. raw_of (value_of buffer.now a.now.value)) result ≡ deciding key.now (section_under buffer.now number section.now) }
+    ensures { (number : _) → option_map (λ a. raw_of (value_of buffer.now a.now.value)) result ≡ deciding_in key.now (listing (section_under buffer.now number section.now)) }
 {
     match last_entry(buffer, &section.items, key) {
         Some(entry) => entry.assigned.as_ref(),

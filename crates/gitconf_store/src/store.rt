@@ -50,8 +50,9 @@ impl Model for Store {
 
 impl Store {
     ghost use Rattle.std.specs.Fn.{ComputesKey};
+    ghost use Rattle.std.specs.List.{list_any};
     ghost use Rattle.std.specs.Option.{option_copied};
-    ghost use Rattle.std.specs.Prelude.{◌≡◌, ◌<◌, ◌^◌, ◌↔◌, [], length, false, IfOk, IsErrOf, IfSome, OnOk, OnErr, option_map, slice_get, true, List, filter, IfErr, map, Bool, ℕ};
+    ghost use Rattle.std.specs.Prelude.{◌≡◌, ◌==◌, ◌<◌, ◌^◌, ◌↔◌, [], length, false, IfOk, IsErrOf, IfSome, OnOk, OnErr, option_map, slice_get, true, List, filter, IfErr, map, Bool, ℕ};
     ghost use Rattle.bstr.specs.Owned.{bstring_bytes};
     ghost use Rattle.gitconf_text.specs.Document.{IsText, Reads, unmarked};
     ghost use Rattle.gitconf_text.specs.HeaderErrors.{header_number};
@@ -71,14 +72,14 @@ impl Store {
     ghost use Rattle.gitconf_state.specs.Edit.{is_target, old_value, section_tokens, set_tokens, token_bytes, with_used};
     ghost use Rattle.gitconf_state.specs.Inserted.{Inserted, IsByteForByte};
     ghost use Rattle.gitconf_state.specs.LineEnds.{file_line_end};
-    ghost use Rattle.gitconf_state.specs.Lookup.{last_value};
+    ghost use Rattle.gitconf_state.specs.Lookup.{last_value, listed};
     ghost use Rattle.gitconf_state.specs.Printing.{printed, printed_kept};
-    ghost use Rattle.gitconf_state.specs.State.{HasItems, State, document_of, document_of_kept, entries_of, SectionState};
+    ghost use Rattle.gitconf_state.specs.State.{HasItems, IsState, State, document_of, document_of_kept, entries_of, SectionState};
     ghost use Rattle.gitconf_write.specs.Bodies.{tokens_in};
     ghost use Rattle.gitconf_write.specs.LineEnds.{bytes_of_line_end};
     ghost use Rattle.gitconf_store.specs.Counts.{are_void, section_entries};
     ghost use Rattle.gitconf_store.specs.Edits as edits;
-    ghost use Rattle.gitconf_store.specs.Edits.{EditGrows, IsRefusal, IsSet, UsedGrows};
+    ghost use Rattle.gitconf_store.specs.Edits.{EditGrows, IsRefusal, IsSet, UsedGrows, set_numbers};
     ghost use Rattle.gitconf_store.specs.ItemEvents.{events_left};
     ghost use Rattle.gitconf_store.specs.Lookups.{IsFound};
     ghost use Rattle.gitconf_store.specs.Made.{IsMade};
@@ -360,7 +361,7 @@ impl Store {
         requires { F.IsAlwaysCallable filter }
         // For a filter that answers by what it is shown.
         ensures { (keeps : Meta → Bool) → ComputesKey F.FnMut keeps filter
-            → IsFound bstring_bytes result (last_value section_name.now (option_copied subsection_name.entry) value_name.now keeps self.now) }
+            → IsFound bstring_bytes result (last_value section_name.now (option_copied subsection_name.entry) value_name.now keeps (listed self.now)) }
     {
         let sections = self.sections.named(section_name, subsection_name);
         let alloc = *self.buffer.allocator();
@@ -379,7 +380,7 @@ impl Store {
         subsection_name: Option<&[u8]>,
         value_name: &str,
     ) -> Result<Option<BString>, NoMemory>
-        ensures { IsFound bstring_bytes result (last_value section_name.now (option_copied subsection_name.entry) value_name.now (λ _. true) self.now) }
+        ensures { IsFound bstring_bytes result (last_value section_name.now (option_copied subsection_name.entry) value_name.now (λ _. true) (listed self.now)) }
     {
         self.string_filter_by(section_name, subsection_name, value_name, |_| true)
     }
@@ -395,7 +396,8 @@ impl Store {
     #[tactic(auto, using(crate::proofs::Views::sections_viewed))]
     pub fn sections(&self) -> Sections<'_>
         ensures left { sections_left result ≡ self.now.sections }
-        ensures items { HasItems self.now }
+        // What holds of every file, whatever was done to it.
+        ensures state { IsState self.now }
     {
         Sections {
             buffer: &self.buffer,
@@ -453,6 +455,7 @@ impl Store {
         ensures err { OnErr result (self.new ≡ with_used self.new.used self.old) }
         ensures used { EditGrows result header_number
             (token_bytes (section_tokens (file_line_end self.old) section_name.now (option_copied subsection_name.entry) key.now value.now)) self.old self.new }
+        ensures known { IfErr result (λ e. list_any (λ number. number == header_number e) set_numbers ≡ true) }
     {
         validate(section_name.as_bytes(), subsection_name)?;
         let line_end = self.line_end();

@@ -5,3 +5,4 @@ pub mod RefusedRows
 pub mod ValuesPlain
 pub mod ValuesEscaped
 pub mod ValuesRows
+pub mod TypedRows

@@ -14,3 +14,4 @@ pub mod SectionKeyRefs
 pub mod SectionKeys
 pub mod Stripped
 pub mod ValueErrors
+pub mod Typed

@@ -60,9 +60,9 @@ impl File {
     ghost use Rattle.gitconf_state.specs.Comments.{comments, comments_of, comments_of_kept};
     ghost use Rattle.gitconf_state.specs.Inserted.{Inserted, IsByteForByte};
     ghost use Rattle.gitconf_state.specs.LineEnds.{file_line_end};
-    ghost use Rattle.gitconf_state.specs.Lookup.{last_value};
+    ghost use Rattle.gitconf_state.specs.Lookup.{last_value, listed};
     ghost use Rattle.gitconf_state.specs.Printing.{printed, printed_kept};
-    ghost use Rattle.gitconf_state.specs.State.{SectionState, document_of, document_of_kept, entries_of};
+    ghost use Rattle.gitconf_state.specs.State.{IsState, SectionState, document_of, document_of_kept, entries_of};
     ghost use Rattle.gitconf_state.specs.Edit.{with_used};
     ghost use Rattle.gitconf_store.specs.Counts.{are_void, section_entries};
     ghost use Rattle.gitconf_store.specs.Edits.{IsRefusal, IsSet};
@@ -188,7 +188,9 @@ impl File {
 
     /// The sections in file order.
     pub fn sections(&self) -> Sections<'_>
-        ensures { sections_left result ≡ self.now.sections }
+        ensures left { sections_left result ≡ self.now.sections }
+        // What holds of every file, whatever was done to it, so that laws of states can be used.
+        ensures state { IsState self.now }
     {
         self.store.sections()
     }
@@ -243,7 +245,7 @@ impl File {
         subsection_name: Option<&[u8]>,
         value_name: &str,
     ) -> Result<Option<BString>, NoMemory>
-        ensures { IsFound bstring_bytes result (last_value section_name.now (option_copied subsection_name.entry) value_name.now (λ _. true) self.now) }
+        ensures { IsFound bstring_bytes result (last_value section_name.now (option_copied subsection_name.entry) value_name.now (λ _. true) (listed self.now)) }
     {
         self.store
             .string_by(section_name, subsection_name, value_name)
@@ -290,7 +292,7 @@ impl File {
         requires { F.IsAlwaysCallable filter }
         // For a filter that answers by what it is shown.
         ensures { (keeps : Meta → Bool) → ComputesKey F.FnMut keeps filter
-            → IsFound bstring_bytes result (last_value section_name.now (option_copied subsection_name.entry) value_name.now keeps self.now) }
+            → IsFound bstring_bytes result (last_value section_name.now (option_copied subsection_name.entry) value_name.now keeps (listed self.now)) }
     {
         self.store
             .string_filter_by(section_name, subsection_name, value_name, filter)

@@ -4,9 +4,9 @@ use Rattle.bstr.specs.Owned.{bstring_bytes}
 use Rattle.gitconf_text.specs.Value.{raw_of}
 use Rattle.gitconf_parse.specs.Items.{value_of}
 use Rattle.gitconf_base.specs.SectionIters.{named_left}
-use Rattle.gitconf_state.specs.Lookup.{deciding}
+use Rattle.gitconf_state.specs.Lookup.{listing}
 use Rattle.gitconf_store.specs.Store.{section_under}
-use Rattle.gitconf_store.specs.Lookups.{named_sections}
+use Rattle.gitconf_store.specs.Lookups.{deciding_in, named_sections}
 use Rattle.gitconf_store.proofs.Deciding.{decides, undecided, last_left, refused_found}
 use Rattle.gitconf_store.proofs.lookup.last_meaning.Goals as goal
 
@@ -15,7 +15,7 @@ returns-in_err-meaning g c = λ keeps h.
     let b = c.args.buffer.now in
     let id = c.in-Some.field-0-0 in
     let section = c.in-Some.section.now in
-    let s = section_under b id section in
+    let s = listing (section_under b id section) in
     let left = c.loop-section.left in
     let next = c.next_back.new.self in
     let raw = raw_of (value_of b c.in-Some-deciding_value.assigned.now.value) in
@@ -23,7 +23,7 @@ returns-in_err-meaning g c = λ keeps h.
     let told = c.loop-section.invariant.told keeps h in
     let passed = (c.passes.ensures.exact keeps told.0).1 in
     let kept : keeps s.meta ≡ true = search rules in
-    let gives : deciding c.args.key.now s ≡ Some raw =
+    let gives : deciding_in c.args.key.now s ≡ Some raw =
     sym (c.deciding_value.ensures id) ∙ ap (λ o. option_map (λ a. raw_of (value_of b a.now.value)) o) c.in-Some-deciding_value.is in
     refused_found bstring_bytes c.from_residual.result _ raw c.from_residual.ensures.0
     (told.1 ∙ decides c.args.key.now keeps (named_sections b left) (named_sections b next) s raw (last_left b (named_left left) (named_left next) (id, section) is) kept gives)
@@ -33,7 +33,7 @@ returns-in-Some-deciding_value g c = λ keeps h.
     let b = c.args.buffer.now in
     let id = c.in-Some.field-0-0 in
     let section = c.in-Some.section.now in
-    let s = section_under b id section in
+    let s = listing (section_under b id section) in
     let left = c.loop-section.left in
     let next = c.next_back.new.self in
     let raw = raw_of (value_of b c.in-Some-deciding_value.assigned.now.value) in
@@ -41,7 +41,7 @@ returns-in-Some-deciding_value g c = λ keeps h.
     let told = c.loop-section.invariant.told keeps h in
     let passed = (c.passes.ensures.exact keeps told.0).1 in
     let kept : keeps s.meta ≡ true = search rules in
-    let gives : deciding c.args.key.now s ≡ Some raw =
+    let gives : deciding_in c.args.key.now s ≡ Some raw =
     sym (c.deciding_value.ensures id) ∙ ap (λ o. option_map (λ a. raw_of (value_of b a.now.value)) o) c.in-Some-deciding_value.is in
     ap Some c.in_ok-meaning.ensures
     ∙ sym (told.1 ∙ decides c.args.key.now keeps (named_sections b left) (named_sections b next) s raw (last_left b (named_left left) (named_left next) (id, section) is) kept gives)
@@ -53,7 +53,7 @@ loop-section-preserved-in_default-deciding_value g c = record {
       let b = c.args.buffer.now in
       let id = c.in-Some.field-0-0 in
       let section = c.in-Some.section.now in
-      let s = section_under b id section in
+      let s = listing (section_under b id section) in
       let left = c.loop-section.left in
       let next = c.next_back.new.self in
       let is : named_left left ≡ named_left next ++ (id, section) ∷ [] = search rules in
@@ -62,7 +62,7 @@ loop-section-preserved-in_default-deciding_value g c = record {
       let same = passed.1 in
       let kept : keeps s.meta ≡ true = search rules in
       let none : c.deciding_value.result ≡ None = search rules in
-      let gives : deciding c.args.key.now s ≡ None =
+      let gives : deciding_in c.args.key.now s ≡ None =
       sym (c.deciding_value.ensures id) ∙ ap (λ o. option_map (λ a. raw_of (value_of b a.now.value)) o) none in (
         passed.0,
         told.1 ∙ undecided c.args.key.now keeps (named_sections b left) (named_sections b next) s (last_left b (named_left left) (named_left next) (id, section) is) kept gives,

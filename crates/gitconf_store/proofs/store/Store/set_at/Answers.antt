@@ -64,4 +64,4 @@ returns-clause-used c =
     rw (← c.self.view_is) (asked_at (λ items. UsedGrows c.set_value.result (token_bytes (set_tokens (file_line_end state) c.args.key.now c.args.value.now items)) (length b) (length new))
     b c.self.inside.front.items c.self.inside.meta.value c.self.inside.sections c.args.at s c.at_mut-section.ensures.value
     (subst (λ l. UsedGrows c.set_value.result (token_bytes (set_tokens l c.args.key.now c.args.value.now (items_of b s.items.items))) (length b) (length new)) line_end
-    (record { grown = c.set_value.ensures.grows.grown; too_large = c.set_value.ensures.grows.too_large })))
+    (record { grown = c.set_value.ensures.grows.grown; too_large = c.set_value.ensures.grows.too_large; known = c.set_value.ensures.grows.known })))

@@ -1,6 +1,8 @@
-use Rattle.std.proofs.Common.{ap, subst, ◌∙◌}
+use Rattle.std.proofs.Common.{ap, subst, sym, ◌∙◌}
 use Rattle.std.specs.Option.{option_copied}
 use Rattle.bstr.specs.Owned.{bstring_bytes}
+use Rattle.gitconf_state.specs.Lookup.{listed}
+use Rattle.gitconf_state.proofs.Listings.{last_value_is}
 use Rattle.gitconf_store.specs.Lookups.{IsFound, last_among, named_sections}
 use Rattle.gitconf_store.proofs.Named.{found_in}
 use Rattle.gitconf_store.proofs.store.Store.string_filter_by.Goals as goal
@@ -13,5 +15,6 @@ returns g c = λ keeps h.
     c.deref.ensures.value c.self.invariant.sections_within c.named-sections.ensures.left c.self.view_is in
     subst (IsFound bstring_bytes c.last_meaning.result)
     (ap (λ k. last_among k keeps (named_sections c.deref.result.now c.named-sections.result)) c.as_bytes.ensures.value
-    ∙ ap (last_among c.args.value_name.now keeps) named)
+    ∙ ap (last_among c.args.value_name.now keeps) named
+    ∙ sym (last_value_is c.args.section_name.now (option_copied c.args.subsection_name) c.args.value_name.now keeps (listed c.args.self.now)))
     (c.last_meaning.ensures keeps h)
