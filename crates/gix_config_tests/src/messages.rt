@@ -6,7 +6,8 @@ use gitconf_parse::event::Span;
 use gitconf_parse::event_ref::EventRef;
 use gitconf_parse::sink::SinkFault;
 use gitconf_text::parse::section::{Name, ValueName};
-use gix_config::file::{includes, init};
+use gix_config::NoMemory;
+use gix_config::file::{includes, init, set_raw_value};
 use gix_config::path::interpolate;
 use gix_config::refusals::Refusal as _;
 use std::alloc::Global;
@@ -82,46 +83,110 @@ fn texts_of_other_refusals(rt: HostRuntime) -> Result<(), Fail> {
         format!(in rt.alloc(); "{fault}")?.as_str(),
         "the writer failed"
     );
-    // The refusal of a load shows what the refusal within it shows.
-    let error = init::Error::Includes(includes::Error::IncludeDepthExceeded { max_depth: 3 });
+    let fault = NoMemory;
+    assert_eq!(rt;
+        format!(in rt.alloc(); "{fault}")?.as_str(),
+        "out of memory"
+    );
+    // The refusal of a value that is set shows what the refusal within it shows.
+    let error = set_raw_value::Error::ValueName(name);
     assert_eq!(rt;
         format!(in rt.alloc(); "{error}")?.as_str(),
-        "The maximum allowed length 3 of the file include chain built by following nested resolve_includes is exceeded"
+        "Valid value names consist of alphanumeric characters or dashes, starting with an alphabetic character."
+    );
+    let error = set_raw_value::Error::Memory;
+    assert_eq!(rt;
+        format!(in rt.alloc(); "{error}")?.as_str(),
+        "out of memory"
     );
     Ok(())
 }
 
+// The refusal of a load has the number and the text of the refusal within it.
 #[test]
-fn numbers_of_refused_includes(rt: HostRuntime) -> Result<(), Fail> {
+fn refused_includes(rt: HostRuntime) -> Result<(), Fail> {
     let fault = FileFault {
         stage: Stage::Read,
         not_found: false,
     };
     let path = String::from_str(rt.alloc(), "/x")?;
-    let rows: [(includes::Error, u8); 8] = [
+    let rows: [(includes::Error, u8, &str); 8] = [
         (
             includes::Error::Interpolate(interpolate::Error::Missing { what: "home dir" }),
             12,
+            "home dir is missing",
         ),
-        (includes::Error::IncludeDepthExceeded { max_depth: 3 }, 15),
-        (includes::Error::MissingConfigPath, 16),
-        (includes::Error::MissingGitDir, 17),
-        (includes::Error::Realpath(fault), 18),
+        (
+            includes::Error::IncludeDepthExceeded { max_depth: 3 },
+            15,
+            "The maximum allowed length 3 of the file include chain built by following nested resolve_includes is exceeded",
+        ),
+        (
+            includes::Error::MissingConfigPath,
+            16,
+            "Include paths from environment variables must not be relative as no config file paths exists as root",
+        ),
+        (
+            includes::Error::MissingGitDir,
+            17,
+            "The git directory must be provided to support `gitdir:` conditional includes",
+        ),
+        (
+            includes::Error::Realpath(fault),
+            18,
+            "Could not resolve the git directory",
+        ),
         (
             includes::Error::Io {
                 path,
                 source: fault,
             },
             19,
+            "Could not read included configuration file at '/x'",
         ),
-        (includes::Error::CopyBuffer(fault), 20),
-        (includes::Error::Memory, 27),
+        (
+            includes::Error::CopyBuffer(fault),
+            20,
+            "Failed to copy configuration file into buffer",
+        ),
+        (includes::Error::Memory, 27, "out of memory"),
     ];
-    for (error, number) in rows {
+    for (error, number, text) in rows {
         assert_eq!(rt; error.number(), number);
-        assert_eq!(rt; init::Error::Includes(error).number(), number);
+        assert_eq!(rt; format!(in rt.alloc(); "{error}")?.as_str(), text);
+        let error = init::Error::Includes(error);
+        assert_eq!(rt; error.number(), number);
+        assert_eq!(rt; format!(in rt.alloc(); "{error}")?.as_str(), text);
     }
     assert_eq!(rt; init::Error::Memory.number(), 27);
+    Ok(())
+}
+
+// How a path is refused that isn't UTF-8.
+#[test]
+fn texts_of_refused_paths(rt: HostRuntime) -> Result<(), Fail> {
+    let Err(err) = std::str::from_utf8(b"\xff") else {
+        assert!(rt; false, "UTF-8");
+        return Ok(());
+    };
+    let error = interpolate::Error::Utf8Conversion {
+        what: "path to interpolate",
+        err,
+    };
+    assert_eq!(rt;
+        format!(in rt.alloc(); "{error}")?.as_str(),
+        "Ill-formed UTF-8 in path to interpolate"
+    );
+    let error = interpolate::Error::UsernameConversion(err);
+    assert_eq!(rt;
+        format!(in rt.alloc(); "{error}")?.as_str(),
+        "Ill-formed UTF-8 in username"
+    );
+    let error = interpolate::Error::Memory;
+    assert_eq!(rt;
+        format!(in rt.alloc(); "{error}")?.as_str(),
+        "out of memory"
+    );
     Ok(())
 }
 
