@@ -1,3 +1,4 @@
 pub mod Homes
 pub mod Paths
 pub mod Interpolated
+pub mod Integers

@@ -21,8 +21,10 @@ pub enum Answer<'a> {
     Unknown,
     /// `true` or `false`.
     Flag(bool),
-    /// A number.
+    /// A count.
     Number(usize),
+    /// A number with a sign.
+    Integer(i64),
     /// Bytes, of their own or lent.
     Bytes(CowSlice<'a, u8>),
     /// Bytes, or none.

@@ -31,6 +31,8 @@ pub fn outcome_of<'a>(
 
         b"decode" => values::decode(alloc, words),
         b"escape" => values::escape(alloc, words),
+        b"boolean" => values::boolean(alloc, words),
+        b"integer" => values::integer(alloc, words),
 
         b"match" => paths::matches(alloc, words),
         b"interpolate" => paths::interpolate(alloc, words),

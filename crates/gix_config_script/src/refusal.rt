@@ -1,6 +1,6 @@
 //! Why a command was not done.
 
-use gix_config::NoMemory;
+use gix_config::{NoMemory, value};
 use gix_config::file::{init, set_raw_value};
 use gix_config::parse::section::{NameError, ValueNameError};
 use gix_config::parse::{Error, SinkFault};
@@ -15,6 +15,8 @@ pub enum Refusal {
     Line,
     /// The library's refusal of that number.
     Numbered(u8),
+    /// The refusal of a value by its type, told by a word.
+    Mistyped(&'static str),
     /// The parser's refusal of a text that has no document.
     Unread(Error),
     /// A writer failed, which had taken these bytes.
@@ -48,6 +50,16 @@ impl From<set_raw_value::Error> for Refusal {
 impl From<interpolate::Error> for Refusal {
     fn from(refusal: interpolate::Error) -> Refusal {
         Refusal::Numbered(refusal.number())
+    }
+}
+
+impl From<value::Error> for Refusal {
+    fn from(refusal: value::Error) -> Refusal {
+        match refusal.message() {
+            "not a boolean" => Refusal::Mistyped("bool"),
+            "not an integer" => Refusal::Mistyped("int"),
+            _ => Refusal::Numbered(refusal.number()),
+        }
     }
 }
 

@@ -46,6 +46,7 @@ fn put_answer(alloc: Global, line: &mut String, answer: Answer<'_>) -> Result<()
         Answer::Done | Answer::Absent | Answer::Unknown => Ok(()),
         Answer::Flag(flag) => Ok(write!(line, " {flag}")?),
         Answer::Number(number) => Ok(write!(line, " {number}")?),
+        Answer::Integer(number) => Ok(write!(line, " {number}")?),
         Answer::Bytes(bytes) => put_bytes(alloc, line, bytes.as_slice()),
         Answer::Optional(Some(bytes)) => put_bytes(alloc, line, &bytes),
         Answer::Optional(None) => put_optional(alloc, line, None),
@@ -70,6 +71,7 @@ fn put_refusal(alloc: Global, line: &mut String, refusal: &Refusal) -> Result<()
     match refusal {
         Refusal::Line => Ok(line.push_str("refused")?),
         Refusal::Numbered(number) => Ok(write!(line, "err E{number}")?),
+        Refusal::Mistyped(wanted) => Ok(write!(line, "err E11 {wanted}")?),
         Refusal::Unread(error) => put_unread(alloc, line, error),
         Refusal::Unwritten(fault, taken) => {
             let number = fault.number();

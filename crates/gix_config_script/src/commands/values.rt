@@ -1,9 +1,11 @@
 //! Commands on values, which ask no file.
 
 use crate::answer::{Answer, Outcome};
+use crate::refusal::Refusal;
 use crate::words::{Word, one_word};
-use gix_config::File;
+use bstr::BString;
 use gix_config::value::normalize;
+use gix_config::{Boolean, File, Integer};
 use std::alloc::Global;
 use std::borrow::CowSlice;
 
@@ -31,4 +33,21 @@ fn unframed(text: &[u8]) -> &[u8] {
     text.strip_prefix(FRAME.0)
         .and_then(|rest| rest.strip_suffix(FRAME.1))
         .unwrap_or(text)
+}
+
+/// `boolean BYTES`: the boolean of a value.
+pub fn boolean<'a>(alloc: Global, words: &'a [Word<'_>]) -> Outcome<'a> {
+    let value = Vec::from_slice(alloc, one_word(words)?.bytes()?)?;
+    let boolean = Boolean::try_from(BString::new(value))?;
+    Ok(Answer::Flag(bool::from(boolean)))
+}
+
+/// `integer BYTES`: the integer of a value, with its suffix.
+pub fn integer<'a>(alloc: Global, words: &'a [Word<'_>]) -> Outcome<'a> {
+    let value = Vec::from_slice(alloc, one_word(words)?.bytes()?)?;
+    let integer = Integer::try_from(BString::new(value))?;
+    match integer.to_decimal() {
+        Some(number) => Ok(Answer::Integer(number)),
+        None => Err(Refusal::Mistyped("overflow")),
+    }
 }

@@ -1,0 +1,102 @@
+//! Values as integers.
+ghost use Rattle.std.specs.Prelude.{◌≡◌, [], ◌∷◌, MatchResult, Some, None, codes};
+ghost use Rattle.std.specs.Option.{option_map};
+ghost use Rattle.bstr.specs.Owned.{bstring_bytes};
+ghost use Rattle.gitconf_text.specs.Typed.{decimal_of, factor_of, integer_written, suffix_of};
+ghost use Rattle.gitconf_text.specs.ValueErrors.{refused};
+ghost use Rattle.gitconf_values.specs.Integers.{integer_told, suffix_told};
+
+use crate::number::number;
+use bstr::BString;
+use gitconf_text::value::Error;
+
+/// What stands behind a number and multiplies it, in either case.
+#[derive(Clone, Copy, PartialEq, Eq, PartialOrd, Ord, Hash, Debug)]
+pub enum Suffix {
+    /// `k`: 1024.
+    Kibi,
+    /// `m`: 1048576.
+    Mebi,
+    /// `g`: 1073741824.
+    Gibi,
+}
+
+/// A value as an integer, as git-config's manual page tells them under "Values": an optional sign and one or more digits that 64 bits
+/// hold, and a suffix or none.
+#[derive(Clone, Copy, PartialEq, Eq, PartialOrd, Ord, Hash, Debug)]
+pub struct Integer {
+    /// The number before the suffix.
+    pub value: i64,
+    /// The suffix behind it.
+    pub suffix: Option<Suffix>,
+}
+
+impl Integer {
+    /// The number times what its suffix stands for, or `None` where 64 bits don't hold that.
+    pub fn to_decimal(&self) -> Option<i64>
+        ensures { result ≡ decimal_of (integer_told self.now) }
+    {
+        self.value.checked_mul(factor(self.suffix))
+    }
+}
+
+impl TryFrom<BString> for Integer {
+    type Error = Error;
+
+    ghost try_from_gives = { λ bytes result. MatchResult result (λ i. integer_written (bstring_bytes bytes) ≡ Some (integer_told i))
+        (λ e. (integer_written (bstring_bytes bytes) ≡ None) × (e ≡ refused (codes "not an integer") (bstring_bytes bytes))) };
+
+    /// The integer that a value writes. One pass, which takes no memory.
+    ///
+    /// # Errors
+    ///
+    /// Refusal 11, `not an integer`, with the bytes that were given.
+    fn try_from(bytes: BString) -> Result<Integer, Error> {
+        match parse(bytes.as_bytes()) {
+            Some(integer) => Ok(integer),
+            None => Err(Error::not_an_integer(bytes)),
+        }
+    }
+}
+
+/// What a suffix multiplies by.
+fn factor(suffix: Option<Suffix>) -> i64
+    ensures { result ≡ factor_of (suffix_told suffix) }
+{
+    match suffix {
+        None => 1,
+        Some(Suffix::Kibi) => 1024,
+        Some(Suffix::Mebi) => 1_048_576,
+        Some(Suffix::Gibi) => 1_073_741_824,
+    }
+}
+
+/// The suffix that a byte is, if it is one.
+fn suffix_at(byte: u8) -> Option<Suffix>
+    ensures { suffix_told result ≡ suffix_of (byte ∷ []) }
+{
+    match byte {
+        b'k' | b'K' => Some(Suffix::Kibi),
+        b'm' | b'M' => Some(Suffix::Mebi),
+        b'g' | b'G' => Some(Suffix::Gibi),
+        _ => None,
+    }
+}
+
+/// The integer that a value writes, if it is one.
+fn parse(bytes: &[u8]) -> Option<Integer>
+    ensures { option_map integer_told result ≡ integer_written bytes.now }
+{
+    if let Some((last, digits)) = bytes.split_last() {
+        if let Some(suffix) = suffix_at(*last) {
+            return Some(Integer {
+                value: number(digits)?,
+                suffix: Some(suffix),
+            });
+        }
+    }
+    Some(Integer {
+        value: number(bytes)?,
+        suffix: None,
+    })
+}
