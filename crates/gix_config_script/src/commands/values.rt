@@ -39,7 +39,7 @@ fn unframed(text: &[u8]) -> &[u8] {
 pub fn boolean<'a>(alloc: Global, words: &'a [Word<'_>]) -> Outcome<'a> {
     let value = Vec::from_slice(alloc, one_word(words)?.bytes()?)?;
     let boolean = Boolean::try_from(BString::new(value))?;
-    Ok(Answer::Flag(bool::from(boolean)))
+    Ok(Answer::Flag(boolean.0))
 }
 
 /// `integer BYTES`: the integer of a value, with its suffix.
