@@ -23,10 +23,10 @@ fn matches_by_rows(
 
 /// Whether the path pattern matches the text, where letters are compared without ASCII case if `ignore_case` is set.
 ///
-/// What stands in front of the pattern's first `*` is compared byte by byte: that takes time linear in the pattern and
-/// the text (brackets as `Table::fill` tells it), and memory for the members of one bracket at a time. So a pattern
-/// without `*` and `[` takes no memory. From the first `*` on the whole table of what is left of both is filled, at the
-/// cost of `Table::fill`: a row is filled from any row below it, so two rows at a time would not do.
+/// What stands in front of the pattern's first `*` is passed front by front, each with one byte of the text: a few steps
+/// for each byte of the pattern, and no memory. So a pattern without `*` takes time linear in what is passed of the two,
+/// and is never refused. From the first `*` on the whole table of what is left of both is filled, at the cost of
+/// `Table::fill`: a row is filled from any row below it, so two rows at a time would not do.
 ///
 /// # Errors
 ///

@@ -321,14 +321,12 @@ impl Table {
 
     /// The table of a pattern and a text, where letters are compared without ASCII case if `ignore_case` is set.
     ///
-    /// It takes memory for `pattern.len() + 1` rows of `text.len() + 1` cells, a growth for each row, and beside them for
-    /// the members of one bracket at a time. No product of the two lengths is computed.
+    /// It takes memory for `pattern.len() + 1` rows of `text.len() + 1` cells, a growth for each row, and for a few
+    /// words for each place of the pattern; for each place behind which a `]` ends members that stand there, also for
+    /// `text.len()` cells of what they take, while the rows are filled. No product of the two lengths is computed.
     ///
-    /// The time is that of a step for each cell, where the pattern has no `[`. A row that stands at a `[` reads the bytes
-    /// up to its `]` once, behind each `[:` also those up to the next `]`, and each of its cells takes a step for each
-    /// member. So brackets that don't hold a `[` add no more than the product of the lengths once again. Where a
-    /// bracket of `n` bytes is made of `[`, the time is that of `n * n` steps for each place of the text, and where it is
-    /// made of `[:`, of `n * n * n` steps besides.
+    /// The time is that of a few steps for each cell, also of brackets that stand in one another: what the members take
+    /// that stand from a place on is told once for each place, from those behind it.
     ///
     /// # Errors
     ///

@@ -36,7 +36,13 @@ fn repeated(alloc: Global, start: &str, unit: &str, count: u32, end: &str) -> Re
 
 fn main(rt: HostRuntime) -> Result<()> {
     let args: Vec<String> = env::args(&rt)?.collect(rt.alloc())?;
-    let pattern = repeated(rt.alloc(), word(&args, 1), word(&args, 2), number(&args, 3)?, word(&args, 4))?;
+    let pattern = repeated(
+        rt.alloc(),
+        word(&args, 1),
+        word(&args, 2),
+        number(&args, 3)?,
+        word(&args, 4),
+    )?;
     let text = repeated(rt.alloc(), "", word(&args, 5), number(&args, 6)?, "")?;
     let is_timed = word(&args, 8) == "times";
     let mut matches = false;
