@@ -2,7 +2,8 @@
 use Rattle.std.proofs.Common.{◌≡◌, ℕ, suc, ◌+◌, ◌<◌, Bool, true, false, not, List, [], ◌∷◌, length, get_or, drop, set, replicate, refl, ap, sym, ◌∙◌, arith}
 use Rattle.std.specs.Prelude.{◌&&◌, ◌||◌, ◌==◌}
 use Rattle.std.proofs.lemmas.List.{drop-set, drop_more, get_or-drop}
-use Rattle.gitconf_glob.specs.Cells.{one_cells, run_cells, folder_cells, last_cells}
+use Rattle.gitconf_glob.specs.Bracket.{lets_in}
+use Rattle.gitconf_glob.specs.Cells.{one_cells, taken_cells, run_cells, folder_cells, last_cells}
 
 -- the cell at i is set, and those behind it stay
 set_at : (row : List Bool) (i : ℕ) (cell : Bool) (cells : List Bool) → i < length row → drop (i + 1) row ≡ cells → drop i (set row i cell) ≡ cell ∷ cells
@@ -21,6 +22,18 @@ one_step test text below row i j cell next within row_long below_long same is =
     ∙ ap (λ c. c ∷ one_cells test (drop (i + 1) text) (drop (i + 1) below))
     (is ∙ ap (λ c. c && test (get_or text i 0)) (sym (front_cell below (i + 1))))
     ∙ sym (λ k. one_cells test (drop_more text i 0 within k) (drop_more below i false (omega arith) k))
+
+pub taken_step : (negated : Bool) (text : List ℕ) (among below row : List Bool) (i j : ℕ) (cell : Bool) → j ≡ i + 1 → i < length text → length row ≡ length text + 1
+    → length among ≡ length text → length below ≡ length text + 1
+    → drop j row ≡ taken_cells negated (drop j text) (drop j among) (drop j below)
+    → cell ≡ (get_or below (i + 1) false && lets_in negated (get_or among i false) (get_or text i 0))
+    → drop i (set row i cell) ≡ taken_cells negated (drop i text) (drop i among) (drop i below)
+unfolding taken_cells
+taken_step negated text among below row i j cell next within row_long among_long below_long same is =
+    set_at row i cell _ (omega arith) (ap (λ k. drop k row) (sym next) ∙ same ∙ ap (λ k. taken_cells negated (drop k text) (drop k among) (drop k below)) next)
+    ∙ ap (λ c. c ∷ taken_cells negated (drop (i + 1) text) (drop (i + 1) among) (drop (i + 1) below))
+    (is ∙ ap (λ c. c && lets_in negated (get_or among i false) (get_or text i 0)) (sym (front_cell below (i + 1))))
+    ∙ sym (λ k. taken_cells negated (drop_more text i 0 within k) (drop_more among i false (omega arith) k) (drop_more below i false (omega arith) k))
 
 pub run_step : (slashes : Bool) (text : List ℕ) (below row : List Bool) (i j : ℕ) (cell : Bool) → j ≡ i + 1 → i < length text → length row ≡ length text + 1 → length below ≡ length text + 1
     → drop j row ≡ run_cells slashes (drop j text) (drop j below) → cell ≡ (get_or below i false || (slashes || not (get_or text i 0 == 47)) && get_or row (i + 1) false)

@@ -2,7 +2,7 @@
 use Prim.Native.String.{String}
 use Rattle.std.proofs.Common.{◌≡◌, Bool, true, false, refl, codes}
 use Rattle.gitconf_glob.specs.Pattern.{stars_from, front, run, matches}
-use Rattle.gitconf_glob.specs.Bracket.{member, members_from}
+use Rattle.gitconf_glob.specs.Bracket.{member, members, close_from}
 
 -- the pattern matches the text, with case and without
 abbrev pub fits : (pattern text : String) → Bool
@@ -44,11 +44,11 @@ unfolding stars_from front run matches
 not_nothing_before_a_backslash = refl
 
 first_member : fits "[]a]" "]" ≡ true
-unfolding front matches members_from member
+unfolding front matches members member
 first_member = refl
 
 no_slash : fits "[!a]" "/" ≡ false
-unfolding front matches members_from member
+unfolding front matches members member
 no_slash = refl
 
 last_backslash : fits "a\\" "a\\" ≡ false
@@ -56,17 +56,17 @@ unfolding front matches
 last_backslash = refl
 
 open_bracket : fits "[a" "[a" ≡ false
-unfolding front matches members_from member
+unfolding front matches members member
 open_bracket = refl
 
 range_without_case : fits_caseless "[A-C]" "b" ≡ true
-unfolding front matches members_from member
+unfolding front matches members member
 range_without_case = refl
 
 unknown_class : fits "[[:nope:]]" "n" ≡ false
-unfolding front matches members_from member
+unfolding front matches members member close_from
 unknown_class = refl
 
 class_and_dash : fits "[[:alpha:]-z]" "-" ≡ true
-unfolding front matches members_from member
+unfolding front matches members member close_from
 class_and_dash = refl

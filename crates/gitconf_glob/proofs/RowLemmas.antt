@@ -1,10 +1,10 @@
 -- The rows that are filled are those of the definition.
 use Rattle.std.proofs.Common.{◌≡◌, ◌≢◌, ℕ, zero, suc, ◌+◌, ◌-◌, ◌≤◌, ◌<◌, Bool, true, false, not, List, [], ◌∷◌, length, map, get_or, drop, take, set, replicate, refl, ap, sym, subst, ◌∙◌, arith}
 use Rattle.std.specs.Prelude.{◌&&◌, ◌||◌, ◌==◌}
-use Rattle.std.proofs.lemmas.List.{drop_all, drop_more, drop-set, drop-drop, get_or-drop, length-drop, length-map, take_all}
+use Rattle.std.proofs.lemmas.List.{drop_all, drop_more, drop-set, length-drop, length-map, take_all}
 use Rattle.std.proofs.lemmas.Bool.{eqb-true, eqb-false}
 use Rattle.std.proofs.Math.Seq.{drop-length}
-use Rattle.gitconf_glob.specs.Pattern.{Element, Front, Nothing, One, Run, Rest, Folders, front, takes, takes_first, one, run, is_empty, matches}
+use Rattle.gitconf_glob.specs.Pattern.{Front, Nothing, One, Run, Rest, Folders, front, takes, one, run, is_empty, matches}
 use Rattle.gitconf_glob.specs.Rows.{tails, cells, rows_of, is_fresh_at, IsTable}
 use Rattle.gitconf_glob.specs.Cells.{one_cells, run_cells, folder_cells, last_cells, cells_at, AreLong}
 use Rattle.gitconf_glob.specs.Shapes.{FitsIn}
@@ -24,7 +24,7 @@ nth_tail f (b ∷ text) zero within = refl
 nth_tail f (b ∷ text) (suc j) within = nth_tail f text j (omega arith)
 
 -- as many ends as places, and one more
-tails_count : (text : List ℕ) → length (tails text) ≡ length text + 1
+pub tails_count : (text : List ℕ) → length (tails text) ≡ length text + 1
 unfolding tails
 tails_count [] = refl
 tails_count (b ∷ text) = ap suc (tails_count text) ∙ omega arith
@@ -88,7 +88,7 @@ matched ignore_case f slash p text = elim f [
 ]
 
 -- a pattern matches what its front does
-matched_is : (ignore_case fresh : Bool) (b : ℕ) (p text : List ℕ) → matched ignore_case (front fresh b p) (b == 47) p text ≡ matches ignore_case 0 fresh (b ∷ p) text
+pub matched_is : (ignore_case fresh : Bool) (b : ℕ) (p text : List ℕ) → matched ignore_case (front fresh b p) (b == 47) p text ≡ matches ignore_case 0 fresh (b ∷ p) text
 unfolding matches
 matched_is ignore_case fresh b p text = refl
 
@@ -139,7 +139,7 @@ rows_long ignore_case fresh p text k d within =
     ∙ length-map (tails text) (matches ignore_case k fresh p) ∙ tails_count text
 
 -- the bytes of the front are passed
-skipped : (ignore_case fresh : Bool) (i : ℕ) (p text : List ℕ) → i ≤ length p
+pub skipped : (ignore_case fresh : Bool) (i : ℕ) (p text : List ℕ) → i ≤ length p
     → matches ignore_case i fresh p text ≡ matches ignore_case 0 (is_fresh_at fresh i p) (drop i p) text
 unfolding matches
 skipped ignore_case fresh zero p text within = refl
@@ -209,57 +209,6 @@ row_filled shown rows row ignore_case fresh here p rest text k j next within cou
 
     later : map shown (drop (k + 1) rows) ≡ rows_of ignore_case (get_or p k 0 == 47) (drop (k + 1) p) text
     later = ap (λ n. map shown (drop n rows)) (sym next) ∙ same ∙ (λ i. rows_of ignore_case (is_fresh_at fresh (one_more i) p) (drop (next i) p) text)
-
--- the mark of a place behind the front
-fresh_behind : (p : List ℕ) (i more : ℕ) → is_fresh_at (get_or p i 0 == 47) more (drop (i + 1) p) ≡ is_fresh_at true (i + (1 + more)) p
-fresh_behind p i zero = ap (λ n. is_fresh_at true n p) one_more
-  where
-    one_more : suc i ≡ i + (1 + 0)
-    one_more = omega arith
-fresh_behind p i (suc more) = ap (λ b. b == 47) (get_or-drop (i + 1) p more 0) ∙ ap (λ n. is_fresh_at true n p) more_than_one
-  where
-    more_than_one : suc (i + 1 + more) ≡ i + (1 + suc more)
-    more_than_one = omega arith
-
--- what a pattern's rest matches is what its front does
-by_front : (ignore_case : Bool) (p text : List ℕ) (i : ℕ) (f : Front) (here : Bool) (rest : List ℕ) → i < length p → here ≡ is_fresh_at true i p → rest ≡ drop (i + 1) p
-    → f ≡ front here (get_or p i 0) rest → matches ignore_case 0 (is_fresh_at true i p) (drop i p) text ≡ matched ignore_case f (get_or p i 0 == 47) (drop (i + 1) p) text
-by_front ignore_case p text i f here rest within here_is rest_here is =
-    ap (λ q. matches ignore_case 0 (is_fresh_at true i p) q text) (drop_more p i 0 within)
-    ∙ sym (matched_is ignore_case (is_fresh_at true i p) (get_or p i 0) (drop (i + 1) p) text)
-    ∙ ap (λ g. matched ignore_case g (get_or p i 0 == 47) (drop (i + 1) p) text) (sym (is ∙ λ k. front (here_is k) (get_or p i 0) (rest_here k)))
-
-pub nothing_matches : (ignore_case : Bool) (p text : List ℕ) (i : ℕ) (f : Front) (here : Bool) (rest : List ℕ) → i < length p → here ≡ is_fresh_at true i p → rest ≡ drop (i + 1) p
-    → f ≡ front here (get_or p i 0) rest → f ≡ Nothing → matches ignore_case 0 (is_fresh_at true i p) (drop i p) text ≡ false
-nothing_matches ignore_case p text i f here rest within here_is rest_here is shape =
-    by_front ignore_case p text i f here rest within here_is rest_here is ∙ ap (λ g. matched ignore_case g (get_or p i 0 == 47) (drop (i + 1) p) text) shape
-
--- the next byte isn't taken
-pub one_stops : (ignore_case : Bool) (p text : List ℕ) (i : ℕ) (f : Front) (here : Bool) (rest : List ℕ) (element : Element) (more : ℕ) → i < length p → here ≡ is_fresh_at true i p
-    → rest ≡ drop (i + 1) p → f ≡ front here (get_or p i 0) rest → f ≡ One element more → takes_first (takes ignore_case element) text ≡ false
-    → matches ignore_case 0 (is_fresh_at true i p) (drop i p) text ≡ false
-one_stops ignore_case p text i f here rest element more within here_is rest_here is shape stops =
-    by_front ignore_case p text i f here rest within here_is rest_here is ∙ ap (λ g. matched ignore_case g (get_or p i 0 == 47) (drop (i + 1) p) text) shape
-    ∙ not_taken (takes ignore_case element) (matches ignore_case more (get_or p i 0 == 47) (drop (i + 1) p)) text stops
-  where
-    not_taken : (test : ℕ → Bool) (rest : List ℕ → Bool) (text : List ℕ) → takes_first test text ≡ false → one test rest text ≡ false
-    not_taken test rest [] stops = refl
-    not_taken test rest (b ∷ text) stops = ap (λ c. c && rest text) stops
-
--- the next byte is taken
-pub one_goes_on : (ignore_case : Bool) (p text : List ℕ) (i j : ℕ) (f : Front) (here : Bool) (rest : List ℕ) (element : Element) (more : ℕ) → i < length p → here ≡ is_fresh_at true i p
-    → rest ≡ drop (i + 1) p → f ≡ front here (get_or p i 0) rest → f ≡ One element more → more < length rest + 1 → j < length text → takes_first (takes ignore_case element) (drop j text) ≡ true
-    → matches ignore_case 0 (is_fresh_at true i p) (drop i p) (drop j text)
-    ≡ matches ignore_case 0 (is_fresh_at true (i + (1 + more)) p) (drop (i + (1 + more)) p) (drop (j + 1) text)
-one_goes_on ignore_case p text i j f here rest element more within here_is rest_here is shape fits text_within taken =
-    by_front ignore_case p (drop j text) i f here rest within here_is rest_here is ∙ ap (λ g. matched ignore_case g (get_or p i 0 == 47) (drop (i + 1) p) (drop j text)) shape
-    ∙ ap (one (takes ignore_case element) (matches ignore_case more (get_or p i 0 == 47) (drop (i + 1) p))) (drop_more text j 0 text_within)
-    ∙ ap (λ c. c && matches ignore_case more (get_or p i 0 == 47) (drop (i + 1) p) (drop (j + 1) text)) (sym (ap (takes_first (takes ignore_case element)) (drop_more text j 0 text_within)) ∙ taken)
-    ∙ skipped ignore_case (get_or p i 0 == 47) more (drop (i + 1) p) (drop (j + 1) text) (let small : more < length (drop (i + 1) p) + 1 = subst (λ r. more < length r + 1) rest_here fits in omega (arith, small))
-    ∙ (λ k. matches ignore_case 0 (fresh_behind p i more k) ((drop-drop more (i + 1) p ∙ ap (λ n. drop n p) behind) k) (drop (j + 1) text))
-  where
-    behind : i + 1 + more ≡ i + (1 + more)
-    behind = omega arith
 
 -- behind the whole pattern the text has to end
 pub at_end : (ignore_case : Bool) (p text : List ℕ) (i j : ℕ) → length p ≤ i → i ≤ length p → j ≤ length text

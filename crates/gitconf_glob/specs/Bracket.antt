@@ -1,6 +1,6 @@
 -- What stands behind a `[` of a pattern: members up to a `]`, and the bytes that they take.
 -- Source: the wildmatch of Git; which texts are members is this project's own rule.
-use Rattle.std.specs.Prelude.{ℕ, zero, suc, pred, leb, ltb, ◌+◌, Bool, true, false, not, if◌then◌else◌, List, [], ◌∷◌, ◌++◌, ◌&&◌, ◌||◌, ◌==◌, Option, Some, None, take, drop, get_or, position, codes}
+use Rattle.std.specs.Prelude.{ℕ, zero, suc, pred, leb, ltb, ◌+◌, Bool, true, false, not, if◌then◌else◌, List, [], ◌∷◌, ◌&&◌, ◌||◌, ◌==◌, Option, Some, None, take, drop, get_or, codes}
 use Rattle.std.specs.List.{list_any}
 use Rattle.std.specs.Option.{option_map}
 use Rattle.std.specs.Str.{bytes_eq}
@@ -35,15 +35,21 @@ is_of b (Byte m) = b == m
 is_of b (Range low high) = is_between low high b
 is_of b (Named c) = is_in_class c b
 
--- one of the members takes the byte; without case, its lower or its upper form
+-- the member takes the byte; without case, its lower or its upper form
+abbrev pub has : (ignore_case : Bool) → Member → ℕ → Bool
+has ignore_case m b = if ignore_case then is_of (to_ascii_lowercase b) m || is_of (to_ascii_uppercase b) m else is_of b m
+
+-- one of the members takes the byte
 abbrev pub is_of_any : (ignore_case : Bool) → List Member → ℕ → Bool
-is_of_any ignore_case members b = if ignore_case
-    then list_any (is_of (to_ascii_lowercase b)) members || list_any (is_of (to_ascii_uppercase b)) members
-    else list_any (is_of b) members
+is_of_any ignore_case members b = list_any (λ m. has ignore_case m b) members
+
+-- What a bracket takes whose members take the byte or don't: a negated one the other way round, neither `/`.
+abbrev pub lets_in : (negated among : Bool) (b : ℕ) → Bool
+lets_in negated among b = not (b == 47) && (if negated then not among else among)
 
 -- A bracket takes a byte of its members, a negated one any other; neither takes `/`.
 abbrev pub is_taken : (ignore_case negated : Bool) → List Member → ℕ → Bool
-is_taken ignore_case negated members b = not (b == 47) && (if negated then not (is_of_any ignore_case members b) else is_of_any ignore_case members b)
+is_taken ignore_case negated members b = lets_in negated (is_of_any ignore_case members b) b
 
 -- the class of a name
 abbrev pub class_named : List ℕ → Option Class
@@ -61,9 +67,19 @@ class_named name =
     if bytes_eq name (codes "upper") then Some class.Upper else
     if bytes_eq name (codes "xdigit") then Some class.Xdigit else None
 
+-- `]` stands first
+abbrev pub begins_close : List ℕ → Bool
+begins_close [] = false
+begins_close (b ∷ p) = b == 93
+
+-- where the first `]` stands, n bytes being passed
+unfoldable pub close_from : (n : ℕ) → List ℕ → Option ℕ
+close_from n [] = None
+close_from n (b ∷ p) = elim (b == 93) [ true ↦ Some n | false ↦ close_from (n + 1) p ]
+
 -- how many bytes the name has that stands between `[:` and `:]`, read behind `[:`: a `:` stands before the first `]`
 abbrev pub name_length : List ℕ → Option ℕ
-name_length p = elim (position (λ b. b == 93) p) [
+name_length p = elim (close_from 0 p) [
   | None ↦ None
   | Some n ↦ if ltb 0 n && get_or p (pred n) 0 == 58 then Some (pred n) else None
 ]
@@ -101,14 +117,17 @@ member p = elim (class_length p) [
   | Some n ↦ option_map (λ (c : Class). (Named c, n + 3)) (class_named (take n (drop 2 p)))
 ]
 
--- Members up to the `]`, with the place behind it: n bytes were passed, skip more belong to the last member.
--- A `]` where the first member is looked for is a member.
-unfoldable pub members_from : (read : List Member) (first n skip : ℕ) → List ℕ → Option (List Member × ℕ)
-members_from read first n skip [] = None
-members_from read first n (suc skip) (b ∷ p) = members_from read first (n + 1) skip p
-members_from read first n zero (b ∷ p) = elim (b == 93 && ltb first n) [
-  | true ↦ Some (read, n + 1)
-  | false ↦ elim (member (b ∷ p)) [ None ↦ None | Some m ↦ members_from (read ++ m.0 ∷ []) first (n + 1) m.1 p ]
+-- Members up to the `]`, and how many bytes they have with it, the first `skip` being passed. Where the first member is looked for,
+-- a `]` is a member.
+unfoldable pub members : (first : Bool) (skip : ℕ) → List ℕ → Option (List Member × ℕ)
+members first skip [] = None
+members first (suc skip) (b ∷ p) = option_map (λ (r : List Member × ℕ). (r.0, r.1 + 1)) (members first skip p)
+members first zero (b ∷ p) = elim (b == 93 && not first) [
+  | true ↦ Some ([], 1)
+  | false ↦ elim (member (b ∷ p)) [
+    | None ↦ None
+    | Some m ↦ option_map (λ (r : List Member × ℕ). (m.0 ∷ r.0, r.1 + 1)) (members false m.1 p)
+  ]
 ]
 
 -- `!` or `^`
@@ -122,4 +141,8 @@ members_begin p = if negates p then 1 else 0
 
 -- the members of a bracket, read behind its `[`, and how many bytes it has there; none where it takes nothing
 abbrev pub bracket : List ℕ → Option (List Member × ℕ)
-bracket p = members_from [] (members_begin p) (members_begin p) 0 (drop (members_begin p) p)
+bracket p = option_map (λ (r : List Member × ℕ). (r.0, members_begin p + r.1)) (members true 0 (drop (members_begin p) p))
+
+-- whether the byte is of the members that were read, and how many bytes they have
+abbrev pub among : (ignore_case : Bool) (b : ℕ) → Option (List Member × ℕ) → Option (Bool × ℕ)
+among ignore_case b read = option_map (λ (r : List Member × ℕ). (is_of_any ignore_case r.0 b, r.1)) read

@@ -1,11 +1,18 @@
 -- A row of the table from the rows below it: what the code fills.
 use Rattle.std.specs.Prelude.{◌≡◌, ℕ, ◌+◌, Bool, true, false, not, List, [], ◌∷◌, ◌&&◌, ◌||◌, ◌==◌, All, length, get_or, drop, replicate}
+use Rattle.gitconf_glob.specs.Bracket.{lets_in}
 use Rattle.gitconf_glob.specs.Pattern.{Front, Nothing, One, Run, Rest, Folders, takes}
 
 -- the row of what takes one byte
 unfoldable pub one_cells : (test : ℕ → Bool) (text : List ℕ) (below : List Bool) → List Bool
 one_cells test [] below = false ∷ []
 one_cells test (b ∷ text) below = (get_or below 1 false && test b) ∷ one_cells test text (drop 1 below)
+
+-- the row of a bracket, of which is told which bytes of the text its members take
+unfoldable pub taken_cells : (negated : Bool) (text : List ℕ) (among below : List Bool) → List Bool
+taken_cells negated [] among below = false ∷ []
+taken_cells negated (b ∷ text) among below =
+    (get_or below 1 false && lets_in negated (get_or among 0 false) b) ∷ taken_cells negated text (drop 1 among) (drop 1 below)
 
 -- the row of a run
 unfoldable pub run_cells : (slashes : Bool) (text : List ℕ) (below : List Bool) → List Bool

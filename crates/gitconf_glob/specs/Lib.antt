@@ -3,3 +3,4 @@ pub mod Pattern
 pub mod Rows
 pub mod Shapes
 pub mod Cells
+pub mod Places

@@ -1,6 +1,6 @@
 -- Which texts a path pattern matches: by the cases of the pattern's front.
 -- Source: the wildmatch of Git, where `*` and `?` don't take `/`; brackets as specs/Bracket.antt has them.
-use Rattle.std.specs.Prelude.{ℕ, zero, suc, ltb, ◌+◌, Bool, true, false, not, if◌then◌else◌, List, [], ◌∷◌, ◌&&◌, ◌||◌, ◌==◌, Some, None, drop}
+use Rattle.std.specs.Prelude.{ℕ, zero, suc, ltb, ◌+◌, Bool, true, false, not, if◌then◌else◌, List, [], ◌∷◌, ◌&&◌, ◌||◌, ◌==◌, Option, Some, None, drop}
 use Rattle.std.specs.Char.{to_ascii_lowercase}
 use Rattle.gitconf_glob.specs.declared.bracket.Member.{Member}
 use Rattle.gitconf_glob.specs.Bracket.{bracket, negates, is_taken}
@@ -65,10 +65,10 @@ front fresh b p =
     if b == 92 then escape p else
     if b == 91 then one_of p else One (Literal b) 0
 
--- the first byte passes the test
-abbrev pub takes_first : (test : ℕ → Bool) → List ℕ → Bool
-takes_first test [] = false
-takes_first test (b ∷ text) = test b
+-- how many bytes a front has behind its first one, where it takes that one byte of the text
+abbrev pub passed : (ignore_case : Bool) → Front → ℕ → Option ℕ
+passed ignore_case (One element more) b = if takes ignore_case element b then Some more else None
+passed ignore_case f b = None
 
 -- a byte that the test passes, and a text that the rest matches
 abbrev pub one : (test : ℕ → Bool) (rest : List ℕ → Bool) → List ℕ → Bool

@@ -1,19 +1,14 @@
 -- What the code has read of a pattern's front, as the definition has it.
-use Rattle.std.specs.Prelude.{ℕ, ◌+◌, ◌<◌, List, Option}
-use Rattle.std.specs.Option.{option_map}
-use Rattle.std.specs.declared.vec.Vec.{Vec}
-use Rattle.std.specs.declared.alloc.Global.{Global}
-use Rattle.gitconf_glob.specs.declared.bracket.Member.{Member}
+use Rattle.std.specs.Prelude.{ℕ, ◌+◌, ◌<◌}
 use Rattle.gitconf_glob.specs.declared.front.Element.{Element as Taker}
 use Rattle.gitconf_glob.specs.declared.front.Element.TheVariants as taker
 use Rattle.gitconf_glob.specs.declared.front.Front.{Front as Shape}
 use Rattle.gitconf_glob.specs.declared.front.Front.TheVariants as shape
-use Rattle.gitconf_glob.specs.Pattern.{Element, Literal, AnyByte, OneOf, Front, Nothing, One, Run, Rest, Folders}
+use Rattle.gitconf_glob.specs.Pattern.{Element, Literal, AnyByte, Front, Nothing, One, Run, Rest, Folders}
 
 abbrev pub element_of : Taker → Element
 element_of (taker.Literal b) = Literal b
 element_of taker.AnyByte = AnyByte
-element_of (taker.OneOf negated members) = OneOf negated members.items
 
 abbrev pub front_of : Shape → Front
 front_of shape.Nothing = Nothing
@@ -29,7 +24,3 @@ FitsIn n (One element more) = more < n
 FitsIn n (Run slashes more) = more < n
 FitsIn n Rest = Unit {0}
 FitsIn n (Folders more) = more + 1 < n
-
--- the members of a bracket that was read, and how many bytes it has
-abbrev pub members_of : Option (Vec Member Global × ℕ) → Option (List Member × ℕ)
-members_of read = option_map (λ (r : Vec Member Global × ℕ). (r.0.items, r.1)) read

@@ -1,11 +1,8 @@
 //! Brackets of patterns: members up to a `]`.
-ghost use Rattle.std.specs.Prelude.{◌≡◌, ℕ, ◌+◌, ◌<◌, ◌≤◌, ◌==◌, ◌&&◌, ltb, length, position, IfSome, IfOk};
-ghost use Rattle.std.specs.List.{list_any};
+ghost use Rattle.std.specs.Prelude.{◌≡◌, ◌+◌, ◌<◌, ◌≤◌, ◌==◌, ◌&&◌, ◌||◌, ◌∷◌, not, true, length, drop, IfSome};
 ghost use Rattle.gitconf_glob.specs.Bracket as spec;
-ghost use Rattle.gitconf_glob.specs.Shapes.{members_of};
-
-use gitconf_text::NoMemory;
-use std::alloc::Global;
+ghost use Rattle.gitconf_glob.specs.Bracket.{among};
+ghost use Rattle.gitconf_glob.specs.Pattern.{passed, one_of};
 
 /// A class of bytes that a bracket names, as `[:alpha:]`.
 #[derive(Clone, Copy, Debug, PartialEq, Eq)]
@@ -90,6 +87,13 @@ impl Class {
     }
 }
 
+/// Whether one of two holds.
+pub(crate) fn either(a: bool, b: bool) -> bool
+    ensures { result ≡ (a || b) }
+{
+    a || b
+}
+
 /// Whether the byte lies between two others, both counted in.
 fn is_between(low: u8, high: u8, b: u8) -> bool
     ensures { result ≡ spec.is_between low high b }
@@ -102,7 +106,7 @@ impl Member {
     ghost use Rattle.gitconf_glob.specs.Bracket as spec;
 
     /// Whether the byte is of the member.
-    fn has(self, b: u8) -> bool
+    fn is_of(self, b: u8) -> bool
         ensures { result ≡ spec.is_of b self }
     {
         match self {
@@ -111,51 +115,101 @@ impl Member {
             Member::Named(class) => class.has(b),
         }
     }
-}
 
-/// Whether a member has the byte.
-fn any_has(members: &[Member], b: u8) -> bool
-    ensures { result ≡ list_any (spec.is_of b) members.now }
-{
-    members.iter().any(|member| member.has(b))
-}
-
-/// Whether a member has the byte, or its lower or upper form where case is ignored.
-fn is_of_any(ignore_case: bool, members: &[Member], b: u8) -> bool
-    ensures { result ≡ spec.is_of_any ignore_case members.now b }
-{
-    if ignore_case {
-        any_has(members, b.to_ascii_lowercase()) || any_has(members, b.to_ascii_uppercase())
-    } else {
-        any_has(members, b)
+    /// Whether the member takes the byte, or its lower or upper form where case is ignored.
+    pub fn has(self, ignore_case: bool, b: u8) -> bool
+        ensures { result ≡ spec.has ignore_case self b }
+    {
+        if ignore_case {
+            self.is_of(b.to_ascii_lowercase()) || self.is_of(b.to_ascii_uppercase())
+        } else {
+            self.is_of(b)
+        }
     }
 }
 
-/// Whether a bracket of these members takes the byte.
-pub fn is_taken(ignore_case: bool, negated: bool, members: &[Member], b: u8) -> bool
-    ensures { result ≡ spec.is_taken ignore_case negated members.now b }
+/// Whether a bracket takes the byte, of which is told whether it is `among` the members.
+pub fn lets_in(negated: bool, among: bool, b: u8) -> bool
+    ensures { result ≡ spec.lets_in negated among b }
 {
-    let has = is_of_any(ignore_case, members, b);
-    b != b'/' && if negated { !has } else { has }
+    b != b'/' && if negated { !among } else { among }
 }
 
 /// Where the first `]` stands.
-fn close_at(text: &[u8]) -> Option<usize>
-    ensures { result ≡ position (λ b. b == 93) text.now }
+#[tactic(auto, unfolding(crate::specs::Bracket::close_from))]
+fn find_close(text: &[u8]) -> Option<usize>
+    ensures { result ≡ spec.close_from 0 text.now }
 {
-    text.iter().position(|b| *b == b']')
+    let mut i = 0;
+    while i < text.len() {
+        if text[i] == b']' {
+            return Some(i);
+        }
+        i += 1;
+    }
+    None
+}
+
+/// Where the first `]` stands, of which is told where it does with `passed` bytes before the text.
+fn count_anew(passed: usize, text: &[u8], close: Option<usize>) -> Option<usize>
+    requires { close ≡ spec.close_from passed text.now }
+    ensures { result ≡ spec.close_from 0 text.now }
+{
+    match close {
+        Some(n) => Some(n - passed),
+        None => None,
+    }
+}
+
+/// Where the first `]` stands of a byte and a text, of which is told where it does in the text alone.
+pub fn close_with(first: u8, rest: &[u8], behind: Option<usize>) -> Option<usize>
+    requires { behind ≡ spec.close_from 0 rest.now }
+    ensures { result ≡ spec.close_from 0 (first ∷ rest.now) }
+{
+    if first == b']' {
+        return Some(0);
+    }
+    match behind {
+        Some(n) => Some(n + 1),
+        None => None,
+    }
+}
+
+/// Where the first `]` stands behind the first `more` bytes, of which is told where the first of all stands. It looks
+/// for one only where that one is passed.
+fn close_past(text: &[u8], more: usize, close: Option<usize>) -> Option<usize>
+    requires within { more ≤ length text.now }
+    requires close { close ≡ spec.close_from 0 text.now }
+    ensures { result ≡ spec.close_from 0 (drop more text.now) }
+{
+    let rest = &text[more..];
+    match close {
+        Some(n) => {
+            if n < more {
+                find_close(rest)
+            } else {
+                count_anew(more, rest, close)
+            }
+        }
+        None => None,
+    }
 }
 
 /// How many bytes the name has that stands between `[:` and `:]`, read behind `[:`: a `:` stands before the first `]`.
-fn name_length(text: &[u8]) -> Option<usize>
+fn name_length(text: &[u8], close: Option<usize>) -> Option<usize>
+    requires { close ≡ spec.close_from 0 text.now }
     ensures value { result ≡ spec.name_length text.now }
     ensures within { IfSome result (λ n. n + 2 ≤ length text.now) }
 {
-    let close = close_at(text)?;
-    if close > 0 && text[close - 1] == b':' {
-        Some(close - 1)
-    } else {
-        None
+    match close {
+        Some(n) => {
+            if n > 0 && text[n - 1] == b':' {
+                Some(n - 1)
+            } else {
+                None
+            }
+        }
+        None => None,
     }
 }
 
@@ -195,24 +249,27 @@ fn byte_or_range(text: &[u8]) -> Option<(Member, usize)>
 }
 
 /// How many bytes the name of a class has, where one stands first.
-fn class_length(text: &[u8]) -> Option<usize>
+fn class_length(text: &[u8], close: Option<usize>) -> Option<usize>
+    requires { close ≡ spec.close_from 0 text.now }
     ensures value { result ≡ spec.class_length text.now }
     ensures within { IfSome result (λ n. n + 4 ≤ length text.now) }
 {
     match text {
-        [b'[', b':', rest @ ..] => name_length(rest),
+        [b'[', b':', rest @ ..] => name_length(rest, count_anew(2, rest, close)),
         _ => None,
     }
 }
 
 /// The member that stands first, and how many bytes it has behind its first one. There is none where a byte is
-/// missing, or for a class that isn't known.
+/// missing, or for a class that isn't known. It is told where the first `]` stands, and takes a step for each byte of
+/// the member.
 #[tactic(auto, unfolding(crate::specs::Bracket::member))]
-fn read_member(text: &[u8]) -> Option<(Member, usize)>
+pub fn read_member(text: &[u8], close: Option<usize>) -> Option<(Member, usize)>
+    requires { close ≡ spec.close_from 0 text.now }
     ensures value { result ≡ spec.member text.now }
     ensures within { IfSome result (λ r. r.1 < length text.now) }
 {
-    match class_length(text) {
+    match class_length(text, close) {
         Some(n) => {
             let class = Class::named(&text[2..n + 2])?;
             Some((Member::Named(class), n + 3))
@@ -221,34 +278,45 @@ fn read_member(text: &[u8]) -> Option<(Member, usize)>
     }
 }
 
-/// Whether a byte ends the bracket: a `]` that isn't its first member.
-fn closes(b: u8, first: usize, i: usize) -> bool
-    ensures { result ≡ (b == 93 && ltb first i) }
+/// Whether `]` stands first.
+pub fn begins_close(text: &[u8]) -> bool
+    ensures { result ≡ spec.begins_close text.now }
 {
-    b == b']' && i > first
+    match text {
+        [b, ..] => *b == b']',
+        [] => false,
+    }
 }
 
-/// The members of a bracket, read behind its `[`, and how many bytes it has there. There are none where the bracket
-/// takes nothing. Reads each byte once, and grows one list.
-#[tactic(auto, unfolding(crate::specs::Bracket::members_from), using(crate::proofs::Members::member_passed))]
-pub fn bracket(alloc: Global, text: &[u8]) -> Result<Option<(Vec<Member>, usize)>, NoMemory>
-    ensures value { IfOk result (λ r. members_of r ≡ spec.bracket text.now) }
-    ensures within { IfOk result (λ r. IfSome r (λ b. b.1 ≤ length text.now)) }
+/// Whether a byte ends the bracket: a `]` that isn't its first member.
+fn closes(b: u8, first: bool) -> bool
+    ensures { result ≡ (b == 93 && not first) }
 {
-    let first = members_begin(text);
-    let mut read = Vec::new(alloc);
-    let mut i = first;
+    b == b']' && !first
+}
+
+/// Whether the byte is of the members that stand first, and how many bytes they have with their `]`. There are none
+/// where the bracket takes nothing. Each byte is read once, and looked at once more where the `]` behind a class is
+/// looked for.
+#[tactic(auto, unfolding(crate::specs::Bracket::members))]
+fn find_among(ignore_case: bool, text: &[u8], b: u8) -> Option<(bool, usize)>
+    ensures value { result ≡ among ignore_case b (spec.members true 0 text.now) }
+    ensures within { IfSome result (λ r. r.1 ≤ length text.now) }
+{
+    let mut close = find_close(text);
+    let mut has = false;
+    let mut i = 0;
     while i < text.len() {
-        if closes(text[i], first, i) {
-            return Ok(Some((read, i + 1)));
+        if closes(text[i], i == 0) {
+            return Some((has, i + 1));
         }
-        let Some((found, more)) = read_member(&text[i..]) else {
-            return Ok(None);
-        };
-        read.push(found)?;
-        i += 1 + more;
+        let rest = &text[i..];
+        let (member, more) = read_member(rest, close)?;
+        has = either(has, member.has(ignore_case, b));
+        close = close_past(rest, more + 1, close);
+        i += more + 1;
     }
-    Ok(None)
+    None
 }
 
 /// Whether `!` or `^` stands first.
@@ -262,9 +330,24 @@ pub fn negates(text: &[u8]) -> bool
 }
 
 /// Where the members of a bracket begin.
-fn members_begin(text: &[u8]) -> usize
+pub fn members_begin(text: &[u8]) -> usize
     ensures value { result ≡ spec.members_begin text.now }
     ensures within { result ≤ length text.now }
 {
     if negates(text) { 1 } else { 0 }
+}
+
+/// How many bytes a bracket has behind its `[`, where it takes the byte. It takes no memory, and a few steps for each
+/// of its bytes.
+pub fn bracket_passed(ignore_case: bool, text: &[u8], b: u8) -> Option<usize>
+    ensures value { result ≡ passed ignore_case (one_of text.now) b }
+    ensures within { IfSome result (λ n. n ≤ length text.now) }
+{
+    let begin = members_begin(text);
+    let (among, length) = find_among(ignore_case, &text[begin..], b)?;
+    if lets_in(negates(text), among, b) {
+        Some(begin + length)
+    } else {
+        None
+    }
 }

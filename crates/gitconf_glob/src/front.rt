@@ -1,24 +1,20 @@
 //! What stands at a pattern's front.
-ghost use Rattle.std.specs.Prelude.{◌≡◌, ◌+◌, ◌≤◌, length, IfOk};
+ghost use Rattle.std.specs.Prelude.{◌≡◌, ◌+◌, ◌≤◌, ◌==◌, false, length, IfSome};
 ghost use Rattle.gitconf_glob.specs.Pattern as spec;
 ghost use Rattle.gitconf_glob.specs.Shapes.{element_of, front_of, FitsIn};
 
-use crate::bracket::{Member, bracket, is_taken, negates};
-use gitconf_text::NoMemory;
-use std::alloc::Global;
+use crate::bracket::bracket_passed;
 
-/// What takes one byte of the text.
-#[derive(Drop)]
+/// What takes one byte of the text. Brackets stand apart (`bracket`, `places`).
+#[derive(Clone, Copy, Debug, PartialEq, Eq)]
 pub enum Element {
     Literal(u8),
     /// Any byte but `/`.
     AnyByte,
-    /// A bracket: whether it is negated, and its members.
-    OneOf(bool, Vec<Member>),
 }
 
 /// What stands at a pattern's front. A number counts the bytes behind the first one that belong to it.
-#[derive(Drop)]
+#[derive(Clone, Copy, Debug, PartialEq, Eq)]
 pub enum Front {
     /// What no text matches.
     Nothing,
@@ -37,19 +33,18 @@ impl Element {
     ghost use Rattle.gitconf_glob.specs.Shapes.{element_of};
 
     /// Whether the byte is taken.
-    pub fn takes(&self, ignore_case: bool, b: u8) -> bool
-        ensures { result ≡ spec.takes ignore_case (element_of self.now) b }
+    pub fn takes(self, ignore_case: bool, b: u8) -> bool
+        ensures { result ≡ spec.takes ignore_case (element_of self) b }
     {
         match self {
             Element::Literal(byte) => {
                 if ignore_case {
                     byte.to_ascii_lowercase() == b.to_ascii_lowercase()
                 } else {
-                    *byte == b
+                    byte == b
                 }
             }
             Element::AnyByte => b != b'/',
-            Element::OneOf(negated, members) => is_taken(ignore_case, *negated, members, b),
         }
     }
 }
@@ -103,29 +98,34 @@ fn escape(text: &[u8]) -> Front
     }
 }
 
-/// A bracket, with `text` behind its `[`.
-fn one_of(alloc: Global, text: &[u8]) -> Result<Front, NoMemory>
-    ensures value { IfOk result (λ f. front_of f ≡ spec.one_of text.now) }
-    ensures within { IfOk result (λ f. FitsIn (length text.now + 1) (front_of f)) }
+/// What stands at the front of a pattern, if that is no bracket: its first byte with the rest behind it, `fresh` at the
+/// start of all or behind `/`.
+#[tactic(auto, unfolding(crate::specs::Pattern::front))]
+pub fn read_front(fresh: bool, first: u8, rest: &[u8]) -> Front
+    requires { (first == 91) ≡ false }
+    ensures value { front_of result ≡ spec.front fresh first rest.now }
+    ensures within { FitsIn (length rest.now + 1) (front_of result) }
 {
-    match bracket(alloc, text)? {
-        Some((members, more)) => Ok(Front::One(Element::OneOf(negates(text), members), more)),
-        None => Ok(Front::Nothing),
+    match first {
+        b'*' => stars(fresh, rest),
+        b'?' => Front::One(Element::AnyByte, 0),
+        b'\\' => escape(rest),
+        _ => Front::One(Element::Literal(first), 0),
     }
 }
 
-/// What stands at the front of a pattern: its first byte with the rest behind it, `fresh` at the start of all or
-/// behind `/`. Takes memory for a bracket's members alone.
+/// How many bytes the front of a pattern has behind its first one, where it takes that one byte of the text. It takes
+/// no memory.
 #[tactic(auto, unfolding(crate::specs::Pattern::front))]
-pub fn read_front(alloc: Global, fresh: bool, first: u8, rest: &[u8]) -> Result<Front, NoMemory>
-    ensures value { IfOk result (λ f. front_of f ≡ spec.front fresh first rest.now) }
-    ensures within { IfOk result (λ f. FitsIn (length rest.now + 1) (front_of f)) }
+pub fn front_passed(ignore_case: bool, first: u8, rest: &[u8], b: u8) -> Option<usize>
+    ensures value { result ≡ spec.passed ignore_case (spec.front false first rest.now) b }
+    ensures within { IfSome result (λ n. n ≤ length rest.now) }
 {
-    match first {
-        b'*' => Ok(stars(fresh, rest)),
-        b'?' => Ok(Front::One(Element::AnyByte, 0)),
-        b'\\' => Ok(escape(rest)),
-        b'[' => one_of(alloc, rest),
-        _ => Ok(Front::One(Element::Literal(first), 0)),
+    if first == b'[' {
+        return bracket_passed(ignore_case, rest, b);
+    }
+    match read_front(false, first, rest) {
+        Front::One(element, more) if element.takes(ignore_case, b) => Some(more),
+        _ => None,
     }
 }

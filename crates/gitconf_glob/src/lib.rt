@@ -4,6 +4,7 @@
 pub mod bracket;
 pub mod front;
 pub mod matcher;
+pub mod places;
 pub mod table;
 
 pub use matcher::wildmatch;

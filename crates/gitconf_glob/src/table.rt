@@ -1,18 +1,22 @@
 //! The table of a matcher: for each end of a pattern and each end of a text whether the one matches the other.
-ghost use Rattle.std.specs.Prelude.{◌≡◌, ◌+◌, ◌≤◌, ◌<◌, ◌==◌, ◌&&◌, ◌||◌, not, false, [], ◌∷◌, All, length, map, vec_items, get_or, IfOk};
+ghost use Rattle.std.specs.Prelude.{◌≡◌, ◌+◌, ◌≤◌, ◌<◌, ◌==◌, ◌&&◌, ◌||◌, not, false, [], ◌∷◌, length, replicate, map, vec_items, get_or, IfOk};
 ghost use Rattle.gitconf_glob.specs.Pattern as spec;
 ghost use Rattle.gitconf_glob.specs.Rows.{cells, rows_of, is_fresh_at, IsTable};
-ghost use Rattle.gitconf_glob.specs.Cells.{one_cells, run_cells, folder_cells, cells_at, last_cells, AreLong};
+ghost use Rattle.gitconf_glob.specs.Bracket.{lets_in};
+ghost use Rattle.gitconf_glob.specs.Places.{all_told, shown};
+ghost use Rattle.gitconf_glob.specs.Cells.{one_cells, taken_cells, run_cells, folder_cells, cells_at, last_cells, AreLong};
 ghost use Rattle.gitconf_glob.specs.Shapes.{element_of, front_of, FitsIn};
 
+use crate::bracket::{either, lets_in, members_begin, negates};
 use crate::front::{Element, Front, read_front};
+use crate::places::{Place, place_at, tell_places};
 use gitconf_text::NoMemory;
 use std::alloc::Global;
 use std::marker::Model;
 
 /// The cell of what takes one byte, from the cell behind it.
-fn one_cell(behind: bool, element: &Element, ignore_case: bool, b: u8) -> bool
-    ensures { result ≡ (behind && spec.takes ignore_case (element_of element.now) b) }
+fn one_cell(behind: bool, element: Element, ignore_case: bool, b: u8) -> bool
+    ensures { result ≡ (behind && spec.takes ignore_case (element_of element) b) }
 {
     behind && element.takes(ignore_case, b)
 }
@@ -24,25 +28,41 @@ fn run_cell(below: bool, slashes: bool, b: u8, later: bool) -> bool
     below || (slashes || b != b'/') && later
 }
 
-/// Whether one of two holds.
-fn either(a: bool, b: bool) -> bool
-    ensures { result ≡ (a || b) }
-{
-    a || b
-}
-
 /// Fills the row of what takes one byte, from the row behind it.
 #[tactic(auto, unfolding(crate::specs::Cells::one_cells))]
-fn fill_one(row: &mut [bool], text: &[u8], below: &[bool], element: &Element, ignore_case: bool)
+fn fill_one(row: &mut [bool], text: &[u8], below: &[bool], element: Element, ignore_case: bool)
     requires row { length row.old ≡ length text.now + 1 }
     requires below { length below.now ≡ length text.now + 1 }
-    ensures { row.new ≡ one_cells (spec.takes ignore_case (element_of element.now)) text.now below.now }
+    ensures { row.new ≡ one_cells (spec.takes ignore_case (element_of element)) text.now below.now }
 {
     let mut j = text.len();
     row[j] = false;
     while j > 0 {
         j -= 1;
         row[j] = one_cell(below[j + 1], element, ignore_case, text[j]);
+    }
+}
+
+/// The cell of a bracket, from the cell behind it, and whether the byte is among its members.
+fn taken_cell(behind: bool, negated: bool, among: bool, b: u8) -> bool
+    ensures { result ≡ (behind && lets_in negated among b) }
+{
+    behind && lets_in(negated, among, b)
+}
+
+/// Fills the row of a bracket, from the row behind it, and which bytes of the text are among its members.
+#[tactic(auto, unfolding(crate::specs::Cells::taken_cells))]
+fn fill_taken(row: &mut [bool], text: &[u8], negated: bool, among: &[bool], below: &[bool])
+    requires row { length row.old ≡ length text.now + 1 }
+    requires among { length among.now ≡ length text.now }
+    requires below { length below.now ≡ length text.now + 1 }
+    ensures { row.new ≡ taken_cells negated text.now among.now below.now }
+{
+    let mut j = text.len();
+    row[j] = false;
+    while j > 0 {
+        j -= 1;
+        row[j] = taken_cell(below[j + 1], negated, among[j], text[j]);
     }
 }
 
@@ -100,31 +120,28 @@ pub(crate) fn first_cell(rows: &[Vec<bool>]) -> bool
 #[tactic(auto, using(crate::proofs::RowLemmas::long_row))]
 fn row_of(
     alloc: Global,
-    shape: &Front,
+    shape: Front,
     text: &[u8],
     ignore_case: bool,
     below: &[Vec<bool>],
 ) -> Result<Vec<bool>, NoMemory>
-    requires fits { FitsIn (length below.now) (front_of shape.now) }
+    requires fits { FitsIn (length below.now) (front_of shape) }
     requires long { AreLong text.now (map vec_items below.now) }
-    ensures { IfOk result (λ row. row.items ≡ cells_at ignore_case (front_of shape.now) text.now (map vec_items below.now)) }
+    ensures { IfOk result (λ row. row.items ≡ cells_at ignore_case (front_of shape) text.now (map vec_items below.now)) }
 {
     let mut row = vec![in alloc; matches!(shape, Front::Rest); text.len() + 1]?;
     match shape {
         Front::One(element, more) => fill_one(
             &mut row,
             text,
-            row_at(below, *more),
+            row_at(below, more),
             element,
             ignore_case,
         ),
-        Front::Run(slashes, more) => fill_run(&mut row, text, row_at(below, *more), *slashes),
-        Front::Folders(more) => fill_folders(
-            &mut row,
-            text,
-            row_at(below, *more),
-            row_at(below, *more + 1),
-        ),
+        Front::Run(slashes, more) => fill_run(&mut row, text, row_at(below, more), slashes),
+        Front::Folders(more) => {
+            fill_folders(&mut row, text, row_at(below, more), row_at(below, more + 1))
+        }
         Front::Nothing | Front::Rest => {}
     }
     Ok(row)
@@ -140,21 +157,75 @@ fn last_row(alloc: Global, text: &[u8]) -> Result<Vec<bool>, NoMemory>
     Ok(row)
 }
 
+/// The row of what no text matches.
+fn no_cells(alloc: Global, text: &[u8]) -> Result<Vec<bool>, NoMemory>
+    ensures { IfOk result (λ row. row.items ≡ replicate (length text.now + 1) false) }
+{
+    Ok(vec![in alloc; false; text.len() + 1]?)
+}
+
+/// The row of a bracket, from the row behind it, and which bytes of the text are among its members.
+fn taken_row(
+    alloc: Global,
+    text: &[u8],
+    negated: bool,
+    among: &[bool],
+    below: &[bool],
+) -> Result<Vec<bool>, NoMemory>
+    requires among { length among.now ≡ length text.now }
+    requires below { length below.now ≡ length text.now + 1 }
+    ensures { IfOk result (λ row. row.items ≡ taken_cells negated text.now among.now below.now) }
+{
+    let mut row = vec![in alloc; false; text.len() + 1]?;
+    fill_taken(&mut row, text, negated, among, below);
+    Ok(row)
+}
+
+/// The row of a bracket, from what is told of the places behind its `[`, and the rows there.
+fn bracket_row(
+    alloc: Global,
+    ignore_case: bool,
+    rest: &[u8],
+    text: &[u8],
+    places: &[Option<Place>],
+    below: &[Vec<bool>],
+) -> Result<Vec<bool>, NoMemory>
+    requires places { map shown places.now ≡ all_told ignore_case text.now rest.now }
+    requires count { length below.now ≡ length rest.now + 1 }
+    requires long { AreLong text.now (map vec_items below.now) }
+    ensures { IfOk result (λ row. row.items ≡ cells_at ignore_case (spec.one_of rest.now) text.now (map vec_items below.now)) }
+{
+    let begin = members_begin(rest);
+    match place_at(places, begin) {
+        Some(place) => {
+            let behind = row_at(below, begin + place.length);
+            taken_row(alloc, text, negates(rest), &place.among, behind)
+        }
+        None => no_cells(alloc, text),
+    }
+}
+
 /// The row of a pattern: its first byte with the rest behind it, `fresh` at the start of all or behind `/`.
 fn pattern_row(
     alloc: Global,
+    ignore_case: bool,
     fresh: bool,
     first: u8,
     rest: &[u8],
     text: &[u8],
-    ignore_case: bool,
+    places: &[Option<Place>],
     below: &[Vec<bool>],
 ) -> Result<Vec<bool>, NoMemory>
-    requires { map vec_items below.now ≡ rows_of ignore_case (first == 47) rest.now text.now }
+    requires places { map shown places.now ≡ all_told ignore_case text.now rest.now }
+    requires below { map vec_items below.now ≡ rows_of ignore_case (first == 47) rest.now text.now }
     ensures { IfOk result (λ row. row.items ≡ cells ignore_case fresh (first ∷ rest.now) text.now) }
 {
-    let shape = read_front(alloc, fresh, first, rest)?;
-    row_of(alloc, &shape, text, ignore_case, below)
+    if first == b'[' {
+        bracket_row(alloc, ignore_case, rest, text, places, below)
+    } else {
+        let shape = read_front(fresh, first, rest);
+        row_of(alloc, shape, text, ignore_case, below)
+    }
 }
 
 /// Whether a place of a pattern stands behind `/`; `fresh` tells it of its start.
@@ -180,14 +251,17 @@ fn empty_rows(alloc: Global, count: usize) -> Result<Vec<Vec<bool>>, NoMemory>
     Ok(rows)
 }
 
-/// The rows of a pattern's ends, its own first. They are filled from the last one to the first.
-pub(crate) fn rows_of(
+/// Fills the rows of a pattern's ends, its own first, from the last one to the first.
+fn fill_rows(
     alloc: Global,
     fresh: bool,
     pattern: &[u8],
     text: &[u8],
     ignore_case: bool,
+    places: &[Option<Place>],
 ) -> Result<Vec<Vec<bool>>, NoMemory>
+    requires places { map shown places.now ≡ all_told ignore_case text.now pattern.now }
+    requires count { length places.now ≡ length pattern.now + 1 }
     ensures { IfOk result (λ rows. map vec_items rows.items ≡ rows_of ignore_case fresh pattern.now text.now) }
 {
     let mut rows = empty_rows(alloc, pattern.len() + 1)?;
@@ -199,15 +273,30 @@ pub(crate) fn rows_of(
         let rest = &pattern[i + 1..];
         rows[i] = pattern_row(
             alloc,
+            ignore_case,
             fresh_here,
             pattern[i],
             rest,
             text,
-            ignore_case,
+            &places[i + 1..],
             &rows[i + 1..],
         )?;
     }
     Ok(rows)
+}
+
+/// The rows of a pattern's ends, its own first.
+pub(crate) fn rows_of(
+    alloc: Global,
+    fresh: bool,
+    pattern: &[u8],
+    text: &[u8],
+    ignore_case: bool,
+) -> Result<Vec<Vec<bool>>, NoMemory>
+    ensures { IfOk result (λ rows. map vec_items rows.items ≡ rows_of ignore_case fresh pattern.now text.now) }
+{
+    let places = tell_places(alloc, ignore_case, text, pattern)?;
+    fill_rows(alloc, fresh, pattern, text, ignore_case, &places)
 }
 
 /// The table of a pattern and a text: a row for each place of the pattern and one for its end, each with a cell for
@@ -232,14 +321,12 @@ impl Table {
 
     /// The table of a pattern and a text, where letters are compared without ASCII case if `ignore_case` is set.
     ///
-    /// It takes memory for `pattern.len() + 1` rows of `text.len() + 1` cells, a growth for each row, and beside them for
-    /// the members of one bracket at a time. No product of the two lengths is computed.
+    /// It takes memory for `pattern.len() + 1` rows of `text.len() + 1` cells, a growth for each row, and for a few
+    /// words for each place of the pattern; for each place behind which a `]` ends members that stand there, also for
+    /// `text.len()` cells of what they take, while the rows are filled. No product of the two lengths is computed.
     ///
-    /// The time is that of a step for each cell, where the pattern has no `[`. A row that stands at a `[` reads the bytes
-    /// up to its `]` once, behind each `[:` also those up to the next `]`, and each of its cells takes a step for each
-    /// member. So brackets that don't hold a `[` add no more than the product of the lengths once again. Where a
-    /// bracket of `n` bytes is made of `[`, the time is that of `n * n` steps for each place of the text, and where it is
-    /// made of `[:`, of `n * n * n` steps besides.
+    /// The time is that of a few steps for each cell, also of brackets that stand in one another: what the members take
+    /// that stand from a place on is told once for each place, from those behind it.
     ///
     /// # Errors
     ///

@@ -6,6 +6,8 @@
 mod base;
 #[cfg(test)]
 mod names;
+#[cfg(test)]
+mod paths;
 pub mod shim;
 #[cfg(test)]
 mod tables;

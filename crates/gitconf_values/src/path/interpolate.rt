@@ -1,6 +1,8 @@
 //! What the shorthands at the front of a path stand for: `%(prefix)/`, `~/` and `~user/`.
-ghost use Rattle.std.specs.Prelude.{◌≡◌, ◌==◌, position};
+ghost use Rattle.std.specs.Prelude.{◌≡◌, ◌==◌, OnOk, OnErr, ℕ, List, None, Some, cond, position, string_bytes};
 ghost use Rattle.std.specs.Option.{option_copied};
+ghost use Rattle.std.specs.Str.{bytes_eq};
+ghost use Rattle.gitconf_values.specs.Homes.{homes_of, folder_of, with_home};
 ghost use Rattle.gitconf_values.specs.Interpolated as spec;
 ghost use Rattle.gitconf_values.specs.Interpolated.{Gives, Reads};
 
@@ -94,18 +96,40 @@ impl Homes {
         ensures last { OnOk result ((asked : List ℕ) → folder_of asked self.new
             ≡ cond (bytes_eq (string_bytes user) asked) (Some (string_bytes folder)) (folder_of asked self.old)) }
     {
-        self.folders.insert(user, folder)?;
-        Ok(())
+        put_home(&mut self.folders, user, folder)
     }
 
     /// The folder of a user, or `None` where it has none. Takes no memory, and a walk down a tree of the users.
     pub fn get(&self, user: &str) -> Option<&str>
         ensures { option_copied result ≡ folder_of user.now self.now }
     {
-        match self.folders.get(user) {
-            Some(folder) => Some(folder.as_str()),
-            None => None,
-        }
+        home_of(&self.folders, user)
+    }
+}
+
+/// Gives a user a folder in a tree of the users.
+fn put_home(
+    folders: &mut BTreeMap<String, String>,
+    user: String,
+    folder: String,
+) -> Result<(), NoMemory>
+    ensures ok { OnOk result (homes_of folders.new.entries ≡ with_home (string_bytes user) (string_bytes folder) (homes_of folders.old.entries)) }
+    ensures err { OnErr result (homes_of folders.new.entries ≡ homes_of folders.old.entries) }
+    ensures absent { OnErr result (folder_of (string_bytes user) (homes_of folders.old.entries) ≡ None) }
+    ensures last { OnOk result ((asked : List ℕ) → folder_of asked (homes_of folders.new.entries)
+        ≡ cond (bytes_eq (string_bytes user) asked) (Some (string_bytes folder)) (folder_of asked (homes_of folders.old.entries))) }
+{
+    folders.insert(user, folder)?;
+    Ok(())
+}
+
+/// The folder of a user in a tree of the users.
+fn home_of<'a>(folders: &'a BTreeMap<String, String>, user: &str) -> Option<&'a str>
+    ensures { option_copied result ≡ folder_of user.now (homes_of folders.now.entries) }
+{
+    match folders.get(user) {
+        Some(folder) => Some(folder.as_str()),
+        None => None,
     }
 }
 

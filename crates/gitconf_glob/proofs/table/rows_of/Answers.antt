@@ -1,20 +1,8 @@
-use Rattle.std.proofs.Common.{◌+◌, ◌-◌, ◌∙◌, arith, length-set}
-use Rattle.std.specs.Prelude.{vec_items}
-use Rattle.gitconf_glob.proofs.RowLemmas.{last_filled, row_filled, rest_is}
+use Rattle.std.proofs.Common.{◌∙◌, ap, length}
+use Rattle.gitconf_glob.specs.Places.{shown}
+use Rattle.gitconf_glob.proofs.Telling.{places_below}
 use Rattle.gitconf_glob.proofs.table.rows_of.Goals as goal
 
-pub loop-i-init : goal.loop-i-init
-loop-i-init c = record {
-  within = omega arith;
-  count = length-set _ _ _ ∙ c.in_ok-rows.ensures;
-  same = last_filled vec_items c.in_ok-rows.rows.items c.in_ok-rows-2.field-0 c.args.ignore_case _ c.args.pattern.now c.args.text.now c.in_ok-rows.ensures c.in_ok-rows-2.ensures;
-}
-
-pub loop-i-preserved : goal.loop-i-preserved
-loop-i-preserved c = record {
-  within = omega (arith, c.loop-i.invariant.within);
-  count = length-set _ _ _ ∙ c.loop-i.invariant.count;
-  same = row_filled vec_items c.loop-i.rows.items c.in_ok-rows-3.field-0 c.args.ignore_case c.args.fresh c.is_fresh_at-fresh_here.result c.args.pattern.now _ c.args.text.now
-      (c.loop-i.i - 1) c.loop-i.i (omega (arith, c.loop-i-test.true)) (omega (arith, c.loop-i-test.true, c.loop-i.invariant.within)) c.loop-i.invariant.count c.loop-i.invariant.same
-      c.is_fresh_at-fresh_here.ensures (rest_is c.args.pattern.now (c.loop-i.i - 1 + 1)) c.in_ok-rows-3.ensures;
-}
+pub fill_rows-requires-clause-count : goal.fill_rows-requires-clause-count
+fill_rows-requires-clause-count c =
+    ap (λ places. length places) c.deref.ensures.value ∙ places_below shown c.in_ok-places.places.items c.args.ignore_case c.args.text.now c.args.pattern.now c.in_ok-places.ensures

@@ -1,7 +1,7 @@
 use Rattle.std.proofs.Common.{◌≡◌, ◌+◌, ◌≤◌, drop, length, map}
 use Rattle.std.specs.Prelude.{vec_items}
 use Rattle.gitconf_glob.specs.Rows.{rows_of, is_fresh_at}
-use Rattle.gitconf_glob.proofs.table.rows_of.Given as goal
+use Rattle.gitconf_glob.proofs.table.fill_rows.Given as goal
 
 abbrev pub invariant-loop-i : goal.invariant-loop-i
 invariant-loop-i l = record {
