@@ -2,6 +2,7 @@
 
 mod edits;
 mod files;
+mod layout;
 mod lookups;
 mod parsing;
 mod paths;
@@ -31,6 +32,8 @@ pub fn outcome_of<'a>(
 
         b"decode" => values::decode(alloc, words),
         b"escape" => values::escape(alloc, words),
+
+        b"fmt" => layout::fmt(alloc, words),
 
         b"match" => paths::matches(alloc, words),
         b"interpolate" => paths::interpolate(alloc, words),
