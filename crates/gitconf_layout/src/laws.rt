@@ -2,8 +2,9 @@
 ghost use Rattle.std.specs.Prelude.{◌≡◌, ℕ, List, true, false};
 ghost use Rattle.gitconf_text.specs.Part.{Part};
 ghost use Rattle.gitconf_text.specs.Document.{IsText};
-ghost use Rattle.gitconf_layout.specs.Kept.{Keeps, EndsOnce};
-ghost use Rattle.gitconf_layout.specs.Layout.{layout};
+ghost use Rattle.gitconf_layout.specs.Kept.{Keeps, EndsOnce, has_no_cr};
+ghost use Rattle.gitconf_layout.specs.Layout.{layout, IsLayout};
+ghost use Rattle.gitconf_layout.specs.declared.format.Newline.TheVariants.{Detect};
 ghost use Rattle.gitconf_layout.specs.declared.format.Options.{Options};
 
 /// The layout of a text has the text's document and its comments, by all options.
@@ -16,4 +17,9 @@ pub fn layouts_keep_documents()
 /// Where a line end at the end is asked for, a text that isn't empty ends with exactly one.
 pub fn layouts_end_once()
     ensures { (options : Options) (parts : List Part) → options.ensure_trailing_newline ≡ true → EndsOnce (layout options parts) }
+{}
+
+/// Laid out again by the same options a layout stays as it is, where no comment's text ends with a CR.
+pub fn layouts_stay()
+    ensures { (options : Options) (text : List ℕ) (parts : List Part) → options.ensure_trailing_newline ≡ false → (options.newline ≡ Detect → ⊥) → IsText text parts → has_no_cr parts ≡ true → IsLayout options (layout options parts) (layout options parts) }
 {}
