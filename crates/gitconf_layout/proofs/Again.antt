@@ -18,7 +18,7 @@ use Rattle.gitconf_parse.proofs.RunLaws.{false_not}
 use Rattle.gitconf_parse.proofs.ByteLaws.{mark_no_blank}
 use Rattle.gitconf_state.specs.Clean.{may_stand}
 use Rattle.gitconf_state.specs.Printing.{Open, Closed, OpenKey, OpenValue, OpenComment, after_blanks, after_entry, after}
-use Rattle.gitconf_state.proofs.Follows.{may_follow}
+use Rattle.gitconf_state.proofs.Follows.{may_follow, line_end_cases}
 use Rattle.gitconf_state.proofs.Fitted.{line_ends-append}
 use Rattle.gitconf_state.proofs.LoadingNames.{is_line_closed, Follows, first_fits, only_line_ends, behind_item}
 use Rattle.gitconf_layout.specs.declared.format.Options.{Options}
@@ -43,14 +43,14 @@ pub record Again (o : Options) (e : List ℕ) (s : Bool) (b : Before) (r : Optio
   pub comment : keeps_blanks o s b set ≡ true → (begins_comment (shown_parts stays.parts) ≡ true) × (begins is_blank text ≡ false)
 
 -- what begins with no comment
-uncommented : (o : Options) (e : List ℕ) (s : Bool) (b : Before) (r : Option ℕ) (set : List Shown) (text : List ℕ) → begins_comment set ≡ false → Stays o e s b r text → Again o e s b r set text
+pub uncommented : (o : Options) (e : List ℕ) (s : Bool) (b : Before) (r : Option ℕ) (set : List Shown) (text : List ℕ) → begins_comment set ≡ false → Stays o e s b r text → Again o e s b r set text
 uncommented o e s b r set text none stays = record { stays = stays; comment = λ k. absurd (let x : true ≡ false = sym k ∙ keeps_none o s b set none in cc) }
 
 keeps_same : (o : Options) (s : Bool) (b : Before) (xs ys : List Shown) → keeps_blanks o s b xs ≡ true → begins_comment ys ≡ true → keeps_blanks o s b ys ≡ true
 keeps_same o s b xs ys k h = let q = both_true (is_nothing b && not s && is_none o.root_comment_indent) (begins_comment xs) k in rw (q.0, h) refl
 
 -- blanks that are kept, or none
-stays_blanks : (o : Options) (e : List ℕ) (s : Bool) (b : Before) (r : Option ℕ) (run : List ℕ) (set : List Shown) (text : List ℕ) → 0 < length run → list_all is_blank run ≡ true → Again o e s b r set text
+pub stays_blanks : (o : Options) (e : List ℕ) (s : Bool) (b : Before) (r : Option ℕ) (run : List ℕ) (set : List Shown) (text : List ℕ) → 0 < length run → list_all is_blank run ≡ true → Again o e s b r set text
     → (k : Bool) → keeps_blanks o s b set ≡ k → Stays o e s b r ((if k then run else []) ++ text)
 unfolding set_tokens ends_text ends_place
 stays_blanks o e s b r run set text some all later false k = later.stays
@@ -65,7 +65,7 @@ stays_blanks o e s b r run set text some all later true k =
     }
 
 -- line ends, or none
-stays_ends : (o : Options) (e : List ℕ) → is_line_end e ≡ true → (s : Bool) (b : Before) (r : Option ℕ) (run text : List ℕ)
+pub stays_ends : (o : Options) (e : List ℕ) → is_line_end e ≡ true → (s : Bool) (b : Before) (r : Option ℕ) (run text : List ℕ)
     → (let q = ends_place o (at_place s b r) run in Stays o e q.in_section q.before q.room text)
     → Stays o e s b r (ends_text o e (at_place s b r) run ++ text)
 unfolding set_tokens
@@ -111,32 +111,36 @@ no_cr [] h = refl
 no_cr (b ∷ []) h = let k : (b == 13) ≡ false = h in rw k refl
 no_cr (b ∷ c ∷ text) h = ap (λ t. b ∷ t) (no_cr (c ∷ text) h)
 
-words_same : (text : List ℕ) (rest : List Shown) → ends (λ b. b == 13) text ≡ false → comment_text text rest ≡ text
+pub words_same : (text : List ℕ) (rest : List Shown) → ends (λ b. b == 13) text ≡ false → comment_text text rest ≡ text
 words_same text rest h = go (begins_newline rest) refl
   where
     go : (t : Bool) → begins_newline rest ≡ t → comment_text text rest ≡ text
     go true k = rw (k, comment_text) (no_cr text h)
     go false k = rw (k, comment_text) refl
 
--- a comment may stand before what is set behind it
-comment_ends : (o : Options) (e : List ℕ) → is_line_end e ≡ true → (s : Bool) (r : Option ℕ) (text : List ℕ) → ends (λ b. b == 13) text ≡ false → (parts : List Part) → AreFit parts [] → is_line_closed (spelled parts) ≡ true
-    → ends_comment text (set_from o e s Other r parts) ≡ true
+-- a comment may stand before a line end, and at the end
+pub closed_ends : (text : List ℕ) → ends (λ b. b == 13) text ≡ false → (rest : List ℕ) → is_line_closed rest ≡ true → ends_comment text rest ≡ true
+closed_ends text h [] closed = refl
+closed_ends text h (b ∷ rest) closed = line_end_cases (λ t. ends_comment text t ≡ true) (λ rest. rw h refl) (λ rest. refl) (b ∷ rest) closed
+
+-- what is set behind a comment begins with a line end, or is nothing
+pub set_closed_line : (o : Options) (e : List ℕ) → is_line_end e ≡ true → (s : Bool) (r : Option ℕ) → (parts : List Part) → AreFit parts [] → is_line_closed (spelled parts) ≡ true → is_line_closed (set_from o e s Other r parts) ≡ true
 unfolding set_tokens
-comment_ends o e line s r text h [] fits closed = refl
-comment_ends o e line s r text h (ItemPart (LineEndsItem run) ∷ parts) fits closed =
+set_closed_line o e line s r [] fits closed = refl
+set_closed_line o e line s r (ItemPart (LineEndsItem run) ∷ parts) fits closed =
     let first = content_ends o e (at_place s Other r) refl run fits.0.0 fits.0.1 in
     let more = set_tokens o e (ends_place o (at_place s Other r) run) (shown_parts parts) in
-    subst (λ t. ends_comment text (t ++ more) ≡ true) (sym first.1) (one_line_end (λ e. ends_comment text ((e ++ first.0) ++ more) ≡ true) (rw h refl) refl e line)
-comment_ends o e line s r text h (ItemPart (BlanksItem run) ∷ parts) fits closed = absurd (let k = (only_line_ends (BlanksItem run) (spelled parts) (first_fits (ItemPart (BlanksItem run)) parts fits) closed).1 in cc)
-comment_ends o e line s r text h (ItemPart (CommentItem tag words) ∷ parts) fits closed =
+    subst (λ t. is_line_closed (t ++ more) ≡ true) (sym first.1) (one_line_end (λ e. is_line_closed ((e ++ first.0) ++ more) ≡ true) refl refl e line)
+set_closed_line o e line s r (ItemPart (BlanksItem run) ∷ parts) fits closed = absurd (let k = (only_line_ends (BlanksItem run) (spelled parts) (first_fits (ItemPart (BlanksItem run)) parts fits) closed).1 in cc)
+set_closed_line o e line s r (ItemPart (CommentItem tag words) ∷ parts) fits closed =
     absurd (let k = (only_line_ends (CommentItem tag words) (spelled parts) (first_fits (ItemPart (CommentItem tag words)) parts fits) closed).1 in cc)
-comment_ends o e line s r text h (ItemPart (EntryItem en) ∷ parts) fits closed = absurd (let k = (only_line_ends (EntryItem en) (spelled parts) (first_fits (ItemPart (EntryItem en)) parts fits) closed).1 in cc)
-comment_ends o e line s r text h (HeaderPart (PlainHeader name) ∷ parts) fits closed = absurd (cc)
-comment_ends o e line s r text h (HeaderPart (DottedHeader name subsection) ∷ parts) fits closed = absurd (cc)
-comment_ends o e line s r text h (HeaderPart (QuotedHeader name blanks spelling) ∷ parts) fits closed = absurd (cc)
+set_closed_line o e line s r (ItemPart (EntryItem en) ∷ parts) fits closed = absurd (let k = (only_line_ends (EntryItem en) (spelled parts) (first_fits (ItemPart (EntryItem en)) parts fits) closed).1 in cc)
+set_closed_line o e line s r (HeaderPart (PlainHeader name) ∷ parts) fits closed = absurd (cc)
+set_closed_line o e line s r (HeaderPart (DottedHeader name subsection) ∷ parts) fits closed = absurd (cc)
+set_closed_line o e line s r (HeaderPart (QuotedHeader name blanks spelling) ∷ parts) fits closed = absurd (cc)
 
 -- a comment behind its indent
-again_comment : (o : Options) (e : List ℕ) (s : Bool) (b : Before) (r : Option ℕ) (tag : ℕ) (words : List ℕ) (set : List Shown) (text : List ℕ) → is_mark tag ≡ true → list_all (λ b. not (b == 10)) words ≡ true → ends (λ b. b == 13) words ≡ false
+pub again_comment : (o : Options) (e : List ℕ) (s : Bool) (b : Before) (r : Option ℕ) (tag : ℕ) (words : List ℕ) (set : List Shown) (text : List ℕ) → is_mark tag ≡ true → list_all (λ b. not (b == 10)) words ≡ true → ends (λ b. b == 13) words ≡ false
     → ends_comment words text ≡ true → Stays o e s Other r text → Again o e s b r set ((before_comment o s b ++ (tag ∷ words)) ++ text)
 unfolding set_tokens ends_text ends_place
 again_comment o e s b r tag words set text mark lines cr ended later = record {
@@ -158,14 +162,14 @@ again_comment o e s b r tag words set text mark lines cr ended later = record {
     part : Part
     part = ItemPart (CommentItem tag words)
 
-reworded : (o : Options) (e : List ℕ) (s : Bool) (b : Before) (r : Option ℕ) (set : List Shown) (text other : List ℕ) → text ≡ other → Again o e s b r set text → Again o e s b r set other
+pub reworded : (o : Options) (e : List ℕ) (s : Bool) (b : Before) (r : Option ℕ) (set : List Shown) (text other : List ℕ) → text ≡ other → Again o e s b r set text → Again o e s b r set other
 reworded o e s b r set text other same a = record {
   stays = moved o e s b r text other same a.stays;
   comment = λ k. ((a.comment k).0, ap (begins is_blank) (sym same) ∙ (a.comment k).1);
 }
 
 -- a header
-stays_header : (o : Options) (e : List ℕ) (s : Bool) (b : Before) (r : Option ℕ) (h : Header) (text : List ℕ) → (fits : AreFit (HeaderPart h ∷ []) []) → Stays o e true Other r text → Stays o e s b r (written (shown_token (HeaderToken h)) ++ text)
+pub stays_header : (o : Options) (e : List ℕ) (s : Bool) (b : Before) (r : Option ℕ) (h : Header) (text : List ℕ) → (fits : AreFit (HeaderPart h ∷ []) []) → Stays o e true Other r text → Stays o e s b r (written (shown_token (HeaderToken h)) ++ text)
 unfolding set_tokens ends_text ends_place
 stays_header o e s b r h text fits later =
     let is = set_header h fits.0 in
@@ -182,7 +186,7 @@ AgainBehind o e parts = (state : Open) (s : Bool) (b : Before) (r : Option ℕ) 
     → Again o e s b r (shown_parts parts) (set_from o e s b r parts)
 
 -- the value of an entry, which has its line ends
-stays_closed : (o : Options) (e : List ℕ) → is_line_end e ≡ true → (s : Bool) (b : Before) (r : Option ℕ) (name : List ℕ) (pieces : List Piece) (last : List ℕ) (rest text : List ℕ) → is_value_name name ≡ true
+pub stays_closed : (o : Options) (e : List ℕ) → is_line_end e ≡ true → (s : Bool) (b : Before) (r : Option ℕ) (name : List ℕ) (pieces : List Piece) (last : List ℕ) (rest text : List ℕ) → is_value_name name ≡ true
     → (let v : ValueOf = record { pieces = pieces; last = last } in FitsValue v rest → (list_all (λ (p : Piece). is_line_end p.line_end) (set_value e v).pieces ≡ true) → ends is_white last ≡ false
         → may_follow_value text ≡ true → Stays o e s (before_behind_value pieces) (room_behind o pieces r) text
         → Stays o e s b r (before_name o s b ++ (spelled_item (EntryItem (valued o e name (gap o) v)) ++ text)))
@@ -204,7 +208,7 @@ stays_closed o e line s b r name (p ∷ pieces) last rest text named fits closed
     go (c ∷ value) h = stays_value o e line s b r name v text named f (closed_stays o e v c value h (set_closed o e v rest fits closed white) (spelled f.parts) (subst (λ t. may_follow_value t ≡ true) (sym f.same) follows))
 
 -- nothing behind parts
-stays_none : (o : Options) (e : List ℕ) (s : Bool) (b : Before) (r : Option ℕ) (parts : List Part) → parts ≡ [] → Stays o e s b r (set_from o e s b r parts)
+pub stays_none : (o : Options) (e : List ℕ) (s : Bool) (b : Before) (r : Option ℕ) (parts : List Part) → parts ≡ [] → Stays o e s b r (set_from o e s b r parts)
 unfolding set_tokens
 stays_none o e s b r parts none = record { parts = []; same = ap (set_from o e s b r) (sym none); fits = tt; again = ap (set_from o e s b r) (sym none) }
 
@@ -281,7 +285,7 @@ again o e line (ItemPart (CommentItem tag words) ∷ parts) state s b r m fits f
     let later = again o e line parts OpenComment s Other r refl fits.1 n.1 q.1 in
     reworded o e s b r (shown_parts (ItemPart (CommentItem tag words) ∷ parts)) ((before_comment o s b ++ (tag ∷ words)) ++ text) (set_from o e s b r (ItemPart (CommentItem tag words) ∷ parts))
     (ap (λ w. (before_comment o s b ++ (tag ∷ w)) ++ text) (sym (words_same words (shown_parts parts) cr)))
-    (again_comment o e s b r tag words (shown_parts (ItemPart (CommentItem tag words) ∷ parts)) text fits.0.0 fits.0.1 cr (comment_ends o e line s r words cr parts fits.1 n.1) later.stays)
+    (again_comment o e s b r tag words (shown_parts (ItemPart (CommentItem tag words) ∷ parts)) text fits.0.0 fits.0.1 cr (closed_ends words cr text (set_closed_line o e line s r parts fits.1 n.1)) later.stays)
 again o e line (ItemPart (EntryItem en) ∷ parts) state s b r m fits follows none = again_entry o e line en.name en.blanks en.assigned parts (again o e line parts) state s b r m fits follows none
 again o e line (HeaderPart h ∷ parts) state s b r m fits follows none =
     let later = again o e line parts Closed true Other r refl fits.1 tt none in

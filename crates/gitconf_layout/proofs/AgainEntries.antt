@@ -36,7 +36,7 @@ abbrev pub moved : (o : Options) (e : List ℕ) (s : Bool) (b : Before) (r : Opt
 moved o e s b r text other same f = record { parts = f.parts; same = f.same ∙ same; fits = f.fits; again = f.again ∙ same }
 
 -- the line ends of a value, set twice
-end_again : (e line_end : List ℕ) → is_line_end e ≡ true → set_end e (set_end e line_end) ≡ set_end e line_end
+pub end_again : (e line_end : List ℕ) → is_line_end e ≡ true → set_end e (set_end e line_end) ≡ set_end e line_end
 end_again e [] line = refl
 end_again e (b ∷ bytes) line = go e line
   where
@@ -75,7 +75,7 @@ set_piece_end e (b ∷ bytes) line = go e line
     go [] h = absurd (cc)
     go (c ∷ x) h = h
 
-set_piece_ends : (e : List ℕ) → is_line_end e ≡ true → (pieces : List Piece) → PieceEnds (map (set_piece e) pieces)
+pub set_piece_ends : (e : List ℕ) → is_line_end e ≡ true → (pieces : List Piece) → PieceEnds (map (set_piece e) pieces)
 set_piece_ends e line [] = tt
 set_piece_ends e line (p ∷ pieces) = (set_piece_end e p.line_end line, set_piece_ends e line pieces)
 
@@ -89,7 +89,7 @@ ended : (pieces : List Piece) (last rest : List ℕ) → list_all (λ (p : Piece
 ended [] last rest all white follows = (white, follows)
 ended (p ∷ pieces) last rest all white follows = let q = both_true (is_line_end p.line_end) _ all in inl (q.0, ended pieces last rest q.1 white follows)
 
-closed_fits : (a : Assigned) (rest : List ℕ) → IsClosed a → begins is_blank (spelled_value a.value ++ rest) ≡ false → may_follow_value rest ≡ true → FitsValue a.value rest
+pub closed_fits : (a : Assigned) (rest : List ℕ) → IsClosed a → begins is_blank (spelled_value a.value ++ rest) ≡ false → may_follow_value rest ≡ true → FitsValue a.value rest
 closed_fits a rest closed front follows = record { front = front; units = closed.units; end = ended a.value.pieces a.value.last rest closed.pieces closed.last follows }
 
 entry_no_blank : (name rest more end : List ℕ) → is_value_name name ≡ true → begins is_blank (((name ++ rest) ++ more) ++ end) ≡ false

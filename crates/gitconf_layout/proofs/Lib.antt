@@ -16,3 +16,4 @@ pub mod Fronts
 pub mod AgainEntries
 pub mod Again
 pub mod AgainLaws
+pub mod AgainEnds

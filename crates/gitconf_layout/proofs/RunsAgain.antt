@@ -34,11 +34,11 @@ ends_place-append o p (b ∷ x) y = go (b == 10) refl (λ p. ends_place-append o
     go false h later = rw (h, ends_place) (later p)
 
 -- one line end
-text_once : (o : Options) (e : List ℕ) (p : Place) (run : List ℕ) → is_line_end run ≡ true → ends_text o e p run ≡ end_text e p
+pub text_once : (o : Options) (e : List ℕ) (p : Place) (run : List ℕ) → is_line_end run ≡ true → ends_text o e p run ≡ end_text e p
 unfolding ends_text
 text_once o e p run line = one_line_end (λ run. ends_text o e p run ≡ end_text e p) (append-nil (end_text e p)) (append-nil (end_text e p)) run line
 
-place_once : (o : Options) (p : Place) (run : List ℕ) → is_line_end run ≡ true → ends_place o p run ≡ on_next_line o p
+pub place_once : (o : Options) (p : Place) (run : List ℕ) → is_line_end run ≡ true → ends_place o p run ≡ on_next_line o p
 unfolding ends_place
 place_once o p run line = one_line_end (λ run. ends_place o p run ≡ on_next_line o p) refl refl run line
 
@@ -88,6 +88,19 @@ ends_again o e line p (b ∷ run) = go (b == 10) refl (λ p. ends_again o e line
 pub no_ends : (o : Options) (e : List ℕ) → is_line_end e ≡ true → (p : Place) (run : List ℕ) → ends_text o e p run ≡ [] → ends_place o p run ≡ p
 unfolding ends_place
 no_ends o e line p run none = sym ((ends_again o e line p run).place) ∙ ap (ends_place o p) none
+
+-- where no blank line may stay no line end is set
+pub dropped_run : (o : Options) (e : List ℕ) (s : Bool) (b : Before) (r : Option ℕ) → is_dropped (at_place s b r) ≡ true → (run : List ℕ) → ends_text o e (at_place s b r) run ≡ []
+unfolding ends_text
+dropped_run o e s b r d [] = refl
+dropped_run o e s b r d (c ∷ run) = go (c == 10) refl (dropped_run o e s b r d run)
+  where
+    none : end_text e (at_place s b r) ≡ []
+    none = rw (d, end_text) refl
+
+    go : (t : Bool) → (c == 10) ≡ t → ends_text o e (at_place s b r) run ≡ [] → ends_text o e (at_place s b r) (c ∷ run) ≡ []
+    go true h later = rw (h, ends_text) (ap (λ t. t ++ ends_text o e (on_next_line o (at_place s b r)) run) none ∙ ap (λ p. ends_text o e p run) (dropped_stays o s b r d) ∙ later)
+    go false h later = rw (h, ends_text) later
 
 -- behind content the first line end of a run is set
 pub content_ends : (o : Options) (e : List ℕ) (p : Place) → is_nothing p.before ≡ false → (run : List ℕ) → 0 < length run → are_line_ends run ≡ true → (rest : List ℕ) × (ends_text o e p run ≡ e ++ rest)
