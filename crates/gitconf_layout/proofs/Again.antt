@@ -188,8 +188,8 @@ AgainBehind o e parts = (state : Open) (s : Bool) (b : Before) (r : Option ℕ) 
 -- the value of an entry, which has its line ends
 pub stays_closed : (o : Options) (e : List ℕ) → is_line_end e ≡ true → (s : Bool) (b : Before) (r : Option ℕ) (name : List ℕ) (pieces : List Piece) (last : List ℕ) (rest text : List ℕ) → is_value_name name ≡ true
     → (let v : ValueOf = record { pieces = pieces; last = last } in FitsValue v rest → (list_all (λ (p : Piece). is_line_end p.line_end) (set_value e v).pieces ≡ true) → ends is_white last ≡ false
-        → may_follow_value text ≡ true → Stays o e s (before_behind_value pieces) (room_behind o pieces r) text
-        → Stays o e s b r (before_name o s b ++ (spelled_item (EntryItem (valued o e name (gap o) v)) ++ text)))
+    → may_follow_value text ≡ true → Stays o e s (before_behind_value pieces) (room_behind o pieces r) text
+    → Stays o e s b r (before_name o s b ++ (spelled_item (EntryItem (valued o e name (gap o) v)) ++ text)))
 stays_closed o e line s b r name [] [] rest text named fits closed white follows f = stays_empty o e line s b r name text named follows f (cut_blanks o e s r f.parts f.fits)
 stays_closed o e line s b r name [] (c ∷ last) rest text named fits closed white follows f =
     let v : ValueOf = record { pieces = []; last = c ∷ last } in

@@ -126,10 +126,14 @@ shut_blanks o e s b r run set other text plain some all later true k = elim late
 shut_ends : (o : Options) (e : List ℕ) → is_line_end e ≡ true → (s : Bool) (b : Before) (r : Option ℕ) (run : List ℕ) (set other : List Shown) (text : List ℕ) → begins_comment set ≡ false
     → (let q = ends_place o (at_place s b r) run in Shut o e q.in_section q.before q.room other text) → Shut o e s b r set (ends_text o e (at_place s b r) run ++ text)
 shut_ends o e line s b r run set other text plain later = elim later [
-  | inl bare ↦ inl (trimmed_none x text bare.0 ∙ gone, plain, λ d.
-      let none = dropped_run o e s b r d run in
-      let same = no_ends o e line p run none in
-      ap (λ t. t ++ text) none ∙ bare.2 (ap is_dropped same ∙ d))
+  | inl bare ↦ inl (
+    trimmed_none x text bare.0 ∙ gone,
+    plain,
+    λ d.
+        let none = dropped_run o e s b r d run in
+        let same = no_ends o e line p run none in
+        ap (λ t. t ++ text) none ∙ bare.2 (ap is_dropped same ∙ d),
+  )
   | inr full ↦ inr (full_front o e s b r set x text full.0 (uncommented o e s b r set (x ++ (trimmed text ++ e)) plain (stays_ends o e line s b r run (trimmed text ++ e) full.1.stays)))
 ]
   where
@@ -209,10 +213,11 @@ last_pieces : (o : Options) (e : List ℕ) → is_line_end e ≡ true → (s : B
     → FitsValue (record { pieces = p ∷ pieces; last = [] }) rest → trimmed text ≡ []
     → Full o e s b r set (before_name o s b ++ (spelled_item (EntryItem (valued o e name (gap o) (record { pieces = p ∷ pieces; last = [] }))) ++ text))
 unfolding set_tokens
-last_pieces o e line s b r name p pieces rest set text plain named fits none =
-    (subst Filled (sym whole) (front_filled (before_name o s b) (trimmed mid) filled),
-    reworded o e s b r set (before_name o s b ++ (spelled_item (EntryItem (valued o e name (gap o) w)) ++ [])) _ (ap (λ t. before_name o s b ++ t) written_again ∙ sym (append_assoc (before_name o s b) (trimmed mid) e) ∙ ap (λ t. t ++ e) (sym whole))
-    (uncommented o e s b r set _ plain (stays_value o e line s b r name w [] named (record { parts = []; same = refl; fits = tt; again = refl }) fits_again)))
+last_pieces o e line s b r name p pieces rest set text plain named fits none = (
+  subst Filled (sym whole) (front_filled (before_name o s b) (trimmed mid) filled),
+  reworded o e s b r set (before_name o s b ++ (spelled_item (EntryItem (valued o e name (gap o) w)) ++ [])) _ (ap (λ t. before_name o s b ++ t) written_again ∙ sym (append_assoc (before_name o s b) (trimmed mid) e) ∙ ap (λ t. t ++ e) (sym whole))
+      (uncommented o e s b r set _ plain (stays_value o e line s b r name w [] named (record { parts = []; same = refl; fits = tt; again = refl }) fits_again)),
+)
   where
     v : ValueOf
     v = record { pieces = p ∷ pieces; last = [] }
@@ -282,7 +287,7 @@ last_value o e line s b r name pieces (c ∷ last) rest set text plain named fit
       let stays : trimmed (c ∷ last) ≡ c ∷ last = last_stays (c ∷ last) closed.1 (no_feed false paired.0 (c ∷ last) paired.1) in
       full_last_two o e s b r set (before_name o s b) _ text none (ap trimmed group ∙ front_stays front (c ∷ last) stays (c, last, refl) ∙ sym group) (name_filled name _ named)
       (uncommented o e s b r set _ plain (stays_closed o e line s b r name pieces (c ∷ last) rest e named fits (sets_closed e line pieces closed.0) closed.1 (line_end_follows OpenValue e (end_begins e line))
-          (stays_end o e line s (before_behind_value pieces) (room_behind o pieces r) (content_stays s (before_behind_value pieces) (room_behind o pieces r) (before_content pieces)))))
+      (stays_end o e line s (before_behind_value pieces) (room_behind o pieces r) (content_stays s (before_behind_value pieces) (room_behind o pieces r) (before_content pieces)))))
 ]
 
 shut_value : (o : Options) (e : List ℕ) → is_line_end e ≡ true → (s : Bool) (b : Before) (r : Option ℕ) (name : List ℕ) (pieces : List Piece) (last rest : List ℕ) (set other : List Shown) (text : List ℕ) → begins_comment set ≡ false → is_value_name name ≡ true
