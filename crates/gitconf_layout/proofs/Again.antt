@@ -7,7 +7,7 @@ use Rattle.gitconf_text.specs.Bytes.{is_blank}
 use Rattle.gitconf_text.specs.Text.{begins, ends, are_line_ends, is_line_end}
 use Rattle.gitconf_text.specs.Unit.{is_mark, is_white}
 use Rattle.gitconf_text.specs.Value.{Piece, Value as ValueOf, spelled_value, may_follow_value, FitsValue}
-use Rattle.gitconf_text.specs.Header.{Header, PlainHeader, DottedHeader, QuotedHeader, spelled_header}
+use Rattle.gitconf_text.specs.Header.{Header, PlainHeader, DottedHeader, QuotedHeader}
 use Rattle.gitconf_text.specs.Names.{is_value_name}
 use Rattle.gitconf_text.specs.Part.{Assigned, Entry, BlanksItem, LineEndsItem, CommentItem, EntryItem, Part, ItemPart, HeaderPart, spelled_item, spelled, ends_comment, FitsItem, AreFit}
 use Rattle.gitconf_text.specs.Token.{HeaderToken}
@@ -17,21 +17,21 @@ use Rattle.gitconf_parse.proofs.ValueAgain.{both_true}
 use Rattle.gitconf_parse.proofs.RunLaws.{false_not}
 use Rattle.gitconf_parse.proofs.ByteLaws.{mark_no_blank}
 use Rattle.gitconf_state.specs.Clean.{may_stand}
-use Rattle.gitconf_state.specs.Printing.{Open, Closed, OpenKey, OpenValue, OpenComment, after_blanks, after_entry, after}
+use Rattle.gitconf_state.specs.Printing.{Open, Closed, OpenValue, OpenComment, after_blanks, after_entry, after}
 use Rattle.gitconf_state.proofs.Follows.{may_follow, line_end_cases}
 use Rattle.gitconf_state.proofs.Fitted.{line_ends-append}
 use Rattle.gitconf_state.proofs.LoadingNames.{is_line_closed, Follows, first_fits, only_line_ends, behind_item}
 use Rattle.gitconf_layout.specs.declared.format.Options.{Options}
 use Rattle.gitconf_layout.specs.declared.place.Before.{Before}
-use Rattle.gitconf_layout.specs.declared.place.Before.TheVariants.{Nothing, Value, Other}
+use Rattle.gitconf_layout.specs.declared.place.Before.TheVariants.{Value, Other}
 use Rattle.gitconf_layout.specs.declared.place.Place.{Place}
-use Rattle.gitconf_layout.specs.Kept.{ends_with_no_cr, has_no_cr}
+use Rattle.gitconf_layout.specs.Kept.{has_no_cr}
 use Rattle.gitconf_layout.specs.Layout.{is_nothing, begins_comment, begins_newline, keeps_blanks, before_name, before_comment, without_cr, comment_text}
 use Rattle.gitconf_layout.specs.Setting.{ends_text, ends_place, set_tokens}
 use Rattle.gitconf_layout.proofs.SetHeaders.{set_header}
-use Rattle.gitconf_layout.proofs.SetEntries.{at_place, gap, set_value, room_behind, before_behind_value, behind_assigned, one_line_end}
+use Rattle.gitconf_layout.proofs.SetEntries.{at_place, gap, set_value, room_behind, before_behind_value, one_line_end}
 use Rattle.gitconf_layout.proofs.SetValues.{Ways, ways, piece_ends, set_closed, set_bare}
-use Rattle.gitconf_layout.proofs.SetRuns.{IsRun, ends_run, comment_blank}
+use Rattle.gitconf_layout.proofs.SetRuns.{ends_run, comment_blank}
 use Rattle.gitconf_layout.proofs.Laid.{set_from, meets, meets_blanks, tight_key, after_value, behind_is, no_parts, entry_text, laid}
 use Rattle.gitconf_layout.proofs.RunsAgain.{ends_text-append, ends_place-append, ends_again, no_ends, content_ends}
 use Rattle.gitconf_layout.proofs.Fronts.{shown_parts, cut_ends, cut_blanks, keeps_none, keeps_or_puts, puts_none, with_front, front_same, front_fits, front_goes}

@@ -1,13 +1,13 @@
 -- What one pass writes, with one line end in the place of those at its end, is read as parts that one pass from the same place
 -- writes as they are, where no comment's text ends with a CR.
-use Rattle.std.proofs.Common.{◌≡◌, ◌<◌, ℕ, Bool, true, false, not, List, [], ◌∷◌, ◌++◌, length, map, Option, Some, None, inl, inr, refl, ap, sym, subst, ◌∙◌, append_assoc, append-nil, arith}
-use Rattle.std.specs.Prelude.{◌⊎◌, ◌==◌, ◌&&◌, flat_map, if◌then◌else◌}
+use Rattle.std.proofs.Common.{◌≡◌, ◌<◌, ℕ, Bool, true, false, not, List, [], ◌∷◌, ◌++◌, length, map, Option, Some, None, inl, inr, refl, ap, sym, subst, ◌∙◌, append_assoc, append-nil}
+use Rattle.std.specs.Prelude.{◌⊎◌, ◌==◌, flat_map, if◌then◌else◌}
 use Rattle.std.specs.List.{list_all}
 use Rattle.gitconf_text.specs.Bytes.{is_blank}
 use Rattle.gitconf_text.specs.Text.{begins, ends, begins_line_end, is_line_end}
-use Rattle.gitconf_text.specs.Unit.{is_white, units_of}
+use Rattle.gitconf_text.specs.Unit.{units_of}
 use Rattle.gitconf_text.specs.Value.{Piece, Value as ValueOf, spelled_value, may_follow_value, FitsValue}
-use Rattle.gitconf_text.specs.Header.{Header, spelled_header}
+use Rattle.gitconf_text.specs.Header.{Header}
 use Rattle.gitconf_text.specs.Names.{is_value_name}
 use Rattle.gitconf_text.specs.Part.{Assigned, Entry, BlanksItem, LineEndsItem, CommentItem, EntryItem, Part, ItemPart, HeaderPart, spelled_item, spelled, FitsItem, AreFit}
 use Rattle.gitconf_text.specs.Token.{HeaderToken}
@@ -15,28 +15,27 @@ use Rattle.gitconf_parse.specs.EventRef.{Shown, written}
 use Rattle.gitconf_parse.specs.ShownEvents.{shown_token}
 use Rattle.gitconf_parse.proofs.ValueAgain.{both_true}
 use Rattle.gitconf_parse.proofs.RunLaws.{false_not}
-use Rattle.gitconf_state.specs.Clean.{may_stand}
-use Rattle.gitconf_state.specs.Printing.{Open, Closed, OpenKey, OpenValue, OpenComment, after_blanks, after_entry, after}
+use Rattle.gitconf_state.specs.Printing.{Open, Closed, OpenKey, OpenValue, OpenComment, after_blanks, after_entry}
 use Rattle.gitconf_state.proofs.Follows.{may_follow, line_end_follows}
 use Rattle.gitconf_state.proofs.LoadingNames.{is_line_closed, Follows, first_fits, behind_item}
 use Rattle.gitconf_layout.specs.declared.format.Options.{Options}
 use Rattle.gitconf_layout.specs.declared.place.Before.{Before}
-use Rattle.gitconf_layout.specs.declared.place.Before.TheVariants.{Nothing, Value, Other}
+use Rattle.gitconf_layout.specs.declared.place.Before.TheVariants.{Value, Other}
 use Rattle.gitconf_layout.specs.declared.place.Place.{Place}
 use Rattle.gitconf_layout.specs.Kept.{has_no_cr}
-use Rattle.gitconf_layout.specs.Layout.{is_nothing, is_cr_or_lf, begins_comment, keeps_blanks, before_name, before_comment, trimmed}
-use Rattle.gitconf_layout.specs.Setting.{is_dropped, on_next_line, end_text, ends_text, ends_place, set_tokens}
+use Rattle.gitconf_layout.specs.Layout.{is_nothing, begins_comment, keeps_blanks, before_name, before_comment, trimmed}
+use Rattle.gitconf_layout.specs.Setting.{is_dropped, end_text, ends_text, ends_place, set_tokens}
 use Rattle.gitconf_layout.proofs.SetHeaders.{SameHeader, set_header}
-use Rattle.gitconf_layout.proofs.SetEntries.{at_place, gap, set_end, set_piece, set_value, room_behind, before_behind_value, behind_assigned, one_line_end}
-use Rattle.gitconf_layout.proofs.SetValues.{gap_blank, end_set, Ways, ways, piece_ends, set_closed, set_bare}
+use Rattle.gitconf_layout.proofs.SetEntries.{at_place, gap, set_piece, set_value, room_behind, before_behind_value, one_line_end}
+use Rattle.gitconf_layout.proofs.SetValues.{gap_blank, end_set, ways, piece_ends, set_closed, set_bare}
 use Rattle.gitconf_layout.proofs.SetRuns.{ends_run}
 use Rattle.gitconf_layout.proofs.Laid.{set_from, meets, meets_blanks, tight_key, after_value, behind_is, no_parts, entry_text, laid}
-use Rattle.gitconf_layout.proofs.Closing.{trimmed_cases, end_begins, begins_trimmed, trimmed_follows, trimmed_some, trimmed_none, trimmed_same}
+use Rattle.gitconf_layout.proofs.Closing.{end_begins, begins_trimmed, trimmed_follows, trimmed_some, trimmed_none, trimmed_same}
 use Rattle.gitconf_layout.proofs.Ending.{Filled, flat, reclosed, front_filled, pieces_close, reclosed_value, all_apart, header_stays, line_ends_go, no_feed, last_stays}
 use Rattle.gitconf_layout.proofs.Ended.{closed_or_bare, key_stays, name_filled, header_filled, mark_stays, paired_rest, regroup_last, regroup_empty, regroup_pieces}
 use Rattle.gitconf_layout.proofs.RunsAgain.{text_once, no_ends, dropped_run}
 use Rattle.gitconf_layout.proofs.Fronts.{shown_parts, cut_blanks, keeps_none}
-use Rattle.gitconf_layout.proofs.AgainEntries.{Stays, moved, end_again, stays_key, valued, set_piece_ends, stays_value, stays_empty, closed_stays, closed_fits}
+use Rattle.gitconf_layout.proofs.AgainEntries.{Stays, moved, end_again, stays_key, valued, set_piece_ends, stays_value, stays_empty, closed_fits}
 use Rattle.gitconf_layout.proofs.Again.{Again, uncommented, stays_blanks, stays_ends, words_same, closed_ends, set_closed_line, again_comment, reworded, stays_header, stays_closed, stays_none}
 
 -- nothing stays of the text but its end

@@ -16,10 +16,10 @@ use Rattle.gitconf_state.proofs.Follows.{may_follow, may_follow_key, key_skips, 
 use Rattle.gitconf_state.proofs.FittedEntry.{IsClosed}
 use Rattle.gitconf_layout.specs.declared.format.Options.{Options}
 use Rattle.gitconf_layout.specs.declared.place.Before.{Before}
-use Rattle.gitconf_layout.specs.declared.place.Before.TheVariants.{Nothing, Value, Other}
-use Rattle.gitconf_layout.specs.Layout.{keeps_blanks, before_name}
+use Rattle.gitconf_layout.specs.declared.place.Before.TheVariants.{Value}
+use Rattle.gitconf_layout.specs.Layout.{before_name}
 use Rattle.gitconf_layout.specs.Setting.{set_tokens}
-use Rattle.gitconf_layout.proofs.SetEntries.{at_place, gap, set_end, set_piece, set_value, set_entry, PieceEnd, PieceEnds, room_behind_end, room_behind, before_behind_value, behind_assigned, AssignedEnds, one_line_end}
+use Rattle.gitconf_layout.proofs.SetEntries.{at_place, gap, set_end, set_piece, set_value, PieceEnd, PieceEnds, room_behind_end, room_behind, before_behind_value, behind_assigned}
 use Rattle.gitconf_layout.proofs.SetValues.{gap_blank}
 use Rattle.gitconf_layout.proofs.SetRuns.{name_blank}
 use Rattle.gitconf_layout.proofs.Laid.{set_from, entry_text}

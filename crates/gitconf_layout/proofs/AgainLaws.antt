@@ -1,9 +1,8 @@
 -- A layout is laid out as it is.
-use Rattle.std.proofs.Common.{◌≡◌, ℕ, Bool, true, false, List, [], ◌∷◌, ◌++◌, map, inl, inr, refl, ap, sym, subst, ◌∙◌}
+use Rattle.std.proofs.Common.{◌≡◌, ℕ, Bool, true, false, List, [], ◌∷◌, ◌++◌, map, inl, inr, refl, ap, sym, ◌∙◌}
 use Rattle.std.specs.Prelude.{if◌then◌else◌}
 use Rattle.gitconf_text.specs.Text.{is_line_end}
 use Rattle.gitconf_text.specs.Part.{Part}
-use Rattle.gitconf_text.specs.Token.{tokens_of}
 use Rattle.gitconf_text.specs.Document.{IsText, gathered}
 use Rattle.gitconf_text.specs.Document.{unmarked}
 use Rattle.gitconf_parse.specs.EventRef.{Shown}

@@ -10,7 +10,7 @@ use Rattle.gitconf_layout.specs.declared.place.Before.{Before}
 use Rattle.gitconf_layout.specs.declared.place.Before.TheVariants.{Nothing, Value, Other}
 use Rattle.gitconf_layout.specs.declared.place.Place.{Place}
 use Rattle.gitconf_layout.specs.Layout.{is_nothing}
-use Rattle.gitconf_layout.specs.Setting.{is_full, is_dropped, on_next_line, end_text, ends_text, ends_place}
+use Rattle.gitconf_layout.specs.Setting.{is_dropped, on_next_line, end_text, ends_text, ends_place}
 use Rattle.gitconf_layout.proofs.SetEntries.{at_place, one_line_end}
 
 -- a run in two
