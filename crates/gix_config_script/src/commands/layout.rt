@@ -9,7 +9,17 @@ use std::alloc::Global;
 /// `fmt BYTES OPT OPT B OPT B OPT OPT`: a text laid out, by the indent of comments before the first header, that of names, whether spaces
 /// stand round `=`, the line end, whether there is one at the end, and the two limits of blank lines.
 pub fn fmt<'a>(alloc: Global, words: &[Word<'_>]) -> Outcome<'a> {
-    let [text, root, key, spaces, newline, closed, leading, consecutive] = words else {
+    let [
+        text,
+        root,
+        key,
+        spaces,
+        newline,
+        closed,
+        leading,
+        consecutive,
+    ] = words
+    else {
         return Err(Refusal::Line);
     };
     let options = Options {
