@@ -1,10 +1,11 @@
-//! Loads standard input as a file as often as the first argument says, looks the second up in it, a key, and prints it.
+//! Loads standard input as a file as often as the first argument says, looks the second up in it, a key, prints it, and lays it out.
 //!
-//! With `times` as third argument each round tells the nanoseconds of loading, of a look-up, and of printing.
+//! With `times` as third argument each round tells the nanoseconds of loading, of the look-ups, of printing, and of the layout.
 #![tactic(auto)]
 
 use anyhow::{Context, Result};
 use gix_config::File;
+use gix_config::format::{Options, normalize};
 use std::alloc::Global;
 use std::io::{BufReader, Read};
 use std::rt::Clock;
@@ -58,12 +59,16 @@ fn main(rt: HostRuntime) -> Result<()> {
         let start = Instant::now(&rt)?;
         let printed = file.to_bstring()?;
         let written = start.elapsed(&rt)?.as_nanos();
+        let start = Instant::now(&rt)?;
+        let set = normalize(rt.alloc(), &text, Options::default())?;
+        let laid_out = start.elapsed(&rt)?.as_nanos();
         if is_timed {
-            println!(rt; "{loaded} {looked_up} {written}")?;
+            println!(rt; "{loaded} {looked_up} {written} {laid_out}")?;
         }
         println!(rt;
-            "{hits} of {LOOKUPS} found, {} bytes written",
-            printed.len()
+            "{hits} of {LOOKUPS} found, {} bytes written, {} laid out",
+            printed.len(),
+            set.len()
         )?;
     }
     Ok(())

@@ -26,7 +26,7 @@ pub end_begins : (e : List ℕ) → is_line_end e ≡ true → begins_line_end e
 end_begins = one_line_end (λ e. begins_line_end e ≡ true) refl refl
 
 -- what begins with a line end does so when its end is replaced
-begins_trimmed : (e : List ℕ) → is_line_end e ≡ true → (text : List ℕ) → begins_line_end text ≡ true → begins_line_end (trimmed text ++ e) ≡ true
+pub begins_trimmed : (e : List ℕ) → is_line_end e ≡ true → (text : List ℕ) → begins_line_end text ≡ true → begins_line_end (trimmed text ++ e) ≡ true
 begins_trimmed e line text h = line_end_cases (λ text. begins_line_end (trimmed text ++ e) ≡ true) feed both text h
   where
     feed : (rest : List ℕ) → begins_line_end (trimmed (10 ∷ rest) ++ e) ≡ true

@@ -35,7 +35,7 @@ Closes e text document comments =
     ⊎ (Filled (trimmed text) × Fitted (trimmed text ++ e) document comments)
 
 -- what leaves its pieces closed, or the last open at the end
-closed_or_bare : (pieces : List Piece) (last rest : List ℕ) → IsEnded pieces last rest
+pub closed_or_bare : (pieces : List Piece) (last rest : List ℕ) → IsEnded pieces last rest
     → ((list_all (λ (p : Piece). is_line_end p.line_end) pieces ≡ true) × (ends is_white last ≡ false)) ⊎ ((rest ≡ []) × (last ≡ []) × (pieces ≡ [] → ⊥))
 closed_or_bare [] last rest ended = inl (refl, ended.0)
 closed_or_bare (p ∷ pieces) last rest ended = elim ended [
@@ -97,7 +97,7 @@ recommented : {text : List ℕ} {document : Document} {comments other : List (Li
 recommented same f = record { parts = f.parts; same = f.same; fits = f.fits; document_is = f.document_is; comments_are = f.comments_are ∙ same }
 
 -- units behind others come in pairs of their own
-paired_rest : (units more : List TextUnit) (quoted : Bool) → are_paired quoted (units ++ more) ≡ true → (now : Bool) × (are_paired now more ≡ true)
+pub paired_rest : (units more : List TextUnit) (quoted : Bool) → are_paired quoted (units ++ more) ≡ true → (now : Bool) × (are_paired now more ≡ true)
 paired_rest [] more quoted h = (quoted, h)
 paired_rest (Escape b ∷ units) more quoted h = paired_rest units more quoted (both_true (is_value_escape b) _ h).1
 paired_rest (OpenEscape ∷ units) more quoted h = absurd (cc)
@@ -111,17 +111,17 @@ paired_rest (Plain b ∷ units) more quoted h = go (class_of b) refl (paired_res
     go White k later = later quoted (rw (k, are_paired) at h)
     go Other k later = later quoted (rw (k, are_paired) at h)
 
-name_filled : (name rest : List ℕ) → is_value_name name ≡ true → Filled (name ++ rest)
+pub name_filled : (name rest : List ℕ) → is_value_name name ≡ true → Filled (name ++ rest)
 name_filled [] rest h = absurd (cc)
 name_filled (b ∷ name) rest h = (b, name ++ rest, refl)
 
-regroup_last : (name blanks between pieces last : List ℕ) → name ++ (blanks ++ 61 ∷ (between ++ (pieces ++ last))) ≡ (name ++ (blanks ++ 61 ∷ (between ++ pieces))) ++ last
+pub regroup_last : (name blanks between pieces last : List ℕ) → name ++ (blanks ++ 61 ∷ (between ++ (pieces ++ last))) ≡ (name ++ (blanks ++ 61 ∷ (between ++ pieces))) ++ last
 regroup_last name blanks between pieces last = sym (simp append_assoc)
 
-regroup_empty : (name blanks between : List ℕ) → name ++ (blanks ++ 61 ∷ (between ++ [])) ≡ (name ++ blanks) ++ (61 ∷ between)
+pub regroup_empty : (name blanks between : List ℕ) → name ++ (blanks ++ 61 ∷ (between ++ [])) ≡ (name ++ blanks) ++ (61 ∷ between)
 regroup_empty name blanks between = sym (simp (append_assoc, append-nil))
 
-regroup_pieces : (name blanks between pieces : List ℕ) → name ++ (blanks ++ 61 ∷ (between ++ (pieces ++ []))) ≡ (name ++ (blanks ++ 61 ∷ between)) ++ pieces
+pub regroup_pieces : (name blanks between pieces : List ℕ) → name ++ (blanks ++ 61 ∷ (between ++ (pieces ++ []))) ≡ (name ++ (blanks ++ 61 ∷ between)) ++ pieces
 regroup_pieces name blanks between pieces = sym (simp (append_assoc, append-nil))
 
 abbrev entry_of : (name blanks between : List ℕ) → List Piece → (last : List ℕ) → Part
@@ -194,7 +194,7 @@ trimmed_lines (b ∷ text) h =
       | inr some ↦ rw (some, p.0) (trimmed_lines text p.1)
     ]
 
-mark_stays : (tag : ℕ) (text : List ℕ) → is_mark tag ≡ true → trimmed (tag ∷ text) ≡ tag ∷ trimmed text
+pub mark_stays : (tag : ℕ) (text : List ℕ) → is_mark tag ≡ true → trimmed (tag ∷ text) ≡ tag ∷ trimmed text
 mark_stays tag text mark = elim (trimmed_cases tag text) [
   | inl none ↦ absurd (let x : (false || false) ≡ true = rw (apart is_mark 13 tag refl mark, apart is_mark 10 tag refl mark) at none.1 in cc)
   | inr some ↦ some
@@ -204,12 +204,12 @@ run_filled : (run : List ℕ) → 0 < length run → Filled run
 run_filled [] some = absurd (omega arith)
 run_filled (b ∷ run) some = (b, run, refl)
 
-header_filled : (h : Header) → Filled (spelled_header h)
+pub header_filled : (h : Header) → Filled (spelled_header h)
 header_filled (PlainHeader name) = (91, name ++ 93 ∷ [], refl)
 header_filled (DottedHeader name subsection) = (91, name ++ 46 ∷ (subsection ++ 93 ∷ []), refl)
 header_filled (QuotedHeader name blanks spelling) = (91, name ++ (blanks ++ 34 ∷ (spelling ++ 34 ∷ 93 ∷ [])), refl)
 
-key_stays : (name blanks : List ℕ) → is_value_name name ≡ true → list_all is_blank blanks ≡ true → trimmed (name ++ (blanks ++ [])) ≡ name ++ (blanks ++ [])
+pub key_stays : (name blanks : List ℕ) → is_value_name name ≡ true → list_all is_blank blanks ≡ true → trimmed (name ++ (blanks ++ [])) ≡ name ++ (blanks ++ [])
 key_stays name [] named all = subst (λ t. trimmed t ≡ t) (sym (append-nil name)) (name_stays name named)
 key_stays name (b ∷ blanks) named all =
     let stays : trimmed ((b ∷ blanks) ++ []) ≡ (b ∷ blanks) ++ [] = subst (λ t. trimmed t ≡ t) (sym (append-nil (b ∷ blanks))) (blanks_stay (b ∷ blanks) all) in

@@ -77,7 +77,7 @@ tight_blanks (b ∷ run) OpenKeyAndBlanks = refl
 tight_blanks (b ∷ run) OpenValue = refl
 tight_blanks (b ∷ run) OpenComment = refl
 
-meets_blanks : (run : List ℕ) (before : Open) (b : Before) → meets before b ≡ true → meets (after_blanks run before) b ≡ true
+pub meets_blanks : (run : List ℕ) (before : Open) (b : Before) → meets before b ≡ true → meets (after_blanks run before) b ≡ true
 meets_blanks [] before b h = h
 meets_blanks (c ∷ run) Closed b h = h
 meets_blanks (c ∷ run) OpenKey Value h = refl
@@ -135,7 +135,7 @@ maybe_line_ends state run text document comments is none f = elim is [
 ]
 
 -- behind nothing on its line nothing is left open
-nothing_closed : (state : Open) (b : Before) → meets state b ≡ true → is_nothing b ≡ true → state ≡ Closed
+pub nothing_closed : (state : Open) (b : Before) → meets state b ≡ true → is_nothing b ≡ true → state ≡ Closed
 nothing_closed Closed b m h = refl
 nothing_closed OpenKey Nothing m h = absurd (cc)
 nothing_closed OpenKey Value m h = absurd (cc)
@@ -235,7 +235,7 @@ stands_same OpenValue x y h = absurd (cc)
 stands_same OpenComment x y h = absurd (cc)
 
 -- what an entry leaves open
-tight_key : (state : Open) (en : Entry) → may_stand state (EntryItem en) ≡ true → (blanks : List ℕ) → (tight (after_entry state blanks None) ≡ OpenKey) × (meets (after_entry state blanks None) Value ≡ true)
+pub tight_key : (state : Open) (en : Entry) → may_stand state (EntryItem en) ≡ true → (blanks : List ℕ) → (tight (after_entry state blanks None) ≡ OpenKey) × (meets (after_entry state blanks None) Value ≡ true)
 tight_key Closed en h [] = (refl, refl)
 tight_key Closed en h (b ∷ blanks) = (refl, refl)
 tight_key OpenKeyAndBlanks en h [] = (refl, refl)
@@ -244,7 +244,7 @@ tight_key OpenKey en h blanks = absurd (cc)
 tight_key OpenValue en h blanks = absurd (cc)
 tight_key OpenComment en h blanks = absurd (cc)
 
-after_value : (state : Open) (en : Entry) → may_stand state (EntryItem en) ≡ true → (blanks : List ℕ) (a : Assigned) → after_entry state blanks (Some a) ≡ OpenValue
+pub after_value : (state : Open) (en : Entry) → may_stand state (EntryItem en) ≡ true → (blanks : List ℕ) (a : Assigned) → after_entry state blanks (Some a) ≡ OpenValue
 after_value Closed en h blanks a = refl
 after_value OpenKeyAndBlanks en h blanks a = refl
 after_value OpenKey en h blanks a = absurd (cc)
@@ -252,7 +252,7 @@ after_value OpenValue en h blanks a = absurd (cc)
 after_value OpenComment en h blanks a = absurd (cc)
 
 -- parts with no text are none
-no_parts : (parts : List Part) → AreFit parts [] → spelled parts ≡ [] → parts ≡ []
+pub no_parts : (parts : List Part) → AreFit parts [] → spelled parts ≡ [] → parts ≡ []
 no_parts [] fits h = refl
 no_parts (ItemPart (BlanksItem []) ∷ parts) fits h = absurd (let k : 0 < 0 = fits.0.0 in omega arith)
 no_parts (ItemPart (BlanksItem (b ∷ run)) ∷ parts) fits h = absurd (cc)
@@ -295,7 +295,7 @@ set_valued o e s b state en a text document comments stands m named f = record {
       ∙ entry_follows o s state b en.name _ (stands_same state en (record { name = en.name; blanks = []; assigned = None }) stands) m named;
 }
 
-behind_is : (pieces : List Piece) → meets OpenValue (before_behind_value pieces) ≡ true
+pub behind_is : (pieces : List Piece) → meets OpenValue (before_behind_value pieces) ≡ true
 behind_is [] = refl
 behind_is (p ∷ pieces) = refl
 
@@ -305,7 +305,7 @@ LaidBehind o e parts = (state : Open) (s : Bool) (b : Before) (r : Option ℕ) �
     → Laid state (set_from o e s b r parts) (gathered parts) (comments_of parts)
 
 -- the text of an entry and what stands behind it
-entry_text : (o : Options) (e : List ℕ) (s : Bool) (b : Before) (r : Option ℕ) (en : Entry) (parts : List Part) → AssignedEnds en.assigned
+pub entry_text : (o : Options) (e : List ℕ) (s : Bool) (b : Before) (r : Option ℕ) (en : Entry) (parts : List Part) → AssignedEnds en.assigned
     → set_from o e s b r (ItemPart (EntryItem en) ∷ parts)
     ≡ before_name o s b ++ (spelled_item (EntryItem (set_entry o e en)) ++ set_tokens o e (behind_assigned o s r en.assigned) (map shown_token (tokens_of parts)))
 entry_text o e s b r en parts ends_so =

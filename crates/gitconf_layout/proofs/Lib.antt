@@ -11,3 +11,9 @@ pub mod Closing
 pub mod Ending
 pub mod Ended
 pub mod LayoutLaws
+pub mod RunsAgain
+pub mod Fronts
+pub mod AgainEntries
+pub mod Again
+pub mod AgainLaws
+pub mod AgainEnds

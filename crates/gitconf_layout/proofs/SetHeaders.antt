@@ -10,8 +10,8 @@ use Rattle.gitconf_text.specs.Bytes.{is_blank, is_header_byte, fold}
 use Rattle.gitconf_text.specs.Unit.{TextUnit, Escape, OpenEscape, Plain, units_of}
 use Rattle.gitconf_text.specs.Header.{Header, PlainHeader, DottedHeader, QuotedHeader, spelled_header, is_subsection_unit, subsection_byte, unquoted, FitsHeader, name_of, subsection_of}
 use Rattle.gitconf_text.specs.Token.{HeaderToken}
-use Rattle.gitconf_parse.specs.EventRef.{written, escaped_subsection}
-use Rattle.gitconf_parse.specs.ShownEvents.{shown_token}
+use Rattle.gitconf_parse.specs.EventRef.{ShownHeader, written, escaped_subsection}
+use Rattle.gitconf_parse.specs.ShownEvents.{separator_of, shown_token}
 use Rattle.gitconf_parse.proofs.ValueAgain.{both_true, apart}
 use Rattle.gitconf_parse.proofs.Subsections.{reads_back}
 
@@ -46,13 +46,14 @@ units_lines (Plain b ∷ units) h = go (b == 10) refl (units_lines units p.1)
     go true e later = absurd (let x : false ≡ true = rw (e, is_subsection_unit) at p.0 in cc)
     go false e later = rw e later
 
--- a header with the same name and subsection, and this text
+-- a header with the same name and subsection, and this text, which is set as it is
 pub record SameHeader (h : Header) (text : List ℕ) : Type 0 where
   pub header : Header
   pub same : spelled_header header ≡ text
   pub fits : FitsHeader header
   pub name : name_of header ≡ name_of h
   pub subsection : subsection_of header ≡ subsection_of h
+  pub again : written (shown_token (HeaderToken header)) ≡ text
 
 -- blanks are no dot
 no_dot : (blanks : List ℕ) → 0 < length blanks → list_all is_blank blanks ≡ true → bytes_eq blanks (codes ".") ≡ false
@@ -65,9 +66,16 @@ quoted_text name blanks spelling = ap (λ t. 91 ∷ (name ++ t)) (sym (simp appe
 
 -- a header that is set
 pub set_header : (h : Header) → FitsHeader h → SameHeader h (written (shown_token (HeaderToken h)))
-set_header (PlainHeader name) fits = record { header = PlainHeader name; same = refl; fits = fits; name = refl; subsection = refl }
+set_header (PlainHeader name) fits = record { header = PlainHeader name; same = refl; fits = fits; name = refl; subsection = refl; again = refl }
 set_header (DottedHeader name subsection) fits =
-    record { header = DottedHeader name (fold subsection); same = refl; fits = (fits.0, fold_header subsection fits.1); name = refl; subsection = ap Some (fold_again subsection) }
+    record {
+      header = DottedHeader name (fold subsection);
+      same = refl;
+      fits = (fits.0, fold_header subsection fits.1);
+      name = refl;
+      subsection = ap Some (fold_again subsection);
+      again = ap (λ t. written (ShownHeader name (separator_of (DottedHeader name subsection)) (Some t))) (fold_again subsection);
+    }
 set_header (QuotedHeader name blanks spelling) fits =
     let back = reads_back (unquoted spelling) (units_lines (units_of spelling) fits.3) in
     record {
@@ -76,4 +84,5 @@ set_header (QuotedHeader name blanks spelling) fits =
       fits = (fits.0, fits.1, fits.2, back.fits);
       name = refl;
       subsection = ap Some back.same;
+      again = ap (λ t. written (ShownHeader name (Some blanks) (Some t))) back.same;
     }

@@ -49,7 +49,7 @@ front_same e [] last h = h
 front_same e (p ∷ pieces) last h = front_piece p.text p.line_end (set_end e p.line_end) _ last h _ last
 
 -- a line end stays one
-end_set : (e line_end : List ℕ) → is_line_end e ≡ true → is_line_end line_end ≡ true → is_line_end (set_end e line_end) ≡ true
+pub end_set : (e line_end : List ℕ) → is_line_end e ≡ true → is_line_end line_end ≡ true → is_line_end (set_end e line_end) ≡ true
 end_set e [] line h = absurd (cc)
 end_set e (b ∷ bytes) line h = line
 

@@ -2,6 +2,7 @@
 #![tactic(auto)]
 
 pub mod file;
+pub mod format;
 pub mod glob;
 pub mod parse;
 pub mod refusals;

@@ -2,6 +2,7 @@
 
 mod edits;
 mod files;
+mod layout;
 mod lookups;
 mod parsing;
 mod paths;
@@ -33,6 +34,8 @@ pub fn outcome_of<'a>(
         b"escape" => values::escape(alloc, words),
         b"boolean" => values::boolean(alloc, words),
         b"integer" => values::integer(alloc, words),
+
+        b"fmt" => layout::fmt(alloc, words),
 
         b"match" => paths::matches(alloc, words),
         b"interpolate" => paths::interpolate(alloc, words),

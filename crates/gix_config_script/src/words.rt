@@ -53,11 +53,15 @@ impl Word<'_> {
 
     /// A decimal number.
     pub fn number(&self) -> Result<usize, Refusal> {
-        let digits = str::from_utf8(self.plain()?).map_err(|_| Refusal::Line)?;
-        if digits.starts_with('+') {
-            return Err(Refusal::Line);
+        decimal(self.plain()?)
+    }
+
+    /// A decimal number in bytes, or none for `-`.
+    pub fn limit(&self) -> Result<Option<usize>, Refusal> {
+        match self.optional()? {
+            Some(digits) => Ok(Some(decimal(digits)?)),
+            None => Ok(None),
         }
-        digits.parse::<usize>().map_err(|_| Refusal::Line)
     }
 
     /// `true` or `false`.
@@ -79,6 +83,15 @@ impl Word<'_> {
             _ => Err(Refusal::Line),
         }
     }
+}
+
+/// The number that decimal digits tell, without a sign.
+fn decimal(digits: &[u8]) -> Result<usize, Refusal> {
+    let digits = str::from_utf8(digits).map_err(|_| Refusal::Line)?;
+    if digits.starts_with('+') {
+        return Err(Refusal::Line);
+    }
+    digits.parse::<usize>().map_err(|_| Refusal::Line)
 }
 
 /// The words of a line, which stand one blank apart.

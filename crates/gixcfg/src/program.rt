@@ -4,6 +4,7 @@ ghost use Rattle.gixcfg.specs.Status.{status_of};
 
 use bstr::BString;
 use gix_config::file::set_raw_value;
+use gix_config::format::{Options, normalize};
 use gix_config::parse::Error;
 use gix_config::refusals::Refusal;
 use gix_config::{File, KeyRef, NoMemory};
@@ -22,6 +23,8 @@ enum Command<'a> {
     Set(KeyRef<'a>, &'a str),
     /// Prints the file.
     Print,
+    /// Prints the file, laid out.
+    Fmt,
 }
 
 /// Why the program did not do it.
@@ -104,7 +107,7 @@ impl From<set_raw_value::Error> for Fault {
 /// its exit status: 0 done, 1 missing, 2 usage, 3 refused, 4 input or output, 5 memory.
 ///
 /// `get KEY` prints the last value of a key and a line feed, `set KEY VALUE` the file with that value, `print` the file that standard
-/// input is. Standard input is read whole, and only where the words are understood.
+/// input is, `fmt` that file laid out by the default options. Standard input is read whole, and only where the words are understood.
 pub fn run<R: Read + Drop, W: Write + Drop, E: Write + Drop>(
     alloc: Global,
     args: &[&str],
@@ -132,8 +135,7 @@ fn execute<R: Read, W: Write>(
 ) -> Result<(), Fault> {
     let command = command_of(args)?;
     let text = read_all(alloc, input)?;
-    let mut file = File::try_from_bytes(alloc, &text)?;
-    let answer = answer_of(command, &mut file)?;
+    let answer = answer_of(alloc, command, &text)?;
     match out.write_all(&answer) {
         Ok(()) => Ok(()),
         Err(_) => Err(Fault::Output),
@@ -146,6 +148,7 @@ fn command_of<'a>(args: &[&'a str]) -> Result<Command<'a>, Fault> {
         [word, key] if *word == "get" => Ok(Command::Get(key_of(key)?)),
         [word, key, value] if *word == "set" => Ok(Command::Set(key_of(key)?, value)),
         [word] if *word == "print" => Ok(Command::Print),
+        [word] if *word == "fmt" => Ok(Command::Fmt),
         _ => Err(Fault::Usage),
     }
 }
@@ -168,10 +171,10 @@ fn read_all<R: Read>(alloc: Global, input: &mut R) -> Result<Vec<u8>, Fault> {
     }
 }
 
-/// What is printed.
-fn answer_of(command: Command<'_>, file: &mut File) -> Result<BString, Fault> {
+/// What is printed of a text. It is refused before a value is missing.
+fn answer_of(alloc: Global, command: Command<'_>, text: &[u8]) -> Result<BString, Fault> {
     match command {
-        Command::Get(key) => match file.string(key)? {
+        Command::Get(key) => match File::try_from_bytes(alloc, text)?.string(key)? {
             Some(mut value) => {
                 value.push(b'\n')?;
                 Ok(value)
@@ -179,10 +182,12 @@ fn answer_of(command: Command<'_>, file: &mut File) -> Result<BString, Fault> {
             None => Err(Fault::Missing),
         },
         Command::Set(key, value) => {
+            let mut file = File::try_from_bytes(alloc, text)?;
             let _ = file.set_raw_value(key, value.as_bytes())?;
             Ok(file.to_bstring()?)
         }
-        Command::Print => Ok(file.to_bstring()?),
+        Command::Print => Ok(File::try_from_bytes(alloc, text)?.to_bstring()?),
+        Command::Fmt => Ok(normalize(alloc, text, Options::default())?),
     }
 }
 

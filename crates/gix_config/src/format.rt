@@ -1,0 +1,2 @@
+//! The layout of texts.
+pub use gitconf_layout::format::{Indent, Newline, Options, normalize};
