@@ -13,6 +13,6 @@ pub use file::File;
 pub use gitconf_base::key::{AsKey, KeyRef};
 pub use gitconf_base::source::{self, Source};
 pub use gitconf_text::NoMemory;
+pub use gitconf_values::Boolean;
 pub use gitconf_values::integer::{self, Integer};
 pub use gitconf_values::path::{self, Path};
-pub use gitconf_values::Boolean;

@@ -1,11 +1,11 @@
 //! Why a command was not done.
 
-use gix_config::{NoMemory, value};
 use gix_config::file::{init, set_raw_value};
 use gix_config::parse::section::{NameError, ValueNameError};
 use gix_config::parse::{Error, SinkFault};
 use gix_config::path::interpolate;
 use gix_config::refusals::Refusal as _;
+use gix_config::{NoMemory, value};
 use std::alloc::{AllocError, AllocFailed};
 
 /// Why a command was not done.
