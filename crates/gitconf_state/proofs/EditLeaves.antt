@@ -8,10 +8,9 @@ use Rattle.std.specs.Cmp.Lexicographic.{bytes_decides}
 use Rattle.std.proofs.lemmas.Bool.{or_parts}
 use Rattle.std.proofs.lemmas.Grind.{flat_map-append}
 use Rattle.gitconf_text.specs.Bytes.{fold}
-use Rattle.gitconf_text.specs.Header.{name_of, subsection_of}
+use Rattle.gitconf_text.specs.Header.{subsection_of}
 use Rattle.gitconf_text.specs.Names.{is_made_name, is_same_name, is_valid_or_none, is_value_name}
 use Rattle.gitconf_text.specs.Part.{Item}
-use Rattle.gitconf_base.specs.Metadata.{Meta}
 use Rattle.gitconf_parse.proofs.ValueAgain.{both_true}
 use Rattle.gitconf_parse.proofs.ByteLaws.{refuted}
 use Rattle.gitconf_state.specs.State.{SectionState, State}
@@ -19,9 +18,9 @@ use Rattle.gitconf_state.specs.LineEnds.{file_line_end}
 use Rattle.gitconf_state.specs.Lookup.{is_named, listing, listed, Said, said}
 use Rattle.gitconf_state.specs.Edit.{made_header, new_section, is_target}
 use Rattle.gitconf_state.specs.Editors.{pushed, line_end_pushed, value_set, removed, popped, written_at, deleted_at}
-use Rattle.gitconf_state.specs.Edits.{change_numbered, change_items, renamed, with_trust, picked, without_numbered, joined, held_behind_last, numbered_from, Edit, SetRawValue, Push, PushLineEnd, SetValue, Remove, Pop, WriteAt, DeleteAt, Rename, RenameAll, NewSection, PushSection, RemoveSection, RemoveNumbered, Append, SetTrust, SetMeta, apply, finds_or_makes, IsEdit, is_same_section, is_there, is_last_of, is_one_at, is_about}
+use Rattle.gitconf_state.specs.Edits.{change_numbered, change_items, renamed, with_trust, picked, without_numbered, held_behind_last, numbered_from, Edit, SetRawValue, Push, PushLineEnd, SetValue, Remove, Pop, WriteAt, DeleteAt, Rename, RenameAll, NewSection, PushSection, RemoveSection, RemoveNumbered, Append, SetTrust, SetMeta, apply, finds_or_makes, IsEdit, is_same_section, is_there, is_last_of, is_one_at, is_about}
 use Rattle.gitconf_state.proofs.EditValues.{of_key, same_name, made_name, made_subsection, same_subsection}
-use Rattle.gitconf_state.proofs.EditOthers.{names_meet, other_key, same_given, nothing_given, same_said, nothing_said, unnamed_said, named_once, set_value_leaves_keys, set_value_leaves_sections}
+use Rattle.gitconf_state.proofs.EditOthers.{other_key, nothing_given, same_said, nothing_said, unnamed_said, named_once, set_value_leaves_keys, set_value_leaves_sections}
 use Rattle.gitconf_state.proofs.KeyEntries.{added, pushed_leaves, value_set_leaves, removed_leaves, popped_leaves, deleted_leaves, written_leaves}
 use Rattle.gitconf_state.proofs.Listings.{says, said_is}
 

@@ -1,6 +1,6 @@
 -- What setting a value leaves: the values of other keys, and the sections of other names.
 use Rattle.std.proofs.Common.{◌≡◌, ◌⊎◌, ℕ, Bool, true, false, List, [], ◌∷◌, ◌++◌, Option, Some, None, refl, ap, sym, subst, ◌∙◌, inl, inr}
-use Rattle.std.specs.Prelude.{◌&&◌, filter, map, flat_map, if◌then◌else◌}
+use Rattle.std.specs.Prelude.{filter, map, flat_map, if◌then◌else◌}
 use Rattle.std.specs.Option.{option_eq}
 use Rattle.std.specs.List.{list_any}
 use Rattle.std.specs.Str.{bytes_eq}

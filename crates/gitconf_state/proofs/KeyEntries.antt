@@ -1,17 +1,16 @@
 -- The entries of a key that items have, behind what editors write: those of every other key stay.
 use Rattle.std.proofs.Common.{◌≡◌, ℕ, ◌+◌, Bool, true, false, List, [], ◌∷◌, ◌++◌, take, drop, Option, Some, None, refl, ap, sym, subst, ◌∙◌, append-nil, take-append-drop, drop-drop}
-use Rattle.std.specs.Prelude.{◌||◌, filter, flat_map, if◌then◌else◌}
+use Rattle.std.specs.Prelude.{filter, flat_map, if◌then◌else◌}
 use Rattle.std.specs.List.{list_any, last_or}
 use Rattle.std.proofs.lemmas.Bool.{or_parts}
 use Rattle.std.proofs.lemmas.Grind.{flat_map-append}
 use Rattle.std.proofs.lemmas.List.Elements.{filter-append}
 use Rattle.gitconf_text.specs.Names.{is_same_name}
-use Rattle.gitconf_text.specs.Value.{Piece}
-use Rattle.gitconf_text.specs.Part.{Assigned, Entry, Item, BlanksItem, LineEndsItem, CommentItem, EntryItem}
+use Rattle.gitconf_text.specs.Part.{Assigned, Item, BlanksItem, LineEndsItem, CommentItem, EntryItem}
 use Rattle.gitconf_text.specs.Document.{DocumentEntry}
 use Rattle.gitconf_state.specs.State.{item_entries}
 use Rattle.gitconf_state.specs.Edit.{is_entry_of, is_any_entry, Spacing, leading_item, with_value, update_last}
-use Rattle.gitconf_state.specs.Editors.{Editor, entry_made, comment_made, end_made, line_made, pushed, line_end_pushed, value_set, Cut, cut_last, without_last_blanks, without_first_line_ends, removed, popped, last_line_end, is_before_comment, line_end_item, kept_line_end, behind_old, written_at, deleted_at}
+use Rattle.gitconf_state.specs.Editors.{Editor, entry_made, comment_made, end_made, line_made, pushed, value_set, Cut, cut_last, without_last_blanks, without_first_line_ends, removed, popped, last_line_end, is_before_comment, line_end_item, kept_line_end, behind_old, written_at, deleted_at}
 use Rattle.gitconf_state.specs.Edits.{is_last_of, is_one_at}
 use Rattle.gitconf_state.proofs.EditLists.{last_passing}
 use Rattle.gitconf_state.proofs.EditValues.{of_key, of_key-none, with_value_written}

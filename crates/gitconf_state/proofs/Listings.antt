@@ -1,6 +1,6 @@
 -- What look-ups find, by the sections of a state.
-use Rattle.std.proofs.Common.{◌≡◌, ℕ, Bool, true, false, List, [], ◌∷◌, ◌++◌, Option, Some, None, refl, ap, sym, ◌∙◌}
-use Rattle.std.specs.Prelude.{◌&&◌, filter, map, flat_map, if◌then◌else◌}
+use Rattle.std.proofs.Common.{◌≡◌, ℕ, Bool, true, false, List, [], ◌∷◌, ◌++◌, Option, None, refl, ap, sym, ◌∙◌}
+use Rattle.std.specs.Prelude.{filter, map, flat_map, if◌then◌else◌}
 use Rattle.std.specs.Option.{option_map}
 use Rattle.std.specs.List.{cons_option, last_or, filter_map}
 use Rattle.gitconf_text.specs.Document.{Document, DocumentEntry}
@@ -12,7 +12,7 @@ use Rattle.gitconf_state.specs.State.{SectionState, State, section_document}
 use Rattle.gitconf_state.specs.Equality.{compared}
 use Rattle.gitconf_state.specs.Loads.{IsFullLoad, IsLoad}
 use Rattle.gitconf_state.proofs.LoadingDocument.{full_document, lossy_document}
-use Rattle.gitconf_state.specs.Lookup.{Listed, listing, listed, is_named, named, entries_of_key, Said, said_of, said_by, said, said_passing, deciding, last_value}
+use Rattle.gitconf_state.specs.Lookup.{Listed, listing, listed, is_named, named, entries_of_key, Said, said_by, said, deciding, last_value}
 
 -- what a section says of a key, where it has the name and subsection
 abbrev pub says : (name : List ℕ) → (subsection : Option (List ℕ)) → (key : List ℕ) → SectionState → List Said

@@ -1,6 +1,6 @@
 -- Worked rows: which values are booleans and integers, and which.
-use Rattle.std.proofs.Common.{◌≡◌, ℕ, List, [], ◌∷◌, Option, Some, None, true, false, map, refl, codes}
-use Rattle.std.specs.Prelude.{ℤ, pos, neg_ℤ, Result, Ok, Err, replicate}
+use Rattle.std.proofs.Common.{◌≡◌, ℕ, List, [], ◌∷◌, Some, None, true, false, map, refl, codes}
+use Rattle.std.specs.Prelude.{ℤ, pos, neg_ℤ, Ok, Err, replicate}
 use Rattle.gitconf_text.specs.Typed.{boolean_of, integer_of, NotAnInteger, IntegerOverflow}
 
 -- values that are true

@@ -1,6 +1,6 @@
 -- Values as booleans and as integers.
 -- Source: the git-config manual; that a number in digits is a boolean, and which numbers fit, are this project's own.
-use Rattle.std.specs.Prelude.{ℕ, ℤ, pos, neg_ℤ, nat_abs, int_le, int_lt, ◌*ℤ◌, ◌-◌, Bool, true, false, not, List, [], ◌∷◌, ◌&&◌, ◌||◌, ◌==◌, Option, Some, None, Result, Ok, Err, length, take, drop, if◌then◌else◌, codes}
+use Rattle.std.specs.Prelude.{ℕ, ℤ, pos, neg_ℤ, nat_abs, int_le, int_lt, ◌*ℤ◌, ◌-◌, Bool, true, false, not, List, [], ◌∷◌, ◌&&◌, ◌==◌, Option, Some, None, Result, Ok, Err, length, take, drop, if◌then◌else◌, codes}
 use Rattle.std.specs.Char.{is_ascii_digit}
 use Rattle.std.specs.List.{list_all, list_any}
 use Rattle.std.specs.Option.{option_map}

@@ -1,6 +1,4 @@
-use Rattle.std.proofs.Common.{ap, map, sym, ◌∙◌, refl}
-use Rattle.gitconf_text.specs.Document.{DocumentSection}
-use Rattle.gitconf_state.specs.Equality.{Compared, compared}
+use Rattle.std.proofs.Common.{sym, ◌∙◌, refl}
 use Rattle.gitconf_state.proofs.Listings.{compared_so}
 use Rattle.gitconf_state.proofs.laws.equality_is_an_equivalence.Goals as goal
 
