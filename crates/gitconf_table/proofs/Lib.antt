@@ -1,0 +1,2 @@
+pub mod SectionLemmas
+pub mod TableClones

@@ -1,0 +1,4 @@
+pub mod Sections
+pub mod Rows
+pub mod SectionIters
+pub mod SectionLoan

@@ -1,0 +1,4 @@
+//! The sections of a git configuration file under numbers, in file order, found by number and by name.
+#![tactic(auto)]
+
+pub mod table;
