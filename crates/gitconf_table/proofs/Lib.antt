@@ -1,2 +1,4 @@
 pub mod SectionLemmas
 pub mod TableClones
+pub mod Chains
+pub mod LinkLemmas

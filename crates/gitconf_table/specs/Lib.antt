@@ -2,3 +2,5 @@ pub mod Sections
 pub mod Rows
 pub mod SectionIters
 pub mod SectionLoan
+pub mod Words
+pub mod Links

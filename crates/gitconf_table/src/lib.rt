@@ -1,4 +1,5 @@
 //! The sections of a git configuration file under numbers, in file order, found by number and by name.
 #![tactic(auto)]
 
+mod index;
 pub mod table;
