@@ -2,3 +2,4 @@ pub mod SectionLemmas
 pub mod TableClones
 pub mod Chains
 pub mod LinkLemmas
+pub mod Walks

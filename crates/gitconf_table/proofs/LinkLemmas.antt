@@ -1,8 +1,9 @@
 -- Links and buckets as the chains of their places.
-use Rattle.std.proofs.Common.{◌≡◌, ◌≢◌, ℕ, ◌+◌, ◌-◌, ◌<◌, ◌≤◌, ◌⊎◌, inl, inr, refl, sym, ap, subst, ◌∙◌, arith, min, zero, suc, List, length, map, get_or, set}
+use Rattle.std.proofs.Common.{◌≡◌, ◌≢◌, ℕ, ◌+◌, ◌-◌, ◌<◌, ◌≤◌, ◌⊎◌, inl, inr, refl, sym, ap, subst, ◌∙◌, arith, min, zero, suc, List, [], ◌∷◌, ◌++◌, length, map, get_or, set, take, drop, insert, remove}
 use Rattle.std.proofs.lemmas.Bool.{cases_eq}
-use Rattle.std.proofs.lemmas.List.{get_or-set_same, get_or-set_other, length-set}
-use Rattle.std.proofs.Math.Seq.{map-set_same}
+use Rattle.std.proofs.lemmas.List.{get_or-set_same, get_or-set_other, get_or_append_left, length-set}
+use Rattle.std.proofs.lemmas.List.{map-append, take-map, drop-map}
+use Rattle.std.proofs.Math.Seq.{map-set_same, take-append_seam}
 use Rattle.gitconf_table.specs.declared.index.Link.{Link}
 use Rattle.gitconf_table.specs.declared.index.Bucket.{Bucket}
 use Rattle.gitconf_table.specs.Links.{IsFirst, IsBehindLast, AreChained, AreLinked, IsLed, bucket_of, ends_of, link_at, no_place, words_of}
@@ -100,3 +101,54 @@ linked_none links buckets empty = record {
   nexts = λ k within. absurd (omega (arith, within));
   befores = λ k within. absurd (omega (arith, within));
 }
+
+-- a list that was lent as a whole is what it was left as
+pub whole_again : (n : ℕ) (new items : List Link) → n ≡ length items → length new ≡ length items → take n (new ++ drop (length new) items) ≡ new
+whole_again n new items e same =
+    let whole : n ≡ length new = omega (arith, e, same) in
+    rw whole (take-append_seam new (drop (length new) items))
+
+pub words_put : (links : List Link) (at : ℕ) (l : Link) → words_of (insert links at l) ≡ insert (words_of links) at l.word
+words_put links at l =
+    map-append (λ (l : Link). l.word) (take at links) (l ∷ drop at links)
+    ∙ (λ j. sym (take-map (λ (l : Link). l.word) at links) j ++ l.word ∷ sym (drop-map (λ (l : Link). l.word) at links) j)
+
+pub words_out : (links : List Link) (at : ℕ) → words_of (remove links at) ≡ remove (words_of links) at
+words_out links at =
+    map-append (λ (l : Link). l.word) (take at links) (drop (suc at) links)
+    ∙ (λ j. sym (take-map (λ (l : Link). l.word) at links) j ++ sym (drop-map (λ (l : Link). l.word) (suc at) links) j)
+
+-- the same buckets of the first places
+first_along : (g g' : ℕ → ℕ) (b a n j : ℕ) → ((k : ℕ) → k < n → g k ≡ g' k) → IsFirst g b a n j → IsFirst g' b a n j
+first_along g g' b a n j same h = record {
+  passed = λ k l u under e. h.passed k l u under (same k u ∙ e);
+  stands = λ stands. let s = h.stands stands in (s.0, s.1, sym (same j s.1) ∙ s.2);
+}
+
+behind_along : (g g' : ℕ → ℕ) (b n m e : ℕ) → m ≤ n → ((k : ℕ) → k < n → g k ≡ g' k) → IsBehindLast g b m e → IsBehindLast g' b m e
+behind_along g g' b n m e within same h = record {
+  passed = λ k l u is. h.passed k l u (same k (omega (arith, u, within)) ∙ is);
+  stands = λ k is. let s = h.stands k is in (s.0, sym (same k (omega (arith, s.0, within))) ∙ s.1);
+}
+
+-- one more link behind the others leaves their chains
+pub linked_along : (n : ℕ) (links more : List Link) (buckets : List Bucket) → ((k : ℕ) → k < n → link_at links k ≡ link_at more k) → AreLinked n links buckets → AreLinked n more buckets
+linked_along n links more buckets same h =
+    let g : ℕ → ℕ = λ k. bucket_of (length buckets) (link_at links k).word in
+    let g' : ℕ → ℕ = λ k. bucket_of (length buckets) (link_at more k).word in
+    let along : (k : ℕ) → k < n → g k ≡ g' k = λ k l. ap (λ (r : Link). bucket_of (length buckets) r.word) (same k l) in
+    record {
+      firsts = λ b within. first_along g g' b 0 n _ along (h.firsts b within);
+      lasts = λ b within. behind_along g g' b n n _ (omega arith) along (h.lasts b within);
+      nexts = λ k within. rw (← same k within) (first_along g g' (g k) (k + 1) n _ along (h.nexts k within));
+      befores = λ k within. rw (← same k within) (behind_along g g' (g k) n k _ (omega (arith, within)) along (h.befores k within));
+    }
+
+pub linked_push : (links : List Link) (l : Link) (buckets : List Bucket) → AreLinked (length links) links buckets → AreLinked (length links) (links ++ l ∷ []) buckets
+linked_push links l buckets h = linked_along (length links) links (links ++ l ∷ []) buckets (λ k below. sym (get_or_append_left links (l ∷ []) no_link k below)) h
+
+-- another link in place of one
+pub words_other : (links : List Link) (at : ℕ) (l : Link) → words_of (set links at l) ≡ set (words_of links) at l.word
+words_other [] at l = refl
+words_other (x ∷ links) zero l = refl
+words_other (x ∷ links) (suc at) l = ap (λ r. x.word ∷ r) (words_other links at l)

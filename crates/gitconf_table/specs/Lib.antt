@@ -4,3 +4,5 @@ pub mod SectionIters
 pub mod SectionLoan
 pub mod Words
 pub mod Links
+pub mod Walk
+pub mod WordIndexes

@@ -1,7 +1,11 @@
 //! An index over a list of words: the places of a word without a walk over the others.
-ghost use Rattle.std.specs.Prelude.{◌≡◌, ◌+◌, ◌-◌, ◌<◌, ◌≤◌, length};
-ghost use Rattle.std.specs.Int.Bits.{bit_and};
+ghost use Rattle.std.specs.Prelude.{◌≡◌, ◌+◌, ◌<◌, ◌≤◌, [], ◌∷◌, ◌++◌, insert, length, remove, slice_set, vec_capacity, vec_len, IfOk, OnOk};
+ghost use Rattle.std.specs.Iterator.{item_count, YieldsFirst, YieldsLast};
 ghost use Rattle.gitconf_table.specs.Links.{bucket_of, words_of, AreLinked, IsLed};
+ghost use Rattle.gitconf_table.specs.Words.{places_of};
+
+use std::alloc::{AllocError, Global};
+use std::marker::Model;
 
 // A place of the list: its word, the next place of its bucket, or the greatest number, and what is directly behind the
 // previous place of its bucket, or 0.
@@ -78,5 +82,206 @@ fn relink(links: &mut [Link], buckets: &mut [Bucket])
     }
     for at in 0..links.len() {
         chain(links, buckets, at);
+    }
+}
+
+// Chains all places of a list anew.
+fn relink_all(links: &mut Vec<Link>, buckets: &mut Vec<Bucket>)
+    requires { 0 < vec_len buckets.old }
+    ensures words { words_of links.new.items ≡ words_of links.old.items }
+    ensures linked { AreLinked (length links.new.items) links.new.items buckets.new.items }
+    ensures room { (vec_len links.new ≡ vec_len links.old) × (vec_capacity links.new ≡ vec_capacity links.old) }
+    ensures buckets { vec_len buckets.new ≡ vec_len buckets.old }
+{
+    relink(links, buckets);
+}
+
+// Empty buckets for so many places: a power of two, and no fewer than the places.
+fn empty_buckets(alloc: Global, places: usize) -> Result<Vec<Bucket>, AllocError>
+    ensures { IfOk result (λ buckets. 0 < vec_len buckets) }
+{
+    let mut size: usize = 4;
+    while size < places {
+        size = size.checked_mul(2).ok_or(AllocError)?;
+    }
+    vec![in alloc; EMPTY; size]
+}
+
+/// A list of words, with its places by word.
+#[derive(Drop)]
+pub struct WordIndex {
+    links: Vec<Link>,
+    buckets: Vec<Bucket>,
+}
+
+impl Model for WordIndex {
+    ghost use Rattle.gitconf_table.specs.Words.{Words};
+
+    ghost Value = { Words };
+
+    ghost use Rattle.gitconf_table.specs.WordIndexes.{shown_index, IsIndex};
+
+    ghost view = { shown_index };
+
+    ghost invariant = { IsIndex };
+}
+
+impl WordIndex {
+    /// No words. Takes no memory.
+    pub fn new(alloc: Global) -> WordIndex
+        ensures { result.words ≡ [] }
+    {
+        WordIndex {
+            links: Vec::new(alloc),
+            buckets: Vec::new(alloc),
+        }
+    }
+
+    /// Makes room for so many more words, and for as many buckets as there will be words; so a word takes memory and
+    /// time but now and then, and less than constant of both on average.
+    ///
+    /// # Errors
+    ///
+    /// Want of memory. The words are as they were.
+    pub fn reserve(&mut self, more: usize) -> Result<(), AllocError>
+        ensures words { self.new.words ≡ self.old.words }
+        ensures ok { OnOk result (more ≤ self.new.room) }
+    {
+        let count = self.links.len().checked_add(more).ok_or(AllocError)?;
+        if self.buckets.is_empty() || self.buckets.len() < count {
+            let mut buckets = empty_buckets(*self.links.allocator(), count)?;
+            relink_all(&mut self.links, &mut buckets);
+            self.buckets = buckets;
+        }
+        self.links.reserve(more)
+    }
+
+    /// Puts a word last, in constant time.
+    pub fn push(&mut self, word: u64)
+        requires { 0 < self.old.room }
+        ensures { self.new.words ≡ self.old.words ++ word ∷ [] }
+    {
+        let at = self.links.len();
+        self.links.push(unlinked(word)).unwrap();
+        chain(&mut self.links, &mut self.buckets, at);
+    }
+
+    /// Puts a word at a place. Takes time for all words.
+    pub fn insert(&mut self, at: usize, word: u64)
+        requires room { 0 < self.old.room }
+        requires within { at ≤ length self.old.words }
+        ensures { self.new.words ≡ insert self.old.words at word }
+    {
+        self.links.insert(at, unlinked(word)).unwrap();
+        relink_all(&mut self.links, &mut self.buckets);
+    }
+
+    /// Takes the word at a place out. Takes time for all words.
+    pub fn remove(&mut self, at: usize)
+        requires { at < length self.old.words }
+        ensures { self.new.words ≡ remove self.old.words at }
+    {
+        self.links.remove(at);
+        relink_all(&mut self.links, &mut self.buckets);
+    }
+
+    /// Puts another word at a place. Takes time for all words.
+    pub fn set(&mut self, at: usize, word: u64)
+        requires { at < length self.old.words }
+        ensures { self.new.words ≡ slice_set self.old.words at word }
+    {
+        self.links[at] = unlinked(word);
+        relink_all(&mut self.links, &mut self.buckets);
+    }
+
+    /// The places of a word. Takes the time to compute its bucket.
+    pub fn places(&self, word: u64) -> Places<'_>
+        ensures { result ≡ places_of word self.now.words }
+    {
+        if self.buckets.is_empty() {
+            return Places {
+                links: &self.links,
+                word,
+                front: 0,
+                behind: 0,
+            };
+        }
+        let bucket = self.buckets[bucket_of(word, self.buckets.len())];
+        Places {
+            links: &self.links,
+            word,
+            front: bucket.first,
+            behind: bucket.behind,
+        }
+    }
+}
+
+// A link in no chain.
+fn unlinked(word: u64) -> Link
+    ensures { result.word ≡ word }
+{
+    Link {
+        word,
+        next: usize::MAX,
+        before: 0,
+    }
+}
+
+/// The places of a word in the list, in order, from either end. What is left of a walk is the list of places.
+#[derive(Drop)]
+pub struct Places<'a> {
+    links: &'a [Link],
+    word: u64,
+    // The first place that is left, if it is before `behind`.
+    front: usize,
+    behind: usize,
+}
+
+impl<'a> Model for Places<'a> {
+    ghost use Rattle.std.specs.Prelude.{ℕ, List};
+
+    ghost Value = { List ℕ };
+
+    ghost use Rattle.gitconf_table.specs.Walk.{left_of, IsPlaces};
+
+    ghost view = { left_of };
+
+    ghost invariant = { IsPlaces };
+}
+
+impl Iterator for Places<'_> {
+    type Item = usize;
+
+    ghost next_gives = { YieldsFirst (λ p. p) };
+
+    ghost remaining = { item_count (λ p. p) };
+
+    /// Takes time for the places of the bucket up to the next one with the word.
+    fn next(&mut self) -> Option<usize> {
+        while self.front < self.behind {
+            let at = self.front;
+            let link = self.links[at];
+            self.front = link.next;
+            if link.word == self.word {
+                return Some(at);
+            }
+        }
+        None
+    }
+}
+
+impl DoubleEndedIterator for Places<'_> {
+    ghost next_back_gives = { YieldsLast (λ p. p) };
+
+    fn next_back(&mut self) -> Option<usize> {
+        while self.front < self.behind {
+            let at = self.behind - 1;
+            let link = self.links[at];
+            self.behind = link.before;
+            if link.word == self.word {
+                return Some(at);
+            }
+        }
+        None
     }
 }
