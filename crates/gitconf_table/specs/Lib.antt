@@ -6,3 +6,4 @@ pub mod Words
 pub mod Links
 pub mod Walk
 pub mod WordIndexes
+pub mod Word

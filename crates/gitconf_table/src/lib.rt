@@ -3,3 +3,4 @@
 
 mod index;
 pub mod table;
+mod word;
