@@ -3,3 +3,4 @@ pub mod TableClones
 pub mod Chains
 pub mod LinkLemmas
 pub mod Walks
+pub mod TableLemmas

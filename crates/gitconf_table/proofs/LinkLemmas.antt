@@ -152,3 +152,10 @@ pub words_other : (links : List Link) (at : ℕ) (l : Link) → words_of (set li
 words_other [] at l = refl
 words_other (x ∷ links) zero l = refl
 words_other (x ∷ links) (suc at) l = ap (λ r. x.word ∷ r) (words_other links at l)
+
+-- the words of links that are put between others
+pub words_between : (links added : List Link) (at : ℕ) → words_of (take at links ++ added ++ drop at links) ≡ take at (words_of links) ++ words_of added ++ drop at (words_of links)
+words_between links added at =
+    map-append (λ (l : Link). l.word) (take at links ++ added) (drop at links)
+    ∙ (λ j. map-append (λ (l : Link). l.word) (take at links) added j ++ sym (drop-map (λ (l : Link). l.word) at links) j)
+    ∙ (λ j. sym (take-map (λ (l : Link). l.word) at links) j ++ words_of added ++ drop at (words_of links))

@@ -22,7 +22,7 @@ use Rattle.gitconf_table.specs.Sections.{SectionEntry, Sections, AreNumbered, ch
 use Rattle.gitconf_table.specs.Rows.{entry_of_row, entries_of}
 
 -- letters in lower case stay
-fold_again : (name : List ℕ) → fold (fold name) ≡ fold name
+pub fold_again : (name : List ℕ) → fold (fold name) ≡ fold name
 fold_again [] = refl
 fold_again (b ∷ bs) = λ j. lowercase-lowercase b j ∷ fold_again bs j
 
@@ -40,7 +40,7 @@ above_differs a n h = grind (arith, nat_tests)
 pub below_by : (a b d n : ℕ) → a ≤ b → b ≡ d → d < n → a < n
 below_by a b d n l e h = omega arith
 
-not_placed : (b : Bool) (n : ℕ) → cond b (Some n) None ≡ None → b ≡ false
+pub not_placed : (b : Bool) (n : ℕ) → cond b (Some n) None ≡ None → b ≡ false
 not_placed true n e = absurd (cc)
 not_placed false n e = refl
 
@@ -162,7 +162,7 @@ module _ {T : Type 0} where
       (ap (λ r. e ∷ r) (filter_remove n next es i d k.2 (omega (arith, within)) is (λ j h. before (suc j) (omega (arith, h)))))
 
   -- no place: no section has the number
-  none_has : (n : ℕ) (es : List (SectionEntry T)) → nat_lt (position_or_len (has_number n) es) (length es) ≡ false → AllByRecursion (λ f. (f.number == n) ≡ false) es
+  pub none_has : (n : ℕ) (es : List (SectionEntry T)) → nat_lt (position_or_len (has_number n) es) (length es) ≡ false → AllByRecursion (λ f. (f.number == n) ≡ false) es
   none_has n [] h = tt
   none_has n (e ∷ es) h = go (has_number n e) refl (none_has n es)
     where

@@ -7,3 +7,4 @@ pub mod Links
 pub mod Walk
 pub mod WordIndexes
 pub mod Word
+pub mod Tables

@@ -1,5 +1,5 @@
 //! An index over a list of words: the places of a word without a walk over the others.
-ghost use Rattle.std.specs.Prelude.{◌≡◌, ◌+◌, ◌<◌, ◌≤◌, [], ◌∷◌, ◌++◌, insert, length, remove, slice_set, vec_capacity, vec_len, IfOk, OnOk};
+ghost use Rattle.std.specs.Prelude.{◌≡◌, ◌+◌, ◌<◌, ◌≤◌, [], ◌∷◌, ◌++◌, drop, insert, length, remove, slice_set, take, vec_capacity, vec_len, IfOk, OnOk};
 ghost use Rattle.std.specs.Iterator.{item_count, YieldsFirst, YieldsLast};
 ghost use Rattle.gitconf_table.specs.Links.{bucket_of, words_of, AreLinked, IsLed};
 ghost use Rattle.gitconf_table.specs.Words.{places_of};
@@ -194,6 +194,41 @@ impl WordIndex {
         relink_all(&mut self.links, &mut self.buckets);
     }
 
+    /// Puts all words of another list behind the first `at` ones. Takes time for all words.
+    pub fn insert_all(&mut self, at: usize, other: WordIndex)
+        requires room { length other.words ≤ self.old.room }
+        requires within { at ≤ length self.old.words }
+        ensures { self.new.words ≡ take at self.old.words ++ other.words ++ drop at self.old.words }
+    {
+        let WordIndex {
+            links: mut added,
+            buckets: _,
+        } = other;
+        if added.is_empty() {
+            return;
+        }
+        put_links(&mut self.links, at, &mut added);
+        relink_all(&mut self.links, &mut self.buckets);
+    }
+
+    /// The same words again. Takes memory for the places and buckets at once.
+    ///
+    /// # Errors
+    ///
+    /// Want of memory.
+    pub fn try_clone(&self) -> Result<WordIndex, AllocError>
+        ensures { IfOk result (λ copy. copy.words ≡ self.now.words) }
+    {
+        let alloc = *self.links.allocator();
+        if self.buckets.is_empty() {
+            return Ok(WordIndex::new(alloc));
+        }
+        Ok(WordIndex {
+            links: Vec::from_slice(alloc, &self.links)?,
+            buckets: Vec::from_slice(alloc, &self.buckets)?,
+        })
+    }
+
     /// The places of a word. Takes the time to compute its bucket.
     pub fn places(&self, word: u64) -> Places<'_>
         ensures { result ≡ places_of word self.now.words }
@@ -214,6 +249,26 @@ impl WordIndex {
             behind: bucket.behind,
         }
     }
+}
+
+// Moves the added links behind the first `at` ones.
+fn put_links(links: &mut Vec<Link>, at: usize, added: &mut Vec<Link>)
+    requires within { at ≤ vec_len links.old }
+    requires room { vec_len links.old + vec_len added.old ≤ vec_capacity links.old }
+    ensures { links.new.items ≡ take at links.old.items ++ added.old.items ++ drop at links.old.items }
+{
+    let behind = links.len() - at;
+    links.append(added).unwrap();
+    rotate_tail(links, at, behind);
+}
+
+// Moves the first `count` links from `at` on to the end.
+fn rotate_tail(links: &mut [Link], at: usize, count: usize)
+    requires { at + count ≤ length links.old }
+    ensures { links.new ≡ take at links.old ++ (drop count (drop at links.old) ++ take count (drop at links.old)) }
+{
+    let (_, tail) = links.split_at_mut(at);
+    tail.rotate_left(count);
 }
 
 // A link in no chain.

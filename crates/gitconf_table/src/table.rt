@@ -1,6 +1,6 @@
 //! The table of a file's sections and their numbers. Its contracts speak of the plain list in file order, so
 //! that a look-up by a hashed index can take the place of the walk without a change of them.
-ghost use Rattle.std.specs.Prelude.{◌≡◌, ◌+◌, ◌^◌, ◌<◌, ◌≤◌, ◌==◌, ◌↔◌, [], ◌++◌, drop, find, length, position, slice_get, take, vec_len, IfErr, IfOk, IfSome, OnOk, OnErr, IsErrOf};
+ghost use Rattle.std.specs.Prelude.{◌≡◌, ℕ, ◌+◌, ◌^◌, ◌<◌, ◌≤◌, ◌==◌, ◌↔◌, [], ◌++◌, drop, length, map, slice_get, slice_index, take, vec_capacity, vec_len, IfErr, IfOk, IfSome, OnOk, OnErr, IsErrOf};
 ghost use Rattle.std.specs.Iterator.{item_count, YieldsFirst, YieldsFirstBy, YieldsLast, YieldsLastBy};
 ghost use Rattle.std.specs.List.{list_any};
 ghost use Rattle.std.specs.Option.{option_copied, option_eq, option_map};
@@ -9,11 +9,16 @@ ghost use Rattle.std.specs.Borrow.{sem};
 ghost use Rattle.gitconf_text.specs.Bytes.{fold};
 ghost use Rattle.gitconf_table.specs.Sections.{all_named, entry_of, has_name, ids, is_named, named, no_number, number_at, numbered_from, place_of, section_at, section_of, sections_of, with_all, with_behind, with_last, with_names, without, IsNumbered, IsTableClone};
 ghost use Rattle.gitconf_table.specs.Rows.{entries_of, entry_of_row};
+ghost use Rattle.gitconf_table.specs.Tables.{numbers_of, AreApart, ArePlaced};
+ghost use Rattle.gitconf_table.specs.Word.{full_word};
+ghost use Rattle.gitconf_table.specs.Words.{places_of};
 ghost use Rattle.gitconf_table.specs.SectionIters.{ids_left, named_left, sections_left, shown_section, with_name_left};
 
 use gitconf_text::NoMemory;
 use gitconf_text::parse::section::bytes::is_same_name;
 use gitconf_text::parse::span;
+use crate::index::{Places, WordIndex};
+use crate::word::{full_word, name_word};
 use std::alloc::{AllocError, Global};
 use std::marker::Model;
 
@@ -77,18 +82,24 @@ impl<T: Clone> Clone for Row<T> {
 #[derive(Drop)]
 pub struct SectionTable<T> {
     rows: Vec<Row<T>>,
+    // The place of each number that stands; of another one some place.
+    places: Vec<usize>,
+    // The rows by the words of their names, and by those of their names and subsections.
+    names: WordIndex,
+    full: WordIndex,
     next: usize,
 }
 
 impl<T> Model for SectionTable<T> {
-    ghost use Rattle.gitconf_table.specs.Sections.{Sections, IsNumbered};
+    ghost use Rattle.gitconf_table.specs.Sections.{Sections};
     ghost use Rattle.gitconf_table.specs.Rows.{entries_of};
+    ghost use Rattle.gitconf_table.specs.Tables.{IsTable};
 
     ghost Value = { Sections T };
 
     ghost view = { λ t. record { entries = entries_of t.rows.items; next = t.next } };
 
-    ghost invariant = { λ t. IsNumbered (record { entries = entries_of t.rows.items; next = t.next }) };
+    ghost invariant = { λ t. IsTable t.next (entries_of t.rows.items) t.places.items t.names.words t.full.words };
 }
 
 impl<T> SectionTable<T> {
@@ -101,6 +112,9 @@ impl<T> SectionTable<T> {
     {
         SectionTable {
             rows: Vec::new(alloc),
+            places: Vec::new(alloc),
+            names: WordIndex::new(alloc),
+            full: WordIndex::new(alloc),
             next: 0,
         }
     }
@@ -118,6 +132,9 @@ impl<T> SectionTable<T> {
     {
         Ok(SectionTable {
             rows: self.rows.clone()?,
+            places: Vec::from_slice(*self.rows.allocator(), &self.places)?,
+            names: self.names.try_clone()?,
+            full: self.full.try_clone()?,
             next: self.next,
         })
     }
@@ -156,15 +173,17 @@ impl<T> SectionTable<T> {
         ensures place { result ≡ place_of id self.now }
         ensures within { IfSome result (λ at. at < length self.now.entries) }
     {
-        position(&self.rows, id)
+        let at = *self.places.get(id.number)?;
+        let row = self.rows.get(at)?;
+        if row.id == id { Some(at) } else { None }
     }
 
     /// What the section of that number holds, or `None` where none has it. Takes a walk over the sections.
     pub fn get(&self, id: SectionId) -> Option<&T>
         ensures { option_copied result ≡ section_of id self.now }
     {
-        let row = find(&self.rows, id)?;
-        Some(&row.section)
+        let at = self.position(id)?;
+        Some(self.at(at))
     }
 
     /// The sections in file order, each as its number and what it holds.
@@ -187,6 +206,7 @@ impl<T> SectionTable<T> {
     {
         Ids {
             rows: &self.rows,
+            places: self.places_named(name, subsection),
             name,
             subsection,
         }
@@ -204,6 +224,7 @@ impl<T> SectionTable<T> {
     {
         Named {
             rows: &self.rows,
+            places: self.places_named(name, subsection),
             name,
             subsection,
         }
@@ -217,6 +238,7 @@ impl<T> SectionTable<T> {
     {
         WithName {
             rows: &self.rows,
+            places: self.names.places(name_word(name.as_bytes())),
             name,
         }
     }
@@ -225,7 +247,10 @@ impl<T> SectionTable<T> {
     pub fn has_name(&self, name: &str) -> bool
         ensures { result ≡ list_any (has_name name.now) self.now.entries }
     {
-        any_has_name(&self.rows, name)
+        match self.with_name(name).next() {
+            Some(_) => true,
+            None => false,
+        }
     }
 
     /// The number of the section at a place.
@@ -289,7 +314,16 @@ impl<T> SectionTable<T> {
         }
         let id = SectionId { number: self.next };
         let row = row_of(*self.rows.allocator(), id, name, subsection, section)?;
-        self.rows.push(row)?;
+        self.rows.reserve(1)?;
+        self.places.reserve(1)?;
+        self.names.reserve(1)?;
+        self.full.reserve(1)?;
+        let at = self.rows.len();
+        let word = name_word(name);
+        self.rows.push(row).unwrap();
+        self.places.push(at).unwrap();
+        self.names.push(word);
+        self.full.push(full_word(name, word, subsection));
         self.next += 1;
         Ok(id)
     }
@@ -320,7 +354,17 @@ impl<T> SectionTable<T> {
         }
         let id = SectionId { number: self.next };
         let row = row_of(*self.rows.allocator(), id, name, subsection, section)?;
-        self.rows.insert(position + 1, row)?;
+        self.rows.reserve(1)?;
+        self.places.reserve(1)?;
+        self.names.reserve(1)?;
+        self.full.reserve(1)?;
+        let at = position + 1;
+        let word = name_word(name);
+        self.rows.insert(at, row).unwrap();
+        self.places.push(at).unwrap();
+        relocate(&self.rows, &mut self.places);
+        self.names.insert(at, word);
+        self.full.insert(at, full_word(name, word, subsection));
         self.next += 1;
         Ok(id)
     }
@@ -345,10 +389,20 @@ impl<T> SectionTable<T> {
         }
         let SectionTable {
             rows: mut added,
+            places: _,
+            names,
+            full,
             next: _,
         } = other;
+        self.rows.reserve(count)?;
+        self.names.reserve(count)?;
+        self.full.reserve(count)?;
+        add_places(&mut self.places, self.next, count)?;
         renumber(&mut added, self.next);
-        put_rows(&mut self.rows, position, &mut added)?;
+        put_rows(&mut self.rows, position, &mut added);
+        relocate(&self.rows, &mut self.places);
+        self.names.insert_all(position, names);
+        self.full.insert_all(position, full);
         self.next += count;
         Ok(())
     }
@@ -359,13 +413,16 @@ impl<T> SectionTable<T> {
         ensures held { result ≡ section_of id self.old }
         ensures rest { self.new ≡ without id self.old }
     {
-        let at = position(&self.rows, id)?;
+        let at = self.position(id)?;
         let Row {
             id: _,
             name: _,
             subsection: _,
             section,
         } = self.rows.remove(at);
+        relocate(&self.rows, &mut self.places);
+        self.names.remove(at);
+        self.full.remove(at);
         Some(section)
     }
 
@@ -382,12 +439,24 @@ impl<T> SectionTable<T> {
         ensures err { OnErr result (self.new ≡ self.old) }
     {
         let alloc = *self.rows.allocator();
-        let name = folded(alloc, name)?;
-        let subsection = copied(alloc, subsection)?;
+        let new_name = folded(alloc, name)?;
+        let new_subsection = copied(alloc, subsection)?;
+        let word = name_word(name);
+        self.names.set(position, word);
+        self.full.set(position, full_word(name, word, subsection));
         let row = &mut self.rows[position];
-        row.name = name;
-        row.subsection = subsection;
+        row.name = new_name;
+        row.subsection = new_subsection;
         Ok(())
+    }
+
+    // The places at which the word of the name and subsection stands.
+    fn places_named(&self, name: &str, subsection: Option<&[u8]>) -> Places<'_>
+        ensures { result ≡ places_of (full_word name.now (option_copied subsection.entry)) (map (λ e. full_word e.name e.subsection) self.now.entries) }
+    {
+        let name = name.as_bytes();
+        self.full
+            .places(full_word(name, name_word(name), subsection))
     }
 }
 
@@ -428,18 +497,26 @@ fn row_of<T: Drop>(
     })
 }
 
-// The place of a number among the rows.
-fn position<T>(rows: &[Row<T>], id: SectionId) -> Option<usize>
-    ensures { result ≡ position (λ r. r.id == id) rows.now }
+// Writes down the place of each row under its number.
+fn relocate<T>(rows: &Vec<Row<T>>, places: &mut Vec<usize>)
+    requires within { (k : ℕ) → k < length rows.now.items → slice_index (numbers_of (entries_of rows.now.items)) k < length places.old.items }
+    requires once { AreApart (numbers_of (entries_of rows.now.items)) }
+    ensures placed { ArePlaced (numbers_of (entries_of rows.now.items)) places.new.items }
+    ensures len { length places.new.items ≡ length places.old.items }
 {
-    rows.iter().position(|row| row.id == id)
+    for at in 0..rows.len() {
+        let row = &rows[at];
+        places[row.id.number] = at;
+    }
 }
 
-// The row of a number.
-fn find<T>(rows: &[Row<T>], id: SectionId) -> Option<&Row<T>>
-    ensures { option_copied result ≡ find (λ r. r.id == id) rows.now }
+// Makes room for the places of so many numbers more, behind those below `next`.
+fn add_places(places: &mut Vec<usize>, next: usize, count: usize) -> Result<(), AllocError>
+    requires { next + count ≤ no_number }
+    ensures ok { OnOk result (vec_len places.new ≡ next + count) }
+    ensures err { OnErr result (places.new.items ≡ places.old.items) }
 {
-    rows.iter().find(|row| row.id == id)
+    places.resize(next + count, 0)
 }
 
 // Gives the rows the numbers from `next` on.
@@ -453,16 +530,15 @@ fn renumber<T>(rows: &mut Vec<Row<T>>, next: usize)
     }
 }
 
-// Moves the added rows behind the first `at` ones; for want of memory nothing is moved.
-fn put_rows<T>(rows: &mut Vec<Row<T>>, at: usize, added: &mut Vec<Row<T>>) -> Result<(), AllocError>
-    requires { at ≤ vec_len rows.old }
-    ensures ok { OnOk result (rows.new.items ≡ take at rows.old.items ++ added.old.items ++ drop at rows.old.items) }
-    ensures err { OnErr result (rows.new.items ≡ rows.old.items) }
+// Moves the added rows behind the first `at` ones.
+fn put_rows<T>(rows: &mut Vec<Row<T>>, at: usize, added: &mut Vec<Row<T>>)
+    requires within { at ≤ vec_len rows.old }
+    requires room { vec_len rows.old + vec_len added.old ≤ vec_capacity rows.old }
+    ensures { rows.new.items ≡ take at rows.old.items ++ added.old.items ++ drop at rows.old.items }
 {
     let behind = rows.len() - at;
-    rows.append(added)?;
+    rows.append(added).unwrap();
     rotate_tail(rows, at, behind);
-    Ok(())
 }
 
 // Moves the first `count` rows from `at` on to the end.
@@ -479,14 +555,6 @@ fn is_named<T>(row: &Row<T>, name: &str, subsection: Option<&[u8]>) -> bool
     ensures { result ≡ is_named name.now (option_copied subsection.entry) (entry_of_row row.now) }
 {
     is_same_name(name.as_bytes(), &row.name) && same_subsection(&row.subsection, subsection)
-}
-
-// Whether some row has the name, without ASCII case.
-fn any_has_name<T>(rows: &[Row<T>], name: &str) -> bool
-    ensures { result ≡ list_any (λ r. has_name name.now (entry_of_row r)) rows.now }
-{
-    rows.iter()
-        .any(|row| is_same_name(name.as_bytes(), &row.name))
 }
 
 // Whether both are none, or the same bytes.
@@ -534,6 +602,7 @@ impl<'a, T> DoubleEndedIterator for SectionIter<'a, T> {
 #[derive(Drop)]
 pub struct Ids<'a, 'n, 's, T> {
     rows: &'a [Row<T>],
+    places: Places<'a>,
     name: &'n str,
     subsection: Option<&'s [u8]>,
 }
@@ -546,10 +615,11 @@ impl<T> Iterator for Ids<'_, '_, '_, T> {
     ghost remaining = { item_count ids_left };
 
     fn next(&mut self) -> Option<SectionId> {
-        while let Some((row, rest)) = self.rows.split_first() {
-            self.rows = rest;
-            if is_named(row, self.name, self.subsection) {
-                return Some(row.id);
+        while let Some(at) = self.places.next() {
+            if let Some(row) = self.rows.get(at) {
+                if is_named(row, self.name, self.subsection) {
+                    return Some(row.id);
+                }
             }
         }
         None
@@ -560,10 +630,11 @@ impl<T> DoubleEndedIterator for Ids<'_, '_, '_, T> {
     ghost next_back_gives = { YieldsLast ids_left };
 
     fn next_back(&mut self) -> Option<SectionId> {
-        while let Some((row, rest)) = self.rows.split_last() {
-            self.rows = rest;
-            if is_named(row, self.name, self.subsection) {
-                return Some(row.id);
+        while let Some(at) = self.places.next_back() {
+            if let Some(row) = self.rows.get(at) {
+                if is_named(row, self.name, self.subsection) {
+                    return Some(row.id);
+                }
             }
         }
         None

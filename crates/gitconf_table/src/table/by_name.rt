@@ -2,6 +2,7 @@
 ghost use Rattle.std.specs.Iterator.{item_count, YieldsFirstBy, YieldsLastBy};
 ghost use Rattle.gitconf_table.specs.SectionIters.{named_left, shown_section, with_name_left};
 
+use crate::index::Places;
 use crate::table::{Row, SectionId, is_named};
 use gitconf_text::parse::section::bytes::is_same_name;
 
@@ -9,6 +10,7 @@ use gitconf_text::parse::section::bytes::is_same_name;
 #[derive(Drop)]
 pub struct Named<'a, 'n, 's, T> {
     pub(super) rows: &'a [Row<T>],
+    pub(super) places: Places<'a>,
     pub(super) name: &'n str,
     pub(super) subsection: Option<&'s [u8]>,
 }
@@ -21,10 +23,11 @@ impl<'a, T> Iterator for Named<'a, '_, '_, T> {
     ghost remaining = { item_count named_left };
 
     fn next(&mut self) -> Option<(SectionId, &'a T)> {
-        while let Some((row, rest)) = self.rows.split_first() {
-            self.rows = rest;
-            if is_named(row, self.name, self.subsection) {
-                return Some((row.id, &row.section));
+        while let Some(at) = self.places.next() {
+            if let Some(row) = self.rows.get(at) {
+                if is_named(row, self.name, self.subsection) {
+                    return Some((row.id, &row.section));
+                }
             }
         }
         None
@@ -35,10 +38,11 @@ impl<'a, T> DoubleEndedIterator for Named<'a, '_, '_, T> {
     ghost next_back_gives = { YieldsLastBy shown_section named_left };
 
     fn next_back(&mut self) -> Option<(SectionId, &'a T)> {
-        while let Some((row, rest)) = self.rows.split_last() {
-            self.rows = rest;
-            if is_named(row, self.name, self.subsection) {
-                return Some((row.id, &row.section));
+        while let Some(at) = self.places.next_back() {
+            if let Some(row) = self.rows.get(at) {
+                if is_named(row, self.name, self.subsection) {
+                    return Some((row.id, &row.section));
+                }
             }
         }
         None
@@ -49,6 +53,7 @@ impl<'a, T> DoubleEndedIterator for Named<'a, '_, '_, T> {
 #[derive(Drop)]
 pub struct WithName<'a, 'n, T> {
     pub(super) rows: &'a [Row<T>],
+    pub(super) places: Places<'a>,
     pub(super) name: &'n str,
 }
 
@@ -60,10 +65,11 @@ impl<'a, T> Iterator for WithName<'a, '_, T> {
     ghost remaining = { item_count with_name_left };
 
     fn next(&mut self) -> Option<(SectionId, &'a T)> {
-        while let Some((row, rest)) = self.rows.split_first() {
-            self.rows = rest;
-            if is_same_name(self.name.as_bytes(), &row.name) {
-                return Some((row.id, &row.section));
+        while let Some(at) = self.places.next() {
+            if let Some(row) = self.rows.get(at) {
+                if is_same_name(self.name.as_bytes(), &row.name) {
+                    return Some((row.id, &row.section));
+                }
             }
         }
         None
@@ -74,10 +80,11 @@ impl<'a, T> DoubleEndedIterator for WithName<'a, '_, T> {
     ghost next_back_gives = { YieldsLastBy shown_section with_name_left };
 
     fn next_back(&mut self) -> Option<(SectionId, &'a T)> {
-        while let Some((row, rest)) = self.rows.split_last() {
-            self.rows = rest;
-            if is_same_name(self.name.as_bytes(), &row.name) {
-                return Some((row.id, &row.section));
+        while let Some(at) = self.places.next_back() {
+            if let Some(row) = self.rows.get(at) {
+                if is_same_name(self.name.as_bytes(), &row.name) {
+                    return Some((row.id, &row.section));
+                }
             }
         }
         None

@@ -1,11 +1,9 @@
-use Rattle.std.proofs.Common.{Some, None}
-use Rattle.gitconf_table.proofs.SectionLemmas.{section-rows}
+use Rattle.std.proofs.Common.{sym, ◌∙◌}
+use Rattle.gitconf_table.proofs.SectionLemmas.{absent_section, section_of-place}
 use Rattle.gitconf_table.proofs.table.SectionTable.get.Goals as goal
 
-pub returns-in_err-row : goal.returns-in_err-row
-returns-in_err-row g c =
-    rw (c.from_residual.ensures, ← c.self.view_is) (section-rows c.args.id c.self.inside.rows.items None (rw c.deref.ensures.value at c.in_err-row.ensures))
+pub returns-in_err-at : goal.returns-in_err-at
+returns-in_err-at g c = rw c.from_residual.ensures (sym (absent_section c.args.id c.args.self.now.entries (sym c.in_err-at.ensures.place)))
 
 pub returns : goal.returns
-returns g c =
-    rw (← c.self.view_is) (section-rows c.args.id c.self.inside.rows.items (Some c.in_ok-row.row.now) (rw c.deref.ensures.value at c.in_ok-row.ensures))
+returns g c = sym c.at.ensures ∙ sym (section_of-place c.args.id c.args.self.now c.in_ok-at.at (sym c.in_ok-at.ensures.place))

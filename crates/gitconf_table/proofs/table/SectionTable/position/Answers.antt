@@ -1,7 +1,15 @@
-use Rattle.std.proofs.Common.{sym, ◌∙◌}
-use Rattle.gitconf_table.specs.Sections.{has_number}
-use Rattle.gitconf_table.proofs.SectionLemmas.{position-rows}
+use Rattle.std.proofs.Common.{◌≡◌, ap, sym, ◌∙◌}
+use Rattle.gitconf_table.proofs.TableLemmas.{not_written, past_rows, other_there, stands_there}
 use Rattle.gitconf_table.proofs.table.SectionTable.position.Goals as goal
 
-pub returns-clause-place : goal.returns-clause-place
-returns-clause-place g c = rw (← c.self.view_is) (rw c.deref.ensures.value at c.position.ensures ∙ sym (position-rows (has_number c.args.id) c.self.inside.rows.items))
+pub returns-in_err-at-clause-place : goal.returns-in_err-at-clause-place
+returns-in_err-at-clause-place g c = ?
+
+pub returns-in_err-row-clause-place : goal.returns-in_err-row-clause-place
+returns-in_err-row-clause-place g c = ?
+
+pub returns-then-eq-clause-place : goal.returns-then-eq-clause-place
+returns-then-eq-clause-place g c = ?
+
+pub returns-else-eq-clause-place : goal.returns-else-eq-clause-place
+returns-else-eq-clause-place g c = ?

@@ -1,0 +1,1 @@
+use Rattle.gitconf_table.proofs.table.relocate.Goals as goal
