@@ -2,7 +2,7 @@
 use Rattle.std.proofs.Common.{◌≡◌, ◌≢◌, ℕ, zero, suc, ◌+◌, ◌-◌, ◌≤◌, ◌<◌, ◌==◌, ◌⊎◌, inl, inr, Bool, true, false, not, cond, List, [], ◌∷◌, ◌++◌, length, take, drop, get_or, set, map, filter, insert, remove, position, slice_index, Option, Some, None, refl, ap, sym, subst, ◌∙◌, arith, add-zero, eqb-true}
 use Rattle.std.specs.Prelude.{◌&&◌, slice_get}
 use Rattle.std.specs.Option.{option_eq, option_map}
-use Rattle.std.specs.List.{filter_map, list_any, AllByRecursion}
+use Rattle.std.specs.List.{filter_map, list_any, AllByRecursion, AllZip}
 use Rattle.std.specs.Str.{bytes_eq}
 use Rattle.std.proofs.lemmas.Bool.{cases_eq, cases_lt, eq-eqb}
 use Rattle.std.proofs.lemmas.List.{map-append, length-map, length-append, take-map, drop-map, get_or-set_same, get_or-set_other, get_or_append_left, get_or_default}
@@ -14,12 +14,12 @@ use Rattle.std.proofs.lemmas.List.Filters.{length-filter_both}
 use Rattle.std.proofs.lemmas.Slice.Eq.{bytes_eq-Decides}
 use Rattle.gitconf_text.specs.Bytes.{fold}
 use Rattle.gitconf_table.specs.declared.table.Row.{Row}
-use Rattle.gitconf_table.specs.Sections.{SectionEntry, AreNumbered, changed_at, has_name, has_number, is_named, no_number, numbered_from}
+use Rattle.gitconf_table.specs.Sections.{SectionEntry, AreNumbered, changed_at, entry_of, has_name, has_number, is_named, no_number, numbered_from, IsEntryClone}
 use Rattle.gitconf_table.specs.Rows.{entries_at, entries_of, entry_of_row}
 use Rattle.gitconf_table.specs.Word.{full_word, name_word, no_bytes, with_bytes}
 use Rattle.gitconf_table.specs.Words.{places_in, places_of}
 use Rattle.gitconf_table.specs.Tables.{IsTable, AreApart, ArePlaced, ArePlacedTo, numbers_of, word_of_name, word_of_names}
-use Rattle.gitconf_table.proofs.SectionLemmas.{all_put_numbered, fold_again, insert_numbered, none_has, not_placed, number_at-place, push_numbered}
+use Rattle.gitconf_table.proofs.SectionLemmas.{all_put_numbered, changed_numbered, fold_again, insert_numbered, none_has, not_placed, number_at-place, push_numbered}
 
 -- equal names have equal words
 pub same_names : (a b : List ℕ) → bytes_eq (fold a) (fold b) ≡ true → name_word b ≡ name_word a
@@ -80,7 +80,7 @@ module _ {T : Type 0} where
           → filter p (filter_map h (places_in ws w a (length (x ∷ xs)))) ≡ filter p (x ∷ xs)
       go true e true passes later = rw (e, there, passes) (ap (λ r. x ∷ r) later)
       go true e false passes later = rw (e, there, passes) later
-      go false e true passes later = absurd (let eq : (slice_index ws a == w) ≡ true = eq-eqb _ _ (its_word ∙ words x passes) in let no : true ≡ false = sym eq ∙ e in cc)
+      go false e true passes later = absurd (let eq : (slice_index ws a == w) ≡ true = eq-eqb _ _ (its_word ∙ words x passes) in let differ : true ≡ false = sym eq ∙ e in cc)
       go false e false passes later = rw (e, passes) later
 
   -- among the rows
@@ -114,7 +114,7 @@ module _ {T : Type 0} where
 
   other_numbers : (n : ℕ) (es : List (SectionEntry T)) → AllByRecursion (λ f. (f.number == n) ≡ false) es → (k : ℕ) → k < length (numbers_of es) → slice_index (numbers_of es) k ≢ n
   other_numbers n [] h k within e = omega (arith, within)
-  other_numbers n (f ∷ es) h zero within e = let eq : (f.number == n) ≡ true = eq-eqb _ _ e in let no : true ≡ false = sym eq ∙ h.0 in absurd (cc)
+  other_numbers n (f ∷ es) h zero within e = let eq : (f.number == n) ≡ true = eq-eqb _ _ e in let differ : true ≡ false = sym eq ∙ h.0 in absurd (cc)
   other_numbers n (f ∷ es) h (suc k) within e = other_numbers n es h.1 k (omega (arith, within)) e
 
   pub numbered_apart : (next : ℕ) (es : List (SectionEntry T)) → AreNumbered next es → AreApart (numbers_of es)
@@ -244,54 +244,42 @@ module _ {T : Type 0} where
   other_at n (f ∷ es) (suc at) e all h = other_at n es at e all.1 h
 
   module _ (next id : ℕ) (es : List (SectionEntry T)) (places names full : List ℕ) (h : IsTable next es places names full) where
-    -- a number that stands has its place written down
-    written : (i : ℕ) → position (has_number id) es ≡ Some i → slice_get places id ≡ Some i
-    written i stands =
-        let facts = place_under next id es places names full i h stands in
-        slice_get-get_or places id 0 facts.1 ∙ ap (λ (n : ℕ). Some n) facts.2
+    none_if : ((i : ℕ) → position (has_number id) es ≡ Some i → ⊥) → position (has_number id) es ≡ None
+    none_if never = go (position (has_number id) es) refl
+      where
+        go : (p : Option ℕ) → position (has_number id) es ≡ p → position (has_number id) es ≡ None
+        go None e = e
+        go (Some i) e = absurd (never i e)
 
     its : (i : ℕ) → position (has_number id) es ≡ Some i → option_map (λ (e : SectionEntry T). e.number) (slice_get es i) ≡ Some id
     its i stands = number_at-place id (record { entries = es; next = next }) i stands
 
-    pub not_written : slice_get places id ≡ None → position (has_number id) es ≡ None
-    not_written none = go (position (has_number id) es) refl
-      where
-        go : (p : Option ℕ) → position (has_number id) es ≡ p → position (has_number id) es ≡ None
-        go None e = e
-        go (Some i) e = absurd (let w = written i e in cc)
+    pub not_written : length places ≤ id → position (has_number id) es ≡ None
+    not_written past = none_if (λ i e. let facts = place_under next id es places names full i h e in omega (arith, past, facts.1))
 
-    pub past_rows : (at : ℕ) → slice_get places id ≡ Some at → slice_get es at ≡ None → position (has_number id) es ≡ None
-    past_rows at place none = go (position (has_number id) es) refl
-      where
-        go : (p : Option ℕ) → position (has_number id) es ≡ p → position (has_number id) es ≡ None
-        go None e = e
-        go (Some i) e = absurd (let w = written i e in let same : i ≡ at = cc in let there = rw (same, none) at (its i e) in cc)
+    pub past_rows : (at : ℕ) → at ≡ slice_index places id → length es ≤ at → position (has_number id) es ≡ None
+    past_rows at place past = none_if (λ i e. let facts = place_under next id es places names full i h e in omega (arith, past, place, facts.0, facts.2))
 
-    pub other_there : (at : ℕ) (e : SectionEntry T) → slice_get places id ≡ Some at → slice_get es at ≡ Some e → (e.number == id) ≡ false → position (has_number id) es ≡ None
-    other_there at f place stands other = go (position (has_number id) es) refl
-      where
-        go : (p : Option ℕ) → position (has_number id) es ≡ p → position (has_number id) es ≡ None
-        go None e = e
-        go (Some i) e = absurd (
-          let w = written i e in
-          let same : i ≡ at = cc in
-          let there = rw (same, stands) at (its i e) in
-          let number : f.number ≡ id = cc in
-          let eq : (f.number == id) ≡ true = eq-eqb _ _ number in
-          let no : true ≡ false = sym eq ∙ other in
-          cc)
+    pub other_there : (at : ℕ) (e : SectionEntry T) → at ≡ slice_index places id → slice_get es at ≡ Some e → (e.number == id) ≡ false → position (has_number id) es ≡ None
+    other_there at f place stands other = none_if (λ i e.
+      let facts = place_under next id es places names full i h e in
+      let same : i ≡ at = sym facts.2 ∙ sym place in
+      let there : option_map (λ (e : SectionEntry T). e.number) (Some f) ≡ Some id = rw (same, stands) at (its i e) in
+      let number : f.number ≡ id = cc in
+      let differ : true ≡ false = sym (eq-eqb _ _ number) ∙ other in
+      cc)
 
-    pub stands_there : (at : ℕ) (e : SectionEntry T) → slice_get places id ≡ Some at → slice_get es at ≡ Some e → (e.number == id) ≡ true → position (has_number id) es ≡ Some at
+    pub stands_there : (at : ℕ) (e : SectionEntry T) → at ≡ slice_index places id → slice_get es at ≡ Some e → (e.number == id) ≡ true → position (has_number id) es ≡ Some at
     stands_there at f place stands this = go (position (has_number id) es) refl
       where
         go : (p : Option ℕ) → position (has_number id) es ≡ p → position (has_number id) es ≡ Some at
         go None e = absurd (
           let all = none_has id es (not_placed _ _ e) in
-          let no : true ≡ false = sym this ∙ other_at id es at f all stands in
+          let differ : true ≡ false = sym this ∙ other_at id es at f all stands in
           cc)
         go (Some i) e =
-            let w = written i e in
-            let same : i ≡ at = cc in
+            let facts = place_under next id es places names full i h e in
+            let same : i ≡ at = sym facts.2 ∙ sym place in
             e ∙ ap (λ (n : ℕ). Some n) same
 
   -- what a walk shows is no longer than the table
@@ -315,3 +303,53 @@ module _ {T : Type 0} where
       go : (b : Bool) → p e ≡ b → (map f (filter p es) ≡ [] → list_any p es ≡ false) → list_any p (e ∷ es) ≡ false
       go true t later = absurd (let g = rw t at h in cc)
       go false t later = rw t (later (rw t at h))
+
+module _ {T : Type 0} where
+  -- the changes of a table, as the calls leave its parts
+  pub table_pushed : (next : ℕ) (es es2 : List (SectionEntry T)) (places places2 names names2 full full2 : List ℕ) (name : List ℕ) (s : Option (List ℕ)) (section : T)
+      → es2 ≡ es ++ entry_of next name s section ∷ [] → places2 ≡ places ++ length es ∷ [] → names2 ≡ names ++ name_word name ∷ [] → full2 ≡ full ++ full_word name s ∷ []
+      → next < no_number → IsTable next es places names full → IsTable (next + 1) es2 places2 names2 full2
+  table_pushed next es es2 places places2 names names2 full full2 name s section e1 e2 e3 e4 room h =
+      rw (e1, e2, e3, e4, ← folded_word name, ← folded_full name s) (table_push next es places names full (entry_of next name s section) refl room h)
+
+  pub table_inserted : (next at : ℕ) (es es2 : List (SectionEntry T)) (places more names names2 full full2 : List ℕ) (name : List ℕ) (s : Option (List ℕ)) (section : T)
+      → es2 ≡ insert es at (entry_of next name s section) → names2 ≡ insert names at (name_word name) → full2 ≡ insert full at (full_word name s)
+      → next < no_number → IsTable next es places names full → length more ≡ next + 1 → ArePlaced (numbers_of es2) more → IsTable (next + 1) es2 more names2 full2
+  table_inserted next at es es2 places more names names2 full full2 name s section e1 e3 e4 room h count placed =
+      rw (e1, e3, e4, ← folded_word name, ← folded_full name s) (table_put next at es places more names full (entry_of next name s section) refl room h count (rw e1 at placed))
+
+  pub table_renamed : (next at : ℕ) (es es2 : List (SectionEntry T)) (places names names2 full full2 : List ℕ) (name : List ℕ) (s : Option (List ℕ))
+      → es2 ≡ changed_at (λ e. record e { name = fold name; subsection = s }) es at → names2 ≡ set names at (name_word name) → full2 ≡ set full at (full_word name s)
+      → IsTable next es places names full → IsTable next es2 places names2 full2
+  table_renamed next at es es2 places names names2 full full2 name s e1 e3 e4 h =
+      let f : SectionEntry T → SectionEntry T = λ e. record e { name = fold name; subsection = s } in
+      rw (e1, e3, e4) (table_same next es (changed_at f es at) places names full _ _ h
+        (changed_numbered f (λ e. refl) next es at h.numbered.once)
+        (map_unchanged (λ e. e.number) f (λ e. refl) es at)
+        (ap (λ l. set l at (name_word name)) h.names ∙ sym (map_changed word_of_name f (name_word name) (λ e. folded_word name) es at))
+        (ap (λ l. set l at (full_word name s)) h.full ∙ sym (map_changed word_of_names f (full_word name s) (λ e. folded_full name s) es at)))
+
+  -- what the loop over places needs of the numbers
+  pub numbers_within : (next : ℕ) (es : List (SectionEntry T)) (places : List ℕ) → AreNumbered next es → length places ≡ next → (k : ℕ) → k < length (numbers_of es) → slice_index (numbers_of es) k < length places
+  numbers_within next es places h count k within = let b = below_next next es h k within in omega (arith, b, count)
+
+  -- the number of the row at a place
+  pub row_number : (rows : List (Row T)) (at : ℕ) (r : Row T) → at < length rows → r ≡ get_or rows at r → r.id ≡ slice_index (numbers_of (entries_of rows)) at
+  row_number rows at r within is =
+      let count : length (numbers_of (entries_of rows)) ≡ length rows = length-map (entries_of rows) (λ e. e.number) ∙ length-map rows entry_of_row in
+      ap (λ (x : Row T). x.id) is ∙ sym (get_or-map (λ (e : SectionEntry T). e.number) (entries_of rows) at (entry_of_row r) ∙ ap (λ (e : SectionEntry T). e.number) (get_or-map entry_of_row rows at r))
+      ∙ get_or_default (numbers_of (entries_of rows)) at r.id 0 (omega (arith, count, within))
+
+  pub length-numbers : (rows : List (Row T)) → length (numbers_of (entries_of rows)) ≡ length rows
+  length-numbers rows = length-map (entries_of rows) (λ e. e.number) ∙ length-map rows entry_of_row
+
+  pub inserted_numbered : (next at : ℕ) (es es2 : List (SectionEntry T)) (name : List ℕ) (s : Option (List ℕ)) (section : T) → es2 ≡ insert es at (entry_of next name s section) → AreNumbered next es → AreNumbered (next + 1) es2
+  inserted_numbered next at es es2 name s section e h = rw e (insert_numbered next es at (entry_of next name s section) refl h)
+
+-- what no clone changes
+pub cloned_map : {T : Type 0} (C : T → T → Type 0) (f : SectionEntry T → ℕ) → ((e d : SectionEntry T) → IsEntryClone C e d → f d ≡ f e)
+    → (entries copies : List (SectionEntry T)) → AllZip (IsEntryClone C) entries copies → map f copies ≡ map f entries
+cloned_map C f same [] [] all = refl
+cloned_map C f same [] (d ∷ copies) all = elim all [ ]
+cloned_map C f same (e ∷ entries) [] all = elim all [ ]
+cloned_map C f same (e ∷ entries) (d ∷ copies) all = λ j. same e d all.0 j ∷ cloned_map C f same entries copies all.1 j

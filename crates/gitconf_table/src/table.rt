@@ -173,8 +173,14 @@ impl<T> SectionTable<T> {
         ensures place { result ≡ place_of id self.now }
         ensures within { IfSome result (λ at. at < length self.now.entries) }
     {
-        let at = *self.places.get(id.number)?;
-        let row = self.rows.get(at)?;
+        if id.number >= self.places.len() {
+            return None;
+        }
+        let at = self.places[id.number];
+        if at >= self.rows.len() {
+            return None;
+        }
+        let row = &self.rows[at];
         if row.id == id { Some(at) } else { None }
     }
 
@@ -506,7 +512,8 @@ fn relocate<T>(rows: &Vec<Row<T>>, places: &mut Vec<usize>)
 {
     for at in 0..rows.len() {
         let row = &rows[at];
-        places[row.id.number] = at;
+        let id = row.id;
+        places[id.number] = at;
     }
 }
 

@@ -1,4 +1,4 @@
-use Rattle.std.proofs.Common.{◌≡◌, ap, ◌∙◌, filter, map}
+use Rattle.std.proofs.Common.{◌≡◌, ap, ◌∙◌, filter, map, refl}
 use Rattle.std.specs.Option.{option_copied}
 use Rattle.gitconf_table.specs.Sections.{is_named}
 use Rattle.gitconf_table.specs.Rows.{entries_at, entries_of}
