@@ -353,3 +353,17 @@ cloned_map C f same [] [] all = refl
 cloned_map C f same [] (d ∷ copies) all = elim all [ ]
 cloned_map C f same (e ∷ entries) [] all = elim all [ ]
 cloned_map C f same (e ∷ entries) (d ∷ copies) all = λ j. same e d all.0 j ∷ cloned_map C f same entries copies all.1 j
+
+module _ {T : Type 0} where
+  pub table_removed : (next at : ℕ) (es es2 : List (SectionEntry T)) (places more names names2 full full2 : List ℕ)
+      → es2 ≡ remove es at → names2 ≡ remove names at → full2 ≡ remove full at
+      → AreNumbered next es2 → IsTable next es places names full → length more ≡ next → ArePlaced (numbers_of es2) more → IsTable next es2 more names2 full2
+  table_removed next at es es2 places more names names2 full full2 e1 e2 e3 once h count placed =
+      rw (e1, e2, e3) (table_out next at es places more names full h (rw e1 at once) count (rw e1 at placed))
+
+  pub table_joined : (next other at count : ℕ) (es fs es2 : List (SectionEntry T)) (places places2 more names full names2 full2 names3 full3 : List ℕ)
+      → count ≡ length fs → es2 ≡ take at es ++ numbered_from next fs ++ drop at es → names3 ≡ take at names ++ names2 ++ drop at names → full3 ≡ take at full ++ full2 ++ drop at full
+      → next + count ≤ no_number → IsTable next es places names full → IsTable other fs places2 names2 full2
+      → length more ≡ next + count → ArePlaced (numbers_of es2) more → IsTable (next + count) es2 more names3 full3
+  table_joined next other at count es fs es2 places places2 more names full names2 full2 names3 full3 e0 e1 e2 e3 room h h2 counted placed =
+      rw (e0, e1, e2, e3) (table_all next other at es fs places places2 more names full names2 full2 (rw e0 at room) h h2 (rw e0 at counted) (rw e1 at placed))

@@ -505,7 +505,7 @@ fn row_of<T: Drop>(
 
 // Writes down the place of each row under its number.
 fn relocate<T>(rows: &Vec<Row<T>>, places: &mut Vec<usize>)
-    requires within { (k : ℕ) → k < length rows.now.items → slice_index (numbers_of (entries_of rows.now.items)) k < length places.old.items }
+    requires within { (k : ℕ) → k < length (numbers_of (entries_of rows.now.items)) → slice_index (numbers_of (entries_of rows.now.items)) k < length places.old.items }
     requires once { AreApart (numbers_of (entries_of rows.now.items)) }
     ensures placed { ArePlaced (numbers_of (entries_of rows.now.items)) places.new.items }
     ensures len { length places.new.items ≡ length places.old.items }
