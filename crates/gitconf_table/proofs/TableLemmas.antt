@@ -9,6 +9,7 @@ use Rattle.std.proofs.lemmas.List.{map-append, length-map, length-append, take-m
 use Rattle.std.proofs.lemmas.List.Quantifiers.{position-Some}
 use Rattle.std.proofs.Math.ListN.{get_or-map}
 use Rattle.std.proofs.Math.Seq.{get_or-append_seam}
+use Rattle.std.proofs.lemmas.List.Elements.{filter-append, filter_map-append}
 use Rattle.std.proofs.lemmas.Option.{slice_get-map, slice_get-get_or}
 use Rattle.std.proofs.lemmas.List.Filters.{length-filter_both}
 use Rattle.std.proofs.lemmas.Slice.Eq.{bytes_eq-Decides}
@@ -367,3 +368,6 @@ module _ {T : Type 0} where
       → length more ≡ next + count → ArePlaced (numbers_of es2) more → IsTable (next + count) es2 more names3 full3
   table_joined next other at count es fs es2 places places2 more names full names2 full2 names3 full3 e0 e1 e2 e3 room h h2 counted placed =
       rw (e0, e1, e2, e3) (table_all next other at es fs places places2 more names full names2 full2 (rw e0 at room) h h2 (rw e0 at counted) (rw e1 at placed))
+
+-- for walks from the end
+pub ruleset walking = (map-append, filter-append, filter_map-append)

@@ -529,7 +529,8 @@ fn add_places(places: &mut Vec<usize>, next: usize, count: usize) -> Result<(), 
 // Gives the rows the numbers from `next` on.
 fn renumber<T>(rows: &mut Vec<Row<T>>, next: usize)
     requires { next + vec_len rows.old ≤ no_number }
-    ensures { entries_of rows.new.items ≡ numbered_from next (entries_of rows.old.items) }
+    ensures entries { entries_of rows.new.items ≡ numbered_from next (entries_of rows.old.items) }
+    ensures len { vec_len rows.new ≡ vec_len rows.old }
 {
     for at in 0..rows.len() {
         let row = &mut rows[at];
@@ -636,6 +637,7 @@ impl<T> Iterator for Ids<'_, '_, '_, T> {
 impl<T> DoubleEndedIterator for Ids<'_, '_, '_, T> {
     ghost next_back_gives = { YieldsLast ids_left };
 
+    #[tactic(auto, using(crate::proofs::TableLemmas::walking))]
     fn next_back(&mut self) -> Option<SectionId> {
         while let Some(at) = self.places.next_back() {
             if let Some(row) = self.rows.get(at) {

@@ -37,6 +37,7 @@ impl<'a, T> Iterator for Named<'a, '_, '_, T> {
 impl<'a, T> DoubleEndedIterator for Named<'a, '_, '_, T> {
     ghost next_back_gives = { YieldsLastBy shown_section named_left };
 
+    #[tactic(auto, using(crate::proofs::TableLemmas::walking))]
     fn next_back(&mut self) -> Option<(SectionId, &'a T)> {
         while let Some(at) = self.places.next_back() {
             if let Some(row) = self.rows.get(at) {
@@ -79,6 +80,7 @@ impl<'a, T> Iterator for WithName<'a, '_, T> {
 impl<'a, T> DoubleEndedIterator for WithName<'a, '_, T> {
     ghost next_back_gives = { YieldsLastBy shown_section with_name_left };
 
+    #[tactic(auto, using(crate::proofs::TableLemmas::walking))]
     fn next_back(&mut self) -> Option<(SectionId, &'a T)> {
         while let Some(at) = self.places.next_back() {
             if let Some(row) = self.rows.get(at) {

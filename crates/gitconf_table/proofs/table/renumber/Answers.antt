@@ -11,7 +11,7 @@ loop-at-preserved g c =
       same_len = c.loop-at.invariant.same_len;
     }
 
-pub returns : goal.returns
-returns g c =
+pub returns-clause-entries : goal.returns-clause-entries
+returns-clause-entries g c =
     let whole : c.loop-at.at ≡ length c.args.rows.now.items = omega (arith, c.loop-at-test.false, c.loop-at.auto.at-end, c.len-at-end.ensures, c.args.rows.now.ok) in
     ap entries_of (c.loop-at.invariant.numbers ∙ ap (λ n. numbered_until n c.args.next c.args.rows.now.items) whole) ∙ until_all c.args.next c.args.rows.now.items
