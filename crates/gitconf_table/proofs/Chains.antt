@@ -12,16 +12,18 @@ module _ (g : ℕ → ℕ) where
   first_other : (b b0 a n j : ℕ) → g n ≡ b0 → b ≢ b0 → IsFirst g b a n j → IsFirst g b a (n + 1) j
   first_other b b0 a n j is other h = record {
     passed = λ k l u under e. elim (cases_eq k n) [
-      inl at ↦ other (let same : g k ≡ b0 = rw at is in sym e ∙ same)
-    | inr below ↦ h.passed k l (omega (arith, u, below)) under e ];
+      | inl at ↦ other (let same : g k ≡ b0 = rw at is in sym e ∙ same)
+      | inr below ↦ h.passed k l (omega (arith, u, below)) under e
+    ];
     stands = λ stands. let old = h.stands stands in (old.0, omega (arith, old.1), old.2);
   }
 
   behind_other : (b b0 n e : ℕ) → g n ≡ b0 → b ≢ b0 → IsBehindLast g b n e → IsBehindLast g b (n + 1) e
   behind_other b b0 n e is other h = record {
     passed = λ k l u at. elim (cases_eq k n) [
-      inl same ↦ other (let bucket : g k ≡ b0 = rw same is in sym at ∙ bucket)
-    | inr below ↦ h.passed k l (omega (arith, u, below)) at ];
+      | inl same ↦ other (let bucket : g k ≡ b0 = rw same is in sym at ∙ bucket)
+      | inr below ↦ h.passed k l (omega (arith, u, below)) at
+    ];
     stands = λ k s. let old = h.stands k s in (omega (arith, old.0), old.1);
   }
 

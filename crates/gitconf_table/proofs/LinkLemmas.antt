@@ -47,7 +47,7 @@ linked_at : (links led : List Link) (buckets : List Bucket) (at m : ℕ) → at 
     → bucket_of (length buckets) (link_at links at).word < length buckets → m ≡ min (ends_of buckets (bucket_of (length buckets) (link_at links at).word)).first at
     → IsLed links (ends_of buckets (bucket_of (length buckets) (link_at links at).word)).behind at led → AreLinked at links buckets
     → AreLinked (at + 1) (set led at (record { word = (link_at links at).word; next = no_place; before = (ends_of buckets (bucket_of (length buckets) (link_at links at).word)).behind }))
-      (set buckets (bucket_of (length buckets) (link_at links at).word) (record { first = m; behind = at + 1 }))
+    (set buckets (bucket_of (length buckets) (link_at links at).word) (record { first = m; behind = at + 1 }))
 linked_at links led buckets at m within long fits inside least l h =
     let b = bucket_of (length buckets) (link_at links at).word in
     let new_ends : Bucket = record { first = m; behind = at + 1 } in
@@ -56,20 +56,20 @@ linked_at links led buckets at m within long fits inside least l h =
     let words : (k : ℕ) → (link_at links k).word ≡ (link_at (set led at new) k).word = λ k. sym (shown_set (λ l. l.word) led at k new (sym (l.words at)) (cases_eq k at) there ∙ l.words k) in
     let sizes : length buckets ≡ length (set buckets b new_ends) = sym (length-set buckets b new_ends) in
     let chained = chain_more (λ k. bucket_of (length buckets) (link_at links k).word)
-        (λ b. (ends_of buckets b).first) (λ b. (ends_of buckets b).behind) (λ k. (link_at links k).next) (λ k. (link_at links k).before)
-        (λ k. (ends_of (set buckets b new_ends) k).first) (λ k. (ends_of (set buckets b new_ends) k).behind) (λ k. (link_at (set led at new) k).next) (λ k. (link_at (set led at new) k).before)
-        (length buckets) at (omega (arith, within, fits)) h inside
-        (ap (λ (e : Bucket). e.first) (get_or-set_same buckets b new_ends no_ends inside) ∙ least)
-        (λ i other. ap (λ (e : Bucket). e.first) (get_or-set_other buckets b i new_ends no_ends other))
-        (ap (λ (e : Bucket). e.behind) (get_or-set_same buckets b new_ends no_ends inside))
-        (λ i other. ap (λ (e : Bucket). e.behind) (get_or-set_other buckets b i new_ends no_ends other))
-        (ap (λ (e : Link). e.next) (get_or-set_same led at new no_link there))
-        (λ k below e. ap (λ (e : Link). e.next) (get_or-set_other led at k new no_link (λ same. omega (arith, same, below))) ∙ l.next k e)
-        (λ k below e. ap (λ (e : Link). e.next) (get_or-set_other led at k new no_link (λ same. omega (arith, same, below))) ∙ l.others k e)
-        (ap (λ (e : Link). e.before) (get_or-set_same led at new no_link there))
-        (λ k below. ap (λ (e : Link). e.before) (get_or-set_other led at k new no_link (λ same. omega (arith, same, below))) ∙ l.befores k) in
+    (λ b. (ends_of buckets b).first) (λ b. (ends_of buckets b).behind) (λ k. (link_at links k).next) (λ k. (link_at links k).before)
+    (λ k. (ends_of (set buckets b new_ends) k).first) (λ k. (ends_of (set buckets b new_ends) k).behind) (λ k. (link_at (set led at new) k).next) (λ k. (link_at (set led at new) k).before)
+    (length buckets) at (omega (arith, within, fits)) h inside
+    (ap (λ (e : Bucket). e.first) (get_or-set_same buckets b new_ends no_ends inside) ∙ least)
+    (λ i other. ap (λ (e : Bucket). e.first) (get_or-set_other buckets b i new_ends no_ends other))
+    (ap (λ (e : Bucket). e.behind) (get_or-set_same buckets b new_ends no_ends inside))
+    (λ i other. ap (λ (e : Bucket). e.behind) (get_or-set_other buckets b i new_ends no_ends other))
+    (ap (λ (e : Link). e.next) (get_or-set_same led at new no_link there))
+    (λ k below e. ap (λ (e : Link). e.next) (get_or-set_other led at k new no_link (λ same. omega (arith, same, below))) ∙ l.next k e)
+    (λ k below e. ap (λ (e : Link). e.next) (get_or-set_other led at k new no_link (λ same. omega (arith, same, below))) ∙ l.others k e)
+    (ap (λ (e : Link). e.before) (get_or-set_same led at new no_link there))
+    (λ k below. ap (λ (e : Link). e.before) (get_or-set_other led at k new no_link (λ same. omega (arith, same, below))) ∙ l.befores k) in
     let Chained : (ℕ → ℕ) → ℕ → Type 0 = λ g size. AreChained g (λ k. (ends_of (set buckets b new_ends) k).first) (λ k. (ends_of (set buckets b new_ends) k).behind)
-        (λ k. (link_at (set led at new) k).next) (λ k. (link_at (set led at new) k).before) size (at + 1) in
+    (λ k. (link_at (set led at new) k).next) (λ k. (link_at (set led at new) k).before) size (at + 1) in
     subst (λ size. Chained (λ k. bucket_of size (link_at (set led at new) k).word) size) sizes
     (subst (λ g. Chained g (length buckets)) (λ j k. bucket_of (length buckets) (words k j)) chained)
 
@@ -77,10 +77,10 @@ pub linked_more : (links led : List Link) (buckets : List Bucket) (at b m : ℕ)
     → b ≡ bucket_of (length buckets) (link_at links at).word → b < length buckets → m ≡ min (ends_of buckets b).first at
     → IsLed links (ends_of buckets b).behind at led → AreLinked at links buckets
     → AreLinked (at + 1) (set led at (record { word = (link_at links at).word; next = no_place; before = (ends_of buckets b).behind }))
-      (set buckets b (record { first = m; behind = at + 1 }))
+    (set buckets b (record { first = m; behind = at + 1 }))
 linked_more links led buckets at b m within long fits is =
     subst (λ b. b < length buckets → m ≡ min (ends_of buckets b).first at → IsLed links (ends_of buckets b).behind at led → AreLinked at links buckets
-      → AreLinked (at + 1) (set led at (record { word = (link_at links at).word; next = no_place; before = (ends_of buckets b).behind })) (set buckets b (record { first = m; behind = at + 1 })))
+    → AreLinked (at + 1) (set led at (record { word = (link_at links at).word; next = no_place; before = (ends_of buckets b).behind })) (set buckets b (record { first = m; behind = at + 1 })))
     (sym is) (λ inside least l h. linked_at links led buckets at m within long fits inside least l h)
 
 -- the words stay where a link is replaced by one of the same word

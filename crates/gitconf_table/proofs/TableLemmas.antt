@@ -5,7 +5,7 @@ use Rattle.std.specs.Option.{option_eq, option_map}
 use Rattle.std.specs.List.{filter_map, list_any, AllByRecursion, AllZip}
 use Rattle.std.specs.Str.{bytes_eq}
 use Rattle.std.proofs.lemmas.Bool.{cases_eq, cases_lt, eq-eqb}
-use Rattle.std.proofs.lemmas.List.{map-append, length-map, length-append, take-map, drop-map, get_or-set_same, get_or-set_other, get_or_append_left, get_or_default}
+use Rattle.std.proofs.lemmas.List.{append-nil, map-append, length-map, length-append, take-map, drop-map, get_or-set_same, get_or-set_other, get_or_append_left, get_or_default}
 use Rattle.std.proofs.lemmas.List.Quantifiers.{position-Some}
 use Rattle.std.proofs.Math.ListN.{get_or-map}
 use Rattle.std.proofs.Math.Seq.{get_or-append_seam}
@@ -68,8 +68,8 @@ module _ {T : Type 0} where
   found_in p word_of w words h ws (x ∷ xs) a shows same =
       go (slice_index ws a == w) refl (p x) refl
       (found_in p word_of w words h ws xs (a + 1)
-        (λ k. let sum : a + suc k ≡ a + 1 + k = omega arith in subst (λ m. h m ≡ slice_get xs k) sum (shows (suc k)))
-        (λ k. let sum : a + suc k ≡ a + 1 + k = omega arith in subst (λ m. slice_index ws m ≡ slice_index (map word_of xs) k) sum (same (suc k))))
+      (λ k. let sum : a + suc k ≡ a + 1 + k = omega arith in subst (λ m. h m ≡ slice_get xs k) sum (shows (suc k)))
+      (λ k. let sum : a + suc k ≡ a + 1 + k = omega arith in subst (λ m. slice_index ws m ≡ slice_index (map word_of xs) k) sum (same (suc k))))
     where
       there : h a ≡ Some x
       there = subst (λ m. h m ≡ Some x) (add-zero a) (shows 0)
@@ -90,8 +90,8 @@ module _ {T : Type 0} where
   found p word_of w words rows ws same =
       let count : length ws ≡ length (entries_of rows) = ap length same ∙ length-map (entries_of rows) word_of in
       rw count (found_in p word_of w words (λ at. option_map entry_of_row (slice_get rows at)) ws (entries_of rows) 0
-        (λ k. let sum : 0 + k ≡ k = omega arith in rw sum (sym (slice_get-map entry_of_row rows k)))
-        (λ k. let sum : 0 + k ≡ k = omega arith in rw sum (ap (λ l. slice_index l k) same)))
+      (λ k. let sum : 0 + k ≡ k = omega arith in rw sum (sym (slice_get-map entry_of_row rows k)))
+      (λ k. let sum : 0 + k ≡ k = omega arith in rw sum (ap (λ l. slice_index l k) same)))
 
 -- lists under f
 pub map_put : {A B : Type 0} (f : A → B) (xs : List A) (i : ℕ) (y : A) → map f (insert xs i y) ≡ insert (map f xs) i (f y)
@@ -222,9 +222,9 @@ module _ {T : Type 0} where
     counted = count;
     placed = placed;
     names = sym (map_between word_of_name es (numbered_from next fs) at
-      ∙ (λ j. take at (sym h.names j) ++ (renumbered word_of_name (λ e n. refl) next fs ∙ sym h2.names) j ++ drop at (sym h.names j)));
+        ∙ (λ j. take at (sym h.names j) ++ (renumbered word_of_name (λ e n. refl) next fs ∙ sym h2.names) j ++ drop at (sym h.names j)));
     full = sym (map_between word_of_names es (numbered_from next fs) at
-      ∙ (λ j. take at (sym h.full j) ++ (renumbered word_of_names (λ e n. refl) next fs ∙ sym h2.full) j ++ drop at (sym h.full j)));
+        ∙ (λ j. take at (sym h.full j) ++ (renumbered word_of_names (λ e n. refl) next fs ∙ sym h2.full) j ++ drop at (sym h.full j)));
   }
 
   -- the place under a number that stands
@@ -263,21 +263,21 @@ module _ {T : Type 0} where
 
     pub other_there : (at : ℕ) (e : SectionEntry T) → at ≡ slice_index places id → slice_get es at ≡ Some e → (e.number == id) ≡ false → position (has_number id) es ≡ None
     other_there at f place stands other = none_if (λ i e.
-      let facts = place_under next id es places names full i h e in
-      let same : i ≡ at = sym facts.2 ∙ sym place in
-      let there : option_map (λ (e : SectionEntry T). e.number) (Some f) ≡ Some id = rw (same, stands) at (its i e) in
-      let number : f.number ≡ id = cc in
-      let differ : true ≡ false = sym (eq-eqb _ _ number) ∙ other in
-      cc)
+        let facts = place_under next id es places names full i h e in
+        let same : i ≡ at = sym facts.2 ∙ sym place in
+        let there : option_map (λ (e : SectionEntry T). e.number) (Some f) ≡ Some id = rw (same, stands) at (its i e) in
+        let number : f.number ≡ id = cc in
+        let differ : true ≡ false = sym (eq-eqb _ _ number) ∙ other in
+        cc)
 
     pub stands_there : (at : ℕ) (e : SectionEntry T) → at ≡ slice_index places id → slice_get es at ≡ Some e → (e.number == id) ≡ true → position (has_number id) es ≡ Some at
     stands_there at f place stands this = go (position (has_number id) es) refl
       where
         go : (p : Option ℕ) → position (has_number id) es ≡ p → position (has_number id) es ≡ Some at
         go None e = absurd (
-          let all = none_has id es (not_placed _ _ e) in
-          let differ : true ≡ false = sym this ∙ other_at id es at f all stands in
-          cc)
+            let all = none_has id es (not_placed _ _ e) in
+            let differ : true ≡ false = sym this ∙ other_at id es at f all stands in
+            cc)
         go (Some i) e =
             let facts = place_under next id es places names full i h e in
             let same : i ≡ at = sym facts.2 ∙ sym place in
@@ -325,10 +325,10 @@ module _ {T : Type 0} where
   table_renamed next at es es2 places names names2 full full2 name s e1 e3 e4 h =
       let f : SectionEntry T → SectionEntry T = λ e. record e { name = fold name; subsection = s } in
       rw (e1, e3, e4) (table_same next es (changed_at f es at) places names full _ _ h
-        (changed_numbered f (λ e. refl) next es at h.numbered.once)
-        (map_unchanged (λ e. e.number) f (λ e. refl) es at)
-        (ap (λ l. set l at (name_word name)) h.names ∙ sym (map_changed word_of_name f (name_word name) (λ e. folded_word name) es at))
-        (ap (λ l. set l at (full_word name s)) h.full ∙ sym (map_changed word_of_names f (full_word name s) (λ e. folded_full name s) es at)))
+      (changed_numbered f (λ e. refl) next es at h.numbered.once)
+      (map_unchanged (λ e. e.number) f (λ e. refl) es at)
+      (ap (λ l. set l at (name_word name)) h.names ∙ sym (map_changed word_of_name f (name_word name) (λ e. folded_word name) es at))
+      (ap (λ l. set l at (full_word name s)) h.full ∙ sym (map_changed word_of_names f (full_word name s) (λ e. folded_full name s) es at)))
 
   -- what the loop over places needs of the numbers
   pub numbers_within : (next : ℕ) (es : List (SectionEntry T)) (places : List ℕ) → AreNumbered next es → length places ≡ next → (k : ℕ) → k < length (numbers_of es) → slice_index (numbers_of es) k < length places
@@ -369,5 +369,26 @@ module _ {T : Type 0} where
   table_joined next other at count es fs es2 places places2 more names full names2 full2 names3 full3 e0 e1 e2 e3 room h h2 counted placed =
       rw (e0, e1, e2, e3) (table_all next other at es fs places places2 more names full names2 full2 (rw e0 at room) h h2 (rw e0 at counted) (rw e1 at placed))
 
--- for walks from the end
-pub ruleset walking = (map-append, filter-append, filter_map-append)
+module _ {T : Type 0} {B : Type 0} (f : SectionEntry T → B) (p : SectionEntry T → Bool) (rows : List (Row T)) (left : List ℕ) (at : ℕ) where
+  last_apart : map f (filter p (entries_at rows (left ++ at ∷ []))) ≡ map f (filter p (entries_at rows left)) ++ map f (filter p (entries_at rows (at ∷ [])))
+  last_apart =
+      ap (λ es. map f (filter p es)) (filter_map-append (λ k. option_map entry_of_row (slice_get rows k)) left (at ∷ []))
+      ∙ ap (map f) (filter-append p (entries_at rows left) (entries_at rows (at ∷ [])))
+      ∙ map-append f (filter p (entries_at rows left)) (filter p (entries_at rows (at ∷ [])))
+
+  -- the last place, with a section that passes, one that does not, or none
+  pub last_found : (places : List ℕ) (r : Row T) → places ≡ left ++ at ∷ [] → slice_get rows at ≡ Some r → p (entry_of_row r) ≡ true
+      → map f (filter p (entries_at rows places)) ≡ map f (filter p (entries_at rows left)) ++ f (entry_of_row r) ∷ []
+  last_found places r e stands passes = ap (λ ps. map f (filter p (entries_at rows ps))) e ∙ last_apart ∙ rw (stands, passes) refl
+
+  pub last_other : (places : List ℕ) (r : Row T) → places ≡ left ++ at ∷ [] → slice_get rows at ≡ Some r → p (entry_of_row r) ≡ false
+      → map f (filter p (entries_at rows left)) ≡ map f (filter p (entries_at rows places))
+  last_other places r e stands passes = sym (ap (λ ps. map f (filter p (entries_at rows ps))) e ∙ last_apart ∙ rw (stands, passes) (append-nil (map f (filter p (entries_at rows left)))))
+
+  pub last_none : (places : List ℕ) → places ≡ left ++ at ∷ [] → slice_get rows at ≡ None
+      → map f (filter p (entries_at rows left)) ≡ map f (filter p (entries_at rows places))
+  last_none places e none = sym (ap (λ ps. map f (filter p (entries_at rows ps))) e ∙ last_apart ∙ rw none (append-nil (map f (filter p (entries_at rows left)))))
+
+-- one more item
+pub more_shown : {B : Type 0} (xs : List B) (x : B) → length xs < length (xs ++ x ∷ [])
+more_shown xs x = rw length-append (omega arith)

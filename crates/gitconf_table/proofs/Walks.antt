@@ -90,15 +90,15 @@ module _ (size : ℕ) (links : List Link) (word front behind : ℕ) (h : IsWalk 
   -- the first place is left out, or comes first
   pub left_front : places_in (words_of links) word front (behind - front)
       ≡ cond ((link_at links front).word == word) (front ∷ places_in (words_of links) word (link_at links front).next (behind - (link_at links front).next))
-        (places_in (words_of links) word (link_at links front).next (behind - (link_at links front).next))
+      (places_in (words_of links) word (link_at links front).next (behind - (link_at links front).next))
   left_front =
       let j = (link_at links front).next in
       let chain = h.nexts front (omega (arith, left, h.within)) in
       let count : behind - front ≡ suc (behind - (front + 1)) = omega (arith, left) in
       let d : front + 1 + (j - (front + 1)) ≡ j = omega (arith, next_later) in
       let skipped : places_in (words_of links) word (front + 1) (behind - (front + 1)) ≡ places_in (words_of links) word j (behind - j) =
-          rw d at (skip_front (words_of links) word (j - (front + 1)) (front + 1) behind
-            (λ k l u under. other_word size links word (bucket_at size links front) k (h.front_is left) (chain.passed k l (omega (arith, u, h.within)) (omega (arith, under, d))))) in
+      rw d at (skip_front (words_of links) word (j - (front + 1)) (front + 1) behind
+      (λ k l u under. other_word size links word (bucket_at size links front) k (h.front_is left) (chain.passed k l (omega (arith, u, h.within)) (omega (arith, under, d))))) in
       rw (count, word_is links front, skipped) refl
 
 module _ (size : ℕ) (links : List Link) (word front at : ℕ) (h : IsWalk size links word front (at + 1)) (left : front < at + 1) where
@@ -127,8 +127,8 @@ module _ (size : ℕ) (links : List Link) (word front at : ℕ) (h : IsWalk size
       let last : front + (at - front) ≡ at = omega (arith, left) in
       let d : e + (at - e) ≡ at = omega (arith, before_within) in
       let skipped : places_in (words_of links) word front (at - front) ≡ places_in (words_of links) word front (e - front) =
-          rw d at (skip_back (words_of links) word (at - e) front e
-            (λ k l u above. other_word size links word (bucket_at size links at) k (h.back_is at (omega arith) left) (chain.passed k l (omega (arith, u, d))))) in
+      rw d at (skip_back (words_of links) word (at - e) front e
+      (λ k l u above. other_word size links word (bucket_at size links at) k (h.back_is at (omega arith) left) (chain.passed k l (omega (arith, u, d))))) in
       rw count (places_more (words_of links) word front (at - front) ∙ rw (last, word_is links at, skipped) refl)
 
 -- where no place is left
@@ -192,8 +192,8 @@ whole_left links buckets word b h is within =
     let zero_first : 0 + f ≡ f = omega arith in
     let all : n - 0 ≡ n = omega arith in
     let back : places_in (words_of links) word f (n - f) ≡ places_in (words_of links) word f (e - f) =
-        rw d at (skip_back (words_of links) word (n - e) f e (λ k l u above. other_word (length buckets) links word b k is (last.passed k l (omega (arith, u, d))))) in
+    rw d at (skip_back (words_of links) word (n - e) f e (λ k l u above. other_word (length buckets) links word b k is (last.passed k l (omega (arith, u, d))))) in
     let front : places_in (words_of links) word 0 n ≡ places_in (words_of links) word f (n - f) =
-        rw (zero_first, all) at (skip_front (words_of links) word f 0 n (λ k l u under. other_word (length buckets) links word b k is (first.passed k l u (omega (arith, under))))) in
+    rw (zero_first, all) at (skip_front (words_of links) word f 0 n (λ k l u under. other_word (length buckets) links word b k is (first.passed k l u (omega (arith, under))))) in
     let long : length (words_of links) ≡ n = length-map links (λ (l : Link). l.word) in
     rw long (sym (front ∙ back))

@@ -137,8 +137,8 @@ impl WordIndex {
         }
     }
 
-    /// Makes room for so many more words, and for as many buckets as there will be words; so a word takes memory and
-    /// time but now and then, and less than constant of both on average.
+    /// Makes room for so many more words, and for no fewer buckets than there will be words. Words that are put last one
+    /// by one so take constant time and memory on average.
     ///
     /// # Errors
     ///

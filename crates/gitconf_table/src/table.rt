@@ -1,5 +1,5 @@
-//! The table of a file's sections and their numbers. Its contracts speak of the plain list in file order, so
-//! that a look-up by a hashed index can take the place of the walk without a change of them.
+//! The table of a file's sections and their numbers. Its contracts speak of the plain list in file order. Behind it
+//! stand the place of each number, and indexes by name and by name and subsection, so that no look-up walks over all.
 ghost use Rattle.std.specs.Prelude.{◌≡◌, ℕ, ◌+◌, ◌^◌, ◌<◌, ◌≤◌, ◌==◌, ◌↔◌, [], ◌++◌, drop, length, map, slice_get, slice_index, take, vec_capacity, vec_len, IfErr, IfOk, IfSome, OnOk, OnErr, IsErrOf};
 ghost use Rattle.std.specs.Iterator.{item_count, YieldsFirst, YieldsFirstBy, YieldsLast, YieldsLastBy};
 ghost use Rattle.std.specs.List.{list_any};
@@ -14,11 +14,11 @@ ghost use Rattle.gitconf_table.specs.Word.{full_word};
 ghost use Rattle.gitconf_table.specs.Words.{places_of};
 ghost use Rattle.gitconf_table.specs.SectionIters.{ids_left, named_left, sections_left, shown_section, with_name_left};
 
+use crate::index::{Places, WordIndex};
+use crate::word::{full_word, name_word};
 use gitconf_text::NoMemory;
 use gitconf_text::parse::section::bytes::is_same_name;
 use gitconf_text::parse::span;
-use crate::index::{Places, WordIndex};
-use crate::word::{full_word, name_word};
 use std::alloc::{AllocError, Global};
 use std::marker::Model;
 
@@ -120,7 +120,7 @@ impl<T> SectionTable<T> {
     }
 
     /// The same table again: its sections under their numbers and names, with clones of what they hold. Takes memory for
-    /// the names and the places at once.
+    /// the names, the places and the indexes at once.
     ///
     /// # Errors
     ///
@@ -168,7 +168,7 @@ impl<T> SectionTable<T> {
         usize::MAX - self.next
     }
 
-    /// The place of a section in file order, or `None` where none has that number. Takes a walk over the sections.
+    /// The place of a section in file order, or `None` where none has that number. Takes constant time.
     pub fn position(&self, id: SectionId) -> Option<usize>
         ensures place { result ≡ place_of id self.now }
         ensures within { IfSome result (λ at. at < length self.now.entries) }
@@ -184,7 +184,7 @@ impl<T> SectionTable<T> {
         if row.id == id { Some(at) } else { None }
     }
 
-    /// What the section of that number holds, or `None` where none has it. Takes a walk over the sections.
+    /// What the section of that number holds, or `None` where none has it. Takes constant time.
     pub fn get(&self, id: SectionId) -> Option<&T>
         ensures { option_copied result ≡ section_of id self.now }
     {
@@ -201,7 +201,8 @@ impl<T> SectionTable<T> {
     }
 
     /// The numbers of the sections of that name, without ASCII case, and exactly that subsection, in file
-    /// order. The walk takes no memory and passes each section once.
+    /// order. Takes no memory, and constant time but for the bytes of the names; each step too takes the time of the
+    /// sections that share a bucket, one or two on average besides those that are asked for.
     pub fn ids<'a, 'n, 's>(
         &'a self,
         name: &'n str,
@@ -219,7 +220,7 @@ impl<T> SectionTable<T> {
     }
 
     /// The sections of that name, without ASCII case, and exactly that subsection, in file order, each as its
-    /// number and what it holds. The walk takes no memory and passes each section once.
+    /// number and what it holds. Takes the time of [`SectionTable::ids`], and no memory.
     pub fn named<'a, 'n, 's>(
         &'a self,
         name: &'n str,
@@ -237,7 +238,7 @@ impl<T> SectionTable<T> {
     }
 
     /// The sections of that name, without ASCII case, and any subsection, in file order, each as its number and
-    /// what it holds. The walk takes no memory and passes each section once.
+    /// what it holds. Takes the time of [`SectionTable::ids`], and no memory.
     pub fn with_name<'a, 'n>(&'a self, name: &'n str) -> WithName<'a, 'n, T>
         ensures left { with_name_left result ≡ all_named name.now self.now }
         ensures fits { length (with_name_left result) < 2 ^ 64 }
@@ -249,7 +250,8 @@ impl<T> SectionTable<T> {
         }
     }
 
-    /// Whether some section has that name, without ASCII case, and any subsection.
+    /// Whether some section has that name, without ASCII case, and any subsection. Takes constant time but for the
+    /// bytes of the names.
     pub fn has_name(&self, name: &str) -> bool
         ensures { result ≡ list_any (has_name name.now) self.now.entries }
     {
@@ -297,7 +299,7 @@ impl<T> SectionTable<T> {
     }
 
     /// Puts a section last, under the next number and `name` in ASCII lower case, and answers that number.
-    /// Takes memory for the names and one place.
+    /// Takes memory for the names, and constant time and memory on average for its place and the indexes.
     ///
     /// Errors: a [`span::Error`], number 3 where only the greatest number is left, and else 27 for want of
     /// memory. The table then is as it was.
@@ -335,7 +337,8 @@ impl<T> SectionTable<T> {
     }
 
     /// Puts a section directly behind the one at a place, under the next number and `name` in ASCII lower
-    /// case, and answers that number. Takes memory for the names and one place, and moves what stands behind.
+    /// case, and answers that number. Takes memory for the names, and on average constant memory for its place and the
+    /// indexes; moves what stands behind, and links all sections anew.
     ///
     /// Errors: a [`span::Error`], number 3 where only the greatest number is left, and else 27 for want of
     /// memory. The table then is as it was.
@@ -376,7 +379,8 @@ impl<T> SectionTable<T> {
     }
 
     /// Puts all sections of another table behind the first `position` ones, in their order and under the next
-    /// numbers. Their names and what they hold are moved. Takes memory for the places, and moves what stands behind.
+    /// numbers. Their names and what they hold are moved. Takes memory for the places and the indexes, moves what stands
+    /// behind, and links all sections anew.
     ///
     /// Errors: a [`span::Error`], number 3 where fewer numbers are left than the other has sections, and else
     /// 27 for want of memory. The table then is as it was, and the other is dropped.
@@ -414,7 +418,7 @@ impl<T> SectionTable<T> {
     }
 
     /// Takes the section of that number out, and answers what it held, or `None` where none has it. Its number
-    /// is not given again. Takes a walk over the sections.
+    /// is not given again. Moves what stands behind, and links all sections anew.
     pub fn remove(&mut self, id: SectionId) -> Option<T>
         ensures held { result ≡ section_of id self.old }
         ensures rest { self.new ≡ without id self.old }
@@ -433,7 +437,7 @@ impl<T> SectionTable<T> {
     }
 
     /// Gives the section at a place other names, `name` in ASCII lower case; its number, its place and what it
-    /// holds stay. For want of memory the table is as it was.
+    /// holds stay. Takes memory for the names, and links all sections anew. For want of memory the table is as it was.
     pub fn rename(
         &mut self,
         position: usize,
@@ -558,6 +562,13 @@ fn rotate_tail<T>(rows: &mut [Row<T>], at: usize, count: usize)
     tail.rotate_left(count);
 }
 
+// The row at a place, if there is one.
+fn row_at<T>(rows: &[Row<T>], at: usize) -> Option<&Row<T>>
+    ensures { option_copied result ≡ slice_get rows.now at }
+{
+    rows.get(at)
+}
+
 // Whether a row has the name, without ASCII case, and exactly the subsection.
 fn is_named<T>(row: &Row<T>, name: &str, subsection: Option<&[u8]>) -> bool
     ensures { result ≡ is_named name.now (option_copied subsection.entry) (entry_of_row row.now) }
@@ -624,7 +635,7 @@ impl<T> Iterator for Ids<'_, '_, '_, T> {
 
     fn next(&mut self) -> Option<SectionId> {
         while let Some(at) = self.places.next() {
-            if let Some(row) = self.rows.get(at) {
+            if let Some(row) = row_at(self.rows, at) {
                 if is_named(row, self.name, self.subsection) {
                     return Some(row.id);
                 }
@@ -637,10 +648,9 @@ impl<T> Iterator for Ids<'_, '_, '_, T> {
 impl<T> DoubleEndedIterator for Ids<'_, '_, '_, T> {
     ghost next_back_gives = { YieldsLast ids_left };
 
-    #[tactic(auto, using(crate::proofs::TableLemmas::walking))]
     fn next_back(&mut self) -> Option<SectionId> {
         while let Some(at) = self.places.next_back() {
-            if let Some(row) = self.rows.get(at) {
+            if let Some(row) = row_at(self.rows, at) {
                 if is_named(row, self.name, self.subsection) {
                     return Some(row.id);
                 }

@@ -6,6 +6,7 @@ ghost use Rattle.gitconf_table.specs.Word.{full_word, name_word, with_byte, with
 
 // FNV-1a: its word of no bytes, and its prime.
 const NO_BYTES: u64 = 14695981039346656037;
+
 const PRIME: u64 = 1099511628211;
 
 // A word with one byte more.

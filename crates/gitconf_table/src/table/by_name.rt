@@ -3,7 +3,7 @@ ghost use Rattle.std.specs.Iterator.{item_count, YieldsFirstBy, YieldsLastBy};
 ghost use Rattle.gitconf_table.specs.SectionIters.{named_left, shown_section, with_name_left};
 
 use crate::index::Places;
-use crate::table::{Row, SectionId, is_named};
+use crate::table::{Row, SectionId, is_named, row_at};
 use gitconf_text::parse::section::bytes::is_same_name;
 
 /// The sections of a name and subsection in file order, from either end: [`SectionTable::named`].
@@ -24,7 +24,7 @@ impl<'a, T> Iterator for Named<'a, '_, '_, T> {
 
     fn next(&mut self) -> Option<(SectionId, &'a T)> {
         while let Some(at) = self.places.next() {
-            if let Some(row) = self.rows.get(at) {
+            if let Some(row) = row_at(self.rows, at) {
                 if is_named(row, self.name, self.subsection) {
                     return Some((row.id, &row.section));
                 }
@@ -37,10 +37,9 @@ impl<'a, T> Iterator for Named<'a, '_, '_, T> {
 impl<'a, T> DoubleEndedIterator for Named<'a, '_, '_, T> {
     ghost next_back_gives = { YieldsLastBy shown_section named_left };
 
-    #[tactic(auto, using(crate::proofs::TableLemmas::walking))]
     fn next_back(&mut self) -> Option<(SectionId, &'a T)> {
         while let Some(at) = self.places.next_back() {
-            if let Some(row) = self.rows.get(at) {
+            if let Some(row) = row_at(self.rows, at) {
                 if is_named(row, self.name, self.subsection) {
                     return Some((row.id, &row.section));
                 }
@@ -67,7 +66,7 @@ impl<'a, T> Iterator for WithName<'a, '_, T> {
 
     fn next(&mut self) -> Option<(SectionId, &'a T)> {
         while let Some(at) = self.places.next() {
-            if let Some(row) = self.rows.get(at) {
+            if let Some(row) = row_at(self.rows, at) {
                 if is_same_name(self.name.as_bytes(), &row.name) {
                     return Some((row.id, &row.section));
                 }
@@ -80,10 +79,9 @@ impl<'a, T> Iterator for WithName<'a, '_, T> {
 impl<'a, T> DoubleEndedIterator for WithName<'a, '_, T> {
     ghost next_back_gives = { YieldsLastBy shown_section with_name_left };
 
-    #[tactic(auto, using(crate::proofs::TableLemmas::walking))]
     fn next_back(&mut self) -> Option<(SectionId, &'a T)> {
         while let Some(at) = self.places.next_back() {
-            if let Some(row) = self.rows.get(at) {
+            if let Some(row) = row_at(self.rows, at) {
                 if is_same_name(self.name.as_bytes(), &row.name) {
                     return Some((row.id, &row.section));
                 }

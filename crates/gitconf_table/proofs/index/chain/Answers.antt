@@ -1,4 +1,4 @@
-use Rattle.std.proofs.Common.{◌≡◌, ◌≤◌, length, arith, sym, ◌∙◌}
+use Rattle.std.proofs.Common.{◌≤◌, arith, sym, ◌∙◌}
 use Rattle.gitconf_table.specs.Links.{ends_of}
 use Rattle.gitconf_table.proofs.LinkLemmas.{linked_more, behind_within, words_set}
 use Rattle.gitconf_table.proofs.index.chain.Goals as goal

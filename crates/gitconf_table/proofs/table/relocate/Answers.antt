@@ -1,6 +1,6 @@
-use Rattle.std.proofs.Common.{◌≡◌, ◌<◌, length, slice_index, sym, ◌∙◌, ap, arith}
-use Rattle.std.proofs.lemmas.List.{length-map, length-set}
-use Rattle.gitconf_table.specs.Rows.{entries_of, entry_of_row}
+use Rattle.std.proofs.Common.{◌≡◌, ◌<◌, length, slice_index, ◌∙◌, arith}
+use Rattle.std.proofs.lemmas.List.{length-set}
+use Rattle.gitconf_table.specs.Rows.{entries_of}
 use Rattle.gitconf_table.specs.Tables.{numbers_of}
 use Rattle.gitconf_table.proofs.TableLemmas.{length-numbers, placed_more, row_number}
 use Rattle.gitconf_table.proofs.table.relocate.Goals as goal

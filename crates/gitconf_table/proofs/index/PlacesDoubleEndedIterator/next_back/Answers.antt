@@ -1,4 +1,4 @@
-use Rattle.std.proofs.Common.{◌≡◌, ◌-◌, ◌∷◌, sym, ◌∙◌, arith, rules}
+use Rattle.std.proofs.Common.{◌-◌, sym, ◌∙◌, arith}
 use Rattle.gitconf_table.proofs.Walks.{back_taken, back_passed, walked_back, behind_less, fewer}
 use Rattle.gitconf_table.proofs.index.PlacesDoubleEndedIterator.next_back.Goals as goal
 

@@ -1,4 +1,4 @@
-use Rattle.std.proofs.Common.{◌≡◌, ◌∷◌, sym, ◌∙◌, rules}
+use Rattle.std.proofs.Common.{sym, ◌∙◌, rules}
 use Rattle.gitconf_table.proofs.Walks.{left_taken, left_passed, walk_front}
 use Rattle.gitconf_table.proofs.index.PlacesIterator.next.Goals as goal
 

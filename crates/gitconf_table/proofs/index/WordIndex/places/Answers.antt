@@ -1,7 +1,6 @@
-use Rattle.std.proofs.Common.{◌≡◌, ◌<◌, length, ap, sym, ◌∙◌, arith}
+use Rattle.std.proofs.Common.{◌≡◌, ◌<◌, length, arith}
 use Rattle.std.proofs.lemmas.List.{get_or_read_under}
-use Rattle.gitconf_table.specs.Links.{bucket_of, ends_of, no_place, words_of}
-use Rattle.gitconf_table.specs.Words.{places_of}
+use Rattle.gitconf_table.specs.Links.{bucket_of, ends_of, no_place}
 use Rattle.gitconf_table.proofs.LinkLemmas.{no_ends}
 use Rattle.gitconf_table.proofs.Walks.{whole_left, whole_walk}
 use Rattle.gitconf_table.proofs.index.WordIndex.places.Goals as goal

@@ -1,6 +1,5 @@
-use Rattle.std.proofs.Common.{◌≡◌, [], ◌∷◌, ◌++◌, length, ap, sym, subst, ◌∙◌, arith}
+use Rattle.std.proofs.Common.{◌≡◌, [], ◌∷◌, ◌++◌, length, arith}
 use Rattle.std.proofs.lemmas.Grind.{common_steps}
-use Rattle.gitconf_table.specs.Links.{AreLinked}
 use Rattle.gitconf_table.proofs.LinkLemmas.{linked_push}
 use Rattle.gitconf_table.proofs.index.WordIndex.push.Goals as goal
 

@@ -1,6 +1,5 @@
 use Rattle.std.proofs.Common.{refl, ap, sym, ◌∙◌}
 use Rattle.std.specs.Option.{option_map}
-use Rattle.gitconf_table.specs.Sections.{changed_at}
 use Rattle.gitconf_table.specs.Rows.{entries_of}
 use Rattle.gitconf_table.specs.Tables.{word_of_name, word_of_names}
 use Rattle.gitconf_table.proofs.SectionLemmas.{set_section, section_numbered, entry_at, tables}

@@ -1,9 +1,8 @@
-use Rattle.std.proofs.Common.{◌≡◌, ◌+◌, [], ◌∷◌, ◌++◌, insert, length, ap, sym, ◌∙◌, arith}
+use Rattle.std.proofs.Common.{◌≡◌, ◌+◌, [], ◌∷◌, ◌++◌, insert, length, ap, ◌∙◌, arith}
 use Rattle.std.proofs.lemmas.Grind.{common_steps}
 use Rattle.std.proofs.lemmas.List.{length-append}
 use Rattle.std.specs.Option.{option_copied}
-use Rattle.gitconf_table.specs.Sections.{entry_of}
-use Rattle.gitconf_table.specs.Rows.{entries_of, entry_of_row}
+use Rattle.gitconf_table.specs.Rows.{entries_of}
 use Rattle.gitconf_table.proofs.SectionLemmas.{entries_of-insert, tables}
 use Rattle.gitconf_table.proofs.TableLemmas.{inserted_numbered, numbered_apart, numbers_within, table_inserted}
 use Rattle.gitconf_table.proofs.table.SectionTable.insert_behind.Goals as goal

@@ -1,9 +1,8 @@
-use Rattle.std.proofs.Common.{◌≡◌, [], ◌∷◌, ◌++◌, length, ap, sym, ◌∙◌, arith}
+use Rattle.std.proofs.Common.{◌≡◌, [], ◌∷◌, ◌++◌, length, ap, ◌∙◌, arith}
 use Rattle.std.proofs.lemmas.Grind.{common_steps}
 use Rattle.std.proofs.lemmas.List.{length-map, map-append}
 use Rattle.std.specs.Option.{option_copied}
 use Rattle.gitconf_table.specs.Rows.{entries_of, entry_of_row}
-use Rattle.gitconf_table.specs.Word.{full_word, name_word}
 use Rattle.gitconf_table.proofs.TableLemmas.{table_pushed}
 use Rattle.gitconf_table.proofs.table.SectionTable.push.Goals as goal
 
