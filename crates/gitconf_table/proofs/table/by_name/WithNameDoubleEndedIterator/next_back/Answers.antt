@@ -8,7 +8,7 @@ pub returns-then-is_same_name-clause-steps : goal.returns-then-is_same_name-clau
 returns-then-is_same_name-clause-steps g c =
     let it = c.loop-at.self in
     sym c.loop-at.invariant ∙ last_found (λ e. (e.number, e.section)) (has_name it.name.now) it.rows.now c.next_back.new.self c.in-Some.at it.places c.in-Some-row_at.row.now c.in-Some.ensures.steps
-    (sym c.in-Some-row_at.ensures) (sym c.is_same_name.ensures ∙ c.if-is_same_name.true)
+    (sym c.in-Some-row_at.ensures) (sym (rw (c.as_bytes.ensures.value, c.deref.ensures.value) at c.is_same_name.ensures) ∙ c.if-is_same_name.true)
 
 pub returns-then-is_same_name-clause-goes : goal.returns-then-is_same_name-clause-goes
 returns-then-is_same_name-clause-goes g c = record {
@@ -21,7 +21,7 @@ pub loop-at-preserved-else-is_same_name : goal.loop-at-preserved-else-is_same_na
 loop-at-preserved-else-is_same_name g c =
     let it = c.loop-at.self in
     last_other (λ e. (e.number, e.section)) (has_name it.name.now) it.rows.now c.next_back.new.self c.in-Some.at it.places c.in-Some-row_at.row.now c.in-Some.ensures.steps
-    (sym c.in-Some-row_at.ensures) (sym c.is_same_name.ensures ∙ c.if-is_same_name.false) ∙ c.loop-at.invariant
+    (sym c.in-Some-row_at.ensures) (sym (rw (c.as_bytes.ensures.value, c.deref.ensures.value) at c.is_same_name.ensures) ∙ c.if-is_same_name.false) ∙ c.loop-at.invariant
 
 pub loop-at-preserved : goal.loop-at-preserved
 loop-at-preserved g c =
