@@ -1,5 +1,5 @@
 -- Steps of a walk over the places of a word.
-use Rattle.std.proofs.Common.{◌≡◌, ◌≢◌, ℕ, ◌+◌, ◌-◌, ◌<◌, ◌≤◌, ◌==◌, ◌⊎◌, inl, inr, Bool, true, false, cond, refl, sym, ap, subst, ◌∙◌, arith, zero, suc, List, [], ◌∷◌, ◌++◌, length, map, filter, get_or, slice_index, eqb-true, add-zero}
+use Rattle.std.proofs.Common.{◌≡◌, ◌≢◌, ℕ, ◌+◌, ◌-◌, ◌<◌, ◌≤◌, ◌==◌, ◌⊎◌, inl, inr, Bool, true, false, cond, refl, sym, ap, ◌∙◌, arith, zero, suc, List, [], ◌∷◌, ◌++◌, length, filter, slice_index, eqb-true, add-zero}
 use Rattle.std.specs.List.{range_with_len}
 use Rattle.std.proofs.lemmas.Bool.{cases_eq, cases_lt, eq-eqb}
 use Rattle.std.proofs.lemmas.List.{append-nil, length-append, length-map}
@@ -7,7 +7,7 @@ use Rattle.std.proofs.lemmas.List.Elements.{filter-append}
 use Rattle.std.proofs.Math.ListN.{get_or-map}
 use Rattle.gitconf_table.specs.declared.index.Link.{Link}
 use Rattle.gitconf_table.specs.declared.index.Bucket.{Bucket}
-use Rattle.gitconf_table.specs.Links.{IsFirst, IsBehindLast, AreLinked, bucket_of, ends_of, link_at, no_place, words_of}
+use Rattle.gitconf_table.specs.Links.{AreLinked, bucket_of, ends_of, link_at, no_place, words_of}
 use Rattle.gitconf_table.specs.Words.{places_in, places_of}
 use Rattle.gitconf_table.specs.Walk.{bucket_at, IsWalk}
 use Rattle.gitconf_table.proofs.LinkLemmas.{no_link, behind_within}

@@ -1,5 +1,5 @@
 -- The words by which an index finds names. Nothing rests on which they are, but that equal names have equal ones.
-use Rattle.std.specs.Prelude.{ℕ, ◌+◌, ◌*◌, ◌%◌, ◌^◌, List, [], ◌∷◌, Option, Some, None, bit_xor}
+use Rattle.std.specs.Prelude.{ℕ, ◌*◌, ◌%◌, ◌^◌, List, [], ◌∷◌, Option, Some, None, bit_xor}
 use Rattle.gitconf_text.specs.Bytes.{fold}
 
 -- a word with one byte more

@@ -1,5 +1,5 @@
 -- What an index shows of its links, and when they are in order.
-use Rattle.std.specs.Prelude.{ℕ, ◌-◌, ◌<◌, length, vec_len, vec_capacity}
+use Rattle.std.specs.Prelude.{◌-◌, ◌<◌, length, vec_len, vec_capacity}
 use Rattle.gitconf_table.specs.declared.index.WordIndex.TheInside.{Inside}
 use Rattle.gitconf_table.specs.Links.{words_of, AreLinked}
 use Rattle.gitconf_table.specs.Words.{Words}
