@@ -1,0 +1,6 @@
+pub mod SectionLemmas
+pub mod TableClones
+pub mod Chains
+pub mod LinkLemmas
+pub mod Walks
+pub mod TableLemmas

@@ -1,0 +1,10 @@
+use Rattle.std.proofs.Common.{sym, ◌∙◌}
+use Rattle.gitconf_table.specs.Sections.{has_name}
+use Rattle.gitconf_table.proofs.TableLemmas.{any_shown, none_shown}
+use Rattle.gitconf_table.proofs.table.SectionTable.has_name.Goals as goal
+
+pub returns-in-Some : goal.returns-in-Some
+returns-in-Some g c = sym (any_shown (λ e. (e.number, e.section)) (has_name c.args.name.now) c.args.self.now.entries _ _ (sym c.with_name.ensures.left ∙ c.in-Some.ensures.steps))
+
+pub returns-in-None : goal.returns-in-None
+returns-in-None g c = sym (none_shown (λ e. (e.number, e.section)) (has_name c.args.name.now) c.args.self.now.entries (sym c.with_name.ensures.left ∙ c.in-None.ensures.steps.0))

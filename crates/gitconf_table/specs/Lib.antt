@@ -1,0 +1,10 @@
+pub mod Sections
+pub mod Rows
+pub mod SectionIters
+pub mod SectionLoan
+pub mod Words
+pub mod Links
+pub mod Walk
+pub mod WordIndexes
+pub mod Word
+pub mod Tables

@@ -1,0 +1,35 @@
+-- When the places and words that a table keeps beside its sections are theirs.
+use Rattle.std.specs.Prelude.{◌≡◌, ◌≢◌, ℕ, ◌<◌, List, map, length, slice_index}
+use Rattle.gitconf_table.specs.Sections.{SectionEntry, IsNumbered}
+use Rattle.gitconf_table.specs.Word.{full_word, name_word}
+
+-- the numbers in file order
+abbrev pub numbers_of : {T : Type 0} → List (SectionEntry T) → List ℕ
+numbers_of entries = map (λ e. e.number) entries
+
+-- no number stands at two places
+abbrev pub AreApart : List ℕ → Type 0
+AreApart numbers = (i k : ℕ) → i < k → k < length numbers → slice_index numbers i ≢ slice_index numbers k
+
+-- the first `count` numbers have their places
+abbrev pub ArePlacedTo : ℕ → List ℕ → List ℕ → Type 0
+ArePlacedTo count numbers places = (k : ℕ) → k < count → slice_index places (slice_index numbers k) ≡ k
+
+-- each number has its place
+abbrev pub ArePlaced : List ℕ → List ℕ → Type 0
+ArePlaced numbers places = ArePlacedTo (length numbers) numbers places
+
+-- the word of a section's name, and that of its name and subsection
+abbrev pub word_of_name : {T : Type 0} → SectionEntry T → ℕ
+word_of_name e = name_word e.name
+
+abbrev pub word_of_names : {T : Type 0} → SectionEntry T → ℕ
+word_of_names e = full_word e.name e.subsection
+
+-- the numbers are in order, each number that stands has its place, and each section its words
+pub record IsTable {T : Type 0} (next : ℕ) (entries : List (SectionEntry T)) (places words full_words : List ℕ) : Type 0 where
+  pub numbered : IsNumbered (record { entries = entries; next = next })
+  pub counted : length places ≡ next
+  pub placed : ArePlaced (numbers_of entries) places
+  pub names : words ≡ map word_of_name entries
+  pub full : full_words ≡ map word_of_names entries

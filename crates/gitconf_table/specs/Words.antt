@@ -1,0 +1,16 @@
+-- Words at the places of a list, and where one stands.
+use Rattle.std.specs.Prelude.{ℕ, ◌==◌, List, filter, length, slice_index}
+use Rattle.std.specs.List.{range_with_len}
+
+-- the words in the order of their places, and how many more may be added without memory
+pub record Words : Type 0 where
+  pub words : List ℕ
+  pub room : ℕ
+
+-- of the `count` places from `from` on those with the word, in order
+abbrev pub places_in : List ℕ → ℕ → ℕ → ℕ → List ℕ
+places_in words word from count = filter (λ at. slice_index words at == word) (range_with_len from count)
+
+-- all places with the word, in order
+abbrev pub places_of : ℕ → List ℕ → List ℕ
+places_of word words = places_in words word 0 (length words)

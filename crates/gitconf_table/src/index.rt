@@ -1,0 +1,342 @@
+//! An index over a list of words: the places of a word without a walk over the others.
+ghost use Rattle.std.specs.Prelude.{◌≡◌, ◌+◌, ◌<◌, ◌≤◌, [], ◌∷◌, ◌++◌, drop, insert, length, remove, slice_set, take, vec_capacity, vec_len, IfOk, OnOk};
+ghost use Rattle.std.specs.Iterator.{item_count, YieldsFirst, YieldsLast};
+ghost use Rattle.gitconf_table.specs.Links.{bucket_of, words_of, AreLinked, IsLed};
+ghost use Rattle.gitconf_table.specs.Words.{places_of};
+
+use std::alloc::{AllocError, Global};
+use std::marker::Model;
+
+// A place of the list: its word, the next place of its bucket, or the greatest number, and what is directly behind the
+// previous place of its bucket, or 0.
+#[derive(Clone, Copy)]
+struct Link {
+    word: u64,
+    next: usize,
+    before: usize,
+}
+
+// The first place of a bucket, or the greatest number, and what is directly behind its last place, or 0.
+#[derive(Clone, Copy)]
+struct Bucket {
+    first: usize,
+    behind: usize,
+}
+
+const EMPTY: Bucket = Bucket {
+    first: usize::MAX,
+    behind: 0,
+};
+
+// The bucket of a word, of so many.
+fn bucket_of(word: u64, size: usize) -> usize
+    requires { 0 < size }
+    ensures bucket { result ≡ bucket_of size word }
+    ensures within { result < size }
+{
+    (word & (size as u64 - 1)) as usize
+}
+
+// Leads from the place before `behind`, if there is one, on to the place.
+fn lead(links: &mut [Link], behind: usize, at: usize)
+    requires { behind ≤ length links.old }
+    ensures words { words_of links.new ≡ words_of links.old }
+    ensures led { IsLed links.old behind at links.new }
+{
+    if behind > 0 {
+        links[behind - 1].next = at;
+    }
+}
+
+// Puts the place behind the last one of its bucket.
+fn chain(links: &mut [Link], buckets: &mut [Bucket], at: usize)
+    requires within { at < length links.old }
+    requires some { 0 < length buckets.old }
+    requires linked { AreLinked at links.old buckets.old }
+    ensures words { words_of links.new ≡ words_of links.old }
+    ensures linked { AreLinked (at + 1) links.new buckets.new }
+{
+    let word = links[at].word;
+    let bucket = bucket_of(word, buckets.len());
+    let Bucket { first, behind } = buckets[bucket];
+    lead(links, behind, at);
+    links[at] = Link {
+        word,
+        next: usize::MAX,
+        before: behind,
+    };
+    buckets[bucket] = Bucket {
+        first: first.min(at),
+        behind: at + 1,
+    };
+}
+
+// Chains all places anew.
+fn relink(links: &mut [Link], buckets: &mut [Bucket])
+    requires { 0 < length buckets.old }
+    ensures words { words_of links.new ≡ words_of links.old }
+    ensures linked { AreLinked (length links.old) links.new buckets.new }
+{
+    for bucket in buckets.iter_mut() {
+        *bucket = EMPTY;
+    }
+    for at in 0..links.len() {
+        chain(links, buckets, at);
+    }
+}
+
+// Chains all places of a list anew.
+fn relink_all(links: &mut Vec<Link>, buckets: &mut Vec<Bucket>)
+    requires { 0 < vec_len buckets.old }
+    ensures words { words_of links.new.items ≡ words_of links.old.items }
+    ensures linked { AreLinked (length links.new.items) links.new.items buckets.new.items }
+    ensures room { (vec_len links.new ≡ vec_len links.old) × (vec_capacity links.new ≡ vec_capacity links.old) }
+    ensures buckets { vec_len buckets.new ≡ vec_len buckets.old }
+{
+    relink(links, buckets);
+}
+
+// Empty buckets for so many places: a power of two, and no fewer than the places.
+fn empty_buckets(alloc: Global, places: usize) -> Result<Vec<Bucket>, AllocError>
+    ensures { IfOk result (λ buckets. 0 < vec_len buckets) }
+{
+    let mut size: usize = 4;
+    while size < places {
+        size = size.checked_mul(2).ok_or(AllocError)?;
+    }
+    vec![in alloc; EMPTY; size]
+}
+
+/// A list of words, with its places by word.
+#[derive(Drop)]
+pub struct WordIndex {
+    links: Vec<Link>,
+    buckets: Vec<Bucket>,
+}
+
+impl Model for WordIndex {
+    ghost use Rattle.gitconf_table.specs.Words.{Words};
+
+    ghost Value = { Words };
+
+    ghost use Rattle.gitconf_table.specs.WordIndexes.{shown_index, IsIndex};
+
+    ghost view = { shown_index };
+
+    ghost invariant = { IsIndex };
+}
+
+impl WordIndex {
+    /// No words. Takes no memory.
+    pub fn new(alloc: Global) -> WordIndex
+        ensures { result.words ≡ [] }
+    {
+        WordIndex {
+            links: Vec::new(alloc),
+            buckets: Vec::new(alloc),
+        }
+    }
+
+    /// Makes room for so many more words, and for no fewer buckets than there will be words. Words that are put last one
+    /// by one so take constant time and memory on average.
+    ///
+    /// # Errors
+    ///
+    /// Want of memory. The words are as they were.
+    pub fn reserve(&mut self, more: usize) -> Result<(), AllocError>
+        ensures words { self.new.words ≡ self.old.words }
+        ensures ok { OnOk result (more ≤ self.new.room) }
+    {
+        let count = self.links.len().checked_add(more).ok_or(AllocError)?;
+        if self.buckets.is_empty() || self.buckets.len() < count {
+            let mut buckets = empty_buckets(*self.links.allocator(), count)?;
+            relink_all(&mut self.links, &mut buckets);
+            self.buckets = buckets;
+        }
+        self.links.reserve(more)
+    }
+
+    /// Puts a word last, in constant time.
+    pub fn push(&mut self, word: u64)
+        requires { 0 < self.old.room }
+        ensures { self.new.words ≡ self.old.words ++ word ∷ [] }
+    {
+        let at = self.links.len();
+        self.links.push(unlinked(word)).unwrap();
+        chain(&mut self.links, &mut self.buckets, at);
+    }
+
+    /// Puts a word at a place. Takes time for all words.
+    pub fn insert(&mut self, at: usize, word: u64)
+        requires room { 0 < self.old.room }
+        requires within { at ≤ length self.old.words }
+        ensures { self.new.words ≡ insert self.old.words at word }
+    {
+        self.links.insert(at, unlinked(word)).unwrap();
+        relink_all(&mut self.links, &mut self.buckets);
+    }
+
+    /// Takes the word at a place out. Takes time for all words.
+    pub fn remove(&mut self, at: usize)
+        requires { at < length self.old.words }
+        ensures { self.new.words ≡ remove self.old.words at }
+    {
+        self.links.remove(at);
+        relink_all(&mut self.links, &mut self.buckets);
+    }
+
+    /// Puts another word at a place. Takes time for all words.
+    pub fn set(&mut self, at: usize, word: u64)
+        requires { at < length self.old.words }
+        ensures { self.new.words ≡ slice_set self.old.words at word }
+    {
+        self.links[at] = unlinked(word);
+        relink_all(&mut self.links, &mut self.buckets);
+    }
+
+    /// Puts all words of another list behind the first `at` ones. Takes time for all words.
+    pub fn insert_all(&mut self, at: usize, other: WordIndex)
+        requires room { length other.words ≤ self.old.room }
+        requires within { at ≤ length self.old.words }
+        ensures { self.new.words ≡ take at self.old.words ++ other.words ++ drop at self.old.words }
+    {
+        let WordIndex {
+            links: mut added,
+            buckets: _,
+        } = other;
+        if added.is_empty() {
+            return;
+        }
+        put_links(&mut self.links, at, &mut added);
+        relink_all(&mut self.links, &mut self.buckets);
+    }
+
+    /// The same words again. Takes memory for the places and buckets at once.
+    ///
+    /// # Errors
+    ///
+    /// Want of memory.
+    pub fn try_clone(&self) -> Result<WordIndex, AllocError>
+        ensures { IfOk result (λ copy. copy.words ≡ self.now.words) }
+    {
+        let alloc = *self.links.allocator();
+        if self.buckets.is_empty() {
+            return Ok(WordIndex::new(alloc));
+        }
+        Ok(WordIndex {
+            links: Vec::from_slice(alloc, &self.links)?,
+            buckets: Vec::from_slice(alloc, &self.buckets)?,
+        })
+    }
+
+    /// The places of a word. Takes the time to compute its bucket.
+    pub fn places(&self, word: u64) -> Places<'_>
+        ensures { result ≡ places_of word self.now.words }
+    {
+        if self.buckets.is_empty() {
+            return Places {
+                links: &self.links,
+                word,
+                front: 0,
+                behind: 0,
+            };
+        }
+        let bucket = self.buckets[bucket_of(word, self.buckets.len())];
+        Places {
+            links: &self.links,
+            word,
+            front: bucket.first,
+            behind: bucket.behind,
+        }
+    }
+}
+
+// Moves the added links behind the first `at` ones.
+fn put_links(links: &mut Vec<Link>, at: usize, added: &mut Vec<Link>)
+    requires within { at ≤ vec_len links.old }
+    requires room { vec_len links.old + vec_len added.old ≤ vec_capacity links.old }
+    ensures { links.new.items ≡ take at links.old.items ++ added.old.items ++ drop at links.old.items }
+{
+    let behind = links.len() - at;
+    links.append(added).unwrap();
+    rotate_tail(links, at, behind);
+}
+
+// Moves the first `count` links from `at` on to the end.
+fn rotate_tail(links: &mut [Link], at: usize, count: usize)
+    requires { at + count ≤ length links.old }
+    ensures { links.new ≡ take at links.old ++ (drop count (drop at links.old) ++ take count (drop at links.old)) }
+{
+    let (_, tail) = links.split_at_mut(at);
+    tail.rotate_left(count);
+}
+
+// A link in no chain.
+fn unlinked(word: u64) -> Link
+    ensures { result.word ≡ word }
+{
+    Link {
+        word,
+        next: usize::MAX,
+        before: 0,
+    }
+}
+
+/// The places of a word in the list, in order, from either end. What is left of a walk is the list of places.
+#[derive(Drop)]
+pub struct Places<'a> {
+    links: &'a [Link],
+    word: u64,
+    // The first place that is left, if it is before `behind`.
+    front: usize,
+    behind: usize,
+}
+
+impl<'a> Model for Places<'a> {
+    ghost use Rattle.std.specs.Prelude.{ℕ, List};
+
+    ghost Value = { List ℕ };
+
+    ghost use Rattle.gitconf_table.specs.Walk.{left_of, IsPlaces};
+
+    ghost view = { left_of };
+
+    ghost invariant = { IsPlaces };
+}
+
+impl Iterator for Places<'_> {
+    type Item = usize;
+
+    ghost next_gives = { YieldsFirst (λ p. p) };
+
+    ghost remaining = { item_count (λ p. p) };
+
+    /// Takes time for the places of the bucket up to the next one with the word.
+    fn next(&mut self) -> Option<usize> {
+        while self.front < self.behind {
+            let at = self.front;
+            let link = self.links[at];
+            self.front = link.next;
+            if link.word == self.word {
+                return Some(at);
+            }
+        }
+        None
+    }
+}
+
+impl DoubleEndedIterator for Places<'_> {
+    ghost next_back_gives = { YieldsLast (λ p. p) };
+
+    fn next_back(&mut self) -> Option<usize> {
+        while self.front < self.behind {
+            let at = self.behind - 1;
+            let link = self.links[at];
+            self.behind = link.before;
+            if link.word == self.word {
+                return Some(at);
+            }
+        }
+        None
+    }
+}

@@ -1,0 +1,6 @@
+//! The sections of a git configuration file under numbers, in file order, found by number and by name.
+#![tactic(auto)]
+
+mod index;
+pub mod table;
+mod word;

@@ -1,0 +1,661 @@
+//! The table of a file's sections and their numbers. Its contracts speak of the plain list in file order. Behind it
+//! stand the place of each number, and indexes by name and by name and subsection, so that no look-up walks over all.
+ghost use Rattle.std.specs.Prelude.{◌≡◌, ℕ, ◌+◌, ◌^◌, ◌<◌, ◌≤◌, ◌==◌, ◌↔◌, [], ◌++◌, drop, length, map, slice_get, slice_index, take, vec_capacity, vec_len, IfErr, IfOk, IfSome, OnOk, OnErr, IsErrOf};
+ghost use Rattle.std.specs.Iterator.{item_count, YieldsFirst, YieldsFirstBy, YieldsLast, YieldsLastBy};
+ghost use Rattle.std.specs.List.{list_any};
+ghost use Rattle.std.specs.Option.{option_copied, option_eq, option_map};
+ghost use Rattle.std.specs.Str.{bytes_eq};
+ghost use Rattle.std.specs.Borrow.{sem};
+ghost use Rattle.gitconf_text.specs.Bytes.{fold};
+ghost use Rattle.gitconf_table.specs.Sections.{all_named, entry_of, has_name, ids, is_named, named, no_number, number_at, numbered_from, place_of, section_at, section_of, sections_of, with_all, with_behind, with_last, with_names, without, IsNumbered, IsTableClone};
+ghost use Rattle.gitconf_table.specs.Rows.{entries_of, entry_of_row};
+ghost use Rattle.gitconf_table.specs.Tables.{numbers_of, AreApart, ArePlaced};
+ghost use Rattle.gitconf_table.specs.Word.{full_word};
+ghost use Rattle.gitconf_table.specs.Words.{places_of};
+ghost use Rattle.gitconf_table.specs.SectionIters.{ids_left, named_left, sections_left, shown_section, with_name_left};
+
+use crate::index::{Places, WordIndex};
+use crate::word::{full_word, name_word};
+use gitconf_text::NoMemory;
+use gitconf_text::parse::section::bytes::is_same_name;
+use gitconf_text::parse::span;
+use std::alloc::{AllocError, Global};
+use std::marker::Model;
+
+mod by_name;
+
+pub use by_name::{Named, WithName};
+
+/// The number of a section, by which it is found whatever comes before or behind it. The default is the
+/// greatest number, which no section gets from a table.
+#[derive(Clone, Copy, PartialEq, Eq, PartialOrd, Ord, Hash, Debug)]
+pub struct SectionId {
+    number: usize,
+}
+
+impl Model for SectionId {
+    ghost use Rattle.std.specs.Prelude.{ℕ};
+
+    ghost Value = { ℕ };
+
+    ghost view = { λ id. id.number };
+
+    ghost inverse = { λ n. record { number = n } };
+}
+
+impl Default for SectionId {
+    ghost is_default = { λ id. id ≡ no_number };
+
+    /// The greatest number, which no section gets from a table.
+    fn default() -> SectionId {
+        SectionId { number: usize::MAX }
+    }
+}
+
+// A section of the table.
+#[derive(Drop)]
+struct Row<T> {
+    id: SectionId,
+    // In ASCII lower case.
+    name: Vec<u8>,
+    subsection: Option<Vec<u8>>,
+    section: T,
+}
+
+impl<T: Clone> Clone for Row<T> {
+    ghost use Rattle.gitconf_table.specs.Sections.{IsEntryClone};
+    ghost use Rattle.gitconf_table.specs.Rows.{entry_of_row};
+
+    ghost is_clone = { λ row copy. IsEntryClone T.is_clone (entry_of_row row) (entry_of_row copy) };
+
+    fn clone(&self) -> Result<Row<T>, AllocError> {
+        Ok(Row {
+            id: self.id,
+            name: self.name.clone()?,
+            subsection: self.subsection.clone()?,
+            section: self.section.clone()?,
+        })
+    }
+}
+
+/// The sections of a file, each with its number, in file order.
+#[derive(Drop)]
+pub struct SectionTable<T> {
+    rows: Vec<Row<T>>,
+    // The place of each number that stands; of another one some place.
+    places: Vec<usize>,
+    // The rows by the words of their names, and by those of their names and subsections.
+    names: WordIndex,
+    full: WordIndex,
+    next: usize,
+}
+
+impl<T> Model for SectionTable<T> {
+    ghost use Rattle.gitconf_table.specs.Sections.{Sections};
+    ghost use Rattle.gitconf_table.specs.Rows.{entries_of};
+    ghost use Rattle.gitconf_table.specs.Tables.{IsTable};
+
+    ghost Value = { Sections T };
+
+    ghost view = { λ t. record { entries = entries_of t.rows.items; next = t.next } };
+
+    ghost invariant = { λ t. IsTable t.next (entries_of t.rows.items) t.places.items t.names.words t.full.words };
+}
+
+impl<T> SectionTable<T> {
+    ghost use Rattle.gitconf_table.specs.SectionLoan.{LendsSection};
+
+    /// A table without sections, whose first one gets the number 0.
+    pub fn new(alloc: Global) -> SectionTable<T>
+        ensures empty { result.entries ≡ [] }
+        ensures first { result.next ≡ 0 }
+    {
+        SectionTable {
+            rows: Vec::new(alloc),
+            places: Vec::new(alloc),
+            names: WordIndex::new(alloc),
+            full: WordIndex::new(alloc),
+            next: 0,
+        }
+    }
+
+    /// The same table again: its sections under their numbers and names, with clones of what they hold. Takes memory for
+    /// the names, the places and the indexes at once.
+    ///
+    /// # Errors
+    ///
+    /// Want of memory, here or in a clone.
+    pub fn try_clone(&self) -> Result<SectionTable<T>, NoMemory>
+    where
+        T: Clone,
+        ensures { IfOk result (IsTableClone T.is_clone self.now) }
+    {
+        Ok(SectionTable {
+            rows: self.rows.clone()?,
+            places: Vec::from_slice(*self.rows.allocator(), &self.places)?,
+            names: self.names.try_clone()?,
+            full: self.full.try_clone()?,
+            next: self.next,
+        })
+    }
+
+    /// How many sections there are.
+    pub fn len(&self) -> usize
+        ensures { result ≡ length self.now.entries }
+    {
+        self.rows.len()
+    }
+
+    /// Whether there is no section.
+    pub fn is_empty(&self) -> bool
+        ensures { result ≡ (length self.now.entries == 0) }
+    {
+        self.rows.is_empty()
+    }
+
+    /// The number that the next section gets, if it is not the greatest; and no number was given twice.
+    pub fn next_id(&self) -> SectionId
+        ensures value { result ≡ self.now.next }
+        ensures numbered { IsNumbered self.now }
+    {
+        SectionId { number: self.next }
+    }
+
+    /// How many sections may still be added before the numbers are used up.
+    pub fn numbers_left(&self) -> usize
+        ensures { result + self.now.next ≡ no_number }
+    {
+        usize::MAX - self.next
+    }
+
+    /// The place of a section in file order, or `None` where none has that number. Takes constant time.
+    pub fn position(&self, id: SectionId) -> Option<usize>
+        ensures place { result ≡ place_of id self.now }
+        ensures within { IfSome result (λ at. at < length self.now.entries) }
+    {
+        if id.number >= self.places.len() {
+            return None;
+        }
+        let at = self.places[id.number];
+        if at >= self.rows.len() {
+            return None;
+        }
+        let row = &self.rows[at];
+        if row.id == id { Some(at) } else { None }
+    }
+
+    /// What the section of that number holds, or `None` where none has it. Takes constant time.
+    pub fn get(&self, id: SectionId) -> Option<&T>
+        ensures { option_copied result ≡ section_of id self.now }
+    {
+        let at = self.position(id)?;
+        Some(self.at(at))
+    }
+
+    /// The sections in file order, each as its number and what it holds.
+    pub fn iter(&self) -> SectionIter<'_, T>
+        ensures left { sections_left result ≡ sections_of self.now }
+        ensures fits { length (sections_left result) < 2 ^ 64 }
+    {
+        SectionIter { rows: &self.rows }
+    }
+
+    /// The numbers of the sections of that name, without ASCII case, and exactly that subsection, in file
+    /// order. Takes no memory, and constant time but for the bytes of the names; each step too takes the time of the
+    /// sections that share a bucket, one or two on average besides those that are asked for.
+    pub fn ids<'a, 'n, 's>(
+        &'a self,
+        name: &'n str,
+        subsection: Option<&'s [u8]>,
+    ) -> Ids<'a, 'n, 's, T>
+        ensures left { ids_left result ≡ ids name.now (option_copied subsection.entry) self.now }
+        ensures fits { length (ids_left result) < 2 ^ 64 }
+    {
+        Ids {
+            rows: &self.rows,
+            places: self.places_named(name, subsection),
+            name,
+            subsection,
+        }
+    }
+
+    /// The sections of that name, without ASCII case, and exactly that subsection, in file order, each as its
+    /// number and what it holds. Takes the time of [`SectionTable::ids`], and no memory.
+    pub fn named<'a, 'n, 's>(
+        &'a self,
+        name: &'n str,
+        subsection: Option<&'s [u8]>,
+    ) -> Named<'a, 'n, 's, T>
+        ensures left { named_left result ≡ named name.now (option_copied subsection.entry) self.now }
+        ensures fits { length (named_left result) < 2 ^ 64 }
+    {
+        Named {
+            rows: &self.rows,
+            places: self.places_named(name, subsection),
+            name,
+            subsection,
+        }
+    }
+
+    /// The sections of that name, without ASCII case, and any subsection, in file order, each as its number and
+    /// what it holds. Takes the time of [`SectionTable::ids`], and no memory.
+    pub fn with_name<'a, 'n>(&'a self, name: &'n str) -> WithName<'a, 'n, T>
+        ensures left { with_name_left result ≡ all_named name.now self.now }
+        ensures fits { length (with_name_left result) < 2 ^ 64 }
+    {
+        WithName {
+            rows: &self.rows,
+            places: self.names.places(name_word(name.as_bytes())),
+            name,
+        }
+    }
+
+    /// Whether some section has that name, without ASCII case, and any subsection. Takes constant time but for the
+    /// bytes of the names.
+    pub fn has_name(&self, name: &str) -> bool
+        ensures { result ≡ list_any (has_name name.now) self.now.entries }
+    {
+        match self.with_name(name).next() {
+            Some(_) => true,
+            None => false,
+        }
+    }
+
+    /// The number of the section at a place.
+    pub fn id_at(&self, position: usize) -> SectionId
+        requires { position < length self.now.entries }
+        ensures { number_at position self.now ≡ Some result }
+    {
+        let row = &self.rows[position];
+        row.id
+    }
+
+    /// Whether the section at a place has that name, without ASCII case, and exactly that subsection.
+    pub fn is_named_at(&self, position: usize, name: &str, subsection: Option<&[u8]>) -> bool
+        requires { position < length self.now.entries }
+        ensures { option_map (is_named name.now (option_copied subsection.entry)) (slice_get self.now.entries position) ≡ Some result }
+    {
+        let row = &self.rows[position];
+        is_named(row, name, subsection)
+    }
+
+    /// What the section at a place holds.
+    pub fn at(&self, position: usize) -> &T
+        requires { position < length self.now.entries }
+        ensures { section_at position self.now ≡ Some result.now }
+    {
+        let row = &self.rows[position];
+        &row.section
+    }
+
+    /// What the section at a place holds, to be changed in place. Its number and names stay.
+    pub fn at_mut(&mut self, position: usize) -> &mut T
+        requires { position < length self.old.entries }
+        ensures* writes_back { sem 𝓛 (LendsSection T.row self.entry position result) }
+        ensures value { section_at position self.old ≡ Some result.now }
+    {
+        let row = &mut self.rows[position];
+        &mut row.section
+    }
+
+    /// Puts a section last, under the next number and `name` in ASCII lower case, and answers that number.
+    /// Takes memory for the names, and constant time and memory on average for its place and the indexes.
+    ///
+    /// Errors: a [`span::Error`], number 3 where only the greatest number is left, and else 27 for want of
+    /// memory. The table then is as it was.
+    pub fn push(
+        &mut self,
+        name: &[u8],
+        subsection: Option<&[u8]>,
+        section: T,
+    ) -> Result<SectionId, span::Error>
+    where
+        T: Drop,
+        ensures id { IfOk result (λ id. id ≡ self.old.next) }
+        ensures ok { OnOk result (self.new ≡ with_last name.now (option_copied subsection.entry) section self.old) }
+        ensures used_up { IsErrOf result 3 ↔ (self.old.next ≡ no_number) }
+        ensures memory { IfErr result (λ e. self.old.next < no_number → e ≡ 27) }
+        ensures err { OnErr result (self.new ≡ self.old) }
+    {
+        if self.next == usize::MAX {
+            return Err(span::Error::too_large());
+        }
+        let id = SectionId { number: self.next };
+        let row = row_of(*self.rows.allocator(), id, name, subsection, section)?;
+        self.rows.reserve(1)?;
+        self.places.reserve(1)?;
+        self.names.reserve(1)?;
+        self.full.reserve(1)?;
+        let at = self.rows.len();
+        let word = name_word(name);
+        self.rows.push(row).unwrap();
+        self.places.push(at).unwrap();
+        self.names.push(word);
+        self.full.push(full_word(name, word, subsection));
+        self.next += 1;
+        Ok(id)
+    }
+
+    /// Puts a section directly behind the one at a place, under the next number and `name` in ASCII lower
+    /// case, and answers that number. Takes memory for the names, and on average constant memory for its place and the
+    /// indexes; moves what stands behind, and links all sections anew.
+    ///
+    /// Errors: a [`span::Error`], number 3 where only the greatest number is left, and else 27 for want of
+    /// memory. The table then is as it was.
+    pub fn insert_behind(
+        &mut self,
+        position: usize,
+        name: &[u8],
+        subsection: Option<&[u8]>,
+        section: T,
+    ) -> Result<SectionId, span::Error>
+    where
+        T: Drop,
+        requires { position < length self.old.entries }
+        ensures id { IfOk result (λ id. id ≡ self.old.next) }
+        ensures ok { OnOk result (self.new ≡ with_behind position name.now (option_copied subsection.entry) section self.old) }
+        ensures used_up { IsErrOf result 3 ↔ (self.old.next ≡ no_number) }
+        ensures memory { IfErr result (λ e. self.old.next < no_number → e ≡ 27) }
+        ensures err { OnErr result (self.new ≡ self.old) }
+    {
+        if self.next == usize::MAX {
+            return Err(span::Error::too_large());
+        }
+        let id = SectionId { number: self.next };
+        let row = row_of(*self.rows.allocator(), id, name, subsection, section)?;
+        self.rows.reserve(1)?;
+        self.places.reserve(1)?;
+        self.names.reserve(1)?;
+        self.full.reserve(1)?;
+        let at = position + 1;
+        let word = name_word(name);
+        self.rows.insert(at, row).unwrap();
+        self.places.push(at).unwrap();
+        relocate(&self.rows, &mut self.places);
+        self.names.insert(at, word);
+        self.full.insert(at, full_word(name, word, subsection));
+        self.next += 1;
+        Ok(id)
+    }
+
+    /// Puts all sections of another table behind the first `position` ones, in their order and under the next
+    /// numbers. Their names and what they hold are moved. Takes memory for the places and the indexes, moves what stands
+    /// behind, and links all sections anew.
+    ///
+    /// Errors: a [`span::Error`], number 3 where fewer numbers are left than the other has sections, and else
+    /// 27 for want of memory. The table then is as it was, and the other is dropped.
+    pub fn insert_all(&mut self, position: usize, other: SectionTable<T>) -> Result<(), span::Error>
+    where
+        T: Drop,
+        requires { position ≤ length self.old.entries }
+        ensures ok { OnOk result (self.new ≡ with_all position other self.old) }
+        ensures used_up { IsErrOf result 3 ↔ (no_number < self.old.next + length other.entries) }
+        ensures memory { IfErr result (λ e. self.old.next + length other.entries ≤ no_number → e ≡ 27) }
+        ensures err { OnErr result (self.new ≡ self.old) }
+    {
+        let count = other.rows.len();
+        if usize::MAX - self.next < count {
+            return Err(span::Error::too_large());
+        }
+        let SectionTable {
+            rows: mut added,
+            places: _,
+            names,
+            full,
+            next: _,
+        } = other;
+        self.rows.reserve(count)?;
+        self.names.reserve(count)?;
+        self.full.reserve(count)?;
+        add_places(&mut self.places, self.next, count)?;
+        renumber(&mut added, self.next);
+        put_rows(&mut self.rows, position, &mut added);
+        relocate(&self.rows, &mut self.places);
+        self.names.insert_all(position, names);
+        self.full.insert_all(position, full);
+        self.next += count;
+        Ok(())
+    }
+
+    /// Takes the section of that number out, and answers what it held, or `None` where none has it. Its number
+    /// is not given again. Moves what stands behind, and links all sections anew.
+    pub fn remove(&mut self, id: SectionId) -> Option<T>
+        ensures held { result ≡ section_of id self.old }
+        ensures rest { self.new ≡ without id self.old }
+    {
+        let at = self.position(id)?;
+        let Row {
+            id: _,
+            name: _,
+            subsection: _,
+            section,
+        } = self.rows.remove(at);
+        relocate(&self.rows, &mut self.places);
+        self.names.remove(at);
+        self.full.remove(at);
+        Some(section)
+    }
+
+    /// Gives the section at a place other names, `name` in ASCII lower case; its number, its place and what it
+    /// holds stay. Takes memory for the names, and links all sections anew. For want of memory the table is as it was.
+    pub fn rename(
+        &mut self,
+        position: usize,
+        name: &[u8],
+        subsection: Option<&[u8]>,
+    ) -> Result<(), NoMemory>
+        requires { position < length self.old.entries }
+        ensures ok { OnOk result (self.new ≡ with_names self.old position name.now (option_copied subsection.entry)) }
+        ensures err { OnErr result (self.new ≡ self.old) }
+    {
+        let alloc = *self.rows.allocator();
+        let new_name = folded(alloc, name)?;
+        let new_subsection = copied(alloc, subsection)?;
+        let word = name_word(name);
+        self.names.set(position, word);
+        self.full.set(position, full_word(name, word, subsection));
+        let row = &mut self.rows[position];
+        row.name = new_name;
+        row.subsection = new_subsection;
+        Ok(())
+    }
+
+    // The places at which the word of the name and subsection stands.
+    fn places_named(&self, name: &str, subsection: Option<&[u8]>) -> Places<'_>
+        ensures { result ≡ places_of (full_word name.now (option_copied subsection.entry)) (map (λ e. full_word e.name e.subsection) self.now.entries) }
+    {
+        let name = name.as_bytes();
+        self.full
+            .places(full_word(name, name_word(name), subsection))
+    }
+}
+
+// The bytes in ASCII lower case.
+fn folded(alloc: Global, name: &[u8]) -> Result<Vec<u8>, AllocError>
+    ensures { IfOk result (λ v. v.items ≡ fold name.now) }
+{
+    let mut folded = Vec::from_slice(alloc, name)?;
+    folded.make_ascii_lowercase();
+    Ok(folded)
+}
+
+// The bytes, if there are any to copy.
+fn copied(alloc: Global, subsection: Option<&[u8]>) -> Result<Option<Vec<u8>>, AllocError>
+    ensures { IfOk result (λ copy. option_map (λ v. v.items) copy ≡ option_copied subsection.entry) }
+{
+    match subsection {
+        Some(bytes) => Ok(Some(Vec::from_slice(alloc, bytes)?)),
+        None => Ok(None),
+    }
+}
+
+// A row with those names.
+fn row_of<T: Drop>(
+    alloc: Global,
+    id: SectionId,
+    name: &[u8],
+    subsection: Option<&[u8]>,
+    section: T,
+) -> Result<Row<T>, AllocError>
+    ensures { IfOk result (λ row. entry_of_row row ≡ entry_of id name.now (option_copied subsection.entry) section) }
+{
+    Ok(Row {
+        id,
+        name: folded(alloc, name)?,
+        subsection: copied(alloc, subsection)?,
+        section,
+    })
+}
+
+// Writes down the place of each row under its number.
+fn relocate<T>(rows: &Vec<Row<T>>, places: &mut Vec<usize>)
+    requires within { (k : ℕ) → k < length (numbers_of (entries_of rows.now.items)) → slice_index (numbers_of (entries_of rows.now.items)) k < length places.old.items }
+    requires once { AreApart (numbers_of (entries_of rows.now.items)) }
+    ensures placed { ArePlaced (numbers_of (entries_of rows.now.items)) places.new.items }
+    ensures len { length places.new.items ≡ length places.old.items }
+{
+    for at in 0..rows.len() {
+        let row = &rows[at];
+        let id = row.id;
+        places[id.number] = at;
+    }
+}
+
+// Makes room for the places of so many numbers more, behind those below `next`.
+fn add_places(places: &mut Vec<usize>, next: usize, count: usize) -> Result<(), AllocError>
+    requires { next + count ≤ no_number }
+    ensures ok { OnOk result (vec_len places.new ≡ next + count) }
+    ensures err { OnErr result (places.new.items ≡ places.old.items) }
+{
+    places.resize(next + count, 0)
+}
+
+// Gives the rows the numbers from `next` on.
+fn renumber<T>(rows: &mut Vec<Row<T>>, next: usize)
+    requires { next + vec_len rows.old ≤ no_number }
+    ensures entries { entries_of rows.new.items ≡ numbered_from next (entries_of rows.old.items) }
+    ensures len { vec_len rows.new ≡ vec_len rows.old }
+{
+    for at in 0..rows.len() {
+        let row = &mut rows[at];
+        row.id = SectionId { number: next + at };
+    }
+}
+
+// Moves the added rows behind the first `at` ones.
+fn put_rows<T>(rows: &mut Vec<Row<T>>, at: usize, added: &mut Vec<Row<T>>)
+    requires within { at ≤ vec_len rows.old }
+    requires room { vec_len rows.old + vec_len added.old ≤ vec_capacity rows.old }
+    ensures { rows.new.items ≡ take at rows.old.items ++ added.old.items ++ drop at rows.old.items }
+{
+    let behind = rows.len() - at;
+    rows.append(added).unwrap();
+    rotate_tail(rows, at, behind);
+}
+
+// Moves the first `count` rows from `at` on to the end.
+fn rotate_tail<T>(rows: &mut [Row<T>], at: usize, count: usize)
+    requires { at + count ≤ length rows.old }
+    ensures { rows.new ≡ take at rows.old ++ (drop count (drop at rows.old) ++ take count (drop at rows.old)) }
+{
+    let (_, tail) = rows.split_at_mut(at);
+    tail.rotate_left(count);
+}
+
+// The row at a place, if there is one.
+fn row_at<T>(rows: &[Row<T>], at: usize) -> Option<&Row<T>>
+    ensures { option_copied result ≡ slice_get rows.now at }
+{
+    rows.get(at)
+}
+
+// Whether a row has the name, without ASCII case, and exactly the subsection.
+fn is_named<T>(row: &Row<T>, name: &str, subsection: Option<&[u8]>) -> bool
+    ensures { result ≡ is_named name.now (option_copied subsection.entry) (entry_of_row row.now) }
+{
+    is_same_name(name.as_bytes(), &row.name) && same_subsection(&row.subsection, subsection)
+}
+
+// Whether both are none, or the same bytes.
+fn same_subsection(ours: &Option<Vec<u8>>, asked: Option<&[u8]>) -> bool
+    ensures { result ≡ option_eq bytes_eq (option_map (λ s. s.items) ours.now) (option_copied asked.entry) }
+{
+    match (ours, asked) {
+        (None, None) => true,
+        (Some(ours), Some(asked)) => ours.as_slice() == asked,
+        _ => false,
+    }
+}
+
+/// The sections of a table in file order, from either end: [`SectionTable::iter`].
+#[derive(Drop)]
+pub struct SectionIter<'a, T> {
+    rows: &'a [Row<T>],
+}
+
+impl<'a, T> Iterator for SectionIter<'a, T> {
+    type Item = (SectionId, &'a T);
+
+    ghost next_gives = { YieldsFirstBy shown_section sections_left };
+
+    ghost remaining = { item_count sections_left };
+
+    fn next(&mut self) -> Option<(SectionId, &'a T)> {
+        let (row, rest) = self.rows.split_first()?;
+        self.rows = rest;
+        Some((row.id, &row.section))
+    }
+}
+
+impl<'a, T> DoubleEndedIterator for SectionIter<'a, T> {
+    ghost next_back_gives = { YieldsLastBy shown_section sections_left };
+
+    fn next_back(&mut self) -> Option<(SectionId, &'a T)> {
+        let (row, rest) = self.rows.split_last()?;
+        self.rows = rest;
+        Some((row.id, &row.section))
+    }
+}
+
+/// The numbers of the sections of a name and subsection in file order, from either end: [`SectionTable::ids`].
+#[derive(Drop)]
+pub struct Ids<'a, 'n, 's, T> {
+    rows: &'a [Row<T>],
+    places: Places<'a>,
+    name: &'n str,
+    subsection: Option<&'s [u8]>,
+}
+
+impl<T> Iterator for Ids<'_, '_, '_, T> {
+    type Item = SectionId;
+
+    ghost next_gives = { YieldsFirst ids_left };
+
+    ghost remaining = { item_count ids_left };
+
+    fn next(&mut self) -> Option<SectionId> {
+        while let Some(at) = self.places.next() {
+            if let Some(row) = row_at(self.rows, at) {
+                if is_named(row, self.name, self.subsection) {
+                    return Some(row.id);
+                }
+            }
+        }
+        None
+    }
+}
+
+impl<T> DoubleEndedIterator for Ids<'_, '_, '_, T> {
+    ghost next_back_gives = { YieldsLast ids_left };
+
+    fn next_back(&mut self) -> Option<SectionId> {
+        while let Some(at) = self.places.next_back() {
+            if let Some(row) = row_at(self.rows, at) {
+                if is_named(row, self.name, self.subsection) {
+                    return Some(row.id);
+                }
+            }
+        }
+        None
+    }
+}

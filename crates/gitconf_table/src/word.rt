@@ -1,0 +1,58 @@
+//! The words by which names are found.
+ghost use Rattle.std.specs.Prelude.{◌≡◌};
+ghost use Rattle.std.specs.Option.{option_copied};
+ghost use Rattle.gitconf_text.specs.Bytes.{fold};
+ghost use Rattle.gitconf_table.specs.Word.{full_word, name_word, with_byte, with_bytes};
+
+// FNV-1a: its word of no bytes, and its prime.
+const NO_BYTES: u64 = 14695981039346656037;
+
+const PRIME: u64 = 1099511628211;
+
+// A word with one byte more.
+#[tactic(auto, unfolding(crate::specs::Word::with_byte))]
+fn with_byte(word: u64, byte: u8) -> u64
+    ensures { result ≡ with_byte word byte }
+{
+    (word ^ u64::from(byte)).wrapping_mul(PRIME)
+}
+
+// A word with all bytes of a text more.
+fn with_bytes(word: u64, bytes: &[u8]) -> u64
+    ensures { result ≡ with_bytes word bytes.now }
+{
+    let mut word = word;
+    let mut rest = bytes;
+    while let Some((byte, behind)) = rest.split_first() {
+        word = with_byte(word, *byte);
+        rest = behind;
+    }
+    word
+}
+
+/// The word of a name, without ASCII case.
+#[tactic(auto, unfolding(crate::specs::Word::name_word))]
+pub fn name_word(name: &[u8]) -> u64
+    ensures { result ≡ name_word name.now }
+{
+    let mut word = NO_BYTES;
+    let mut rest = name;
+    while let Some((byte, behind)) = rest.split_first() {
+        word = with_byte(word, byte.to_ascii_lowercase());
+        rest = behind;
+    }
+    word
+}
+
+/// The word of a name, without ASCII case, and a subsection, if `word` is that of the name.
+#[tactic(auto, unfolding(crate::specs::Word::full_word))]
+pub fn full_word(name: &[u8], word: u64, subsection: Option<&[u8]>) -> u64
+    requires { word ≡ name_word name.now }
+    ensures { result ≡ full_word name.now (option_copied subsection.entry) }
+{
+    let _ = name;
+    match subsection {
+        None => word,
+        Some(bytes) => with_bytes(with_byte(word, 0), bytes),
+    }
+}
