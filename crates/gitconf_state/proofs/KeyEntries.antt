@@ -157,11 +157,11 @@ removed_leaves edited key apart items = go (cut_last (is_entry_of edited) items)
     go (Some c) e =
         let cut = cut_is (is_entry_of edited) items c e in
         rw (e, removed) (
-          of_key-append key (without_last_blanks c.0) (without_first_line_ends c.1.1)
-          ∙ ap (λ es. es ++ of_key key (without_first_line_ends c.1.1)) (last_blanks_leave key c.0)
-          ∙ ap (λ es. of_key key c.0 ++ es) (first_line_ends_leave key c.1.1 ∙ sym (passed_by key c.1.0 c.1.1 (other_entry edited key apart c.1.0 cut.passes)))
-          ∙ sym (of_key-append key c.0 (c.1.0 ∷ c.1.1))
-          ∙ ap (of_key key) (sym cut.is))
+        of_key-append key (without_last_blanks c.0) (without_first_line_ends c.1.1)
+        ∙ ap (λ es. es ++ of_key key (without_first_line_ends c.1.1)) (last_blanks_leave key c.0)
+        ∙ ap (λ es. of_key key c.0 ++ es) (first_line_ends_leave key c.1.1 ∙ sym (passed_by key c.1.0 c.1.1 (other_entry edited key apart c.1.0 cut.passes)))
+        ∙ sym (of_key-append key c.0 (c.1.0 ∷ c.1.1))
+        ∙ ap (of_key key) (sym cut.is))
 
 -- items without entries have none of a key
 no_entries : (key : List ℕ) (items : List Item) → list_any is_any_entry items ≡ false → list_any (is_entry_of key) items ≡ false
@@ -184,9 +184,9 @@ popped_leaves key items other = go (cut_last is_any_entry items) refl
         let found : last_or None (filter is_any_entry items) ≡ Some c.1.0 = ap (λ is. last_or None (filter is_any_entry is)) cut.is ∙ last_passing is_any_entry None c.0 c.1.0 c.1.1 cut.passes cut.none in
         let here : is_entry_of key c.1.0 ≡ false = last (last_or None (filter is_any_entry items)) c.1.0 found other in
         rw (e, popped) (
-          last_blanks_leave key c.0
-          ∙ sym (added key c.0 (c.1.0 ∷ c.1.1) (passed_by key c.1.0 c.1.1 here ∙ of_key-none key c.1.1 (no_entries key c.1.1 cut.none)))
-          ∙ ap (of_key key) (sym cut.is))
+        last_blanks_leave key c.0
+        ∙ sym (added key c.0 (c.1.0 ∷ c.1.1) (passed_by key c.1.0 c.1.1 here ∙ of_key-none key c.1.1 (no_entries key c.1.1 cut.none)))
+        ∙ ap (of_key key) (sym cut.is))
 
 -- items cut at a place
 at_place : (place : ℕ) (key : List ℕ) (items : List Item) → of_key key items ≡ of_key key (take place items) ++ of_key key (drop place items)
@@ -196,9 +196,9 @@ pub deleted_leaves : (place : ℕ) (key : List ℕ) (items : List Item) → is_o
 deleted_leaves place key items other =
     of_key-append key (take place items) (drop (place + 1) items)
     ∙ ap (λ es. of_key key (take place items) ++ es) (sym (
-      at_place 1 key (drop place items)
-      ∙ ap (λ es. es ++ of_key key (drop 1 (drop place items))) (of_key-none key (take 1 (drop place items)) other)
-      ∙ ap (of_key key) (drop-drop 1 place items)))
+    at_place 1 key (drop place items)
+    ∙ ap (λ es. es ++ of_key key (drop 1 (drop place items))) (of_key-none key (take 1 (drop place items)) other)
+    ∙ ap (of_key key) (drop-drop 1 place items)))
     ∙ sym (at_place place key items)
 
 -- the line end that is kept of an old value is no entry
