@@ -5,10 +5,9 @@ use gitconf_parse::error::{Error, Expected};
 use gitconf_parse::event::Span;
 use gitconf_parse::event_ref::EventRef;
 use gitconf_parse::sink::SinkFault;
-use gitconf_text::parse::section::{Name, ValueName, ValueNameError, header};
-use gitconf_text::parse::span;
+use gitconf_text::parse::section::{Name, ValueName};
 use gix_config::NoMemory;
-use gix_config::file::{includes, init, set_raw_value};
+use gix_config::file::{includes, init};
 use gix_config::path::interpolate;
 use gix_config::refusals::Refusal as _;
 use std::alloc::Global;
@@ -89,46 +88,6 @@ fn texts_of_other_refusals(rt: HostRuntime) -> Result<(), Fail> {
         format!(in rt.alloc(); "{fault}")?.as_str(),
         "out of memory"
     );
-    Ok(())
-}
-
-// A refusal that is made of another one shows what that one shows.
-#[test]
-fn texts_of_refused_sets_and_loads(rt: HostRuntime) -> Result<(), Fail> {
-    let name =
-        "Valid value names consist of alphanumeric characters or dashes, starting with an alphabetic character.";
-    let span = "configuration data exceeds the supported span size of 4294967295 bytes";
-    let sets: [(set_raw_value::Error, &str); 5] = [
-        (
-            set_raw_value::Error::Header(header::Error::InvalidName),
-            "section names can only be ascii, '-'",
-        ),
-        (
-            set_raw_value::Error::Header(header::Error::InvalidSubSection),
-            "sub-section names must not contain newlines or null bytes",
-        ),
-        (
-            set_raw_value::Error::ValueName(ValueNameError::invalid()),
-            name,
-        ),
-        (set_raw_value::Error::Span(span::Error::too_large()), span),
-        (set_raw_value::Error::Memory, "out of memory"),
-    ];
-    for (error, text) in sets {
-        assert_eq!(rt; format!(in rt.alloc(); "{error}")?.as_str(), text);
-    }
-    let loads: [(init::Error, &str); 4] = [
-        (init::Error::Parse(Error::memory()), "out of memory"),
-        (
-            init::Error::Interpolate(interpolate::Error::Missing { what: "path" }),
-            "path is missing",
-        ),
-        (init::Error::Span(span::Error::too_large()), span),
-        (init::Error::Memory, "out of memory"),
-    ];
-    for (error, text) in loads {
-        assert_eq!(rt; format!(in rt.alloc(); "{error}")?.as_str(), text);
-    }
     Ok(())
 }
 
