@@ -19,7 +19,7 @@ use crate::section::Section;
 use crate::values::meaning;
 use bstr::BString;
 use gitconf_base::meta::Metadata;
-use gitconf_base::util::Named;
+use gitconf_table::table::Named;
 use gitconf_parse::items::{Assigned, Entry, Item};
 use gitconf_text::NoMemory;
 use gitconf_text::parse::section::bytes::is_same_name;

@@ -4,7 +4,7 @@ ghost use Rattle.std.specs.Prelude.{◌≡◌, IfOk};
 use crate::events::ItemEvents;
 use bstr::BString;
 use gitconf_base::meta::Metadata;
-use gitconf_base::util::{SectionId, SectionIter};
+use gitconf_table::table::{SectionId, SectionIter};
 use gitconf_parse::event::Header;
 use gitconf_parse::items::Item;
 use gitconf_parse::sink::{Sink, SinkFault};

@@ -8,7 +8,7 @@ use crate::section::{Section, SectionRef, Sections, shared};
 use crate::{set_raw_value, tokens};
 use bstr::BString;
 use gitconf_base::meta::Metadata;
-use gitconf_base::util::SectionTable;
+use gitconf_table::table::SectionTable;
 use gitconf_body::entry::set_value;
 use gitconf_body::section::section_with;
 use gitconf_parse::error::Error;

@@ -7,7 +7,7 @@ pub mod init;
 use bstr::BString;
 use gitconf_base::key::AsKey;
 pub use gitconf_base::meta::Metadata;
-pub use gitconf_base::util::SectionId;
+pub use gitconf_table::table::SectionId;
 use gitconf_parse::error::Error;
 use gitconf_parse::events::{Events, check_len};
 use gitconf_parse::sink::{Sink, SinkFault};
