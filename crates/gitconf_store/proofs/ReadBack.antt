@@ -16,13 +16,14 @@ text_reads text state has is clean = subst (λ t. Reads t (document_of state)) (
 pub text_comments : (text : List ℕ) (state : State) → HasItems state → text ≡ printed state → IsClean state → (parts : List Part) → IsText text parts → comments_of parts ≡ comments state
 text_comments text state has is clean parts text_is = all_comments state has clean parts (subst (λ t. IsText t parts) is text_is)
 
--- a section alone
-pub section_reads : (s : SectionState) → HasSectionItems s → IsCleanSection s → Reads (printed_section s) (record { front = []; sections = section_document s ∷ [] })
+-- a section alone, whatever is held behind it
+pub section_reads : (s : SectionState) → HasSectionItems (record s { held = [] }) → IsCleanSection (record s { held = [] })
+    → Reads (printed_section s) (record { front = []; sections = section_document s ∷ [] })
 section_reads s has clean =
-    (sections_read_back (record { front = []; meta = s.meta; next = 0; used = 0; sections = s ∷ [] })
+    (sections_read_back (record { front = []; meta = s.meta; next = 0; used = 0; sections = (record s { held = [] }) ∷ [] })
     (record { front = refl; sections = (has, tt) }) (record { sections = (clean, tt); blanks = refl; names = refl })).0
 
-pub section_text_reads : (text : List ℕ) (s : SectionState) → text ≡ printed_section s → HasSectionItems s → IsCleanSection s
+pub section_text_reads : (text : List ℕ) (s : SectionState) → text ≡ printed_section s → HasSectionItems (record s { held = [] }) → IsCleanSection (record s { held = [] })
     → Reads text (record { front = []; sections = section_document s ∷ [] })
 section_text_reads text s is has clean = subst (λ t. Reads t (record { front = []; sections = section_document s ∷ [] })) (sym is) (section_reads s has clean)
 

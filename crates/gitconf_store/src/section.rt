@@ -50,7 +50,7 @@ impl<'a> SectionRef<'a> {
     ghost use Rattle.gitconf_parse.specs.Sink.{Writes, Counts};
     ghost use Rattle.gitconf_state.specs.Clean.{IsCleanSection};
     ghost use Rattle.gitconf_state.specs.Printing.{printed_section, ends_with_line};
-    ghost use Rattle.gitconf_state.specs.State.{HasSectionItems, section_document};
+    ghost use Rattle.gitconf_state.specs.State.{HasSectionItems, SectionState, section_document};
     ghost use Rattle.gitconf_write.specs.Bodies.{tokens_in};
     ghost use Rattle.gitconf_write.specs.LineEnds.{bytes_of_line_end};
     ghost use Rattle.gitconf_store.specs.ItemEvents.{events_left};
@@ -107,7 +107,8 @@ impl<'a> SectionRef<'a> {
     #[tactic(auto, using(crate::proofs::ReadBack::section_text_reads))]
     pub fn to_bstring(&self) -> Result<BString, NoMemory>
         ensures text { IfOk result (λ text. bstring_bytes text ≡ printed_section (shown self.now)) }
-        ensures reads { HasSectionItems (shown self.now) → IsCleanSection (shown self.now)
+        // What is held behind it has no part in it. The items are as every file has them: `Store::sections` (`state`).
+        ensures reads { let alone : SectionState = record (shown self.now) { held = [] } in HasSectionItems alone → IsCleanSection alone
             → IfOk result (λ text. Reads (bstring_bytes text) (record { front = []; sections = section_document (shown self.now) ∷ [] })) }
     {
         let mut text = Vec::new(*self.section.items.allocator());
