@@ -13,6 +13,7 @@ use Rattle.gitconf_parse.specs.declared.items.Item.TheVariants as kinds
 use Rattle.gitconf_parse.specs.Events.{bytes_of, SpanFits}
 use Rattle.gitconf_parse.specs.Items.{piece_of, value_of, entry_of, item_of}
 use Rattle.gitconf_parse.specs.ItemsFit.{AreItemsWithin, ItemFits, EntryFits, PieceFits, ValueFits}
+use Rattle.gitconf_state.specs.State.{is_entry}
 use Rattle.gitconf_state.specs.Edit as state
 use Rattle.gitconf_write.specs.Bodies.{items_of}
 use Rattle.gitconf_parse.specs.ShownEvents.{IsExtended}
@@ -20,7 +21,7 @@ use Rattle.gitconf_body.specs.Buffers.{StandsAt}
 use Rattle.gitconf_state.proofs.EditPlaces.{set_value_at}
 use Rattle.gitconf_body.specs.Lines.{LineStands}
 use Rattle.gitconf_body.specs.Places.{IsLastAt}
-use Rattle.gitconf_body.specs.Spacings.{LeadingStands, SpacingStands, is_entry, leading_items, separator_spans}
+use Rattle.gitconf_body.specs.Spacings.{LeadingStands, SpacingStands, is_stored_entry, leading_items, separator_spans}
 use Rattle.gitconf_body.specs.declared.entry.Line.{Line}
 use Rattle.gitconf_body.specs.declared.spacing.Spacing.{Spacing}
 use Rattle.gitconf_body.proofs.Places.{set_at, any_shown, found_at}
@@ -36,7 +37,7 @@ value_fits buffer v value none last = (subst (AllByRecursion (PieceFits (length 
 
 -- An entry with another value.
 pub entry_with : (old new : List ℕ) (is : List Item) (e d : Entry) (blanks behind : Span) (v : Value) (value : List ℕ)
-    → IsExtended old new → AreItemsWithin (length old) is → EntryFits (length old) e → list_any is_entry is ≡ true
+    → IsExtended old new → AreItemsWithin (length old) is → EntryFits (length old) e → list_any is_stored_entry is ≡ true
     → blanks ≡ (separator_spans (kinds.Entry e ∷ is)).0 → behind ≡ (separator_spans (kinds.Entry e ∷ is)).1
     → v.pieces.items ≡ [] → StandsAt new v.last (escaped value)
     → d ≡ record { name = e.name; blanks = blanks; assigned = Some (record { blanks = behind; value = v }) }
@@ -60,7 +61,7 @@ entry_with old new is e d blanks behind v value grown within fits some first sec
     go : (o : Option Assigned) → e.assigned ≡ o
         → made_of (state.separator_blanks (items_of old (kinds.Entry e ∷ is))) ≡ state.with_value (state.spacing_of (items_of old is)) value (parts.EntryItem (entry_of old e))
     go (Some a) at = rw at refl
-    go None at = let any : list_any state.is_any_entry (items_of old is) ≡ true = any_entry_shown old is ∙ some in rw (at, any, state.spacing_of) refl
+    go None at = let any : list_any is_entry (items_of old is) ≡ true = any_entry_shown old is ∙ some in rw (at, any, state.spacing_of) refl
 
 all_both : {A : Type 0} (P : A → Type 0) (xs ys : List A) → AllByRecursion P xs → AllByRecursion P ys → AllByRecursion P (xs ++ ys)
 all_both P [] ys first second = second

@@ -8,20 +8,21 @@ use Rattle.gitconf_parse.specs.declared.items.Item.{Item}
 use Rattle.gitconf_parse.specs.declared.items.Item.TheVariants as items
 use Rattle.gitconf_parse.specs.Events.{bytes_of, SpanFits, OptionFits}
 use Rattle.gitconf_parse.specs.ItemsFit.{AreItemsWithin}
+use Rattle.gitconf_state.specs.State.{is_entry}
 use Rattle.gitconf_state.specs.Edit as state
 use Rattle.gitconf_write.specs.Bodies.{items_of}
 use Rattle.gitconf_body.specs.declared.spacing.Spacing.{Spacing}
-use Rattle.gitconf_body.specs.Spacings.{LeadingStands, SpacingStands, default_blanks, is_entry, leading_span, nothing, separator_spans}
+use Rattle.gitconf_body.specs.Spacings.{LeadingStands, SpacingStands, default_blanks, is_stored_entry, leading_span, nothing, separator_spans}
 
 -- whether there is an entry
-pub any_entry_shown : (buffer : List ℕ) (is : List Item) → list_any state.is_any_entry (items_of buffer is) ≡ list_any is_entry is
+pub any_entry_shown : (buffer : List ℕ) (is : List Item) → list_any is_entry (items_of buffer is) ≡ list_any is_stored_entry is
 any_entry_shown buffer [] = refl
 any_entry_shown buffer (items.Blanks run ∷ is) = any_entry_shown buffer is
 any_entry_shown buffer (items.LineEnds run ∷ is) = any_entry_shown buffer is
 any_entry_shown buffer (items.Comment tag text ∷ is) = any_entry_shown buffer is
 any_entry_shown buffer (items.Entry e ∷ is) = refl
 
-leading_shown : (buffer : List ℕ) (last : Option Span) (is : List Item) → list_any is_entry is ≡ true
+leading_shown : (buffer : List ℕ) (last : Option Span) (is : List Item) → list_any is_stored_entry is ≡ true
     → option_map (bytes_of buffer) (leading_span last is) ≡ state.leading_blanks (option_map (bytes_of buffer) last) (items_of buffer is)
 leading_shown buffer last [] some = refl
 leading_shown buffer last (items.Blanks run ∷ is) some = leading_shown buffer (Some run) is some
@@ -65,11 +66,11 @@ separator_fits limit (items.Entry e ∷ is) all = go e.assigned refl (separator_
     go (Some a) at later = rw at (all.0.1, (let f = all.0.2 in rw at at f).0)
 
 -- the blanks that a body with entries has
-pub found_spacing : (buffer : List ℕ) (is : List Item) (s : Spacing) → list_any is_entry is ≡ true → s.leading ≡ leading_span None is
+pub found_spacing : (buffer : List ℕ) (is : List Item) (s : Spacing) → list_any is_stored_entry is ≡ true → s.leading ≡ leading_span None is
     → s.before ≡ (separator_spans is).0 → s.behind ≡ (separator_spans is).1 → AreItemsWithin (length buffer) is
     → SpacingStands buffer s (state.spacing_of (items_of buffer is))
 found_spacing buffer is s some leading before behind within =
-    let any : list_any state.is_any_entry (items_of buffer is) ≡ true = any_entry_shown buffer is ∙ some in
+    let any : list_any is_entry (items_of buffer is) ≡ true = any_entry_shown buffer is ∙ some in
     let f = separator_fits (length buffer) is within in
     rw (any, state.spacing_of) (record {
       leading = subst (λ l. LeadingStands buffer l (state.leading_blanks None (items_of buffer is))) (sym leading)
@@ -84,9 +85,9 @@ found_spacing buffer is s some leading before behind within =
     stands (Some s) (Some run) shown fits = record { fits = fits; is = cc }
 
 -- those of a body without entries
-pub default_spacing : (buffer : List ℕ) (is : List Item) → list_any is_entry is ≡ false → state.spacing_of (items_of buffer is) ≡ default_blanks
+pub default_spacing : (buffer : List ℕ) (is : List Item) → list_any is_stored_entry is ≡ false → state.spacing_of (items_of buffer is) ≡ default_blanks
 default_spacing buffer is none =
-    let any : list_any state.is_any_entry (items_of buffer is) ≡ false = any_entry_shown buffer is ∙ none in
+    let any : list_any is_entry (items_of buffer is) ≡ false = any_entry_shown buffer is ∙ none in
     rw (any, state.spacing_of) refl
 
 pub ruleset spacings = (found_spacing, default_spacing)

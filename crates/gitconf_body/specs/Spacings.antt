@@ -30,10 +30,10 @@ option_bytes (Some run) = length run
 abbrev pub spacing_bytes : state.Spacing → ℕ
 spacing_bytes s = option_bytes s.leading + length s.before + length s.behind
 
--- whether the item is an entry
-abbrev pub is_entry : Item → Bool
-is_entry (items.Entry e) = true
-is_entry _ = false
+-- an item as it is stored, by spans, is an entry
+abbrev pub is_stored_entry : Item → Bool
+is_stored_entry (items.Entry e) = true
+is_stored_entry _ = false
 
 -- the span of the blanks directly before the first entry; last: that of those directly before these items
 abbrev pub leading_span : (last : Option Span) → List Item → Option Span

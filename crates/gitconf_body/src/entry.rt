@@ -14,7 +14,7 @@ ghost use Rattle.gitconf_write.specs.LineEnds.{bytes_of_line_end};
 ghost use Rattle.gitconf_body.specs.Buffers.{Grows, StandsAt};
 ghost use Rattle.gitconf_body.specs.Lines.{LineStands};
 ghost use Rattle.gitconf_body.specs.Places.{IsLastAt, IsLastPlace};
-ghost use Rattle.gitconf_body.specs.Spacings.{is_entry, leading_items, spacing_bytes};
+ghost use Rattle.gitconf_body.specs.Spacings.{is_stored_entry, leading_items, spacing_bytes};
 
 use crate::buffer::append;
 use crate::spacing::{separator_of, spacing_of};
@@ -71,7 +71,7 @@ fn with_value(
     requires room { length buffer.old.items < 2 ^ 32 }
     requires within { AreItemsWithin (length buffer.old.items) items.now }
     requires entry { EntryFits (length buffer.old.items) entry.now }
-    requires some { list_any is_entry items.now ≡ true }
+    requires some { list_any is_stored_entry items.now ≡ true }
     ensures entry { IfOk result (λ e. parts.EntryItem (entry_of buffer.new.items e)
         ≡ state.with_value (state.spacing_of (items_of buffer.old.items items.now)) value.now (parts.EntryItem (entry_of buffer.old.items entry.now))) }
     ensures fits { IfOk result (λ e. EntryFits (length buffer.new.items) e) }

@@ -9,7 +9,7 @@ ghost use Rattle.gitconf_parse.specs.EventRef.{escaped_subsection};
 ghost use Rattle.gitconf_parse.specs.Events.{header_of};
 ghost use Rattle.gitconf_parse.specs.ItemsFit.{AreItemsWithin};
 ghost use Rattle.gitconf_parse.specs.ShownEvents.{decoded_or, CopyFits, IsExtended, IsShown};
-ghost use Rattle.gitconf_state.specs.Edit.{made_header, section_tokens, set_value, token_bytes};
+ghost use Rattle.gitconf_state.specs.Edit.{made_header, new_section_tokens, set_value, token_bytes};
 ghost use Rattle.gitconf_write.specs.Bodies.{items_of};
 ghost use Rattle.gitconf_write.specs.LineEnds.{bytes_of_line_end};
 ghost use Rattle.gitconf_body.specs.Buffers.{Grows};
@@ -171,7 +171,7 @@ pub fn section_with(
     ensures items { IfOk result (λ s. items_of buffer.new.items s.items.items
         ≡ set_value (bytes_of_line_end line_end) key.now value.now (parts.LineEndsItem (bytes_of_line_end line_end) ∷ [])) }
     ensures within { IfOk result (λ s. AreItemsWithin (length buffer.new.items) s.items.items) }
-    ensures grows { Grows result (token_bytes (section_tokens (bytes_of_line_end line_end) name.now (option_copied subsection.entry) key.now value.now)) buffer.old.items buffer.new.items }
+    ensures grows { Grows result (token_bytes (new_section_tokens (bytes_of_line_end line_end) name.now (option_copied subsection.entry) key.now value.now)) buffer.old.items buffer.new.items }
     ensures extended { IsExtended copies.old.items copies.new.items }
 {
     let mut items = one_line(buffer, line_end)?;

@@ -29,7 +29,7 @@ const NOTHING: Span = Span { start: 0, len: 0 };
 
 /// Whether an item is an entry.
 fn has_entry(items: &[Item]) -> bool
-    ensures { result ≡ list_any spec.is_entry items.now }
+    ensures { result ≡ list_any spec.is_stored_entry items.now }
 {
     items.iter().any(|item| matches!(item, Item::Entry(_)))
 }

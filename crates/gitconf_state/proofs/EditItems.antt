@@ -17,10 +17,10 @@ use Rattle.gitconf_parse.proofs.ByteLaws.{name_byte_header}
 use Rattle.gitconf_parse.proofs.ValueAgain.{both_true, line_end_is}
 use Rattle.gitconf_parse.proofs.RunLaws.{false_not}
 use Rattle.gitconf_base.specs.Metadata.{Meta}
-use Rattle.gitconf_state.specs.State.{SectionState, State, is_value, is_assigned, is_item, is_header, HasSectionItems}
+use Rattle.gitconf_state.specs.State.{SectionState, State, is_value, is_assigned, is_item, is_header, HasSectionItems, is_entry}
 use Rattle.gitconf_state.specs.LineEnds.{file_line_end}
 use Rattle.gitconf_state.specs.Clean.{has_blanks, IsCleanSection}
-use Rattle.gitconf_state.specs.Edit.{is_entry_of, is_any_entry, Spacing, leading_blanks, separator_blanks, spacing_of, assigned_value, with_value, new_entry, set_value, made_header, new_section, is_target, section_with}
+use Rattle.gitconf_state.specs.Edit.{is_entry_of, Spacing, leading_blanks, separator_blanks, spacing_of, assigned_value, with_value, new_entry, set_value, made_header, new_section, is_target, section_with}
 use Rattle.gitconf_state.specs.Edits.{finds_or_makes}
 use Rattle.gitconf_state.proofs.LoadingFilters.{both_hold}
 use Rattle.gitconf_state.proofs.InsertingLineEnds.{is_told_line_end}
@@ -77,9 +77,9 @@ separator_fits (EntryItem e ∷ items) all =
 
 -- so are those that a body has
 pub spacing_fits : (items : List Item) → list_all is_item items ≡ true → FitsSpacing (spacing_of items).before (spacing_of items).behind
-spacing_fits items all = go (list_any is_any_entry items) refl
+spacing_fits items all = go (list_any is_entry items) refl
   where
-    go : (t : Bool) → list_any is_any_entry items ≡ t → FitsSpacing (spacing_of items).before (spacing_of items).behind
+    go : (t : Bool) → list_any is_entry items ≡ t → FitsSpacing (spacing_of items).before (spacing_of items).behind
     go true e = rw (e, spacing_of) (separator_fits items all)
     go false e = rw (e, spacing_of) (record { before = refl; behind = refl })
 
@@ -179,9 +179,9 @@ leading_blank last (EntryItem e ∷ items) is all = is
 
 -- so are those before a key
 spacing_blank : (items : List Item) → list_all has_blanks items ≡ true → are_blanks (spacing_of items).leading ≡ true
-spacing_blank items all = go (list_any is_any_entry items) refl
+spacing_blank items all = go (list_any is_entry items) refl
   where
-    go : (t : Bool) → list_any is_any_entry items ≡ t → are_blanks (spacing_of items).leading ≡ true
+    go : (t : Bool) → list_any is_entry items ≡ t → are_blanks (spacing_of items).leading ≡ true
     go true e = rw (e, spacing_of) (leading_blank None items refl all)
     go false e = rw (e, spacing_of) refl
 

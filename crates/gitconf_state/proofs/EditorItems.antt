@@ -9,9 +9,9 @@ use Rattle.gitconf_text.specs.Unit.{is_white}
 use Rattle.gitconf_text.specs.Value.{Piece, spelled_value, value_units, are_paired}
 use Rattle.gitconf_text.specs.Part.{Assigned, Item, BlanksItem, LineEndsItem, CommentItem, EntryItem}
 use Rattle.gitconf_parse.proofs.ValueAgain.{both_true}
-use Rattle.gitconf_state.specs.State.{is_item, is_piece, is_value, is_assigned}
+use Rattle.gitconf_state.specs.State.{is_item, is_piece, is_value, is_assigned, is_entry}
 use Rattle.gitconf_state.specs.Clean.{has_blanks}
-use Rattle.gitconf_state.specs.Edit.{Spacing, leading_item, with_value, is_entry_of, is_any_entry}
+use Rattle.gitconf_state.specs.Edit.{Spacing, leading_item, with_value, is_entry_of}
 use Rattle.gitconf_state.specs.Editors.{Editor, entry_made, comment_text, comment_made, end_made, line_made, pushed, line_end_pushed, value_set, Cut, cut_last, without_last_blanks, without_first_line_ends, removed, popped, last_line_end, is_before_comment, line_end_item, kept_line_end, behind_old, written_at, deleted_at}
 use Rattle.gitconf_state.specs.Edits.{IsEditor, has_blank_leading}
 use Rattle.gitconf_state.proofs.LoadingFilters.{both_hold}
@@ -84,11 +84,11 @@ removed_all p key items all = go (cut_last (is_entry_of key) items) refl
         rw (e, removed) (all_append p (without_last_blanks c.0) (without_first_line_ends c.1.1) (last_blanks_all p c.0 parts.before) (first_line_ends_all p c.1.1 parts.behind))
 
 pub popped_all : (p : Item → Bool) (items : List Item) → list_all p items ≡ true → list_all p (popped items) ≡ true
-popped_all p items all = go (cut_last is_any_entry items) refl
+popped_all p items all = go (cut_last is_entry items) refl
   where
-    go : (o : Cut) → cut_last is_any_entry items ≡ o → list_all p (popped items) ≡ true
+    go : (o : Cut) → cut_last is_entry items ≡ o → list_all p (popped items) ≡ true
     go None e = rw (e, popped) refl
-    go (Some c) e = rw (e, popped) (last_blanks_all p c.0 (cut_passes p is_any_entry items all c e).before)
+    go (Some c) e = rw (e, popped) (last_blanks_all p c.0 (cut_passes p is_entry items all c e).before)
 
 pub deleted_all : (p : Item → Bool) (place : ℕ) (items : List Item) → list_all p items ≡ true → list_all p (deleted_at place items) ≡ true
 deleted_all p place items all = all_append p (take place items) (drop (place + 1) items) (take_all p place items all) (drop_all p (place + 1) items all)

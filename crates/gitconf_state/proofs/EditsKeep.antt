@@ -7,10 +7,10 @@ use Rattle.gitconf_text.specs.Part.{Item, BlanksItem, LineEndsItem, CommentItem,
 use Rattle.gitconf_parse.proofs.ValueAgain.{both_true}
 use Rattle.gitconf_parse.proofs.Shown.{all_push}
 use Rattle.gitconf_base.specs.Metadata.{Meta}
-use Rattle.gitconf_state.specs.State.{SectionState, State, is_item, entries_of, HasSectionItems, HasItems}
+use Rattle.gitconf_state.specs.State.{SectionState, State, is_item, entries_of, HasSectionItems, HasItems, is_entry}
 use Rattle.gitconf_state.specs.LineEnds.{file_line_end, ends_line}
 use Rattle.gitconf_state.specs.Printing.{Open, Closed, after}
-use Rattle.gitconf_state.specs.Clean.{is_nameless, is_entry, has_blanks, stand_apart, may_stand, IsCleanSection, IsClean}
+use Rattle.gitconf_state.specs.Clean.{is_nameless, has_blanks, stand_apart, may_stand, IsCleanSection, IsClean}
 use Rattle.gitconf_state.specs.Edit.{made_header, new_section, is_target, section_with, set_raw_value}
 use Rattle.gitconf_state.specs.Editors.{pushed, line_end_pushed, value_set, removed, popped, written_at, deleted_at}
 use Rattle.gitconf_state.specs.Edits.{change_numbered, change_items, renamed, with_trust, picked, without_numbered, begins_with, between, joined, held_behind_last, numbered_from, appended, Edit, SetRawValue, Push, PushLineEnd, SetValue, Remove, Pop, WriteAt, DeleteAt, Rename, RenameAll, NewSection, PushSection, RemoveSection, RemoveNumbered, Append, SetTrust, SetMeta, apply, apply_all, finds_or_makes, IsEdit, IsCleanEdit, AreEdits, AreCleanEdits}

@@ -8,8 +8,8 @@ use Rattle.std.proofs.lemmas.List.Elements.{filter-append}
 use Rattle.gitconf_text.specs.Names.{is_same_name}
 use Rattle.gitconf_text.specs.Part.{Assigned, Item, BlanksItem, LineEndsItem, CommentItem, EntryItem}
 use Rattle.gitconf_text.specs.Document.{DocumentEntry}
-use Rattle.gitconf_state.specs.State.{item_entries}
-use Rattle.gitconf_state.specs.Edit.{is_entry_of, is_any_entry, Spacing, leading_item, with_value, update_last}
+use Rattle.gitconf_state.specs.State.{item_entries, is_entry}
+use Rattle.gitconf_state.specs.Edit.{is_entry_of, Spacing, leading_item, with_value, update_last}
 use Rattle.gitconf_state.specs.Editors.{Editor, entry_made, comment_made, end_made, line_made, pushed, value_set, Cut, cut_last, without_last_blanks, without_first_line_ends, removed, popped, last_line_end, is_before_comment, line_end_item, kept_line_end, behind_old, written_at, deleted_at}
 use Rattle.gitconf_state.specs.Edits.{is_last_of, is_one_at}
 use Rattle.gitconf_state.proofs.EditLists.{last_passing}
@@ -164,7 +164,7 @@ removed_leaves edited key apart items = go (cut_last (is_entry_of edited) items)
         ∙ ap (of_key key) (sym cut.is))
 
 -- items without entries have none of a key
-no_entries : (key : List ℕ) (items : List Item) → list_any is_any_entry items ≡ false → list_any (is_entry_of key) items ≡ false
+no_entries : (key : List ℕ) (items : List Item) → list_any is_entry items ≡ false → list_any (is_entry_of key) items ≡ false
 no_entries key [] none = refl
 no_entries key (BlanksItem run ∷ items) none = no_entries key items none
 no_entries key (LineEndsItem run ∷ items) none = no_entries key items none
@@ -172,17 +172,17 @@ no_entries key (CommentItem tag text ∷ items) none = no_entries key items none
 no_entries key (EntryItem e ∷ items) none = absurd (cc)
 
 pub popped_leaves : (key : List ℕ) (items : List Item) → is_last_of key items ≡ false → of_key key (popped items) ≡ of_key key items
-popped_leaves key items other = go (cut_last is_any_entry items) refl
+popped_leaves key items other = go (cut_last is_entry items) refl
   where
     last : (o : Option Item) (i : Item) → o ≡ Some i → elim o as (λ _. Bool) [ None ↦ false | Some i ↦ is_entry_of key i ] ≡ false → is_entry_of key i ≡ false
     last o i is none = let h = rw is at none in h
 
-    go : (o : Cut) → cut_last is_any_entry items ≡ o → of_key key (popped items) ≡ of_key key items
-    go None e = rw (e, popped) (sym (of_key-none key items (no_entries key items (cut_none is_any_entry items e))))
+    go : (o : Cut) → cut_last is_entry items ≡ o → of_key key (popped items) ≡ of_key key items
+    go None e = rw (e, popped) (sym (of_key-none key items (no_entries key items (cut_none is_entry items e))))
     go (Some c) e =
-        let cut = cut_is is_any_entry items c e in
-        let found : last_or None (filter is_any_entry items) ≡ Some c.1.0 = ap (λ is. last_or None (filter is_any_entry is)) cut.is ∙ last_passing is_any_entry None c.0 c.1.0 c.1.1 cut.passes cut.none in
-        let here : is_entry_of key c.1.0 ≡ false = last (last_or None (filter is_any_entry items)) c.1.0 found other in
+        let cut = cut_is is_entry items c e in
+        let found : last_or None (filter is_entry items) ≡ Some c.1.0 = ap (λ is. last_or None (filter is_entry is)) cut.is ∙ last_passing is_entry None c.0 c.1.0 c.1.1 cut.passes cut.none in
+        let here : is_entry_of key c.1.0 ≡ false = last (last_or None (filter is_entry items)) c.1.0 found other in
         rw (e, popped) (
         last_blanks_leave key c.0
         ∙ sym (added key c.0 (c.1.0 ∷ c.1.1) (passed_by key c.1.0 c.1.1 here ∙ of_key-none key c.1.1 (no_entries key c.1.1 cut.none)))

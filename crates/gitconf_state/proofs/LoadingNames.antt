@@ -15,7 +15,8 @@ use Rattle.gitconf_parse.proofs.ValueAgain.{both_true, apart}
 use Rattle.gitconf_parse.proofs.RunLaws.{Stops, is_comment_text, comment_places}
 use Rattle.gitconf_parse.proofs.ByteLaws.{refuted, letter_no_line_end, letter_name_byte, mark_no_line_end, line_end_no_blank}
 use Rattle.gitconf_state.specs.Printing.{Open, Closed, OpenKey, OpenKeyAndBlanks, OpenValue, OpenComment, after_blanks, after_entry, after}
-use Rattle.gitconf_state.specs.Clean.{is_entry, may_stand, stand_apart}
+use Rattle.gitconf_state.specs.Clean.{may_stand, stand_apart}
+use Rattle.gitconf_state.specs.State.{is_entry}
 
 -- the text is empty, or begins with a line end
 abbrev pub is_line_closed : List ℕ → Bool

@@ -7,9 +7,9 @@ use Rattle.std.proofs.lemmas.Grind.{flat_map-append}
 use Rattle.gitconf_text.specs.Header.{name_of, subsection_of}
 use Rattle.gitconf_text.specs.Part.{Item, BlanksItem, LineEndsItem, CommentItem, EntryItem, Part, ItemPart, HeaderPart}
 use Rattle.gitconf_text.specs.Document.{Document, DocumentEntry, with_item, with_part, gathered}
-use Rattle.gitconf_state.specs.State.{SectionState, State, item_entries, entries_of, section_document, document_of_kept}
+use Rattle.gitconf_state.specs.State.{SectionState, State, item_entries, entries_of, section_document, document_of_kept, is_entry}
 use Rattle.gitconf_state.specs.LineEnds.{ends_line, section_line_end, file_line_end}
-use Rattle.gitconf_state.specs.Clean.{is_entry, IsCleanSection, IsClean}
+use Rattle.gitconf_state.specs.Clean.{IsCleanSection, IsClean}
 use Rattle.gitconf_state.specs.Comments.{item_comments, part_comments, comments_of, comments_of_kept}
 use Rattle.gitconf_state.specs.Printing.{Open, Closed, after, breaks, closed_item, printed_items, begins_on_a_line, unless, behind_header, printed_body, section_parts, ends_with_line, held_items, sections_parts, behind_front, printed_parts}
 use Rattle.gitconf_state.proofs.PrintedItem.{item_entries-is, item_comments-is}

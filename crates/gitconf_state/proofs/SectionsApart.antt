@@ -7,9 +7,9 @@ use Rattle.gitconf_text.specs.Text.{is_line_end}
 use Rattle.gitconf_text.specs.Part.{Item, EntryItem, Part, ItemPart, HeaderPart}
 use Rattle.gitconf_text.specs.Token.{item_tokens}
 use Rattle.gitconf_parse.proofs.ValueAgain.{both_true}
-use Rattle.gitconf_state.specs.State.{SectionState, State, is_item, HasSectionItems, HasItems}
+use Rattle.gitconf_state.specs.State.{SectionState, State, is_item, HasSectionItems, HasItems, is_entry}
 use Rattle.gitconf_state.specs.LineEnds.{ends_line, section_line_end, file_line_end}
-use Rattle.gitconf_state.specs.Clean.{has_blanks, is_entry, may_stand, stand_apart, IsCleanSection, IsClean}
+use Rattle.gitconf_state.specs.Clean.{has_blanks, may_stand, stand_apart, IsCleanSection, IsClean}
 use Rattle.gitconf_state.specs.Printing.{Open, Closed, after, begins_on_a_line, printed_items, unless, behind_header, printed_body, section_parts, ends_with_line, held_items, sections_parts, behind_front, printed_parts}
 use Rattle.gitconf_state.proofs.Apart.{AreApart, behind_parts, apart-append}
 use Rattle.gitconf_state.proofs.PrintedItem.{line_end_of-is, line_end_sound, header_sound}

@@ -4,7 +4,7 @@ use Rattle.std.specs.List.{list_all, AllByRecursion}
 use Rattle.gitconf_text.specs.Bytes.{is_blank}
 use Rattle.gitconf_text.specs.Header.{Header, PlainHeader, DottedHeader, QuotedHeader}
 use Rattle.gitconf_text.specs.Part.{Item, BlanksItem, EntryItem}
-use Rattle.gitconf_state.specs.State.{SectionState, State}
+use Rattle.gitconf_state.specs.State.{SectionState, State, is_entry}
 use Rattle.gitconf_state.specs.Printing.{Open, Closed, OpenKeyAndBlanks, after}
 
 -- an empty name and no subsection
@@ -18,10 +18,6 @@ is_nameless (QuotedHeader name blanks spelling) = false
 abbrev pub has_blanks : Item → Bool
 has_blanks (BlanksItem run) = list_all is_blank run
 has_blanks _ = true
-
-abbrev pub is_entry : Item → Bool
-is_entry (EntryItem e) = true
-is_entry _ = false
 
 -- A name may stand at the start, behind a line end, and behind blanks behind an entry without `=`.
 abbrev pub may_stand : Open → Item → Bool

@@ -9,7 +9,7 @@ use Rattle.gitconf_text.specs.Part.{Assigned, Item, BlanksItem, LineEndsItem, Co
 use Rattle.gitconf_text.specs.Token.{Token, HeaderToken, NewlineToken, ValueToken, WhitespaceToken, item_tokens, assigned_tokens, filled, spelled_token}
 use Rattle.gitconf_parse.specs.EventRef.{escaped_subsection}
 use Rattle.gitconf_base.specs.Metadata.{Meta}
-use Rattle.gitconf_state.specs.State.{SectionState, State}
+use Rattle.gitconf_state.specs.State.{SectionState, State, is_entry}
 use Rattle.gitconf_state.specs.LineEnds.{file_line_end}
 use Rattle.gitconf_state.specs.Lookup.{is_named, listing}
 
@@ -25,10 +25,6 @@ update_last test change (x ∷ xs) = elim (list_any test xs) [
 abbrev pub is_entry_of : (key : List ℕ) → Item → Bool
 is_entry_of key (EntryItem e) = is_same_name key e.name
 is_entry_of key _ = false
-
-abbrev pub is_any_entry : Item → Bool
-is_any_entry (EntryItem e) = true
-is_any_entry _ = false
 
 -- the blanks that an editor uses: before a key, and before and behind `=`
 pub record Spacing : Type 0 where
@@ -54,7 +50,7 @@ separator_blanks (CommentItem tag text ∷ items) = separator_blanks items
 
 -- those that a body has; a body without entries gives a tab, a space and a space
 abbrev pub spacing_of : List Item → Spacing
-spacing_of items = elim (list_any is_any_entry items) [
+spacing_of items = elim (list_any is_entry items) [
   | true ↦ record { leading = leading_blanks None items; before = (separator_blanks items).0; behind = (separator_blanks items).1 }
   | false ↦ record { leading = Some (9 ∷ []); before = 32 ∷ []; behind = 32 ∷ [] }
 ]
@@ -168,14 +164,14 @@ set_tokens line_end key value items = elim (last_or None (filter (is_entry_of ke
 ]
 
 -- the tokens of a new section with the value
-abbrev pub section_tokens : (line_end name : List ℕ) → (subsection : Option (List ℕ)) → (key value : List ℕ) → List Token
-section_tokens line_end name subsection key value =
+abbrev pub new_section_tokens : (line_end name : List ℕ) → (subsection : Option (List ℕ)) → (key value : List ℕ) → List Token
+new_section_tokens line_end name subsection key value =
     HeaderToken (made_header name subsection) ∷ NewlineToken line_end ∷ set_tokens line_end key value (LineEndsItem line_end ∷ [])
 
 -- the tokens that setting a value makes
 abbrev pub set_raw_value_tokens : (name : List ℕ) → (subsection : Option (List ℕ)) → (key : List ℕ) → (keeps : Meta → Bool) → (value : List ℕ) → State → List Token
 set_raw_value_tokens name subsection key keeps value state = elim (last_or None (filter (is_target name subsection keeps) state.sections)) [
-  | None ↦ section_tokens (file_line_end state) name subsection key value
+  | None ↦ new_section_tokens (file_line_end state) name subsection key value
   | Some s ↦ set_tokens (file_line_end state) key value s.items
 ]
 

@@ -6,9 +6,9 @@ use Rattle.gitconf_text.specs.Bytes.{is_whitespace}
 use Rattle.gitconf_text.specs.Text.{begins}
 use Rattle.gitconf_text.specs.Value.{Piece, plain}
 use Rattle.gitconf_text.specs.Part.{Assigned, Item, BlanksItem, LineEndsItem, CommentItem, EntryItem}
-use Rattle.gitconf_state.specs.State.{SectionState, State}
+use Rattle.gitconf_state.specs.State.{SectionState, State, is_entry}
 use Rattle.gitconf_state.specs.LineEnds.{file_line_end, section_line_end}
-use Rattle.gitconf_state.specs.Edit.{Spacing, spacing_of, leading_item, assigned_value, with_value, is_entry_of, is_any_entry, update_last, item_raw}
+use Rattle.gitconf_state.specs.Edit.{Spacing, spacing_of, leading_item, assigned_value, with_value, is_entry_of, update_last, item_raw}
 
 -- An editor: the blanks that it writes, as they were when it was made, the line end, and whether one stands behind what is pushed.
 pub record Editor : Type 0 where
@@ -96,7 +96,7 @@ removed key items = elim (cut_last (is_entry_of key) items) [
 
 -- the last entry is taken out, with the blanks directly before it and all that stands behind it; without an entry all is
 abbrev pub popped : List Item → List Item
-popped items = elim (cut_last is_any_entry items) [ None ↦ [] | Some c ↦ without_last_blanks c.0 ]
+popped items = elim (cut_last is_entry items) [ None ↦ [] | Some c ↦ without_last_blanks c.0 ]
 
 -- the key and the meaning of an entry
 abbrev pub entry_told : Item → Option (List ℕ × List ℕ)
@@ -105,7 +105,7 @@ entry_told _ = None
 
 -- the key and the meaning of the entry that `popped` takes out; no value counts as an empty one
 abbrev pub popped_entry : List Item → Option (List ℕ × List ℕ)
-popped_entry items = elim (cut_last is_any_entry items) [
+popped_entry items = elim (cut_last is_entry items) [
   | None ↦ None
   | Some c ↦ entry_told c.1.0
 ]

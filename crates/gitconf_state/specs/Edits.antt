@@ -12,11 +12,11 @@ use Rattle.gitconf_text.specs.Header.{spelled_header}
 use Rattle.gitconf_text.specs.Token.{Token, item_tokens}
 use Rattle.gitconf_base.specs.Metadata.{Meta}
 use Rattle.gitconf_base.specs.declared.source.Trust.{Trust}
-use Rattle.gitconf_state.specs.State.{SectionState, State, HasSectionItems, HasItems, entries_of}
+use Rattle.gitconf_state.specs.State.{SectionState, State, HasSectionItems, HasItems, entries_of, is_entry}
 use Rattle.gitconf_state.specs.Lookup.{is_named, listing}
 use Rattle.gitconf_state.specs.LineEnds.{file_line_end, ends_line}
 use Rattle.gitconf_state.specs.Clean.{is_nameless, IsClean, IsCleanSection}
-use Rattle.gitconf_state.specs.Edit.{made_header, new_section, is_target, is_entry_of, is_any_entry, set_raw_value, set_raw_value_tokens, replaced_value, old_value, token_bytes, value_tokens_of}
+use Rattle.gitconf_state.specs.Edit.{made_header, new_section, is_target, is_entry_of, set_raw_value, set_raw_value_tokens, replaced_value, old_value, token_bytes, value_tokens_of}
 use Rattle.gitconf_state.specs.Editors.{Editor, entry_made, pushed, line_made, line_end_pushed, value_set, removed, popped, popped_entry, written_at, deleted_at}
 
 -- a section that stands in no file, and the bytes of its buffer
@@ -294,7 +294,7 @@ is_there number name subsection test state = list_any (λ s. s.number == number 
 
 -- whether the last entry of items, or the one at a place, is one of the key
 abbrev pub is_last_of : (key : List ℕ) → List Item → Bool
-is_last_of key items = elim (last_or None (filter is_any_entry items)) [ None ↦ false | Some i ↦ is_entry_of key i ]
+is_last_of key items = elim (last_or None (filter is_entry items)) [ None ↦ false | Some i ↦ is_entry_of key i ]
 
 abbrev pub is_one_at : (place : ℕ) → (key : List ℕ) → List Item → Bool
 is_one_at place key items = list_any (is_entry_of key) (take 1 (drop place items))

@@ -29,6 +29,10 @@ pub record State : Type 0 where
   pub used : ℕ
   pub sections : List SectionState
 
+abbrev pub is_entry : Item → Bool
+is_entry (EntryItem e) = true
+is_entry _ = false
+
 -- the entry of an item, if it is one
 abbrev pub item_entries : Item → List DocumentEntry
 item_entries (EntryItem e) = document_entry e ∷ []

@@ -15,7 +15,7 @@ use Rattle.gitconf_text.specs.declared.parse.section.header.Error.TheVariants as
 use Rattle.gitconf_base.specs.Metadata.{Meta}
 use Rattle.gitconf_table.specs.Sections.{no_number}
 use Rattle.gitconf_body.specs.Places.{IsLastAt}
-use Rattle.gitconf_state.specs.Edit.{is_target, old_value, section_tokens, section_with, set_raw_value, set_raw_value_tokens, set_tokens, token_bytes, with_used}
+use Rattle.gitconf_state.specs.Edit.{is_target, old_value, new_section_tokens, section_with, set_raw_value, set_raw_value_tokens, set_tokens, token_bytes, with_used}
 use Rattle.gitconf_state.specs.LineEnds.{file_line_end}
 use Rattle.gitconf_state.specs.State.{SectionState, State}
 use Rattle.gitconf_state.proofs.EditLists.{any_at, filter_none, last_passing}
@@ -88,7 +88,7 @@ no_header e h = go (e == 27)
 -- the tokens of a section that is made
 tokens_new : (name : List ℕ) (subsection : Option (List ℕ)) (key : List ℕ) (keeps : Meta → Bool) (value : List ℕ) (state : State)
     → list_any (is_target name subsection keeps) state.sections ≡ false
-    → set_raw_value_tokens name subsection key keeps value state ≡ section_tokens (file_line_end state) name subsection key value
+    → set_raw_value_tokens name subsection key keeps value state ≡ new_section_tokens (file_line_end state) name subsection key value
 tokens_new name subsection key keeps value state none = rw (filter_none (is_target name subsection keeps) state.sections none, set_raw_value_tokens) refl
 
 -- those in one that stands
@@ -100,7 +100,7 @@ tokens_at name subsection key keeps value state at l =
     (ap (λ ss. last_or None (filter (is_target name subsection keeps) ss)) l.is ∙ last_passing (is_target name subsection keeps) None l.before l.found l.behind l.passes l.none)
   where
     found : (o : Option SectionState) → o ≡ Some l.found → elim o as (λ _. List Token) [
-      | None ↦ section_tokens (file_line_end state) name subsection key value
+      | None ↦ new_section_tokens (file_line_end state) name subsection key value
       | Some s ↦ set_tokens (file_line_end state) key value s.items
     ] ≡ set_tokens (file_line_end state) key value l.found.items
     found o is = rw is refl
@@ -110,7 +110,7 @@ pub made_ok : (name : List ℕ) (subsection : Option (List ℕ)) (key : List ℕ
     → r ≡ Ok tt → list_any (is_target name subsection keeps) old.sections ≡ false
     → (IsErrOf r InvalidName ↔ (is_made_name name ≡ false)) → (IsErrOf r InvalidSubSection ↔ ((is_made_name name ≡ true) × (is_valid_or_none subsection ≡ false)))
     → new ≡ with_used new.used (set_new name subsection key value old)
-    → EditGrows r header_number (token_bytes (section_tokens (file_line_end old) name subsection key value)) old new
+    → EditGrows r header_number (token_bytes (new_section_tokens (file_line_end old) name subsection key value)) old new
     → IsSet name subsection key keeps value (Ok None) old new
 made_ok name subsection key keeps value old new r done none named valid made grows = record {
   invalid_name = (λ fault. absurd (cc), λ all. absurd (let h = sym done ∙ named.1 all.2 in cc));
@@ -126,7 +126,7 @@ made_ok name subsection key keeps value old new r done none named valid made gro
 pub made_err : (name : List ℕ) (subsection : Option (List ℕ)) (key : List ℕ) (keeps : Meta → Bool) (value : List ℕ) (old new : State) (r : Result (Unit {0}) HeaderError) (e : HeaderError) (result : Result (Option BString) Error)
     → r ≡ Err e → result ≡ Err (of_header e) → is_value_name key ≡ true → list_any (is_target name subsection keeps) old.sections ≡ false
     → (IsErrOf r InvalidName ↔ (is_made_name name ≡ false)) → (IsErrOf r InvalidSubSection ↔ ((is_made_name name ≡ true) × (is_valid_or_none subsection ≡ false)))
-    → EditGrows r header_number (token_bytes (section_tokens (file_line_end old) name subsection key value)) old new → IfErr r (λ e. Known (header_number e))
+    → EditGrows r header_number (token_bytes (new_section_tokens (file_line_end old) name subsection key value)) old new → IfErr r (λ e. Known (header_number e))
     → IsSet name subsection key keeps value result old new
 made_err name subsection key keeps value old new r e result fault is keyed none named valid grows is_known = subst (λ t. IsSet name subsection key keeps value t old new) (sym is) (record {
   invalid_name = (
@@ -141,7 +141,7 @@ made_err name subsection key keeps value old new r e result fault is keyed none 
   answer = tt;
   grown = subst (λ ts. new.used ≤ old.used + token_bytes ts) (sym (tokens_new name subsection key keeps value old none)) grows.grown;
   too_large = λ number. elim (subst (λ ts. header_number e ≡ 3 → (2 ^ 32 ≤ old.used + token_bytes ts) ⊎ (old.next ≡ no_number)) (sym (tokens_new name subsection key keeps value old none))
-      (subst (λ r. IfErr r (λ e. header_number e ≡ 3 → (2 ^ 32 ≤ old.used + token_bytes (section_tokens (file_line_end old) name subsection key value)) ⊎ (old.next ≡ no_number))) fault grows.too_large)
+      (subst (λ r. IfErr r (λ e. header_number e ≡ 3 → (2 ^ 32 ≤ old.used + token_bytes (new_section_tokens (file_line_end old) name subsection key value)) ⊎ (old.next ≡ no_number))) fault grows.too_large)
       (sym (number_of_header e) ∙ number)) [ inl passes ↦ inl passes | inr used_up ↦ inr (none, used_up) ];
   known = subst Known (sym (number_of_header e)) (subst (λ r. IfErr r (λ e. Known (header_number e))) fault is_known);
 })

@@ -3,8 +3,6 @@ use Rattle.std.specs.Prelude.{Bool, true, false, List, [], ◌∷◌, flat_map}
 use Rattle.std.specs.List.{list_all}
 use Rattle.gitconf_text.specs.Part as parts
 use Rattle.gitconf_text.specs.Document.{DocumentEntry}
-use Rattle.gitconf_parse.specs.declared.items.Item.{Item}
-use Rattle.gitconf_parse.specs.declared.items.Item.TheVariants as kinds
 use Rattle.gitconf_state.specs.State.{SectionState, entries_of}
 
 abbrev pub is_empty_body : List parts.Item → Bool
@@ -18,8 +16,3 @@ are_void sections = list_all (λ s. is_empty_body s.items) sections
 -- the entries of all sections, in order
 abbrev pub section_entries : List SectionState → List DocumentEntry
 section_entries sections = flat_map (λ s. entries_of s.items) sections
-
--- an item of the code is an entry
-abbrev pub is_entry : Item → Bool
-is_entry (kinds.Entry e) = true
-is_entry _ = false

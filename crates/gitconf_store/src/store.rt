@@ -69,7 +69,7 @@ impl Store {
     ghost use Rattle.gitconf_body.specs.Places.{IsLastPlace};
     ghost use Rattle.gitconf_state.specs.Clean.{IsClean};
     ghost use Rattle.gitconf_state.specs.Comments.{comments, comments_of, comments_of_kept};
-    ghost use Rattle.gitconf_state.specs.Edit.{is_target, old_value, section_tokens, set_tokens, token_bytes, with_used};
+    ghost use Rattle.gitconf_state.specs.Edit.{is_target, old_value, new_section_tokens, set_tokens, token_bytes, with_used};
     ghost use Rattle.gitconf_state.specs.Inserted.{Inserted, IsByteForByte};
     ghost use Rattle.gitconf_state.specs.LineEnds.{file_line_end};
     ghost use Rattle.gitconf_state.specs.Lookup.{last_value, listed};
@@ -454,7 +454,7 @@ impl Store {
         ensures ok { OnOk result (self.new ≡ with_used self.new.used (edits.set_new section_name.now (option_copied subsection_name.entry) key.now value.now self.old)) }
         ensures err { OnErr result (self.new ≡ with_used self.new.used self.old) }
         ensures used { EditGrows result header_number
-            (token_bytes (section_tokens (file_line_end self.old) section_name.now (option_copied subsection_name.entry) key.now value.now)) self.old self.new }
+            (token_bytes (new_section_tokens (file_line_end self.old) section_name.now (option_copied subsection_name.entry) key.now value.now)) self.old self.new }
         ensures known { IfErr result (λ e. list_any (λ number. number == header_number e) set_numbers ≡ true) }
     {
         validate(section_name.as_bytes(), subsection_name)?;

@@ -7,7 +7,8 @@ ghost use Rattle.gitconf_state.specs.LineEnds.{line_end_of};
 ghost use Rattle.gitconf_write.specs.Bodies.{items_of};
 ghost use Rattle.gitconf_write.specs.LineEnds.{bytes_of_line_end};
 ghost use Rattle.gitconf_store.specs.Views.{sections_left};
-ghost use Rattle.gitconf_store.specs.Counts.{are_void, is_entry, section_entries};
+ghost use Rattle.gitconf_body.specs.Spacings.{is_stored_entry};
+ghost use Rattle.gitconf_store.specs.Counts.{are_void, section_entries};
 
 use crate::section::Sections;
 use gitconf_parse::items::Item;
@@ -43,7 +44,7 @@ pub(crate) fn are_void(sections: Sections<'_>) -> bool
 
 /// How many of the items are entries.
 fn entry_count(items: &[Item]) -> usize
-    ensures { result ≡ count_by is_entry items.now }
+    ensures { result ≡ count_by is_stored_entry items.now }
 {
     items
         .iter()
