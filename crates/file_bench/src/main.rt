@@ -50,8 +50,8 @@ fn look_up<R: Clock>(rt: &R, file: &File, key: &str) -> Result<(u32, u128)> {
 /// How many bytes the file is printed as, and the nanoseconds that this took.
 fn print<R: Clock>(rt: &R, file: &File) -> Result<(usize, u128)> {
     let start = Instant::now(rt)?;
-    let text = file.to_bstring()?;
-    Ok((text.len(), start.elapsed(rt)?.as_nanos()))
+    let bytes = file.to_bstring()?.len();
+    Ok((bytes, start.elapsed(rt)?.as_nanos()))
 }
 
 /// How many bytes the layout of the text has, and the nanoseconds that it took.
