@@ -16,8 +16,6 @@ use Rattle.gitconf_parse.specs.ShownEvents.{shown_token}
 use Rattle.gitconf_parse.proofs.ValueAgain.{both_true}
 use Rattle.gitconf_parse.proofs.RunLaws.{false_not}
 use Rattle.gitconf_parse.proofs.ByteLaws.{mark_no_blank}
-use Rattle.gitconf_state.specs.Clean.{may_stand}
-use Rattle.gitconf_state.specs.Printing.{Open, Closed, OpenValue, OpenComment, after_blanks, after_entry, after}
 use Rattle.gitconf_state.proofs.Follows.{may_follow, line_end_cases}
 use Rattle.gitconf_state.proofs.Fitted.{line_ends-append}
 use Rattle.gitconf_state.proofs.LoadingNames.{is_line_closed, Follows, first_fits, only_line_ends, behind_item}
@@ -36,6 +34,7 @@ use Rattle.gitconf_layout.proofs.Laid.{set_from, meets, meets_blanks, tight_key,
 use Rattle.gitconf_layout.proofs.RunsAgain.{ends_text-append, ends_place-append, ends_again, no_ends, content_ends}
 use Rattle.gitconf_layout.proofs.Fronts.{shown_parts, cut_ends, cut_blanks, keeps_none, keeps_or_puts, puts_none, with_front, front_same, front_fits, front_goes}
 use Rattle.gitconf_layout.proofs.AgainEntries.{Stays, moved, stays_key, valued, stays_value, stays_empty, closed_stays}
+use Rattle.gitconf_state.specs.Writing.{may_stand_behind, Open, Closed, OpenValue, OpenComment, after_blanks, after_entry, after}
 
 -- the same, and where blanks are kept before it, it begins with a comment
 pub record Again (o : Options) (e : List ℕ) (s : Bool) (b : Before) (r : Option ℕ) (set : List Shown) (text : List ℕ) : Type 0 where
@@ -242,7 +241,7 @@ again_entry o e line name blanks (Some a) parts later state s b r m fits follows
     value : FitsValue a.value (spelled parts)
     value = first.2.1
 
-    n : (may_stand state (EntryItem en) ≡ true) × Follows (after state (EntryItem en)) (spelled parts)
+    n : (may_stand_behind state (EntryItem en) ≡ true) × Follows (after state (EntryItem en)) (spelled parts)
     n = behind_item state (EntryItem en) (spelled parts) first follows
 
     opened : Follows OpenValue (spelled parts)

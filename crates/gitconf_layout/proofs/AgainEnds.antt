@@ -15,7 +15,6 @@ use Rattle.gitconf_parse.specs.EventRef.{Shown, written}
 use Rattle.gitconf_parse.specs.ShownEvents.{shown_token}
 use Rattle.gitconf_parse.proofs.ValueAgain.{both_true}
 use Rattle.gitconf_parse.proofs.RunLaws.{false_not}
-use Rattle.gitconf_state.specs.Printing.{Open, Closed, OpenKey, OpenValue, OpenComment, after_blanks, after_entry}
 use Rattle.gitconf_state.proofs.Follows.{may_follow, line_end_follows}
 use Rattle.gitconf_state.proofs.LoadingNames.{is_line_closed, Follows, first_fits, behind_item}
 use Rattle.gitconf_layout.specs.declared.format.Options.{Options}
@@ -37,6 +36,7 @@ use Rattle.gitconf_layout.proofs.RunsAgain.{text_once, no_ends, dropped_run}
 use Rattle.gitconf_layout.proofs.Fronts.{shown_parts, cut_blanks, keeps_none}
 use Rattle.gitconf_layout.proofs.AgainEntries.{Stays, moved, end_again, stays_key, valued, set_piece_ends, stays_value, stays_empty, closed_fits}
 use Rattle.gitconf_layout.proofs.Again.{Again, uncommented, stays_blanks, stays_ends, words_same, closed_ends, set_closed_line, again_comment, reworded, stays_header, stays_closed, stays_none}
+use Rattle.gitconf_state.specs.Writing.{Open, Closed, OpenKey, OpenValue, OpenComment, after_blanks, after_entry}
 
 -- nothing stays of the text but its end
 abbrev pub Bare : (s : Bool) (b : Before) (r : Option ℕ) (set : List Shown) (text : List ℕ) → Type 0

@@ -11,7 +11,6 @@ use Rattle.gitconf_text.specs.Part.{Assigned, Entry, EntryItem, Part, ItemPart, 
 use Rattle.gitconf_parse.proofs.ValueAgain.{both_true}
 use Rattle.gitconf_parse.proofs.RunLaws.{false_not}
 use Rattle.gitconf_parse.proofs.ByteLaws.{letter_no_blank}
-use Rattle.gitconf_state.specs.Printing.{OpenKey}
 use Rattle.gitconf_state.proofs.Follows.{may_follow, may_follow_key, key_skips, value_skips}
 use Rattle.gitconf_state.proofs.FittedEntry.{IsClosed}
 use Rattle.gitconf_layout.specs.declared.format.Options.{Options}
@@ -24,6 +23,7 @@ use Rattle.gitconf_layout.proofs.SetValues.{gap_blank}
 use Rattle.gitconf_layout.proofs.SetRuns.{name_blank}
 use Rattle.gitconf_layout.proofs.Laid.{set_from, entry_text}
 use Rattle.gitconf_layout.proofs.Fronts.{shown_parts, CutBlanks, keeps_none, with_front, front_same, front_fits, front_goes}
+use Rattle.gitconf_state.specs.Writing.{OpenKey}
 
 -- Parts that are a text and may stand there, and that one pass from a place writes as that text.
 pub record Stays (o : Options) (e : List ℕ) (s : Bool) (b : Before) (r : Option ℕ) (text : List ℕ) : Type 0 where

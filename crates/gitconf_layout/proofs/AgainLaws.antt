@@ -8,8 +8,8 @@ use Rattle.gitconf_text.specs.Document.{unmarked}
 use Rattle.gitconf_parse.specs.EventRef.{Shown}
 use Rattle.gitconf_parse.specs.ShownEvents.{shown_token}
 use Rattle.gitconf_parse.proofs.OneDocument.{one_tokens}
-use Rattle.gitconf_state.specs.Printing.{Closed}
 use Rattle.gitconf_state.specs.Comments.{comments_of}
+use Rattle.gitconf_state.specs.Writing.{Closed}
 use Rattle.gitconf_state.proofs.ReadsBack.{is_text}
 use Rattle.gitconf_layout.specs.declared.format.Options.{Options}
 use Rattle.gitconf_layout.specs.declared.place.Before.TheVariants.{Nothing}

@@ -13,7 +13,7 @@ use Rattle.gitconf_text.specs.Part.{Assigned, BlanksItem, LineEndsItem, CommentI
 use Rattle.gitconf_text.specs.Document.{Document, with_part, gathered}
 use Rattle.gitconf_parse.proofs.ValueAgain.{both_true, apart}
 use Rattle.gitconf_state.specs.Comments.{stripped, part_comments, comments_of}
-use Rattle.gitconf_state.specs.Printing.{Closed, OpenKey, OpenValue, OpenComment, after_blanks}
+use Rattle.gitconf_state.specs.Writing.{Closed, OpenKey, OpenValue, OpenComment, after_blanks}
 use Rattle.gitconf_state.proofs.Follows.{may_follow, may_follow_key, line_end_follows}
 use Rattle.gitconf_state.proofs.Fitted.{Fitted, put, respelled, put_blanks, put_line_ends}
 use Rattle.gitconf_state.proofs.FittedComment.{put_comment}

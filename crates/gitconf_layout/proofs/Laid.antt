@@ -15,9 +15,8 @@ use Rattle.gitconf_text.specs.Document.{Document, with_part, gathered}
 use Rattle.gitconf_parse.specs.EventRef.{written}
 use Rattle.gitconf_parse.specs.ShownEvents.{shown_token}
 use Rattle.gitconf_parse.proofs.ValueAgain.{both_true}
-use Rattle.gitconf_state.specs.Clean.{may_stand}
 use Rattle.gitconf_state.specs.Comments.{stripped, comments_of}
-use Rattle.gitconf_state.specs.Printing.{Open, Closed, OpenKey, OpenKeyAndBlanks, OpenValue, OpenComment, after_blanks, after_entry, after}
+use Rattle.gitconf_state.specs.Writing.{may_stand_behind, Open, Closed, OpenKey, OpenKeyAndBlanks, OpenValue, OpenComment, after_blanks, after_entry, after}
 use Rattle.gitconf_state.proofs.Follows.{may_follow, may_follow_key, blanks_follow, line_end_follows, mark_follows, letter_follows}
 use Rattle.gitconf_state.proofs.Fitted.{Fitted, put, respelled, put_blanks, put_line_ends}
 use Rattle.gitconf_state.proofs.FittedComment.{put_comment}
@@ -216,7 +215,7 @@ put_header state h written rest text document comments same follows later =
     }
 
 -- where an entry may stand, the set one may follow
-entry_follows : (o : Options) (s : Bool) (state : Open) (b : Before) (name rest : List ℕ) → may_stand state (EntryItem (record { name = name; blanks = []; assigned = None })) ≡ true → meets state b ≡ true → is_value_name name ≡ true
+entry_follows : (o : Options) (s : Bool) (state : Open) (b : Before) (name rest : List ℕ) → may_stand_behind state (EntryItem (record { name = name; blanks = []; assigned = None })) ≡ true → meets state b ≡ true → is_value_name name ≡ true
     → may_follow (tight state) (before_name o s b ++ (name ++ rest)) ≡ true
 entry_follows o s Closed b name rest stands m named = refl
 entry_follows o s OpenKeyAndBlanks Value [] rest stands m named = absurd (cc)
@@ -227,7 +226,7 @@ entry_follows o s OpenKey b name rest stands m named = absurd (cc)
 entry_follows o s OpenValue b name rest stands m named = absurd (cc)
 entry_follows o s OpenComment b name rest stands m named = absurd (cc)
 
-stands_same : (state : Open) (x y : Entry) → may_stand state (EntryItem x) ≡ true → may_stand state (EntryItem y) ≡ true
+stands_same : (state : Open) (x y : Entry) → may_stand_behind state (EntryItem x) ≡ true → may_stand_behind state (EntryItem y) ≡ true
 stands_same Closed x y h = refl
 stands_same OpenKeyAndBlanks x y h = refl
 stands_same OpenKey x y h = absurd (cc)
@@ -235,7 +234,7 @@ stands_same OpenValue x y h = absurd (cc)
 stands_same OpenComment x y h = absurd (cc)
 
 -- what an entry leaves open
-pub tight_key : (state : Open) (en : Entry) → may_stand state (EntryItem en) ≡ true → (blanks : List ℕ) → (tight (after_entry state blanks None) ≡ OpenKey) × (meets (after_entry state blanks None) Value ≡ true)
+pub tight_key : (state : Open) (en : Entry) → may_stand_behind state (EntryItem en) ≡ true → (blanks : List ℕ) → (tight (after_entry state blanks None) ≡ OpenKey) × (meets (after_entry state blanks None) Value ≡ true)
 tight_key Closed en h [] = (refl, refl)
 tight_key Closed en h (b ∷ blanks) = (refl, refl)
 tight_key OpenKeyAndBlanks en h [] = (refl, refl)
@@ -244,7 +243,7 @@ tight_key OpenKey en h blanks = absurd (cc)
 tight_key OpenValue en h blanks = absurd (cc)
 tight_key OpenComment en h blanks = absurd (cc)
 
-pub after_value : (state : Open) (en : Entry) → may_stand state (EntryItem en) ≡ true → (blanks : List ℕ) (a : Assigned) → after_entry state blanks (Some a) ≡ OpenValue
+pub after_value : (state : Open) (en : Entry) → may_stand_behind state (EntryItem en) ≡ true → (blanks : List ℕ) (a : Assigned) → after_entry state blanks (Some a) ≡ OpenValue
 after_value Closed en h blanks a = refl
 after_value OpenKeyAndBlanks en h blanks a = refl
 after_value OpenKey en h blanks a = absurd (cc)
@@ -269,7 +268,7 @@ no_parts (HeaderPart (DottedHeader name subsection) ∷ parts) fits h = absurd (
 no_parts (HeaderPart (QuotedHeader name blanks spelling) ∷ parts) fits h = absurd (cc)
 
 -- an entry without `=` behind its indent
-set_key : (o : Options) (s : Bool) (b : Before) (state : Open) (en : Entry) (text : List ℕ) (document : Document) (comments : List (List ℕ)) → en.assigned ≡ None → may_stand state (EntryItem en) ≡ true → meets state b ≡ true
+set_key : (o : Options) (s : Bool) (b : Before) (state : Open) (en : Entry) (text : List ℕ) (document : Document) (comments : List (List ℕ)) → en.assigned ≡ None → may_stand_behind state (EntryItem en) ≡ true → meets state b ≡ true
     → is_value_name en.name ≡ true → may_follow OpenKey text ≡ true → Fitted text document comments
     → Laid state (before_name o s b ++ ((en.name ++ ([] ++ [])) ++ text)) (with_part (ItemPart (EntryItem (record { name = en.name; blanks = en.blanks; assigned = None }))) document) comments
 set_key o s b state en text document comments none stands m named follows f = record {
@@ -285,7 +284,7 @@ value_document : (o : Options) (e : List ℕ) (en : Entry) (a : Assigned) (docum
 value_document o e en a document = ap (λ (raw : List ℕ). record { front = (record { name = en.name; raw = Some raw }) ∷ document.front; sections = document.sections }) (raw_same e a.value)
 
 -- an entry with a value behind its indent
-set_valued : (o : Options) (e : List ℕ) (s : Bool) (b : Before) (state : Open) (en : Entry) (a : Assigned) (text : List ℕ) (document : Document) (comments : List (List ℕ)) → may_stand state (EntryItem en) ≡ true → meets state b ≡ true
+set_valued : (o : Options) (e : List ℕ) (s : Bool) (b : Before) (state : Open) (en : Entry) (a : Assigned) (text : List ℕ) (document : Document) (comments : List (List ℕ)) → may_stand_behind state (EntryItem en) ≡ true → meets state b ≡ true
     → is_value_name en.name ≡ true → Fitted ((en.name ++ (gap o ++ 61 ∷ (gap o ++ spelled_value (set_value e a.value)))) ++ text)
     (with_part (ItemPart (EntryItem (record { name = en.name; blanks = gap o; assigned = Some (record { blanks = gap o; value = set_value e a.value }) }))) document) comments
     → Laid state (before_name o s b ++ ((en.name ++ (gap o ++ 61 ∷ (gap o ++ spelled_value (set_value e a.value)))) ++ text)) (with_part (ItemPart (EntryItem (record { name = en.name; blanks = en.blanks; assigned = Some a }))) document) comments
@@ -351,7 +350,7 @@ laid_entry o e line name blanks (Some a) parts later state s b r m fits follows 
     value : FitsValue a.value (spelled parts)
     value = first.2.1
 
-    n : (may_stand state (EntryItem en) ≡ true) × Follows (after state (EntryItem en)) (spelled parts)
+    n : (may_stand_behind state (EntryItem en) ≡ true) × Follows (after state (EntryItem en)) (spelled parts)
     n = behind_item state (EntryItem en) (spelled parts) first follows
 
     text : List ℕ

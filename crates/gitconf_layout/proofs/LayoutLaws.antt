@@ -8,8 +8,8 @@ use Rattle.gitconf_text.specs.Token.{tokens_of}
 use Rattle.gitconf_text.specs.Document.{IsText, gathered}
 use Rattle.gitconf_parse.specs.EventRef.{Shown, ShownComment, ShownHeader, ShownValueName, ShownValue, ShownNewline, ShownUnfinished, ShownLast, ShownBlanks, ShownSeparator}
 use Rattle.gitconf_parse.specs.ShownEvents.{shown_token}
-use Rattle.gitconf_state.specs.Printing.{Closed}
 use Rattle.gitconf_state.specs.Comments.{comments_of}
+use Rattle.gitconf_state.specs.Writing.{Closed}
 use Rattle.gitconf_state.proofs.Fitted.{Fitted, respelled}
 use Rattle.gitconf_state.proofs.ReadsBack.{is_text}
 use Rattle.gitconf_layout.specs.declared.format.Newline.{Newline}

@@ -11,9 +11,8 @@ use Rattle.gitconf_text.specs.Part.{Assigned, Entry, BlanksItem, LineEndsItem, C
 use Rattle.gitconf_text.specs.Document.{Document, with_part, gathered}
 use Rattle.gitconf_parse.proofs.ValueAgain.{both_true}
 use Rattle.gitconf_parse.proofs.RunLaws.{line_end_more}
-use Rattle.gitconf_state.specs.Clean.{may_stand}
 use Rattle.gitconf_state.specs.Comments.{part_comments, comments_of}
-use Rattle.gitconf_state.specs.Printing.{Open, Closed, OpenKey, OpenKeyAndBlanks, OpenValue, OpenComment, after, after_entry}
+use Rattle.gitconf_state.specs.Writing.{may_stand_behind, Open, Closed, OpenKey, OpenKeyAndBlanks, OpenValue, OpenComment, after, after_entry}
 use Rattle.gitconf_state.proofs.Follows.{may_follow, blanks_follow, line_end_follows, mark_follows, letter_follows}
 use Rattle.gitconf_state.proofs.Fitted.{Fitted, put, put_blanks, put_line_ends}
 use Rattle.gitconf_state.proofs.FittedComment.{put_comment}
@@ -37,7 +36,7 @@ abbrev pub stands : Open → Part → Bool
 stands before (ItemPart (BlanksItem run)) = true
 stands before (ItemPart (LineEndsItem run)) = true
 stands before (ItemPart (CommentItem tag text)) = elim before [ OpenComment ↦ false | _ ↦ true ]
-stands before (ItemPart (EntryItem e)) = may_stand before (EntryItem e)
+stands before (ItemPart (EntryItem e)) = may_stand_behind before (EntryItem e)
 stands before (HeaderPart h) = elim before [ Closed ↦ true | _ ↦ false ]
 
 -- what is left open behind a part

@@ -10,7 +10,8 @@ use Rattle.gitconf_parse.proofs.OneDocument.{one_tokens}
 use Rattle.gitconf_state.specs.State.{SectionState, State, HasSectionItems, HasItems}
 use Rattle.gitconf_state.specs.Clean.{IsCleanSection, IsClean}
 use Rattle.gitconf_state.specs.Comments.{stripped, item_comments, part_comments, comments_of, comments_of_kept, comments}
-use Rattle.gitconf_state.specs.Printing.{Closed, section_parts, printed_parts, printed_kept, printed, printed_section}
+use Rattle.gitconf_state.specs.Printing.{section_parts, printed_parts, printed_kept, printed, printed_section}
+use Rattle.gitconf_state.specs.Writing.{Closed}
 use Rattle.gitconf_state.proofs.Apart.{AreApart, fitted}
 use Rattle.gitconf_state.proofs.SectionsApart.{IsSection, all_both, all_mapped, section_apart, printed_apart}
 use Rattle.gitconf_state.proofs.PrintedDocument.{section_comments, printed_comments}

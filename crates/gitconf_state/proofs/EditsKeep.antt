@@ -1,5 +1,5 @@
 -- Edits leave a state that has items, and clean ones a clean state.
-use Rattle.std.proofs.Common.{◌≡◌, ℕ, ◌+◌, Bool, true, false, not, List, [], ◌∷◌, ◌++◌, Option, Some, None, refl}
+use Rattle.std.proofs.Common.{◌≡◌, ℕ, ◌+◌, Bool, true, false, not, List, [], ◌∷◌, ◌++◌, Option, Some, None, refl, ◌∙◌, sym}
 use Rattle.std.specs.Prelude.{◌==◌, ◌&&◌, ◌||◌, map, filter, if◌then◌else◌}
 use Rattle.std.specs.List.{list_all, list_any, AllByRecursion}
 use Rattle.gitconf_text.specs.Names.{is_made_name, is_value_name, is_valid_or_none}
@@ -9,16 +9,17 @@ use Rattle.gitconf_parse.proofs.Shown.{all_push}
 use Rattle.gitconf_base.specs.Metadata.{Meta}
 use Rattle.gitconf_state.specs.State.{SectionState, State, is_item, entries_of, HasSectionItems, HasItems, is_entry}
 use Rattle.gitconf_state.specs.LineEnds.{file_line_end, ends_line}
-use Rattle.gitconf_state.specs.Printing.{Open, Closed, after}
-use Rattle.gitconf_state.specs.Clean.{is_nameless, has_blanks, stand_apart, may_stand, IsCleanSection, IsClean}
+use Rattle.gitconf_state.specs.Clean.{is_nameless, has_blanks, IsCleanSection, IsClean, stand_apart}
 use Rattle.gitconf_state.specs.Edit.{made_header, new_section, is_target, section_with, set_raw_value}
 use Rattle.gitconf_state.specs.Editors.{pushed, line_end_pushed, value_set, removed, popped, written_at, deleted_at}
 use Rattle.gitconf_state.specs.Edits.{change_numbered, change_items, renamed, with_trust, picked, without_numbered, begins_with, between, joined, held_behind_last, numbered_from, appended, Edit, SetRawValue, Push, PushLineEnd, SetValue, Remove, Pop, WriteAt, DeleteAt, Rename, RenameAll, NewSection, PushSection, RemoveSection, RemoveNumbered, Append, SetTrust, SetMeta, apply, apply_all, finds_or_makes, IsEdit, IsCleanEdit, AreEdits, AreCleanEdits}
+use Rattle.gitconf_state.specs.Writing.{Open, Closed, after, stand_apart_behind, may_stand_behind}
 use Rattle.gitconf_state.proofs.LoadingFilters.{both_hold}
 use Rattle.gitconf_state.proofs.LoadingClean.{stand_anywhere}
 use Rattle.gitconf_state.proofs.EditLists.{update_last_holds}
 use Rattle.gitconf_state.proofs.EditItems.{section_with_is, file_line_end_is, new_section_is, may_be_made, made_header_is, section_with_clean, one_line_end, all_append}
 use Rattle.gitconf_state.proofs.EditorItems.{pushed_is, line_end_pushed_is, value_set_is, written_at_is, removed_all, popped_all, deleted_all, pushed_blank, line_end_pushed_blank, value_set_blank, written_at_blank}
+use Rattle.gitconf_state.proofs.Written.{names_apart}
 
 -- what holds of each section holds of those that are changed, and of some of them
 holds_mapped : {A : Type 0} (P : A → Type 0) (change : A → A) → ((x : A) → P x → P (change x)) → (xs : List A) → AllByRecursion P xs → AllByRecursion P (map change xs)
@@ -114,11 +115,11 @@ without_entries (CommentItem tag text ∷ items) none = without_entries items no
 without_entries (EntryItem e ∷ items) none = absurd (cc)
 
 -- what stands apart still does with items without an entry behind it
-apart_behind : (before : Open) (items others : List Item) → stand_apart before items ≡ true → entries_of others ≡ [] → stand_apart before (items ++ others) ≡ true
+apart_behind : (before : Open) (items others : List Item) → stand_apart_behind before items ≡ true → entries_of others ≡ [] → stand_apart_behind before (items ++ others) ≡ true
 apart_behind before [] others apart none = stand_anywhere before others none
 apart_behind before (i ∷ items) others apart none =
-    let b = both_true (may_stand before i) (stand_apart (after before i) items) apart in
-    both_hold (may_stand before i) (stand_apart (after before i) (items ++ others)) b.0 (apart_behind (after before i) items others b.1 none)
+    let b = both_true (may_stand_behind before i) (stand_apart_behind (after before i) items) apart in
+    both_hold (may_stand_behind before i) (stand_apart_behind (after before i) (items ++ others)) b.0 (apart_behind (after before i) items others b.1 none)
 
 between_no_entries : (line_end : List ℕ) (items others : List Item) → entries_of others ≡ [] → entries_of (between line_end items others ++ others) ≡ []
 between_no_entries line_end [] others none = none
@@ -209,8 +210,9 @@ appended_clean other state more none clean = record {
     blanks [] = joined_passes has_blanks (file_line_end state) state.front other.front refl clean.blanks more.blanks
     blanks (s ∷ ss) = clean.blanks
 
-    names : (sections : List SectionState) → stand_apart Closed (elim sections as (λ _. List Item) [ [] ↦ joined (file_line_end state) state.front other.front | s ∷ ss ↦ state.front ]) ≡ true
-    names [] = apart_behind Closed state.front (between (file_line_end state) state.front other.front ++ other.front) clean.names
+    names : (sections : List SectionState) → stand_apart [] (elim sections as (λ _. List Item) [ [] ↦ joined (file_line_end state) state.front other.front | s ∷ ss ↦ state.front ]) ≡ true
+    names [] = names_apart (joined (file_line_end state) state.front other.front)
+        ∙ apart_behind Closed state.front (between (file_line_end state) state.front other.front ++ other.front) (sym (names_apart state.front) ∙ clean.names)
         (between_no_entries (file_line_end state) state.front other.front none)
     names (s ∷ ss) = clean.names
 

@@ -5,8 +5,9 @@ use Rattle.std.specs.List.{fold, list_all}
 use Rattle.gitconf_text.specs.Part.{Entry, Item, BlanksItem, LineEndsItem, CommentItem, EntryItem, Part, ItemPart, spelled_item, FitsItem, spelled, AreFit}
 use Rattle.gitconf_parse.proofs.ValueAgain.{both_true}
 use Rattle.gitconf_state.specs.LineEnds.{holds, ends_line}
-use Rattle.gitconf_state.specs.Printing.{Open, Closed, OpenKey, OpenKeyAndBlanks, OpenValue, OpenComment, after_blanks, after, breaks, printed_items, begins_on_a_line}
+use Rattle.gitconf_state.specs.Printing.{begins_on_a_line}
 use Rattle.gitconf_state.specs.Inserted.{headers_begin_lines, keys_have_lines, values_are_closed}
+use Rattle.gitconf_state.specs.Writing.{Open, Closed, OpenKey, OpenKeyAndBlanks, OpenValue, OpenComment, after_blanks, after, breaks_behind, written_items}
 use Rattle.gitconf_state.proofs.LoadingNames.{Follows, first_fits, only_line_ends, behind_item}
 use Rattle.gitconf_state.proofs.ExactEnds.{EndsLine, rest_ends_line}
 use Rattle.gitconf_state.proofs.ExactItems.{item_same, last_line_ends}
@@ -76,7 +77,7 @@ untaken false parts e is keys = cc
 
 -- before an item no line end is put
 no_break : (in_body : Bool) (before : Open) (taken : Bool) (i : Item) (rest : List ℕ) (parts : List Part) → FitsItem i rest → Follows before (spelled_item i ++ rest)
-    → Taken in_body before taken → keys_have_lines taken (ItemPart i ∷ parts) ≡ true → breaks in_body before i ≡ false
+    → Taken in_body before taken → keys_have_lines taken (ItemPart i ∷ parts) ≡ true → breaks_behind in_body before i ≡ false
 no_break in_body Closed taken (BlanksItem run) rest parts fits follows is keys = refl
 no_break in_body Closed taken (LineEndsItem run) rest parts fits follows is keys = refl
 no_break in_body Closed taken (CommentItem tag text) rest parts fits follows is keys = refl
@@ -101,7 +102,7 @@ no_break in_body OpenComment taken i rest parts fits follows is keys = let r = o
 -- Fitting items whose keys have lines of their own are printed as they are.
 pub items_same : (in_body : Bool) (line_end : List ℕ) (before : Open) (taken : Bool) (items : List Item) (tail : List Part) → AreFit (map ItemPart items ++ tail) []
     → Follows before (spelled (map ItemPart items ++ tail)) → Taken in_body before taken → keys_have_lines taken (map ItemPart items ++ tail) ≡ true
-    → EndsLine (spelled (map ItemPart items ++ tail)) → printed_items in_body line_end before items ≡ items
+    → EndsLine (spelled (map ItemPart items ++ tail)) → written_items in_body line_end before items ≡ items
 items_same in_body line_end before taken [] tail fits follows is keys line = refl
 items_same in_body line_end before taken (i ∷ items) tail fits follows is keys line =
     let parts = map ItemPart items ++ tail in
@@ -110,7 +111,7 @@ items_same in_body line_end before taken (i ∷ items) tail fits follows is keys
     let first = item_same line_end i (spelled parts) fits_first line in
     let rest = items_same in_body line_end (after before i) (taken_after taken i) items tail fits.1 (behind_item before i (spelled parts) fits_first follows).1
     (taken_item in_body before taken i is) (keys_after taken i parts keys) (rest_ends_line (spelled_item i) (spelled parts) line) in
-    rw (none, printed_items) (ap (λ (x : Item). x ∷ printed_items in_body line_end (after before i) items) first ∙ ap (λ xs. i ∷ xs) rest)
+    rw (none, written_items) (ap (λ (x : Item). x ∷ written_items in_body line_end (after before i) items) first ∙ ap (λ xs. i ∷ xs) rest)
 
 -- the last item is line ends; fresh: or there is none
 abbrev pub ends_fresh : (fresh : Bool) → List Item → Bool

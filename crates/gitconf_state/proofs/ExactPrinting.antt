@@ -10,9 +10,10 @@ use Rattle.gitconf_text.specs.Token.{tokens_of}
 use Rattle.gitconf_parse.proofs.ValueAgain.{both_true}
 use Rattle.gitconf_state.specs.State.{SectionState, State}
 use Rattle.gitconf_state.specs.LineEnds.{line_end_of, section_line_end, file_line_end, ends_line}
-use Rattle.gitconf_state.specs.Printing.{Closed, printed_items, begins_on_a_line, unless, behind_header, printed_body, ends_with_line, held_items, sections_parts, behind_front, printed_parts, printed}
+use Rattle.gitconf_state.specs.Printing.{printed_items, begins_on_a_line, unless, behind_header, printed_body, ends_with_line, held_items, sections_parts, behind_front, printed_parts, printed}
 use Rattle.gitconf_state.specs.Inserted.{headers_begin_lines, keys_have_lines, values_are_closed, IsByteForByte}
 use Rattle.gitconf_state.specs.Loads.{IsFullLoad}
+use Rattle.gitconf_state.specs.Writing.{Closed}
 use Rattle.gitconf_state.proofs.LoadingTokens.{own_section_parts, own_parts}
 use Rattle.gitconf_state.proofs.LoadingFilters.{all_parts}
 use Rattle.gitconf_state.proofs.LoadingClean.{full_load_parts}
@@ -21,6 +22,7 @@ use Rattle.gitconf_state.proofs.ExactEnds.{EndsLine, rest_ends_line}
 use Rattle.gitconf_state.proofs.ExactItems.{header_ends_no_line}
 use Rattle.gitconf_state.proofs.ExactLineEnds.{holds_line_end, one_kind_holds, file_tells}
 use Rattle.gitconf_state.proofs.ExactBodies.{items_same, last_holds, ends_fresh, fresh_again, headers_past, keys_past, values_past, begins_same, ends_same, last_fresh}
+use Rattle.gitconf_state.proofs.Written.{items_written}
 
 -- what holds of the parts from here on, of a text that needs no line end
 record IsExact (line_end : List ℕ) (fresh taken open_value : Bool) (parts : List Part) : Type 0 where
@@ -102,7 +104,8 @@ section_same line_end fresh taken open_value s sections is =
     let tail = flat_map own_section_parts sections in
     let body = past_header line_end fresh taken open_value s sections is in
     let begins = begins_same s.items tail body.keys (body_ends line_end fresh taken open_value s sections is) in
-    ap (λ t. t ++ printed_items true (section_line_end s) Closed s.items) (header_same (section_line_end s) s.items begins)
+    ap (λ t. t ++ printed_items true (section_line_end s) [] s.items) (header_same (section_line_end s) s.items begins)
+    ∙ items_written true (section_line_end s) s.items
     ∙ items_same true (section_line_end s) Closed true s.items tail body.fits tt tt body.keys body.line
 
 -- Sections are printed as they are.
@@ -156,7 +159,7 @@ parts_same state held is =
     let line_end = file_line_end state in
     let tail = flat_map own_section_parts state.sections in
     let sections = sections_parts all_sections line_end true state.sections in
-    let front = items_same false line_end Closed false state.front tail is.fits tt tt is.keys is.line in
+    let front = items_written false line_end state.front ∙ items_same false line_end Closed false state.front tail is.fits tt tt is.keys is.line in
     let none = front_same state.front state.meta state.next state.used state.sections true false false is in
     ap (λ (items : List Item). map ItemPart (items ++ behind_front all_sections state) ++ sections) front
     ∙ ap (λ (items : List Item). map ItemPart (state.front ++ items) ++ sections) none

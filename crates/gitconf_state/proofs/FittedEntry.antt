@@ -12,9 +12,9 @@ use Rattle.gitconf_text.specs.Part.{Assigned, EntryItem, ItemPart}
 use Rattle.gitconf_text.specs.Document.{Document, with_item}
 use Rattle.gitconf_parse.proofs.ValueAgain.{both_true}
 use Rattle.gitconf_parse.proofs.RunLaws.{false_not}
-use Rattle.gitconf_state.specs.Printing.{OpenKey, after_blanks}
 use Rattle.gitconf_state.proofs.Follows.{may_follow, may_follow_key, blanks_follow, key_skips, value_skips}
 use Rattle.gitconf_state.proofs.Fitted.{Fitted, put, respelled, cut_blanks}
+use Rattle.gitconf_state.specs.Writing.{OpenKey, after_blanks}
 
 -- what is assigned has a value that a text may have, each piece with its line end
 pub record IsClosed (a : Assigned) : Type 0 where

@@ -10,7 +10,7 @@ use Rattle.gitconf_text.specs.Unit.{White, Other, class_of, is_mark}
 use Rattle.gitconf_text.specs.Value.{may_follow_value}
 use Rattle.gitconf_parse.proofs.ValueAgain.{both_true, apart}
 use Rattle.gitconf_parse.proofs.ByteLaws.{letter_no_blank}
-use Rattle.gitconf_state.specs.Printing.{Open, Closed, OpenKey, OpenKeyAndBlanks, OpenValue, OpenComment, after_blanks}
+use Rattle.gitconf_state.specs.Writing.{Open, Closed, OpenKey, OpenKeyAndBlanks, OpenValue, OpenComment, after_blanks}
 
 -- blanks, and then a line end or the end
 abbrev pub may_follow_comment : List ℕ → Bool

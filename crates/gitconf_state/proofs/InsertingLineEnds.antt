@@ -11,7 +11,7 @@ use Rattle.gitconf_text.specs.Part.{Item, BlanksItem, LineEndsItem, CommentItem,
 use Rattle.gitconf_text.specs.Token.{Token, CommentToken, HeaderToken, NameToken, ValueToken, NewlineToken, ValueNotDoneToken, ValueDoneToken, WhitespaceToken, SeparatorToken, spelled_token, item_tokens}
 use Rattle.gitconf_state.specs.State.{SectionState, State}
 use Rattle.gitconf_state.specs.LineEnds.{line_end_of, section_line_end, file_line_end}
-use Rattle.gitconf_state.specs.Printing.{Open, Closed, after, breaks, closed_item, printed_items, begins_on_a_line, unless, behind_header, printed_body, section_parts, ends_with_line, held_items, sections_parts, behind_front, printed}
+use Rattle.gitconf_state.specs.Printing.{line_behind, breaks, closed_item, printed_items, begins_on_a_line, unless, behind_header, printed_body, section_parts, ends_with_line, held_items, sections_parts, behind_front, printed}
 use Rattle.gitconf_state.specs.Inserted.{Inserted}
 use Rattle.gitconf_state.specs.Loads.{section_tokens, state_tokens}
 use Rattle.gitconf_state.proofs.InsertingTexts.{Behind, texts_before, texts_before-append, same_whole, put_text, put_unless, put_item}
@@ -52,42 +52,43 @@ put_item_before line_end i tokens items texts whole is_end is =
     (sym (append_assoc (spelled_item (closed_item line_end i)) (items_text items) whole)))
 
 -- items as they are printed, before others; before a name or a comment a line end may stand
-put_items : (in_body : Bool) (line_end : List ℕ) (before : Open) (items : List Item) (texts : List (List ℕ)) (whole : List ℕ) → is_line_end line_end ≡ true → Behind texts whole
+put_items : (in_body : Bool) (line_end : List ℕ) (before : List Item) (items : List Item) (texts : List (List ℕ)) (whole : List ℕ) → is_line_end line_end ≡ true → Behind texts whole
     → Behind (texts_before (flat_map item_tokens items) texts) (items_text (printed_items in_body line_end before items) ++ whole)
 put_items in_body line_end before [] texts whole is_end is = is
 put_items in_body line_end before (i ∷ items) texts whole is_end is =
-    go (breaks in_body before i) refl (put_items in_body line_end (after Closed i) items texts whole is_end is) (put_items in_body line_end (after before i) items texts whole is_end is)
+    go (breaks in_body before i) refl (put_items in_body line_end (line_behind [] i) items texts whole is_end is) (put_items in_body line_end (line_behind before i) items texts whole is_end is)
   where
     go : (t : Bool) → breaks in_body before i ≡ t
-        → Behind (texts_before (flat_map item_tokens items) texts) (items_text (printed_items in_body line_end (after Closed i) items) ++ whole)
-        → Behind (texts_before (flat_map item_tokens items) texts) (items_text (printed_items in_body line_end (after before i) items) ++ whole)
+        → Behind (texts_before (flat_map item_tokens items) texts) (items_text (printed_items in_body line_end (line_behind [] i) items) ++ whole)
+        → Behind (texts_before (flat_map item_tokens items) texts) (items_text (printed_items in_body line_end (line_behind before i) items) ++ whole)
         → Behind (texts_before (flat_map item_tokens (i ∷ items)) texts) (items_text (printed_items in_body line_end before (i ∷ items)) ++ whole)
     go true e broken same = rw (e, printed_items) (
-        inr (line_end, _, is_end, put_item_before line_end i (flat_map item_tokens items) (printed_items in_body line_end (after Closed i) items) texts whole is_end broken, append_assoc line_end _ whole))
+        inr (line_end, _, is_end, put_item_before line_end i (flat_map item_tokens items) (printed_items in_body line_end (line_behind [] i) items) texts whole is_end broken, append_assoc line_end _ whole))
     go false e broken same = rw (e, printed_items) (
-        inl (put_item_before line_end i (flat_map item_tokens items) (printed_items in_body line_end (after before i) items) texts whole is_end same))
+        inl (put_item_before line_end i (flat_map item_tokens items) (printed_items in_body line_end (line_behind before i) items) texts whole is_end same))
 
 -- before the first of items no line end is put
-none_first : (in_body : Bool) (i : Item) → breaks in_body Closed i ≡ false
+none_first : (in_body : Bool) (i : Item) → breaks in_body [] i ≡ false
 none_first in_body (BlanksItem run) = refl
 none_first in_body (LineEndsItem run) = refl
 none_first in_body (CommentItem tag text) = refl
-none_first in_body (EntryItem e) = refl
+none_first true (EntryItem e) = refl
+none_first false (EntryItem e) = refl
 
 -- the items of a list that is not empty, with no line end before them
 put_first_items : (in_body : Bool) (line_end : List ℕ) (i : Item) (items : List Item) (texts : List (List ℕ)) (whole : List ℕ) → is_line_end line_end ≡ true → Behind texts whole
-    → Inserted (texts_before (flat_map item_tokens (i ∷ items)) texts) (items_text (printed_items in_body line_end Closed (i ∷ items)) ++ whole)
+    → Inserted (texts_before (flat_map item_tokens (i ∷ items)) texts) (items_text (printed_items in_body line_end [] (i ∷ items)) ++ whole)
 put_first_items in_body line_end i items texts whole is_end is =
     rw (none_first in_body i, printed_items) (
-    put_item_before line_end i (flat_map item_tokens items) (printed_items in_body line_end (after Closed i) items) texts whole is_end
-    (put_items in_body line_end (after Closed i) items texts whole is_end is))
+    put_item_before line_end i (flat_map item_tokens items) (printed_items in_body line_end (line_behind [] i) items) texts whole is_end
+    (put_items in_body line_end (line_behind [] i) items texts whole is_end is))
 
 -- a section's body, behind its header
 put_body : (line_end : List ℕ) (items : List Item) (texts : List (List ℕ)) (whole : List ℕ) → is_line_end line_end ≡ true → Behind texts whole
-    → Behind (texts_before (flat_map item_tokens items) texts) (items_text (behind_header line_end items ++ printed_items true line_end Closed items) ++ whole)
+    → Behind (texts_before (flat_map item_tokens items) texts) (items_text (behind_header line_end items ++ printed_items true line_end [] items) ++ whole)
 put_body line_end [] texts whole is_end is = is
 put_body line_end (i ∷ items) texts whole is_end is =
-    let body = printed_items true line_end Closed (i ∷ items) in
+    let body = printed_items true line_end [] (i ∷ items) in
     let given = begins_on_a_line (i ∷ items) in
     subst (λ w. Behind (texts_before (flat_map item_tokens (i ∷ items)) texts) w)
     (sym (append_assoc (items_text (unless given line_end)) (items_text body) whole)
@@ -139,7 +140,7 @@ put_front (i ∷ front) meta next used sections held =
     let is_end = is_told_line_end (flat_map item_tokens ((i ∷ front) ++ flat_map (λ (s : SectionState). s.items) sections)) in
     let texts = texts_before (flat_map section_tokens sections) [] in
     let whole = spelled (sections_parts all_sections line_end true sections) in
-    let items = printed_items false line_end Closed (i ∷ front) in
+    let items = printed_items false line_end [] (i ∷ front) in
     let between = behind_front all_sections state in
     same_whole (texts_before (flat_map item_tokens (i ∷ front)) texts) _ _
     (put_first_items false line_end i front texts (items_text between ++ whole) is_end (put_unless _ line_end texts whole is_end (put_sections line_end sections is_end held)))

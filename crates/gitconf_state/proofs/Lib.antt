@@ -7,6 +7,7 @@ pub mod LoadingClean
 pub mod LoadingDocument
 pub mod InsertingTexts
 pub mod InsertingLineEnds
+pub mod Written
 pub mod Follows
 pub mod Fitted
 pub mod FittedComment

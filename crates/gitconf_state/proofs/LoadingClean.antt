@@ -13,14 +13,15 @@ use Rattle.gitconf_parse.proofs.TextLaws.{lossy_keeps_entries}
 use Rattle.gitconf_parse.proofs.ValueAgain.{both_true}
 use Rattle.gitconf_parse.proofs.RunLaws.{false_not}
 use Rattle.gitconf_state.specs.State.{SectionState, State, entries_of, HasSectionItems, HasItems}
-use Rattle.gitconf_state.specs.Printing.{Open, Closed}
-use Rattle.gitconf_state.specs.Clean.{is_nameless, stand_apart, IsCleanSection, IsClean}
+use Rattle.gitconf_state.specs.Clean.{is_nameless, IsCleanSection, IsClean}
 use Rattle.gitconf_state.specs.Loads.{state_tokens, IsLoad, IsFullLoad, IsPartLoad}
+use Rattle.gitconf_state.specs.Writing.{Open, Closed, stand_apart_behind}
 use Rattle.gitconf_state.proofs.LoadingTokens.{same_parts, own_section_parts, own_parts, own_tokens}
 use Rattle.gitconf_state.proofs.LoadingFilters.{fit_parts_pass, all_parts}
 use Rattle.gitconf_state.proofs.LoadingItems.{is_part, parts_are}
 use Rattle.gitconf_state.proofs.LoadingLeft.{is_clean_part, parts_left}
 use Rattle.gitconf_state.proofs.LoadingNames.{names_stand, stands_anywhere}
+use Rattle.gitconf_state.proofs.Written.{names_apart}
 
 -- a load with a filter that keeps each name, separator and value has some of the tokens
 kept_load : (keeps : Shown → Bool) (parts : List Part) (state : State) → list_all (keeps_entry_token keeps) (tokens_of parts) ≡ true → IsLoad keeps parts state → IsPartLoad parts state
@@ -96,10 +97,10 @@ sections_are_clean (s ∷ sections) held all =
     (record { named = false_not (is_nameless s.header) c.0; blanks = items_pass is_clean_part s.items c.1; held_blanks = rw held.0 refl; held = rw held.0 refl }, sections_are_clean sections held.1 b.1)
 
 -- a state of clean parts, which holds none and whose names stand where they may
-state_is_clean : (state : State) → AllByRecursion (λ s. s.held ≡ []) state.sections → list_all is_clean_part (own_parts state) ≡ true → stand_apart Closed state.front ≡ true → IsClean state
+state_is_clean : (state : State) → AllByRecursion (λ s. s.held ≡ []) state.sections → list_all is_clean_part (own_parts state) ≡ true → stand_apart_behind Closed state.front ≡ true → IsClean state
 state_is_clean state held all names =
     let b = all_parts is_clean_part (map ItemPart state.front) (flat_map own_section_parts state.sections) all in
-    record { sections = sections_are_clean state.sections held b.1; blanks = items_pass is_clean_part state.front b.0; names = names }
+    record { sections = sections_are_clean state.sections held b.1; blanks = items_pass is_clean_part state.front b.0; names = names_apart state.front ∙ names }
 
 -- A whole load of a text is clean.
 pub full_is_clean : (parts : List Part) (state : State) → AreFit parts [] → IsFullLoad parts state → IsClean state
@@ -110,7 +111,7 @@ full_is_clean parts state fits load =
     (names_stand Closed state.front (flat_map own_section_parts state.sections) own_fit tt)
 
 -- without an entry, all may stand anywhere
-pub stand_anywhere : (before : Open) (items : List Item) → entries_of items ≡ [] → stand_apart before items ≡ true
+pub stand_anywhere : (before : Open) (items : List Item) → entries_of items ≡ [] → stand_apart_behind before items ≡ true
 stand_anywhere before [] none = refl
 stand_anywhere before (BlanksItem run ∷ items) none = rw (stands_anywhere before (BlanksItem run) refl) (stand_anywhere _ items none)
 stand_anywhere before (LineEndsItem run ∷ items) none = rw (stands_anywhere before (LineEndsItem run) refl) (stand_anywhere _ items none)

@@ -14,9 +14,8 @@ use Rattle.gitconf_text.specs.Part.{Assigned, Entry, Item, BlanksItem, LineEndsI
 use Rattle.gitconf_parse.proofs.ValueAgain.{both_true, apart}
 use Rattle.gitconf_parse.proofs.RunLaws.{Stops, is_comment_text, comment_places}
 use Rattle.gitconf_parse.proofs.ByteLaws.{refuted, letter_no_line_end, letter_name_byte, mark_no_line_end, line_end_no_blank}
-use Rattle.gitconf_state.specs.Printing.{Open, Closed, OpenKey, OpenKeyAndBlanks, OpenValue, OpenComment, after_blanks, after_entry, after}
-use Rattle.gitconf_state.specs.Clean.{may_stand, stand_apart}
 use Rattle.gitconf_state.specs.State.{is_entry}
+use Rattle.gitconf_state.specs.Writing.{Open, Closed, OpenKey, OpenKeyAndBlanks, OpenValue, OpenComment, after_blanks, after_entry, after, may_stand_behind, stand_apart_behind}
 
 -- the text is empty, or begins with a line end
 abbrev pub is_line_closed : List ℕ → Bool
@@ -129,7 +128,7 @@ behind_key_and_blanks blanks (Some a) rest fits = value_end a.value.pieces a.val
 
 -- A name stands where it may, and behind it stands what may.
 behind_entry : (before : Open) (e : Entry) (rest : List ℕ) → FitsItem (EntryItem e) rest → Follows before (spelled_item (EntryItem e) ++ rest)
-    → (may_stand before (EntryItem e) ≡ true) × Follows (after before (EntryItem e)) rest
+    → (may_stand_behind before (EntryItem e) ≡ true) × Follows (after before (EntryItem e)) rest
 behind_entry Closed e rest fits h = (refl, behind_closed e.blanks e.assigned rest fits.2)
 behind_entry OpenKeyAndBlanks e rest fits h = (refl, behind_key_and_blanks e.blanks e.assigned rest fits.2)
 behind_entry OpenKey e rest fits h = absurd (
@@ -143,11 +142,11 @@ behind_entry OpenValue e rest fits h = absurd (
 behind_entry OpenComment e rest fits h = absurd (let r = only_line_ends (EntryItem e) rest fits h in let k = r.1 in cc)
 
 -- what is no entry may stand anywhere
-pub stands_anywhere : (before : Open) (i : Item) → is_entry i ≡ false → may_stand before i ≡ true
+pub stands_anywhere : (before : Open) (i : Item) → is_entry i ≡ false → may_stand_behind before i ≡ true
 stands_anywhere before (EntryItem e) none = absurd (cc)
 stands_anywhere before (BlanksItem run) none = go before
   where
-    go : (before : Open) → may_stand before (BlanksItem run) ≡ true
+    go : (before : Open) → may_stand_behind before (BlanksItem run) ≡ true
     go Closed = refl
     go OpenKey = refl
     go OpenKeyAndBlanks = refl
@@ -155,7 +154,7 @@ stands_anywhere before (BlanksItem run) none = go before
     go OpenComment = refl
 stands_anywhere before (LineEndsItem run) none = go before
   where
-    go : (before : Open) → may_stand before (LineEndsItem run) ≡ true
+    go : (before : Open) → may_stand_behind before (LineEndsItem run) ≡ true
     go Closed = refl
     go OpenKey = refl
     go OpenKeyAndBlanks = refl
@@ -163,7 +162,7 @@ stands_anywhere before (LineEndsItem run) none = go before
     go OpenComment = refl
 stands_anywhere before (CommentItem tag text) none = go before
   where
-    go : (before : Open) → may_stand before (CommentItem tag text) ≡ true
+    go : (before : Open) → may_stand_behind before (CommentItem tag text) ≡ true
     go Closed = refl
     go OpenKey = refl
     go OpenKeyAndBlanks = refl
@@ -172,7 +171,7 @@ stands_anywhere before (CommentItem tag text) none = go before
 
 -- An item stands where it may, and behind it stands what may.
 pub behind_item : (before : Open) (i : Item) (rest : List ℕ) → FitsItem i rest → Follows before (spelled_item i ++ rest)
-    → (may_stand before i ≡ true) × Follows (after before i) rest
+    → (may_stand_behind before i ≡ true) × Follows (after before i) rest
 behind_item before (BlanksItem run) rest fits h = (stands_anywhere before (BlanksItem run) refl, behind_blanks before run rest fits.0 fits.1 h)
 behind_item before (LineEndsItem run) rest fits h = (stands_anywhere before (LineEndsItem run) refl, tt)
 behind_item before (CommentItem tag text) rest fits h =
@@ -181,7 +180,7 @@ behind_item before (EntryItem e) rest fits h = behind_entry before e rest fits h
 
 -- The names of a text's front stand where they may.
 pub names_stand : (before : Open) (items : List Item) (tail : List Part) → AreFit (map ItemPart items ++ tail) [] → Follows before (spelled (map ItemPart items ++ tail))
-    → stand_apart before items ≡ true
+    → stand_apart_behind before items ≡ true
 names_stand before [] tail fits h = refl
 names_stand before (i ∷ items) tail fits h =
     let r = behind_item before i (spelled (map ItemPart items ++ tail)) (first_fits (ItemPart i) (map ItemPart items ++ tail) fits) h in

@@ -11,7 +11,7 @@ use Rattle.gitconf_state.specs.State.{SectionState, State, item_entries, entries
 use Rattle.gitconf_state.specs.LineEnds.{ends_line, section_line_end, file_line_end}
 use Rattle.gitconf_state.specs.Clean.{IsCleanSection, IsClean}
 use Rattle.gitconf_state.specs.Comments.{item_comments, part_comments, comments_of, comments_of_kept}
-use Rattle.gitconf_state.specs.Printing.{Open, Closed, after, breaks, closed_item, printed_items, begins_on_a_line, unless, behind_header, printed_body, section_parts, ends_with_line, held_items, sections_parts, behind_front, printed_parts}
+use Rattle.gitconf_state.specs.Printing.{line_behind, breaks, closed_item, printed_items, begins_on_a_line, unless, behind_header, printed_body, section_parts, ends_with_line, held_items, sections_parts, behind_front, printed_parts}
 use Rattle.gitconf_state.proofs.PrintedItem.{item_entries-is, item_comments-is}
 use Rattle.gitconf_state.proofs.SectionsApart.{with_held, with_front}
 
@@ -29,15 +29,15 @@ pub comments_kept : IsKept item_comments
 comments_kept = record { lines = λ run. refl; closed = item_comments-is }
 
 -- printed items tell what the items do
-items_tell : {A : Type 0} (f : Item → List A) → IsKept f → (in_body : Bool) (line_end : List ℕ) (before : Open) (items : List Item)
+items_tell : {A : Type 0} (f : Item → List A) → IsKept f → (in_body : Bool) (line_end : List ℕ) (before : List Item) (items : List Item)
     → flat_map f (printed_items in_body line_end before items) ≡ flat_map f items
 items_tell f kept in_body line_end before [] = refl
 items_tell f kept in_body line_end before (i ∷ items) = go (breaks in_body before i) refl (λ b. items_tell f kept in_body line_end b items)
   where
-    go : (t : Bool) → breaks in_body before i ≡ t → ((b : Open) → flat_map f (printed_items in_body line_end b items) ≡ flat_map f items)
+    go : (t : Bool) → breaks in_body before i ≡ t → ((b : List Item) → flat_map f (printed_items in_body line_end b items) ≡ flat_map f items)
         → flat_map f (printed_items in_body line_end before (i ∷ items)) ≡ flat_map f (i ∷ items)
-    go true e later = rw (e, printed_items, kept.lines line_end, kept.closed line_end i) (ap (λ t. f i ++ t) (later (after Closed i)))
-    go false e later = rw (e, printed_items, kept.closed line_end i) (ap (λ t. f i ++ t) (later (after before i)))
+    go true e later = rw (e, printed_items, kept.lines line_end, kept.closed line_end i) (ap (λ t. f i ++ t) (later (line_behind [] i)))
+    go false e later = rw (e, printed_items, kept.closed line_end i) (ap (λ t. f i ++ t) (later (line_behind before i)))
 
 -- a line end that is put in tells nothing
 line_tells : {A : Type 0} (f : Item → List A) → IsKept f → (ended : Bool) (line_end : List ℕ) → flat_map f (unless ended line_end) ≡ []
@@ -52,17 +52,17 @@ header_line_tells f kept line_end (i ∷ items) = line_tells f kept (begins_on_a
 -- a printed body tells what the items do
 pub body_tells : {A : Type 0} (f : Item → List A) → IsKept f → (s : SectionState) → flat_map f (printed_body s) ≡ flat_map f s.items
 body_tells f kept s =
-    flat_map-append f (behind_header (section_line_end s) s.items) (printed_items true (section_line_end s) Closed s.items)
-    ∙ ap (λ t. t ++ flat_map f (printed_items true (section_line_end s) Closed s.items)) (header_line_tells f kept (section_line_end s) s.items)
-    ∙ items_tell f kept true (section_line_end s) Closed s.items
+    flat_map-append f (behind_header (section_line_end s) s.items) (printed_items true (section_line_end s) [] s.items)
+    ∙ ap (λ t. t ++ flat_map f (printed_items true (section_line_end s) [] s.items)) (header_line_tells f kept (section_line_end s) s.items)
+    ∙ items_tell f kept true (section_line_end s) [] s.items
 
 -- held items tell, as they are printed, what they do
 held_tells : {A : Type 0} (f : Item → List A) → IsKept f → (line_end : List ℕ) (s : SectionState) (held : List Item) → flat_map f (held_items line_end (with_held s held)) ≡ flat_map f held
 held_tells f kept line_end s [] = refl
 held_tells f kept line_end s (i ∷ held) =
-    flat_map-append f (unless (ends_line line_end s.items) line_end) (printed_items false line_end Closed (i ∷ held))
-    ∙ ap (λ t. t ++ flat_map f (printed_items false line_end Closed (i ∷ held))) (line_tells f kept (ends_line line_end s.items) line_end)
-    ∙ items_tell f kept false line_end Closed (i ∷ held)
+    flat_map-append f (unless (ends_line line_end s.items) line_end) (printed_items false line_end [] (i ∷ held))
+    ∙ ap (λ t. t ++ flat_map f (printed_items false line_end [] (i ∷ held))) (line_tells f kept (ends_line line_end s.items) line_end)
+    ∙ items_tell f kept false line_end [] (i ∷ held)
 
 -- a line end behind the front tells nothing
 behind_front_tells : {A : Type 0} (f : Item → List A) → IsKept f → (keeps : SectionState → Bool) (state : State) (front : List Item) → flat_map f (behind_front keeps (with_front state front)) ≡ []
@@ -71,12 +71,12 @@ behind_front_tells f kept keeps state (i ∷ front) = line_tells f kept (ends_li
 
 -- a printed front tells what the front does
 front_tells : {A : Type 0} (f : Item → List A) → IsKept f → (keeps : SectionState → Bool) (state : State)
-    → flat_map f (printed_items false (file_line_end state) Closed state.front ++ behind_front keeps state) ≡ flat_map f state.front
+    → flat_map f (printed_items false (file_line_end state) [] state.front ++ behind_front keeps state) ≡ flat_map f state.front
 front_tells f kept keeps state =
-    flat_map-append f (printed_items false (file_line_end state) Closed state.front) (behind_front keeps state)
-    ∙ ap (λ t. flat_map f (printed_items false (file_line_end state) Closed state.front) ++ t) (behind_front_tells f kept keeps state state.front)
+    flat_map-append f (printed_items false (file_line_end state) [] state.front) (behind_front keeps state)
+    ∙ ap (λ t. flat_map f (printed_items false (file_line_end state) [] state.front) ++ t) (behind_front_tells f kept keeps state state.front)
     ∙ append-nil _
-    ∙ items_tell f kept false (file_line_end state) Closed state.front
+    ∙ items_tell f kept false (file_line_end state) [] state.front
 
 -- items before parts put their entries before the document of these
 gathered_items : (items : List Item) (rest : List Part)
@@ -141,8 +141,8 @@ gathered_sections keeps line_end ended (s ∷ sections) clean = line_document en
 -- The printed parts have the document of the front and of the sections that are kept.
 pub printed_document : (keeps : SectionState → Bool) (state : State) → IsClean state → gathered (printed_parts keeps state) ≡ document_of_kept keeps state
 printed_document keeps state clean =
-    gathered_items (printed_items false (file_line_end state) Closed state.front ++ behind_front keeps state) (sections_parts keeps (file_line_end state) true state.sections)
-    ∙ ap (λ (d : Document). record { front = entries_of (printed_items false (file_line_end state) Closed state.front ++ behind_front keeps state) ++ d.front; sections = d.sections })
+    gathered_items (printed_items false (file_line_end state) [] state.front ++ behind_front keeps state) (sections_parts keeps (file_line_end state) true state.sections)
+    ∙ ap (λ (d : Document). record { front = entries_of (printed_items false (file_line_end state) [] state.front ++ behind_front keeps state) ++ d.front; sections = d.sections })
     (gathered_sections keeps (file_line_end state) true state.sections clean.sections)
     ∙ ap (λ (t : List DocumentEntry). record { front = t; sections = map section_document (filter keeps state.sections) }) (append-nil _ ∙ front_tells item_entries entries_kept keeps state)
 
@@ -189,7 +189,7 @@ comments_of_sections keeps line_end ended (s ∷ sections) = line_comments ended
 -- The printed parts have the comments of the front and of the sections that are kept.
 pub printed_comments : (keeps : SectionState → Bool) (state : State) → comments_of (printed_parts keeps state) ≡ comments_of_kept keeps state
 printed_comments keeps state =
-    let front = printed_items false (file_line_end state) Closed state.front ++ behind_front keeps state in
+    let front = printed_items false (file_line_end state) [] state.front ++ behind_front keeps state in
     let sections = sections_parts keeps (file_line_end state) true state.sections in
     flat_map-append part_comments (map ItemPart front) sections
     ∙ ap (λ t. t ++ comments_of sections) (comments_of_items front ∙ front_tells item_comments comments_kept keeps state)

@@ -17,7 +17,8 @@ use Rattle.gitconf_state.specs.State.{is_piece, is_value, is_assigned, is_item, 
 use Rattle.gitconf_state.specs.Clean.{has_blanks, is_nameless}
 use Rattle.gitconf_state.specs.Comments.{item_comments}
 use Rattle.gitconf_state.specs.LineEnds.{line_end_of}
-use Rattle.gitconf_state.specs.Printing.{Open, OpenValue, OpenComment, after, after_entry, closed_piece, closed_assigned, closed_item}
+use Rattle.gitconf_state.specs.Printing.{closed_piece, closed_assigned, closed_item}
+use Rattle.gitconf_state.specs.Writing.{Open, OpenValue, OpenComment, after, after_entry}
 use Rattle.gitconf_state.proofs.Apart.{AreClosed, IsSound}
 
 -- the line end of tokens is one line end

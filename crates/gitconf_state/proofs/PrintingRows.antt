@@ -8,10 +8,10 @@ use Rattle.gitconf_text.specs.Header.{PlainHeader, QuotedHeader, name_of}
 use Rattle.gitconf_text.specs.Part.{Item, BlanksItem, LineEndsItem, CommentItem, EntryItem, Part, ItemPart, HeaderPart, spelled}
 use Rattle.gitconf_base.specs.Metadata.{api_meta}
 use Rattle.gitconf_state.specs.State.{SectionState, State}
-use Rattle.gitconf_state.specs.Printing.{Closed, printed, printed_kept, printed_section}
-use Rattle.gitconf_state.specs.Clean.{stand_apart}
+use Rattle.gitconf_state.specs.Printing.{printed, printed_kept, printed_section}
 use Rattle.gitconf_state.specs.Comments.{comments}
 use Rattle.gitconf_state.specs.Inserted.{are_of_one_kind, headers_begin_lines, keys_have_lines, values_are_closed}
+use Rattle.gitconf_state.specs.Clean.{stand_apart}
 
 abbrev b : String → Item
 b run = BlanksItem (codes run)
@@ -132,16 +132,16 @@ h2 = refl
 f1 : printed (st (k "j" " " ∷ v "k" "" "" "1" ∷ n "\n" ∷ []) (sec 0 "a" (n "\n" ∷ []) [] ∷ [])) ≡ codes "j k=1\n[a]\n"
 f1 = refl
 
-f1c : stand_apart Closed (k "j" " " ∷ v "k" "" "" "1" ∷ n "\n" ∷ []) ≡ true
+f1c : stand_apart [] (k "j" " " ∷ v "k" "" "" "1" ∷ n "\n" ∷ []) ≡ true
 f1c = refl
 
-f2c : stand_apart Closed (v "j" "" "" "1" ∷ v "k" "" "" "2" ∷ []) ≡ false
+f2c : stand_apart [] (v "j" "" "" "1" ∷ v "k" "" "" "2" ∷ []) ≡ false
 f2c = refl
 
 f2 : printed (st (v "j" "" "" "1" ∷ v "k" "" "" "2" ∷ []) []) ≡ codes "j=1k=2"
 f2 = refl
 
-f3c : stand_apart Closed (k "j" "" ∷ v "k" "" "" "2" ∷ []) ≡ false
+f3c : stand_apart [] (k "j" "" ∷ v "k" "" "" "2" ∷ []) ≡ false
 f3c = refl
 
 -- two comments without a line end between: front, body, held

@@ -14,7 +14,8 @@ use Rattle.gitconf_text.specs.Document.{Document, unmarked, IsText, Reads, gathe
 use Rattle.gitconf_parse.proofs.ValueAgain.{both_true}
 use Rattle.gitconf_state.specs.State.{SectionState, State, HasSectionItems, HasItems, section_document, document_of_kept, document_of}
 use Rattle.gitconf_state.specs.Clean.{IsCleanSection, IsClean}
-use Rattle.gitconf_state.specs.Printing.{Closed, section_parts, printed_parts, printed_kept, printed, printed_section}
+use Rattle.gitconf_state.specs.Printing.{section_parts, printed_parts, printed_kept, printed, printed_section}
+use Rattle.gitconf_state.specs.Writing.{Closed}
 use Rattle.gitconf_state.proofs.Fitted.{Fitted}
 use Rattle.gitconf_state.proofs.Apart.{AreApart, fitted}
 use Rattle.gitconf_state.proofs.SectionsApart.{IsSection, all_both, all_mapped, section_apart, printed_apart}

@@ -9,11 +9,13 @@ use Rattle.gitconf_text.specs.Token.{item_tokens}
 use Rattle.gitconf_parse.proofs.ValueAgain.{both_true}
 use Rattle.gitconf_state.specs.State.{SectionState, State, is_item, HasSectionItems, HasItems, is_entry}
 use Rattle.gitconf_state.specs.LineEnds.{ends_line, section_line_end, file_line_end}
-use Rattle.gitconf_state.specs.Clean.{has_blanks, may_stand, stand_apart, IsCleanSection, IsClean}
-use Rattle.gitconf_state.specs.Printing.{Open, Closed, after, begins_on_a_line, printed_items, unless, behind_header, printed_body, section_parts, ends_with_line, held_items, sections_parts, behind_front, printed_parts}
+use Rattle.gitconf_state.specs.Clean.{has_blanks, IsCleanSection, IsClean}
+use Rattle.gitconf_state.specs.Printing.{begins_on_a_line, unless, behind_header, printed_body, section_parts, ends_with_line, held_items, sections_parts, behind_front, printed_parts, printed_items}
+use Rattle.gitconf_state.specs.Writing.{may_stand_behind, stand_apart_behind, Open, Closed, after}
 use Rattle.gitconf_state.proofs.Apart.{AreApart, behind_parts, apart-append}
 use Rattle.gitconf_state.proofs.PrintedItem.{line_end_of-is, line_end_sound, header_sound}
 use Rattle.gitconf_state.proofs.PrintedApart.{items_apart, items_ended}
+use Rattle.gitconf_state.proofs.Written.{names_apart}
 
 -- two facts that hold of all hold of each together
 pub all_both : {A : Type 0} (P Q : A → Type 0) (xs : List A) → AllByRecursion P xs → AllByRecursion Q xs → AllByRecursion (λ x. P x × Q x) xs
@@ -54,7 +56,7 @@ behind_header_line line_end (i ∷ items) = behind_unless (begins_on_a_line (i �
 
 -- the printed items of a body, without the line end before them
 abbrev body_of : SectionState → List Item
-body_of s = printed_items true (section_line_end s) Closed s.items
+body_of s = printed_items true (section_line_end s) [] s.items
 
 -- a printed body is a line end, where one is missing, and the printed items
 body_parts : (s : SectionState) → map ItemPart (printed_body s) ≡ map ItemPart (behind_header (section_line_end s) s.items) ++ map ItemPart (body_of s)
@@ -69,7 +71,7 @@ pub section_apart : (s : SectionState) → IsSection s → AreApart Closed (sect
 section_apart s is =
     let closes = line_end_of-is (flat_map item_tokens s.items) in
     let body : AreApart Closed (map ItemPart (printed_body s)) = subst (AreApart Closed) (sym (body_parts s))
-    (header_line_apart (section_line_end s) s.items _ closes (items_apart true (section_line_end s) Closed s.items closes is.0.items is.1.blanks tt)) in
+    (header_line_apart (section_line_end s) s.items _ closes (items_apart true (section_line_end s) s.items closes is.0.items is.1.blanks tt)) in
     (refl, header_sound s.header is.0.header is.1.named, body)
 
 -- Nothing is left open behind a section that ends with a line end.
@@ -78,16 +80,16 @@ section_ended line_end s ended =
     ap (behind_parts Closed) (body_parts s)
     ∙ behind-append Closed (map ItemPart (behind_header (section_line_end s) s.items)) (map ItemPart (body_of s))
     ∙ ap (λ b. behind_parts b (map ItemPart (body_of s))) (behind_header_line (section_line_end s) s.items)
-    ∙ items_ended true (section_line_end s) line_end Closed false s.items (λ _. refl) ended
+    ∙ items_ended true (section_line_end s) line_end s.items ended
 
 -- all but an entry may stand where it does
-others_stand : (before : Open) (i : Item) → not (is_entry i) ≡ true → may_stand before i ≡ true
+others_stand : (before : Open) (i : Item) → not (is_entry i) ≡ true → may_stand_behind before i ≡ true
 others_stand before (EntryItem e) h = absurd (cc)
 others_stand Closed i h = refl
 others_stand before i h = refl
 
 -- items without an entry stand apart
-without_entries : (before : Open) (items : List Item) → list_all (λ i. not (is_entry i)) items ≡ true → stand_apart before items ≡ true
+without_entries : (before : Open) (items : List Item) → list_all (λ i. not (is_entry i)) items ≡ true → stand_apart_behind before items ≡ true
 without_entries before [] h = refl
 without_entries before (i ∷ items) h =
     let q = both_true (not (is_entry i)) (list_all (λ i. not (is_entry i)) items) h in
@@ -102,8 +104,8 @@ held_apart : (line_end : List ℕ) (before : Open) (s : SectionState) (held : Li
     → list_all has_blanks held ≡ true → list_all (λ i. not (is_entry i)) held ≡ true → AreApart before (map ItemPart (held_items line_end (with_held s held)))
 held_apart line_end before s [] closes told are blanks none = tt
 held_apart line_end before s (i ∷ held) closes told are blanks none =
-    subst (AreApart before) (sym (map-append ItemPart (unless (ends_line line_end s.items) line_end) (printed_items false line_end Closed (i ∷ held))))
-    (closed_off (ends_line line_end s.items) line_end before _ closes told (items_apart false line_end Closed (i ∷ held) closes are blanks (without_entries Closed (i ∷ held) none)))
+    subst (AreApart before) (sym (map-append ItemPart (unless (ends_line line_end s.items) line_end) (printed_items false line_end [] (i ∷ held))))
+    (closed_off (ends_line line_end s.items) line_end before _ closes told (items_apart false line_end (i ∷ held) closes are blanks (without_entries Closed (i ∷ held) none)))
 
 -- nothing is left open behind a section's end and its held items where these end with a line end
 held_ended : (line_end : List ℕ) (before : Open) (s : SectionState) (held : List Item) → (ends_line line_end s.items ≡ true → before ≡ Closed)
@@ -111,11 +113,11 @@ held_ended : (line_end : List ℕ) (before : Open) (s : SectionState) (held : Li
 held_ended line_end before s [] told ended = told ended
 held_ended line_end before s (i ∷ held) told ended =
     let line = map ItemPart (unless (ends_line line_end s.items) line_end) in
-    let printed = map ItemPart (printed_items false line_end Closed (i ∷ held)) in
-    ap (behind_parts before) (map-append ItemPart (unless (ends_line line_end s.items) line_end) (printed_items false line_end Closed (i ∷ held)))
+    let printed = map ItemPart (printed_items false line_end [] (i ∷ held)) in
+    ap (behind_parts before) (map-append ItemPart (unless (ends_line line_end s.items) line_end) (printed_items false line_end [] (i ∷ held)))
     ∙ behind-append before line printed
     ∙ ap (λ b. behind_parts b printed) (behind_unless (ends_line line_end s.items) line_end before told)
-    ∙ items_ended false line_end line_end Closed false (i ∷ held) (λ _. refl) ended
+    ∙ items_ended false line_end line_end (i ∷ held) ended
 
 -- No part of the printed sections runs into the next.
 sections_apart : (keeps : SectionState → Bool) (line_end : List ℕ) (ended : Bool) (before : Open) (sections : List SectionState) → is_line_end line_end ≡ true → (ended ≡ true → before ≡ Closed)
@@ -170,19 +172,19 @@ abbrev pub with_front : State → List Item → State
 with_front state front = record { front = front; meta = state.meta; next = state.next; used = state.used; sections = state.sections }
 
 -- no part of a printed state with this front runs into the next
-front_apart : (keeps : SectionState → Bool) (state : State) (front : List Item) → list_all is_item front ≡ true → list_all has_blanks front ≡ true → stand_apart Closed front ≡ true
+front_apart : (keeps : SectionState → Bool) (state : State) (front : List Item) → list_all is_item front ≡ true → list_all has_blanks front ≡ true → stand_apart_behind Closed front ≡ true
     → AllByRecursion IsSection state.sections → AreApart Closed (printed_parts keeps (with_front state front))
 front_apart keeps state [] are blanks placed all = sections_apart keeps _ true Closed state.sections (line_end_of-is (flat_map item_tokens (flat_map (λ (s : SectionState). s.items) state.sections))) (λ _. refl) all
 front_apart keeps state (i ∷ front) are blanks placed all =
     let line_end = file_line_end (with_front state (i ∷ front)) in
     let closes : is_line_end line_end ≡ true = line_end_of-is (flat_map item_tokens ((i ∷ front) ++ flat_map (λ (s : SectionState). s.items) state.sections)) in
-    let printed = printed_items false line_end Closed (i ∷ front) in
+    let printed = printed_items false line_end [] (i ∷ front) in
     let line = behind_front keeps (with_front state (i ∷ front)) in
     let sections = sections_parts keeps line_end true state.sections in
     subst (AreApart Closed) (sym (ap (λ t. t ++ sections) (map-append ItemPart printed line) ∙ append_assoc (map ItemPart printed) (map ItemPart line) sections))
-    (apart-append Closed (map ItemPart printed) (map ItemPart line ++ sections) (items_apart false line_end Closed (i ∷ front) closes are blanks placed)
-    (behind_front_apart keeps line_end (ends_line line_end (i ∷ front)) _ state.sections closes (items_ended false line_end line_end Closed false (i ∷ front) (λ _. refl)) all))
+    (apart-append Closed (map ItemPart printed) (map ItemPart line ++ sections) (items_apart false line_end (i ∷ front) closes are blanks placed)
+    (behind_front_apart keeps line_end (ends_line line_end (i ∷ front)) _ state.sections closes (items_ended false line_end line_end (i ∷ front)) all))
 
 -- No part of a printed state runs into the next.
 pub printed_apart : (keeps : SectionState → Bool) (state : State) → HasItems state → IsClean state → AreApart Closed (printed_parts keeps state)
-printed_apart keeps state has clean = front_apart keeps state state.front has.front clean.blanks clean.names (all_both HasSectionItems IsCleanSection state.sections has.sections clean.sections)
+printed_apart keeps state has clean = front_apart keeps state state.front has.front clean.blanks (sym (names_apart state.front) ∙ clean.names) (all_both HasSectionItems IsCleanSection state.sections has.sections clean.sections)

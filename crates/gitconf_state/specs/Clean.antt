@@ -1,11 +1,11 @@
 -- The states whose text has their document.
-use Rattle.std.specs.Prelude.{◌≡◌, Bool, true, false, not, List, [], ◌∷◌, ◌&&◌}
-use Rattle.std.specs.List.{list_all, AllByRecursion}
+use Rattle.std.specs.Prelude.{◌≡◌, Bool, true, false, not, List, [], ◌∷◌, ◌&&◌, ◌||◌, Some, None, filter}
+use Rattle.std.specs.List.{last_or, list_all, list_any, AllByRecursion}
 use Rattle.gitconf_text.specs.Bytes.{is_blank}
 use Rattle.gitconf_text.specs.Header.{Header, PlainHeader, DottedHeader, QuotedHeader}
 use Rattle.gitconf_text.specs.Part.{Item, BlanksItem, EntryItem}
 use Rattle.gitconf_state.specs.State.{SectionState, State, is_entry}
-use Rattle.gitconf_state.specs.Printing.{Open, Closed, OpenKeyAndBlanks, after}
+use Rattle.gitconf_state.specs.Printing.{is_comment, line_behind}
 
 -- an empty name and no subsection
 abbrev pub is_nameless : Header → Bool
@@ -19,17 +19,34 @@ abbrev pub has_blanks : Item → Bool
 has_blanks (BlanksItem run) = list_all is_blank run
 has_blanks _ = true
 
--- A name may stand at the start, behind a line end, and behind blanks behind an entry without `=`.
-abbrev pub may_stand : Open → Item → Bool
-may_stand Closed (EntryItem e) = true
-may_stand OpenKeyAndBlanks (EntryItem e) = true
-may_stand before (EntryItem e) = false
-may_stand before i = true
+-- an entry with `=`
+abbrev pub has_value : Item → Bool
+has_value (EntryItem e) = elim e.assigned [ None ↦ false | Some a ↦ true ]
+has_value _ = false
 
--- the names of a front stand where they may
-abbrev pub stand_apart : Open → List Item → Bool
-stand_apart before [] = true
-stand_apart before (i ∷ items) = may_stand before i && stand_apart (after before i) items
+-- the item has a byte
+abbrev pub has_bytes : Item → Bool
+has_bytes (BlanksItem []) = false
+has_bytes i = true
+
+-- an entry that is a name and nothing else
+abbrev pub is_name_alone : Item → Bool
+is_name_alone (EntryItem e) = elim e.blanks [ [] ↦ not (has_value (EntryItem e)) | b ∷ blanks ↦ false ]
+is_name_alone _ = false
+
+-- the line ends with a name
+abbrev pub ends_with_name : List Item → Bool
+ends_with_name line = elim (last_or None (filter has_bytes line)) [ None ↦ false | Some i ↦ is_name_alone i ]
+
+-- A name may stand behind no comment, behind no entry with `=`, and not directly behind a name, of its line.
+abbrev pub may_stand : (line : List Item) → Item → Bool
+may_stand line (EntryItem e) = not (list_any (λ i. is_comment i || has_value i) line) && not (ends_with_name line)
+may_stand line i = true
+
+-- the names of items stand where they may; line: those before, behind the last line end
+abbrev pub stand_apart : (line : List Item) → List Item → Bool
+stand_apart line [] = true
+stand_apart line (i ∷ items) = may_stand line i && stand_apart (line_behind line i) items
 
 -- The section has a name or a subsection, its blanks are spaces and tabs, and no entry is held behind it.
 pub record IsCleanSection (s : SectionState) : Type 0 where
@@ -43,4 +60,4 @@ pub record IsCleanSection (s : SectionState) : Type 0 where
 pub record IsClean (state : State) : Type 0 where
   pub sections : AllByRecursion IsCleanSection state.sections
   pub blanks : list_all has_blanks state.front ≡ true
-  pub names : stand_apart Closed state.front ≡ true
+  pub names : stand_apart [] state.front ≡ true

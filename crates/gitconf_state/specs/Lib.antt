@@ -3,6 +3,7 @@ pub mod Lookup
 pub mod Equality
 pub mod LineEnds
 pub mod Printing
+pub mod Writing
 pub mod Clean
 pub mod Comments
 pub mod Loads

@@ -1,51 +1,32 @@
 -- The text of a state: its parts, with a line end put in where two of them would else run together.
 -- Source: this project's profile.
-use Rattle.std.specs.Prelude.{ℕ, Bool, true, false, not, List, [], ◌∷◌, ◌++◌, ◌||◌, map, Option, Some, None}
+use Rattle.std.specs.Prelude.{ℕ, Bool, true, false, not, List, [], ◌∷◌, ◌++◌, ◌&&◌, ◌||◌, map, Option, Some, None}
 use Rattle.std.specs.List.{list_any}
 use Rattle.gitconf_text.specs.Value.{Piece}
 use Rattle.gitconf_text.specs.Part.{Assigned, Item, BlanksItem, LineEndsItem, CommentItem, EntryItem, Part, ItemPart, HeaderPart, spelled}
-use Rattle.gitconf_state.specs.State.{SectionState, State}
+use Rattle.gitconf_state.specs.State.{SectionState, State, is_entry}
 use Rattle.gitconf_state.specs.LineEnds.{section_line_end, file_line_end, ends_line}
 
--- what stands before in the same list, with no line end between: nothing; an entry without `=`, with no byte behind its name
--- or with blanks there; an entry with a value; a comment
-pub data Open : Type 0 where
-  Closed : Open
-  OpenKey : Open
-  OpenKeyAndBlanks : Open
-  OpenValue : Open
-  OpenComment : Open
+abbrev pub is_comment : Item → Bool
+is_comment (CommentItem tag text) = true
+is_comment _ = false
 
--- behind blanks
-abbrev pub after_blanks : (run : List ℕ) → Open → Open
-after_blanks [] before = before
-after_blanks (b ∷ run) Closed = Closed
-after_blanks (b ∷ run) OpenKey = OpenKeyAndBlanks
-after_blanks (b ∷ run) OpenKeyAndBlanks = OpenKeyAndBlanks
-after_blanks (b ∷ run) OpenValue = OpenValue
-after_blanks (b ∷ run) OpenComment = OpenComment
+-- the value goes on behind a line end
+abbrev pub goes_on : Option Assigned → Bool
+goes_on None = false
+goes_on (Some a) = elim a.value.pieces [ [] ↦ false | p ∷ pieces ↦ true ]
 
--- behind an entry; the line ends of a value that goes on close a comment before it, but not the value
-abbrev pub after_entry : Open → (blanks : List ℕ) → Option Assigned → Open
-after_entry OpenComment blanks None = OpenComment
-after_entry OpenComment blanks (Some a) = elim a.value.pieces [ [] ↦ OpenComment | p ∷ pieces ↦ OpenValue ]
-after_entry before blanks None = after_blanks blanks OpenKey
-after_entry before blanks (Some a) = OpenValue
+-- the items behind the last line end, one item further; an entry whose value goes on ends on a line of its own
+abbrev pub line_behind : (line : List Item) → Item → List Item
+line_behind line (LineEndsItem run) = []
+line_behind line (EntryItem e) = elim (goes_on e.assigned) [ true ↦ EntryItem e ∷ [] | false ↦ line ++ EntryItem e ∷ [] ]
+line_behind line i = line ++ i ∷ []
 
--- behind an item
-abbrev pub after : Open → Item → Open
-after before (BlanksItem run) = after_blanks run before
-after before (LineEndsItem run) = Closed
-after before (CommentItem tag text) = OpenComment
-after before (EntryItem e) = after_entry before e.blanks e.assigned
-
--- A line end is put before a comment behind a comment, and in a body before a name behind an entry or a comment.
-abbrev pub breaks : (in_body : Bool) → Open → Item → Bool
-breaks in_body OpenComment (CommentItem tag text) = true
-breaks in_body OpenComment (EntryItem e) = in_body
-breaks in_body Closed (EntryItem e) = false
-breaks in_body before (EntryItem e) = in_body
-breaks in_body before i = false
+-- A line end is put before a comment behind a comment of its line, and in a body before an entry behind a comment or an entry of its line.
+abbrev pub breaks : (in_body : Bool) → (line : List Item) → Item → Bool
+breaks in_body line (CommentItem tag text) = list_any is_comment line
+breaks in_body line (EntryItem e) = in_body && list_any (λ i. is_comment i || is_entry i) line
+breaks in_body line i = false
 
 -- a piece that goes on without a line end gets one
 abbrev pub closed_piece : (line_end : List ℕ) → Piece → Piece
@@ -62,12 +43,12 @@ closed_item line_end (LineEndsItem run) = LineEndsItem run
 closed_item line_end (CommentItem tag text) = CommentItem tag text
 closed_item line_end (EntryItem e) = EntryItem (record { name = e.name; blanks = e.blanks; assigned = closed_assigned line_end e.assigned })
 
--- the items of a list as they are printed
-abbrev pub printed_items : (in_body : Bool) → (line_end : List ℕ) → Open → List Item → List Item
-printed_items in_body line_end before [] = []
-printed_items in_body line_end before (i ∷ items) = elim (breaks in_body before i) [
-  | true ↦ LineEndsItem line_end ∷ closed_item line_end i ∷ printed_items in_body line_end (after Closed i) items
-  | false ↦ closed_item line_end i ∷ printed_items in_body line_end (after before i) items
+-- the items of a list as they are printed; line: those behind the last line end
+abbrev pub printed_items : (in_body : Bool) → (line_end : List ℕ) → (line : List Item) → List Item → List Item
+printed_items in_body line_end line [] = []
+printed_items in_body line_end line (i ∷ items) = elim (breaks in_body line i) [
+  | true ↦ LineEndsItem line_end ∷ closed_item line_end i ∷ printed_items in_body line_end (line_behind [] i) items
+  | false ↦ closed_item line_end i ∷ printed_items in_body line_end (line_behind line i) items
 ]
 
 -- the items hold a line end before their first entry, or, without one, any
@@ -90,7 +71,7 @@ behind_header line_end (i ∷ items) = unless (begins_on_a_line (i ∷ items)) l
 
 -- a section's body as it is printed, with its own line end
 abbrev pub printed_body : SectionState → List Item
-printed_body s = behind_header (section_line_end s) s.items ++ printed_items true (section_line_end s) Closed s.items
+printed_body s = behind_header (section_line_end s) s.items ++ printed_items true (section_line_end s) [] s.items
 
 -- a section alone: its header and body
 abbrev pub section_parts : SectionState → List Part
@@ -104,7 +85,7 @@ ends_with_line line_end s = elim s.held [ [] ↦ ends_line line_end s.items | i 
 abbrev pub held_items : (line_end : List ℕ) → SectionState → List Item
 held_items line_end s = elim s.held [
   | [] ↦ []
-  | i ∷ held ↦ unless (ends_line line_end s.items) line_end ++ printed_items false line_end Closed s.held
+  | i ∷ held ↦ unless (ends_line line_end s.items) line_end ++ printed_items false line_end [] s.held
 ]
 
 -- The sections in order. Where the last printed one, what is held behind it counted in, ended without a line end, one stands before each
@@ -126,7 +107,7 @@ behind_front keeps state = elim state.front [
 -- the parts of what is written with a filter of sections: the front, and the sections that it keeps
 abbrev pub printed_parts : (keeps : SectionState → Bool) → State → List Part
 printed_parts keeps state =
-    map ItemPart (printed_items false (file_line_end state) Closed state.front ++ behind_front keeps state)
+    map ItemPart (printed_items false (file_line_end state) [] state.front ++ behind_front keeps state)
     ++ sections_parts keeps (file_line_end state) true state.sections
 
 -- the text of the front and of the sections that a filter keeps

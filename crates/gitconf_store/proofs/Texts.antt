@@ -1,5 +1,5 @@
 -- The text of a file, part by part.
-use Rattle.std.proofs.Common.{◌≡◌, ℕ, Bool, true, false, List, [], ◌∷◌, ◌++◌, map, Option, Result, Ok, Err, refl, ap, subst, ◌∙◌, append_assoc, append-nil}
+use Rattle.std.proofs.Common.{◌≡◌, ℕ, Bool, true, false, List, [], ◌∷◌, ◌++◌, map, Option, Result, Ok, Err, refl, ap, sym, subst, ◌∙◌, append_assoc, append-nil}
 use Rattle.std.specs.Prelude.{flat_map, if◌then◌else◌, IsErr, IfOk}
 use Rattle.std.proofs.lemmas.Grind.{flat_map-append}
 use Rattle.gitconf_text.specs.Part.{Item, Part, ItemPart, spelled_item, spelled_part, spelled}
@@ -7,7 +7,10 @@ use Rattle.gitconf_parse.specs.Sink.{with_text, is_begun, Writes}
 use Rattle.gitconf_parse.proofs.SinkLaws.{begun_behind, begun_before, Writes-fault}
 use Rattle.gitconf_state.specs.State.{SectionState, State}
 use Rattle.gitconf_state.specs.LineEnds.{file_line_end}
-use Rattle.gitconf_state.specs.Printing.{Closed, unless, ends_with_line, held_items, section_parts, printed_section, printed_items, sections_parts, behind_front, printed_kept}
+use Rattle.gitconf_state.specs.Printing.{unless, ends_with_line, held_items, section_parts, printed_section, sections_parts, behind_front, printed_kept, printed_items}
+use Rattle.gitconf_state.specs.Writing.{Closed}
+use Rattle.gitconf_state.proofs.Written.{items_written}
+use Rattle.gitconf_write.specs.Texts.{items_text}
 use Rattle.gitconf_write.proofs.Left.{IsLeft, left_all, left_first, left_fault}
 use Rattle.gitconf_write.proofs.Printed.{spelled-items, printed_section-is, held_items-text, ends_with_line-both}
 use Rattle.gitconf_store.specs.Texts.{line_end_unless, whole_text, sections_text, next_text, ended_behind, is_front_ended}
@@ -46,16 +49,16 @@ last_section keeps line_end ended = spelled-items (unless ended line_end)
 -- the front, the line end behind it, and the sections
 pub whole_file : (keeps : SectionState → Bool) (state : State)
     → printed_kept keeps state
-    ≡ flat_map spelled_item (printed_items false (file_line_end state) Closed state.front)
+    ≡ flat_map spelled_item (printed_items false (file_line_end state) [] state.front)
     ++ (line_end_unless (is_front_ended keeps (file_line_end state) state.front state.sections) (file_line_end state)
     ++ sections_text keeps (file_line_end state) true state.sections)
 whole_file keeps state =
-    spelled-append (map ItemPart (printed_items false (file_line_end state) Closed state.front ++ behind_front keeps state)) _
+    spelled-append (map ItemPart (printed_items false (file_line_end state) [] state.front ++ behind_front keeps state)) _
     ∙ ap (λ t. t ++ sections_text keeps (file_line_end state) true state.sections)
-    (spelled-items (printed_items false (file_line_end state) Closed state.front ++ behind_front keeps state)
-    ∙ flat_map-append spelled_item (printed_items false (file_line_end state) Closed state.front) (behind_front keeps state)
-    ∙ ap (λ t. flat_map spelled_item (printed_items false (file_line_end state) Closed state.front) ++ t) (front_end state.front refl))
-    ∙ append_assoc (flat_map spelled_item (printed_items false (file_line_end state) Closed state.front)) _ _
+    (spelled-items (printed_items false (file_line_end state) [] state.front ++ behind_front keeps state)
+    ∙ flat_map-append spelled_item (printed_items false (file_line_end state) [] state.front) (behind_front keeps state)
+    ∙ ap (λ t. flat_map spelled_item (printed_items false (file_line_end state) [] state.front) ++ t) (front_end state.front refl))
+    ∙ append_assoc (flat_map spelled_item (printed_items false (file_line_end state) [] state.front)) _ _
   where
     front_end : (front : List Item) → state.front ≡ front
         → flat_map spelled_item (behind_front keeps state)
@@ -79,7 +82,11 @@ kept_fault r keeps line_end ended s old mid new fault kept written begun =
 
 -- the front, as it is printed
 abbrev pub front_text : State → List ℕ
-front_text state = flat_map spelled_item (printed_items false (file_line_end state) Closed state.front)
+front_text state = flat_map spelled_item (printed_items false (file_line_end state) [] state.front)
+
+-- the front is printed as it is written
+pub front_written : (state : State) → items_text false (file_line_end state) Closed state.front ≡ front_text state
+front_written state = ap (flat_map spelled_item) (sym (items_written false (file_line_end state) state.front))
 
 -- what stands behind the front: a line end, if one is missing, and the sections
 abbrev pub behind_text : (keeps : SectionState → Bool) → State → List ℕ

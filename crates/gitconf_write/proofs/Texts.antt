@@ -6,7 +6,8 @@ use Rattle.gitconf_text.specs.Part as parts
 use Rattle.gitconf_text.specs.Part.{spelled_item}
 use Rattle.gitconf_parse.specs.declared.items.Item.{Item}
 use Rattle.gitconf_parse.specs.Items.{item_of}
-use Rattle.gitconf_state.specs.Printing.{Open, Closed, after, breaks, closed_item, printed_items}
+use Rattle.gitconf_state.specs.Printing.{closed_item}
+use Rattle.gitconf_state.specs.Writing.{Open, Closed, after, breaks_behind, written_items}
 use Rattle.gitconf_write.specs.Bodies.{items_of}
 use Rattle.gitconf_write.proofs.Bodies.{at_next}
 use Rattle.gitconf_write.specs.Texts.{items_text, next_text, behind_next}
@@ -14,15 +15,15 @@ use Rattle.gitconf_write.specs.Texts.{items_text, next_text, behind_next}
 -- the first item, and the others behind it
 first_item : (in_body : Bool) (line_end : List ℕ) (before : Open) (i : parts.Item) (items : List parts.Item)
     → items_text in_body line_end before (i ∷ items) ≡ next_text in_body line_end before i ++ items_text in_body line_end (behind_next in_body before i) items
-first_item in_body line_end before i items = go (breaks in_body before i)
+first_item in_body line_end before i items = go (breaks_behind in_body before i)
   where
     go : (b : Bool)
         → flat_map spelled_item (elim b [
-          | true ↦ parts.LineEndsItem line_end ∷ closed_item line_end i ∷ printed_items in_body line_end (after Closed i) items
-          | false ↦ closed_item line_end i ∷ printed_items in_body line_end (after before i) items
+          | true ↦ parts.LineEndsItem line_end ∷ closed_item line_end i ∷ written_items in_body line_end (after Closed i) items
+          | false ↦ closed_item line_end i ∷ written_items in_body line_end (after before i) items
         ])
         ≡ flat_map spelled_item (elim b [ true ↦ parts.LineEndsItem line_end ∷ closed_item line_end i ∷ [] | false ↦ closed_item line_end i ∷ [] ])
-        ++ flat_map spelled_item (printed_items in_body line_end (elim b [ true ↦ after Closed i | false ↦ after before i ]) items)
+        ++ flat_map spelled_item (written_items in_body line_end (elim b [ true ↦ after Closed i | false ↦ after before i ]) items)
     go true = simp (append_assoc, append-nil)
     go false = simp append-nil
 

@@ -1,5 +1,5 @@
 -- What stands before an item, as the code has it.
-use Rattle.gitconf_state.specs.Printing as spec
+use Rattle.gitconf_state.specs.Writing as spec
 use Rattle.gitconf_write.specs.declared.open.Open.{Open}
 use Rattle.gitconf_write.specs.declared.open.Open.TheVariants as kinds
 

@@ -4,8 +4,9 @@ use Rattle.std.specs.Str.{bytes_eq}
 use Rattle.gitconf_text.specs.Value.{Piece, Value}
 use Rattle.gitconf_text.specs.Header.{Header, spelled_header}
 use Rattle.gitconf_text.specs.Part.{Item, spelled_item}
-use Rattle.gitconf_state.specs.Printing.{Open, Closed, after, breaks, closed_piece, printed_items, unless, behind_header}
+use Rattle.gitconf_state.specs.Printing.{closed_piece, unless, behind_header}
 use Rattle.gitconf_state.specs.LineEnds.{line_end_of, ends_line}
+use Rattle.gitconf_state.specs.Writing.{Open, Closed, after, breaks_behind, written_items}
 use Rattle.gitconf_write.specs.Bodies.{tokens_in}
 
 abbrev pub spelled_piece : Piece → List ℕ
@@ -17,7 +18,7 @@ closed_value line_end v = record { pieces = map (closed_piece line_end) v.pieces
 
 -- items as they are printed behind what stands before
 abbrev pub items_text : (in_body : Bool) → (line_end : List ℕ) → Open → List Item → List ℕ
-items_text in_body line_end before items = flat_map spelled_item (printed_items in_body line_end before items)
+items_text in_body line_end before items = flat_map spelled_item (written_items in_body line_end before items)
 
 -- an item behind what stands before: a line end, where they would else run together, and the item
 abbrev pub next_text : (in_body : Bool) → (line_end : List ℕ) → Open → Item → List ℕ
@@ -25,7 +26,7 @@ next_text in_body line_end before i = items_text in_body line_end before (i ∷ 
 
 -- what stands behind it
 abbrev pub behind_next : (in_body : Bool) → Open → Item → Open
-behind_next in_body before i = elim (breaks in_body before i) [ true ↦ after Closed i | false ↦ after before i ]
+behind_next in_body before i = elim (breaks_behind in_body before i) [ true ↦ after Closed i | false ↦ after before i ]
 
 -- a subsection behind its separator: behind a dot as it is, and else in quotes
 abbrev pub subsection_text : (separator subsection : List ℕ) → List ℕ

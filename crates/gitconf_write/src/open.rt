@@ -1,7 +1,7 @@
 //! What a next item would run together with.
 ghost use Rattle.std.specs.Prelude.{◌≡◌, ℕ, List};
 ghost use Rattle.gitconf_parse.specs.Items.{item_of, assigned_of};
-ghost use Rattle.gitconf_state.specs.Printing as spec;
+ghost use Rattle.gitconf_state.specs.Writing as spec;
 ghost use Rattle.gitconf_parse.specs.Events.{bytes_of};
 ghost use Rattle.gitconf_write.specs.Open.{open_of};
 
@@ -25,7 +25,7 @@ pub(crate) enum Open {
 impl Open {
     /// Whether a line end has to stand before the item.
     pub(crate) fn breaks(self, in_body: bool, item: &Item) -> bool
-        ensures { (buffer : List ℕ) → result ≡ spec.breaks in_body (open_of self) (item_of buffer item.now) }
+        ensures { (buffer : List ℕ) → result ≡ spec.breaks_behind in_body (open_of self) (item_of buffer item.now) }
     {
         match item {
             Item::Blanks(_) | Item::LineEnds(_) => false,

@@ -1,11 +1,11 @@
 use Rattle.std.proofs.Common.{◌≡◌, drop}
-use Rattle.gitconf_state.specs.Printing.{Closed}
 use Rattle.gitconf_write.specs.Bodies.{items_of}
 use Rattle.gitconf_write.specs.LineEnds.{bytes_of_line_end}
 use Rattle.gitconf_write.specs.Open.{open_of}
 use Rattle.gitconf_write.specs.Texts.{items_text}
 use Rattle.gitconf_write.proofs.Left.{IsLeft}
 use Rattle.gitconf_write.proofs.items.write_items.Given as goal
+use Rattle.gitconf_state.specs.Writing.{Closed}
 
 -- the items before were written, and no failure was counted
 abbrev pub invariant-loop-item : goal.invariant-loop-item

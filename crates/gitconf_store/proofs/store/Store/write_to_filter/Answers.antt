@@ -1,7 +1,8 @@
 use Rattle.std.proofs.Common.{rules, ◌≡◌, true, false, ◌++◌, ap, sym, ◌∙◌}
 use Rattle.gitconf_state.specs.LineEnds.{file_line_end}
-use Rattle.gitconf_state.specs.Printing.{Closed, printed_kept}
+use Rattle.gitconf_state.specs.Printing.{printed_kept}
 use Rattle.gitconf_state.specs.State.{HasItems}
+use Rattle.gitconf_state.specs.Writing.{Closed}
 use Rattle.gitconf_state.proofs.ReadsBack.{kept_reads_back}
 use Rattle.gitconf_write.specs.Bodies.{items_of}
 use Rattle.gitconf_write.specs.LineEnds.{bytes_of_line_end}
@@ -9,13 +10,14 @@ use Rattle.gitconf_write.specs.Texts.{items_text}
 use Rattle.gitconf_write.proofs.Left.{left_behind, left_fault, left_last}
 use Rattle.gitconf_store.specs.Texts.{line_end_unless, is_front_ended, sections_text}
 use Rattle.gitconf_store.specs.Views.{sections_left}
-use Rattle.gitconf_store.proofs.Texts.{front_text, behind_text, front_fault, front_left}
+use Rattle.gitconf_store.proofs.Texts.{front_text, front_written, behind_text, front_fault, front_left}
 use Rattle.gitconf_store.proofs.store.Store.write_to_filter.Goals as goal
 
 pub returns-in_err-write_front-clause-exact : goal.returns-in_err-write_front-clause-exact
 returns-in_err-write_front-clause-exact g c = λ keeps h.
     let state = c.args.self.now in
-    let same : items_text false (bytes_of_line_end c.line_end-line_end.result) Closed (items_of c.deref.result.now c.deref-2.result.now) ≡ front_text state = search rules in
+    let shown : items_text false (bytes_of_line_end c.line_end-line_end.result) Closed (items_of c.deref.result.now c.deref-2.result.now) ≡ items_text false (file_line_end state) Closed state.front = search rules in
+    let same = shown ∙ front_written state in
     front_fault c.from_residual.result keeps state _ _ _ c.from_residual.ensures.0 same c.in_err-write_front.ensures.written
 
 pub returns-in_err-write_line_end_unless-clause-exact : goal.returns-in_err-write_line_end_unless-clause-exact
@@ -23,7 +25,8 @@ returns-in_err-write_line_end_unless-clause-exact g c = λ keeps h.
     let state = c.args.self.now in
     let le = bytes_of_line_end c.line_end-line_end.result in
     let ended = c.front_is_ended-ended.ensures.exact keeps h in
-    let same : items_text false le Closed (items_of c.deref.result.now c.deref-2.result.now) ≡ front_text state = search rules in
+    let shown : items_text false le Closed (items_of c.deref.result.now c.deref-2.result.now) ≡ items_text false (file_line_end state) Closed state.front = search rules in
+    let same = shown ∙ front_written state in
     let behind : line_end_unless (is_front_ended keeps le (items_of c.deref-3.result.now c.deref-4.result.now) (sections_left c.sections.result)) le ≡ behind_text keeps state = search rules in
     left_fault c.from_residual-in_err-write_line_end_unless.result (printed_kept keeps state) (behind_text keeps state ++ sections_text keeps (file_line_end state) true state.sections)
     (line_end_unless c.front_is_ended-ended.result le) (sections_text keeps (file_line_end state) true state.sections) _ _ _
@@ -37,7 +40,8 @@ returns-clause-exact g c = λ keeps h.
     let state = c.args.self.now in
     let le = bytes_of_line_end c.line_end-line_end.result in
     let ended = c.front_is_ended-ended.ensures.exact keeps h in
-    let same : items_text false le Closed (items_of c.deref.result.now c.deref-2.result.now) ≡ front_text state = search rules in
+    let shown : items_text false le Closed (items_of c.deref.result.now c.deref-2.result.now) ≡ items_text false (file_line_end state) Closed state.front = search rules in
+    let same = shown ∙ front_written state in
     let behind : line_end_unless (is_front_ended keeps le (items_of c.deref-3.result.now c.deref-4.result.now) (sections_left c.sections.result)) le ≡ behind_text keeps state = search rules in
     let others : sections_text keeps (file_line_end state) true state.sections ≡ sections_text keeps le true (sections_left c.sections-2.result) = search rules in
     left_last c.write_sections.result (printed_kept keeps state) (sections_text keeps (file_line_end state) true state.sections)
