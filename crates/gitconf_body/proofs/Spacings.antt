@@ -1,7 +1,8 @@
 -- The blanks of items are those that their spans have.
 use Rattle.std.proofs.Common.{◌≡◌, ℕ, true, false, List, [], ◌∷◌, length, Option, Some, None, refl, ap, sym, subst, arith, ◌∙◌}
-use Rattle.std.specs.List.{list_any}
+use Rattle.std.specs.List.{last_or, list_any}
 use Rattle.std.specs.Option.{option_map}
+use Rattle.gitconf_text.specs.Part as parts
 use Rattle.gitconf_parse.specs.declared.event.Span.{Span}
 use Rattle.gitconf_parse.specs.declared.items.Assigned.{Assigned}
 use Rattle.gitconf_parse.specs.declared.items.Item.{Item}
@@ -22,13 +23,14 @@ any_entry_shown buffer (items.LineEnds run ∷ is) = any_entry_shown buffer is
 any_entry_shown buffer (items.Comment tag text ∷ is) = any_entry_shown buffer is
 any_entry_shown buffer (items.Entry e ∷ is) = refl
 
-leading_shown : (buffer : List ℕ) (last : Option Span) (is : List Item) → list_any is_stored_entry is ≡ true
-    → option_map (bytes_of buffer) (leading_span last is) ≡ state.leading_blanks (option_map (bytes_of buffer) last) (items_of buffer is)
-leading_shown buffer last [] some = refl
-leading_shown buffer last (items.Blanks run ∷ is) some = leading_shown buffer (Some run) is some
-leading_shown buffer last (items.LineEnds run ∷ is) some = leading_shown buffer None is some
-leading_shown buffer last (items.Comment tag text ∷ is) some = leading_shown buffer None is some
-leading_shown buffer last (items.Entry e ∷ is) some = refl
+-- o: the item before these
+leading_shown : (buffer : List ℕ) (o : Option parts.Item) (last : Option Span) (is : List Item) → option_map (bytes_of buffer) last ≡ state.blanks_of o → list_any is_stored_entry is ≡ true
+    → option_map (bytes_of buffer) (leading_span last is) ≡ state.blanks_of (last_or o (state.before_entry (items_of buffer is)))
+leading_shown buffer o last [] before some = absurd (cc)
+leading_shown buffer o last (items.Blanks run ∷ is) before some = leading_shown buffer _ (Some run) is refl some
+leading_shown buffer o last (items.LineEnds run ∷ is) before some = leading_shown buffer _ None is refl some
+leading_shown buffer o last (items.Comment tag text ∷ is) before some = leading_shown buffer _ None is refl some
+leading_shown buffer o last (items.Entry e ∷ is) before some = before
 
 leading_fits : (limit : ℕ) (last : Option Span) (is : List Item) → OptionFits limit last → AreItemsWithin limit is → OptionFits limit (leading_span last is)
 leading_fits limit last [] fits all = tt
@@ -73,8 +75,8 @@ found_spacing buffer is s some leading before behind within =
     let any : list_any is_entry (items_of buffer is) ≡ true = any_entry_shown buffer is ∙ some in
     let f = separator_fits (length buffer) is within in
     rw (any, state.spacing_of) (record {
-      leading = subst (λ l. LeadingStands buffer l (state.leading_blanks None (items_of buffer is))) (sym leading)
-          (stands (leading_span None is) (state.leading_blanks None (items_of buffer is)) (leading_shown buffer None is some) (leading_fits (length buffer) None is tt within));
+      leading = subst (λ l. LeadingStands buffer l (state.leading_blanks (items_of buffer is))) (sym leading)
+          (stands (leading_span None is) (state.leading_blanks (items_of buffer is)) (leading_shown buffer None None is refl some) (leading_fits (length buffer) None is tt within));
       before = record { fits = subst (SpanFits (length buffer)) (sym before) f.0; is = ap (bytes_of buffer) before ∙ ap (λ p. p.0) (before_shown buffer is) };
       behind = record { fits = subst (SpanFits (length buffer)) (sym behind) f.1; is = ap (bytes_of buffer) behind ∙ ap (λ p. p.1) (before_shown buffer is) };
     })

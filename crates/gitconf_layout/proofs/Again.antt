@@ -32,7 +32,8 @@ use Rattle.gitconf_layout.proofs.SetValues.{Ways, ways, piece_ends, set_closed, 
 use Rattle.gitconf_layout.proofs.SetRuns.{ends_run, comment_blank}
 use Rattle.gitconf_layout.proofs.Laid.{set_from, meets, meets_blanks, tight_key, after_value, behind_is, no_parts, entry_text, laid}
 use Rattle.gitconf_layout.proofs.RunsAgain.{ends_text-append, ends_place-append, ends_again, no_ends, content_ends}
-use Rattle.gitconf_layout.proofs.Fronts.{shown_parts, cut_ends, cut_blanks, keeps_none, keeps_or_puts, puts_none, with_front, front_same, front_fits, front_goes}
+use Rattle.gitconf_layout.proofs.LineEnds.{made_ends, holds_both}
+use Rattle.gitconf_layout.proofs.Fronts.{shown_parts, cut_ends, cut_blanks, keeps_none, keeps_or_puts, puts_none, with_front, front_same, front_fits, front_holds, front_goes}
 use Rattle.gitconf_layout.proofs.AgainEntries.{Stays, moved, stays_key, valued, stays_value, stays_empty, closed_stays}
 use Rattle.gitconf_state.specs.Writing.{may_stand_behind, Open, Closed, OpenValue, OpenComment, after_blanks, after_entry, after}
 
@@ -61,6 +62,7 @@ stays_blanks o e s b r run set text some all later true k =
       same = ap (λ t. run ++ t) f.same;
       fits = ((some, all, subst (λ t. begins is_blank t ≡ false) (sym (append-nil (spelled f.parts) ∙ f.same)) c.1), f.fits);
       again = rw (keeps_same o s b set (shown_parts f.parts) k c.0) (ap (λ t. run ++ t) f.again);
+      holds = (tt, f.holds);
     }
 
 -- line ends, or none
@@ -74,6 +76,7 @@ stays_ends o e line s b r run text later = elim (ends_run o e line p run) [
     same = later.same ∙ ap (λ t. t ++ text) (sym none);
     fits = later.fits;
     again = ap (λ x. set_tokens o e x (shown_parts later.parts)) (sym (no_ends o e line p run none)) ∙ later.again ∙ ap (λ t. t ++ text) (sym none);
+    holds = later.holds;
   }
   | inr some ↦ joined some.0 some.1
 ]
@@ -92,16 +95,19 @@ stays_ends o e line s b r run text later = elim (ends_run o e line p run) [
         let c = cut_ends o e q.in_section q.before q.room later.parts later.fits in
         let ag = ends_again o e line p run in
         let rest = shown_parts c.rest in
+        let filled : 0 < length (x ++ c.run) = rw length-append (let a = some in omega arith) in
+        let h = c.holds later.holds in
         record {
           parts = ItemPart (LineEndsItem (x ++ c.run)) ∷ c.rest;
           same = append_assoc x c.run (spelled c.rest) ∙ ap (λ t. x ++ t) (sym c.whole ∙ later.same);
-          fits = ((rw length-append (let a = some in omega arith), line_ends-append x c.run all c.passes, c.stops), c.fits);
+          fits = ((filled, line_ends-append x c.run all c.passes, c.stops), c.fits);
           again = ap (λ t. t ++ set_tokens o e (ends_place o p (x ++ c.run)) rest) (ends_text-append o e p x c.run)
               ∙ ap (λ y. (ends_text o e p x ++ ends_text o e (ends_place o p x) c.run) ++ set_tokens o e y rest) (ends_place-append o p x c.run)
               ∙ ap (λ y. (ends_text o e p x ++ ends_text o e y c.run) ++ set_tokens o e (ends_place o y c.run) rest) ag.place
               ∙ ap (λ t. (t ++ ends_text o e q c.run) ++ set_tokens o e (ends_place o q c.run) rest) ag.text
               ∙ append_assoc x (ends_text o e q c.run) _
               ∙ ap (λ t. x ++ t) (sym c.again ∙ later.again);
+          holds = (holds_both e x c.run filled (made_ends o e p run) h.0, h.1);
         }
 
 -- a text that doesn't end with a CR
@@ -150,6 +156,7 @@ again_comment o e s b r tag words set text mark lines cr ended later = record {
     again = front_goes o e s b r front part later.parts (λ puts. keeps_or_puts o s b (shown_parts (part ∷ later.parts)) puts)
         ∙ ap (λ w. (front ++ (tag ∷ w)) ++ set_from o e s Other r later.parts) (words_same words (shown_parts later.parts) cr)
         ∙ ap (λ t. (front ++ (tag ∷ words)) ++ t) later.again;
+    holds = front_holds e front part later.parts (tt, later.holds);
   };
   comment = λ k. subst (λ front. (begins_comment (shown_parts (with_front front part later.parts)) ≡ true) × (begins is_blank ((front ++ (tag ∷ words)) ++ text) ≡ false))
       (sym (puts_none o s b set k)) (refl, mark_no_blank tag mark);
@@ -177,6 +184,7 @@ stays_header o e s b r h text fits later =
       same = ap (λ t. t ++ spelled later.parts) is.same ∙ ap (λ t. written (shown_token (HeaderToken h)) ++ t) later.same;
       fits = (is.fits, later.fits);
       again = ap (λ t. t ++ set_from o e true Other r later.parts) is.again ∙ ap (λ t. written (shown_token (HeaderToken h)) ++ t) later.again;
+      holds = (tt, later.holds);
     }
 
 -- What is set behind parts, for all places that meet what is left open.
@@ -209,7 +217,7 @@ stays_closed o e line s b r name (p ∷ pieces) last rest text named fits closed
 -- nothing behind parts
 pub stays_none : (o : Options) (e : List ℕ) (s : Bool) (b : Before) (r : Option ℕ) (parts : List Part) → parts ≡ [] → Stays o e s b r (set_from o e s b r parts)
 unfolding set_tokens
-stays_none o e s b r parts none = record { parts = []; same = ap (set_from o e s b r) (sym none); fits = tt; again = ap (set_from o e s b r) (sym none) }
+stays_none o e s b r parts none = record { parts = []; same = ap (set_from o e s b r) (sym none); fits = tt; again = ap (set_from o e s b r) (sym none); holds = tt }
 
 again_entry : (o : Options) (e : List ℕ) → is_line_end e ≡ true → (name blanks : List ℕ) (assigned : Option Assigned) (parts : List Part) → AgainBehind o e parts
     → AgainBehind o e (ItemPart (EntryItem (record { name = name; blanks = blanks; assigned = assigned })) ∷ parts)
@@ -264,7 +272,7 @@ again_entry o e line name blanks (Some a) parts later state s b r m fits follows
 -- What one pass writes stays.
 pub again : (o : Options) (e : List ℕ) → is_line_end e ≡ true → (parts : List Part) → AgainBehind o e parts
 unfolding set_tokens ends_text ends_place
-again o e line [] state s b r m fits follows none = uncommented o e s b r [] [] refl (record { parts = []; same = refl; fits = tt; again = refl })
+again o e line [] state s b r m fits follows none = uncommented o e s b r [] [] refl (record { parts = []; same = refl; fits = tt; again = refl; holds = tt })
 again o e line (ItemPart (BlanksItem run) ∷ parts) state s b r m fits follows none =
     let n = behind_item state (BlanksItem run) (spelled parts) (first_fits (ItemPart (BlanksItem run)) parts fits) follows in
     let later = again o e line parts (after_blanks run state) s b r (meets_blanks run state b m) fits.1 n.1 none in

@@ -215,7 +215,7 @@ unfolding set_tokens
 last_pieces o e line s b r name p pieces rest set text plain named fits none = (
   subst Filled (sym whole) (front_filled (before_name o s b) (trimmed mid) filled),
   reworded o e s b r set (before_name o s b ++ (spelled_item (EntryItem (valued o e name (gap o) w)) ++ [])) _ (ap (λ t. before_name o s b ++ t) written_again ∙ sym (append_assoc (before_name o s b) (trimmed mid) e) ∙ ap (λ t. t ++ e) (sym whole))
-      (uncommented o e s b r set _ plain (stays_value o e line s b r name w [] named (record { parts = []; same = refl; fits = tt; again = refl }) fits_again)),
+      (uncommented o e s b r set _ plain (stays_value o e line s b r name w [] named (record { parts = []; same = refl; fits = tt; again = refl; holds = tt }) fits_again)),
 )
   where
     v : ValueOf

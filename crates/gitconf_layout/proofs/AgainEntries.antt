@@ -11,6 +11,7 @@ use Rattle.gitconf_text.specs.Part.{Assigned, Entry, EntryItem, Part, ItemPart, 
 use Rattle.gitconf_parse.proofs.ValueAgain.{both_true}
 use Rattle.gitconf_parse.proofs.RunLaws.{false_not}
 use Rattle.gitconf_parse.proofs.ByteLaws.{letter_no_blank}
+use Rattle.gitconf_state.specs.Writing.{OpenKey}
 use Rattle.gitconf_state.proofs.Follows.{may_follow, may_follow_key, key_skips, value_skips}
 use Rattle.gitconf_state.proofs.FittedEntry.{IsClosed}
 use Rattle.gitconf_layout.specs.declared.format.Options.{Options}
@@ -22,18 +23,19 @@ use Rattle.gitconf_layout.proofs.SetEntries.{at_place, gap, set_end, set_piece, 
 use Rattle.gitconf_layout.proofs.SetValues.{gap_blank}
 use Rattle.gitconf_layout.proofs.SetRuns.{name_blank}
 use Rattle.gitconf_layout.proofs.Laid.{set_from, entry_text}
-use Rattle.gitconf_layout.proofs.Fronts.{shown_parts, CutBlanks, keeps_none, with_front, front_same, front_fits, front_goes}
-use Rattle.gitconf_state.specs.Writing.{OpenKey}
+use Rattle.gitconf_layout.proofs.LineEnds.{AssignedHolds, Holds, set_pieces_hold, entry_holds}
+use Rattle.gitconf_layout.proofs.Fronts.{shown_parts, CutBlanks, keeps_none, with_front, front_same, front_fits, front_holds, front_goes}
 
--- Parts that are a text and may stand there, and that one pass from a place writes as that text.
+-- Parts that are a text and may stand there, that hold the line end, and that one pass from a place writes as that text.
 pub record Stays (o : Options) (e : List ℕ) (s : Bool) (b : Before) (r : Option ℕ) (text : List ℕ) : Type 0 where
   pub parts : List Part
   pub same : spelled parts ≡ text
   pub fits : AreFit parts []
   pub again : set_from o e s b r parts ≡ text
+  pub holds : Holds e parts
 
 abbrev pub moved : (o : Options) (e : List ℕ) (s : Bool) (b : Before) (r : Option ℕ) (text other : List ℕ) → text ≡ other → Stays o e s b r text → Stays o e s b r other
-moved o e s b r text other same f = record { parts = f.parts; same = f.same ∙ same; fits = f.fits; again = f.again ∙ same }
+moved o e s b r text other same f = record { parts = f.parts; same = f.same ∙ same; fits = f.fits; again = f.again ∙ same; holds = f.holds }
 
 -- the line ends of a value, set twice
 pub end_again : (e line_end : List ℕ) → is_line_end e ≡ true → set_end e (set_end e line_end) ≡ set_end e line_end
@@ -97,13 +99,14 @@ entry_no_blank [] rest more end h = absurd (cc)
 entry_no_blank (b ∷ name) rest more end h = letter_no_blank b (both_true _ _ h).0
 
 -- an entry behind its indent
-front_entry : (o : Options) (e : List ℕ) (s : Bool) (b : Before) (r : Option ℕ) (en : Entry) (rest : List Part) → is_value_name en.name ≡ true → FitsItem (EntryItem en) (spelled rest ++ []) → AreFit rest []
+front_entry : (o : Options) (e : List ℕ) (s : Bool) (b : Before) (r : Option ℕ) (en : Entry) (rest : List Part) → is_value_name en.name ≡ true → FitsItem (EntryItem en) (spelled rest ++ []) → AreFit rest [] → AssignedHolds e en.assigned → Holds e rest
     → (text : List ℕ) → spelled (ItemPart (EntryItem en) ∷ rest) ≡ text → set_from o e s b r (ItemPart (EntryItem en) ∷ rest) ≡ before_name o s b ++ text → Stays o e s b r (before_name o s b ++ text)
-front_entry o e s b r en rest named fits more text same again = record {
+front_entry o e s b r en rest named fits more assigned holds text same again = record {
   parts = with_front (before_name o s b) (ItemPart (EntryItem en)) rest;
   same = front_same (before_name o s b) (ItemPart (EntryItem en)) rest ∙ ap (λ t. before_name o s b ++ t) same;
   fits = front_fits (before_name o s b) (ItemPart (EntryItem en)) rest (name_blank o s b) (entry_no_blank en.name _ (spelled rest) [] named) fits more;
   again = front_goes o e s b r (before_name o s b) (ItemPart (EntryItem en)) rest (λ h. keeps_none o s b (shown_parts (ItemPart (EntryItem en) ∷ rest)) refl) ∙ again;
+  holds = front_holds e (before_name o s b) (ItemPart (EntryItem en)) rest (entry_holds e en rest assigned holds);
 }
 
 -- behind a name and all blanks stands no `=`
@@ -126,7 +129,7 @@ stays_key o e s b r name text named follows f c =
     let rest_same : spelled c.rest ++ [] ≡ spelled c.rest = append-nil (spelled c.rest) in
     let stops : begins is_blank (spelled c.rest) ≡ false = subst (λ t. begins is_blank t ≡ false) rest_same c.stops in
     let fits : FitsItem (EntryItem en) (spelled c.rest ++ []) = subst (FitsItem (EntryItem en)) (sym rest_same) (named, c.passes, (apart, stops, no_equals (spelled c.rest) stops behind)) in
-    front_entry o e s b r en c.rest named fits c.fits ((name ++ ([] ++ [])) ++ text)
+    front_entry o e s b r en c.rest named fits c.fits tt (c.holds f.holds) ((name ++ ([] ++ [])) ++ text)
     (key_regrouped name c.run (spelled c.rest) ∙ ap (λ t. (name ++ ([] ++ [])) ++ t) (sym whole))
     (entry_text o e s b r en c.rest tt ∙ ap (λ t. before_name o s b ++ ((name ++ ([] ++ [])) ++ t)) (sym c.again ∙ f.again))
 
@@ -148,7 +151,7 @@ pub stays_value : (o : Options) (e : List ℕ) → is_line_end e ≡ true → (s
     → (f : Stays o e s (before_behind_value v.pieces) (room_behind o v.pieces r) text) → FitsValue (set_value e v) (spelled f.parts ++ [])
     → Stays o e s b r (before_name o s b ++ (spelled_item (EntryItem (valued o e name (gap o) v)) ++ text))
 stays_value o e line s b r name v text named f fits =
-    front_entry o e s b r (valued o e name (gap o) v) f.parts named (named, gap_blank o, (gap_blank o, fits)) f.fits (spelled_item (EntryItem (valued o e name (gap o) v)) ++ text)
+    front_entry o e s b r (valued o e name (gap o) v) f.parts named (named, gap_blank o, (gap_blank o, fits)) f.fits (set_pieces_hold e v.pieces) f.holds (spelled_item (EntryItem (valued o e name (gap o) v)) ++ text)
     (ap (λ t. spelled_item (EntryItem (valued o e name (gap o) v)) ++ t) f.same)
     (set_again o e line s b r name (gap o) v f.parts ∙ ap (λ t. before_name o s b ++ (spelled_item (EntryItem (valued o e name (gap o) v)) ++ t)) f.again)
 
@@ -169,7 +172,7 @@ stays_empty o e line s b r name text named follows f c =
     let rest_same : spelled c.rest ++ [] ≡ spelled c.rest = append-nil (spelled c.rest) in
     let behind : may_follow_value (spelled c.rest) ≡ true = sym (value_skips c.run (spelled c.rest) c.passes) ∙ subst (λ t. may_follow_value t ≡ true) whole follows in
     let fits : FitsValue v (spelled c.rest ++ []) = record { front = c.stops; units = refl; end = (refl, subst (λ t. may_follow_value t ≡ true) (sym rest_same) behind) } in
-    front_entry o e s b r en c.rest named (named, gap_blank o, (blanks_more (gap o) c.run (gap_blank o) c.passes, fits)) c.fits (spelled_item (EntryItem (valued o e name (gap o) v)) ++ text)
+    front_entry o e s b r en c.rest named (named, gap_blank o, (blanks_more (gap o) c.run (gap_blank o) c.passes, fits)) c.fits tt (c.holds f.holds) (spelled_item (EntryItem (valued o e name (gap o) v)) ++ text)
     (empty_regrouped name (gap o) (gap o) c.run (spelled c.rest) ∙ ap (λ t. spelled_item (EntryItem (valued o e name (gap o) v)) ++ t) (sym whole))
     (set_again o e line s b r name (gap o ++ c.run) v c.rest ∙ ap (λ t. before_name o s b ++ (spelled_item (EntryItem (valued o e name (gap o) v)) ++ t)) (sym c.again ∙ f.again))
 

@@ -1,26 +1,32 @@
--- A layout is laid out as it is.
-use Rattle.std.proofs.Common.{◌≡◌, ℕ, Bool, true, false, List, [], ◌∷◌, ◌++◌, map, inl, inr, refl, ap, sym, ◌∙◌}
-use Rattle.std.specs.Prelude.{if◌then◌else◌}
-use Rattle.gitconf_text.specs.Text.{is_line_end}
+-- A layout holds the line end that was chosen, and is laid out as it is.
+use Rattle.std.proofs.Common.{◌≡◌, ℕ, Bool, true, false, List, [], ◌∷◌, ◌++◌, inl, inr, refl, ap, sym, subst, ◌∙◌}
+use Rattle.std.specs.Prelude.{◌⊎◌, ◌==◌, if◌then◌else◌}
+use Rattle.std.specs.List.{AllByRecursion, list_any}
+use Rattle.std.proofs.lemmas.List.Elements.{All-from_recursion}
+use Rattle.gitconf_text.specs.Text.{ends, is_line_end}
 use Rattle.gitconf_text.specs.Part.{Part}
+use Rattle.gitconf_text.specs.Token.{tokens_of}
 use Rattle.gitconf_text.specs.Document.{IsText, gathered}
 use Rattle.gitconf_text.specs.Document.{unmarked}
 use Rattle.gitconf_parse.specs.EventRef.{Shown}
-use Rattle.gitconf_parse.specs.ShownEvents.{shown_token}
 use Rattle.gitconf_parse.proofs.OneDocument.{one_tokens}
 use Rattle.gitconf_state.specs.Comments.{comments_of}
 use Rattle.gitconf_state.specs.Writing.{Closed}
 use Rattle.gitconf_state.proofs.ReadsBack.{is_text}
+use Rattle.gitconf_layout.specs.declared.format.Newline.{Newline}
+use Rattle.gitconf_layout.specs.declared.format.Newline.TheVariants.{Detect, Lf, CrLf}
 use Rattle.gitconf_layout.specs.declared.format.Options.{Options}
 use Rattle.gitconf_layout.specs.declared.place.Before.TheVariants.{Nothing}
-use Rattle.gitconf_layout.specs.Kept.{has_no_cr, line_end_in}
-use Rattle.gitconf_layout.specs.Layout.{is_cr_or_lf, line_end_of, lines_of, set_body, trimmed, with_one_line_end, laid_out, layout}
-use Rattle.gitconf_layout.specs.Setting.{is_dropped, set_tokens}
+use Rattle.gitconf_layout.specs.Kept.{has_no_cr, line_end_in, HoldsLineEnd, HoldLineEnd}
+use Rattle.gitconf_layout.specs.Layout.{is_cr_or_lf, is_newline, detected, line_end_of, lines_of, set_body, trimmed, with_one_line_end, laid_out, layout}
+use Rattle.gitconf_layout.specs.Setting.{first, is_dropped, set_tokens}
 use Rattle.gitconf_layout.proofs.SetEntries.{at_place, one_line_end}
 use Rattle.gitconf_layout.proofs.Staying.{body_is}
 use Rattle.gitconf_layout.proofs.Closing.{trimmed_cases, trimmed_none}
 use Rattle.gitconf_layout.proofs.Ending.{Filled, front_filled}
 use Rattle.gitconf_layout.proofs.LayoutLaws.{line_end_is}
+use Rattle.gitconf_layout.proofs.LineEnds.{TokensHold, Holds, has_newline, detected_is, set_unended, ended_last, unended}
+use Rattle.gitconf_layout.proofs.Laid.{set_from}
 use Rattle.gitconf_layout.proofs.Fronts.{shown_parts}
 use Rattle.gitconf_layout.proofs.AgainEntries.{Stays, moved}
 use Rattle.gitconf_layout.proofs.Again.{again, stays_none}
@@ -84,18 +90,36 @@ body_ended o text parts is none =
     let w = shut o e line parts Closed false Nothing o.max_leading_blank_lines refl is.fits tt none in
     moved o e false Nothing o.max_leading_blank_lines _ _ (ap (with_one_line_end e) (body_is o e (shown_parts parts))) (one_stays o e line (shown_parts parts) _ w)
 
--- the lines of parts that stay, by the same line end
-relined : (o : Options) (e text : List ℕ) → (f : StaysWhole o e text) → (read : List Part) → IsText text read → set_body o e (lines_of (shown_parts read)) ≡ text
-relined o e text f read is =
-    let own = stays_text o e text f in
-    let same : shown_parts read ≡ shown_parts f.parts = ap (map shown_token) (one_tokens (unmarked text) read f.parts is.spelled_is is.fits own.spelled_is own.fits) in
-    ap (λ t. set_body o e (lines_of t)) same ∙ sym (body_is o e (shown_parts f.parts)) ∙ f.again
+-- where the line end is told anew, it is the same, or nothing is to be ended
+line_same : (n : Newline) (tokens again : List Shown) → AllByRecursion (HoldsLineEnd (line_end_of n tokens)) again → (line_end_of n again ≡ line_end_of n tokens) ⊎ (list_any is_newline again ≡ false)
+line_same Detect tokens again h = detected_is (detected tokens) (line_end_is Detect tokens) again h
+line_same Lf tokens again h = inl refl
+line_same CrLf tokens again h = inl refl
 
--- A layout is laid out as it is by the same line end.
-pub laid_out_again : (o : Options) (text : List ℕ) (parts read : List Part) → IsText text parts → has_no_cr parts ≡ true → IsText (layout o parts) read
-    → line_end_in o read ≡ line_end_in o parts → layout o read ≡ layout o parts
+-- what stays has one list of tokens
+one_list : (o : Options) (e text : List ℕ) → (f : StaysWhole o e text) → (read : List Part) → IsText text read → tokens_of read ≡ tokens_of f.parts
+one_list o e text f read is = let own = stays_text o e text f in one_tokens (unmarked text) read f.parts is.spelled_is is.fits own.spelled_is own.fits
+
+-- the lines of parts that stay, by the line end that is told anew
+relined : (o : Options) (e other text : List ℕ) → (f : StaysWhole o e text) → (other ≡ e) ⊎ (has_newline (tokens_of f.parts) ≡ false) → set_body o other (lines_of (shown_parts f.parts)) ≡ text
+relined o e other text f which =
+    sym (body_is o other (shown_parts f.parts)) ∙ elim which [
+      | inl same ↦ ap (λ e. set_from o e false Nothing o.max_leading_blank_lines f.parts) same
+      | inr none ↦ set_unended o other e (first o) (shown_parts f.parts) none
+    ] ∙ f.again
+
+-- one line end at the end stays, by the line end that is told anew
+one_same : (o : Options) (e other text : List ℕ) → is_line_end e ≡ true → (f : StaysWhole o e (with_one_line_end e text)) → (other ≡ e) ⊎ (has_newline (tokens_of f.parts) ≡ false)
+    → with_one_line_end other (with_one_line_end e text) ≡ with_one_line_end e text
+one_same o e other text line f (inl same) = ap (λ other. with_one_line_end other (with_one_line_end e text)) same ∙ one_again e text line
+one_same o e other [] line f (inr none) = refl
+one_same o e other (b ∷ text) line f (inr none) =
+    absurd (let x : true ≡ false = sym (ended_last (trimmed (b ∷ text)) e line) ∙ ap (ends (λ b. b == 10)) (sym f.same) ∙ unended f.parts f.fits none in cc)
+
+-- A layout is laid out as it is.
+pub laid_out_again : (o : Options) (text : List ℕ) (parts read : List Part) → IsText text parts → has_no_cr parts ≡ true → IsText (layout o parts) read → layout o read ≡ layout o parts
 unfolding laid_out
-laid_out_again o text parts read is none is_read same = go o.ensure_trailing_newline refl
+laid_out_again o text parts read is none is_read = go o.ensure_trailing_newline refl
   where
     e : List ℕ
     e = line_end_of o.newline (shown_parts parts)
@@ -104,8 +128,25 @@ laid_out_again o text parts read is none is_read same = go o.ensure_trailing_new
     go true h =
         let f = body_ended o text parts is none in
         let read_is : IsText (with_one_line_end e (set_body o e (lines_of (shown_parts parts)))) read = rw h at is_read in
-        rw (h, same) (ap (with_one_line_end e) (relined o e _ f read read_is) ∙ one_again e (set_body o e (lines_of (shown_parts parts))) (line_end_is o.newline (shown_parts parts)))
+        let other = line_end_of o.newline (shown_parts f.parts) in
+        let which = line_same o.newline (shown_parts parts) (shown_parts f.parts) f.holds in
+        rw (h, one_list o e _ f read read_is) (ap (with_one_line_end other) (relined o e other _ f which) ∙ one_same o e other (set_body o e (lines_of (shown_parts parts))) (line_end_is o.newline (shown_parts parts)) f which)
     go false h =
         let f = body_again o text parts is none in
         let read_is : IsText (set_body o e (lines_of (shown_parts parts))) read = rw h at is_read in
-        rw (h, same) (relined o e _ f read read_is)
+        rw (h, one_list o e _ f read read_is) (relined o e _ _ f (line_same o.newline (shown_parts parts) (shown_parts f.parts) f.holds))
+
+-- Its newlines are the line end that was chosen.
+pub laid_out_holds : (o : Options) (text : List ℕ) (parts read : List Part) → IsText text parts → has_no_cr parts ≡ true → IsText (layout o parts) read → HoldLineEnd (line_end_in o parts) read
+unfolding laid_out
+laid_out_holds o text parts read is none is_read = All-from_recursion (HoldsLineEnd e) (shown_parts read) (go o.ensure_trailing_newline refl)
+  where
+    e : List ℕ
+    e = line_end_of o.newline (shown_parts parts)
+
+    held : (text : List ℕ) → (f : StaysWhole o e text) → IsText text read → Holds e read
+    held text f is = subst (TokensHold e) (sym (one_list o e text f read is)) f.holds
+
+    go : (ended : Bool) → o.ensure_trailing_newline ≡ ended → Holds e read
+    go true h = held _ (body_ended o text parts is none) (rw h at is_read)
+    go false h = held _ (body_again o text parts is none) (rw h at is_read)

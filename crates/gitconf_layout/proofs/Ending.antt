@@ -28,7 +28,7 @@ all_apart p cr lf (b ∷ text) h =
 pub blanks_stay : (run : List ℕ) → list_all is_blank run ≡ true → trimmed run ≡ run
 blanks_stay run h = trimmed_same run (all_apart is_blank refl refl run h)
 
-name_bytes : (name : List ℕ) → is_value_name name ≡ true → list_all is_name_byte name ≡ true
+pub name_bytes : (name : List ℕ) → is_value_name name ≡ true → list_all is_name_byte name ≡ true
 name_bytes [] h = absurd (cc)
 name_bytes (b ∷ name) h = let p = both_true _ _ h in rw (letter_name_byte b p.0) p.1
 

@@ -20,6 +20,7 @@ use Rattle.gitconf_layout.specs.declared.place.Before.TheVariants.{Nothing, Valu
 use Rattle.gitconf_layout.specs.Layout.{is_nothing, begins_comment, keeps_blanks, before_comment, root_indent}
 use Rattle.gitconf_layout.specs.Setting.{ends_text, ends_place, set_tokens}
 use Rattle.gitconf_layout.proofs.SetEntries.{at_place}
+use Rattle.gitconf_layout.proofs.LineEnds.{IsMade, made_of, Holds}
 use Rattle.gitconf_layout.proofs.Laid.{set_from}
 
 -- parts as they are shown
@@ -61,11 +62,21 @@ pub record CutEnds (o : Options) (e : List ℕ) (s : Bool) (b : Before) (r : Opt
   pub stops : begins_line_end (spelled rest ++ []) ≡ false
   pub fits : AreFit rest []
   pub again : set_from o e s b r parts ≡ ends_text o e (at_place s b r) run ++ set_tokens o e (ends_place o (at_place s b r) run) (shown_parts rest)
+  pub holds : Holds e parts → IsMade e run × Holds e rest
 
 pub cut_ends : (o : Options) (e : List ℕ) (s : Bool) (b : Before) (r : Option ℕ) (parts : List Part) → AreFit parts [] → CutEnds o e s b r parts
 unfolding set_tokens ends_text ends_place
-cut_ends o e s b r [] fits = record { run = []; rest = []; whole = refl; passes = refl; stops = refl; fits = tt; again = refl }
-cut_ends o e s b r (ItemPart (LineEndsItem run) ∷ parts) fits = record { run = run; rest = parts; whole = refl; passes = fits.0.1; stops = fits.0.2; fits = fits.1; again = refl }
+cut_ends o e s b r [] fits = record { run = []; rest = []; whole = refl; passes = refl; stops = refl; fits = tt; again = refl; holds = λ h. ((0, refl), h) }
+cut_ends o e s b r (ItemPart (LineEndsItem run) ∷ parts) fits = record {
+  run = run;
+  rest = parts;
+  whole = refl;
+  passes = fits.0.1;
+  stops = fits.0.2;
+  fits = fits.1;
+  again = refl;
+  holds = λ h. (made_of e run h.0, h.1);
+}
 cut_ends o e s b r (ItemPart (BlanksItem run) ∷ parts) fits = record {
   run = [];
   rest = ItemPart (BlanksItem run) ∷ parts;
@@ -74,6 +85,7 @@ cut_ends o e s b r (ItemPart (BlanksItem run) ∷ parts) fits = record {
   stops = blanks_no_line_end run (spelled parts) [] fits.0.0 fits.0.1;
   fits = fits;
   again = refl;
+  holds = λ h. ((0, refl), h);
 }
 cut_ends o e s b r (ItemPart (CommentItem tag text) ∷ parts) fits = record {
   run = [];
@@ -83,6 +95,7 @@ cut_ends o e s b r (ItemPart (CommentItem tag text) ∷ parts) fits = record {
   stops = mark_no_line_end tag ((text ++ spelled parts) ++ []) fits.0.0;
   fits = fits;
   again = refl;
+  holds = λ h. ((0, refl), h);
 }
 cut_ends o e s b r (ItemPart (EntryItem en) ∷ parts) fits = record {
   run = [];
@@ -92,6 +105,7 @@ cut_ends o e s b r (ItemPart (EntryItem en) ∷ parts) fits = record {
   stops = name_no_line_end en.name _ (spelled parts) [] fits.0.0;
   fits = fits;
   again = refl;
+  holds = λ h. ((0, refl), h);
 }
 cut_ends o e s b r (HeaderPart h ∷ parts) fits = record {
   run = [];
@@ -101,6 +115,7 @@ cut_ends o e s b r (HeaderPart h ∷ parts) fits = record {
   stops = header_no_line_end h (spelled parts) [];
   fits = fits;
   again = refl;
+  holds = λ h. ((0, refl), h);
 }
 
 -- parts behind a value, cut behind the blanks at their front, which go
@@ -112,11 +127,12 @@ pub record CutBlanks (o : Options) (e : List ℕ) (s : Bool) (r : Option ℕ) (p
   pub stops : begins is_blank (spelled rest ++ []) ≡ false
   pub fits : AreFit rest []
   pub again : set_from o e s Value r parts ≡ set_from o e s Value r rest
+  pub holds : Holds e parts → Holds e rest
 
 pub cut_blanks : (o : Options) (e : List ℕ) (s : Bool) (r : Option ℕ) (parts : List Part) → AreFit parts [] → CutBlanks o e s r parts
 unfolding set_tokens ends_text ends_place
-cut_blanks o e s r [] fits = record { run = []; rest = []; whole = refl; passes = refl; stops = refl; fits = tt; again = refl }
-cut_blanks o e s r (ItemPart (BlanksItem run) ∷ parts) fits = record { run = run; rest = parts; whole = refl; passes = fits.0.1; stops = fits.0.2; fits = fits.1; again = refl }
+cut_blanks o e s r [] fits = record { run = []; rest = []; whole = refl; passes = refl; stops = refl; fits = tt; again = refl; holds = λ h. h }
+cut_blanks o e s r (ItemPart (BlanksItem run) ∷ parts) fits = record { run = run; rest = parts; whole = refl; passes = fits.0.1; stops = fits.0.2; fits = fits.1; again = refl; holds = λ h. h.1 }
 cut_blanks o e s r (ItemPart (LineEndsItem run) ∷ parts) fits = record {
   run = [];
   rest = ItemPart (LineEndsItem run) ∷ parts;
@@ -125,6 +141,7 @@ cut_blanks o e s r (ItemPart (LineEndsItem run) ∷ parts) fits = record {
   stops = line_ends_no_blank run (spelled parts) [] fits.0.0 fits.0.1;
   fits = fits;
   again = refl;
+  holds = λ h. h;
 }
 cut_blanks o e s r (ItemPart (CommentItem tag text) ∷ parts) fits = record {
   run = [];
@@ -134,6 +151,7 @@ cut_blanks o e s r (ItemPart (CommentItem tag text) ∷ parts) fits = record {
   stops = mark_no_blank tag fits.0.0;
   fits = fits;
   again = refl;
+  holds = λ h. h;
 }
 cut_blanks o e s r (ItemPart (EntryItem en) ∷ parts) fits = record {
   run = [];
@@ -143,6 +161,7 @@ cut_blanks o e s r (ItemPart (EntryItem en) ∷ parts) fits = record {
   stops = name_no_blank en.name _ (spelled parts) [] fits.0.0;
   fits = fits;
   again = refl;
+  holds = λ h. h;
 }
 cut_blanks o e s r (HeaderPart h ∷ parts) fits = record {
   run = [];
@@ -152,6 +171,7 @@ cut_blanks o e s r (HeaderPart h ∷ parts) fits = record {
   stops = header_no_blank h (spelled parts) [];
   fits = fits;
   again = refl;
+  holds = λ h. h;
 }
 
 and_false : (a : Bool) → (a && false) ≡ false
@@ -197,6 +217,11 @@ pub front_fits : (front : List ℕ) (p : Part) (rest : List Part) → list_all i
     → AreFit (with_front front p rest) []
 front_fits [] p rest all stops fits more = (fits, more)
 front_fits (b ∷ run) p rest all stops fits more = ((omega arith, all, stops), (fits, more))
+
+-- blanks are no newline
+pub front_holds : (e front : List ℕ) (p : Part) (rest : List Part) → Holds e (p ∷ rest) → Holds e (with_front front p rest)
+front_holds e [] p rest h = h
+front_holds e (b ∷ run) p rest h = (tt, h)
 
 -- blanks that go change nothing
 pub front_goes : (o : Options) (e : List ℕ) (s : Bool) (b : Before) (r : Option ℕ) (front : List ℕ) (p : Part) (rest : List Part) → ((front ≡ [] → ⊥) → keeps_blanks o s b (shown_parts (p ∷ rest)) ≡ false)

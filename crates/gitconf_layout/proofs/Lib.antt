@@ -10,6 +10,7 @@ pub mod Laid
 pub mod Closing
 pub mod Ending
 pub mod Ended
+pub mod LineEnds
 pub mod LayoutLaws
 pub mod RunsAgain
 pub mod Fronts

@@ -1,10 +1,11 @@
 -- What a layout keeps of its input, and how it ends.
-use Rattle.std.specs.Prelude.{◌≡◌, ◌⊎◌, ◌==◌, ℕ, Bool, true, false, not, List, [], ◌++◌, map}
-use Rattle.std.specs.List.{list_all}
+use Rattle.std.specs.Prelude.{◌≡◌, ◌⊎◌, ◌==◌, ℕ, Bool, true, false, not, List, [], ◌++◌, map, replicate}
+use Rattle.std.specs.List.{All, concat, list_all}
 use Rattle.gitconf_text.specs.Text.{ends, is_line_end}
 use Rattle.gitconf_text.specs.Part.{BlanksItem, LineEndsItem, CommentItem, EntryItem, Part, ItemPart, HeaderPart}
 use Rattle.gitconf_text.specs.Token.{tokens_of}
 use Rattle.gitconf_text.specs.Document.{IsText, gathered}
+use Rattle.gitconf_parse.specs.EventRef.{Shown, ShownNewline}
 use Rattle.gitconf_parse.specs.ShownEvents.{shown_token}
 use Rattle.gitconf_state.specs.Comments.{comments_of}
 use Rattle.gitconf_layout.specs.declared.format.Options.{Options}
@@ -36,3 +37,12 @@ has_no_cr parts = list_all ends_with_no_cr parts
 -- what the lines of these parts end with
 abbrev pub line_end_in : Options → List Part → List ℕ
 line_end_in options parts = line_end_of options.newline (map shown_token (tokens_of parts))
+
+-- the token is no newline, or this line end, once or more
+abbrev pub HoldsLineEnd : (line_end : List ℕ) → Shown → Type 0
+HoldsLineEnd line_end (ShownNewline run) = (more : ℕ) × (run ≡ line_end ++ concat (replicate more line_end))
+HoldsLineEnd line_end _ = Unit {0}
+
+-- each newline of the parts is this line end, once or more
+abbrev pub HoldLineEnd : (line_end : List ℕ) → List Part → Type 0
+HoldLineEnd line_end parts = All (HoldsLineEnd line_end) (map shown_token (tokens_of parts))

@@ -2,7 +2,7 @@
 ghost use Rattle.std.specs.Prelude.{◌≡◌, ℕ, List, true, false};
 ghost use Rattle.gitconf_text.specs.Part.{Part};
 ghost use Rattle.gitconf_text.specs.Document.{IsText};
-ghost use Rattle.gitconf_layout.specs.Kept.{Keeps, EndsOnce, has_no_cr, line_end_in};
+ghost use Rattle.gitconf_layout.specs.Kept.{Keeps, EndsOnce, HoldLineEnd, has_no_cr, line_end_in};
 ghost use Rattle.gitconf_layout.specs.Layout.{layout};
 ghost use Rattle.gitconf_layout.specs.declared.format.Options.{Options};
 
@@ -18,8 +18,14 @@ pub fn layouts_end_once()
     ensures { (options : Options) (parts : List Part) → options.ensure_trailing_newline ≡ true → EndsOnce (layout options parts) }
 {}
 
-/// Laid out again by the same options a layout stays as it is, where no comment's text in the text ends with a CR, and the
-/// layout has the line ends of the text: by `Lf` and `CrLf` it has, by `Detect` where its first newline holds a CR as that of the text does.
+/// Each newline of a layout is the line end that was chosen, once or more, where no comment's text in the text ends with a CR.
+///
+/// So `Detect` finds the line end of a text in its layout too, if that has a newline.
+pub fn layouts_hold_their_line_end()
+    ensures { (options : Options) (text : List ℕ) (parts read : List Part) → IsText text parts → has_no_cr parts ≡ true → IsText (layout options parts) read → HoldLineEnd (line_end_in options parts) read }
+{}
+
+/// Laid out again by the same options a layout stays as it is, where no comment's text in the text ends with a CR.
 pub fn layouts_stay()
-    ensures { (options : Options) (text : List ℕ) (parts read : List Part) → IsText text parts → has_no_cr parts ≡ true → IsText (layout options parts) read → line_end_in options read ≡ line_end_in options parts → layout options read ≡ layout options parts }
+    ensures { (options : Options) (text : List ℕ) (parts read : List Part) → IsText text parts → has_no_cr parts ≡ true → IsText (layout options parts) read → layout options read ≡ layout options parts }
 {}

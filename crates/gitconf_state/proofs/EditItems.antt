@@ -1,7 +1,7 @@
 -- A value that is set leaves the items of a state, and blanks that are spaces and tabs.
 use Rattle.std.proofs.Common.{◌≡◌, ℕ, Bool, true, false, not, List, [], ◌∷◌, ◌++◌, Option, Some, None, refl, ap, sym, ◌∙◌, append-nil, inl, inr}
 use Rattle.std.specs.Prelude.{◌==◌, ◌&&◌, ◌||◌, flat_map}
-use Rattle.std.specs.List.{list_all, list_any}
+use Rattle.std.specs.List.{last_or, list_all, list_any}
 use Rattle.std.proofs.lemmas.List.Folds.{list_all-append}
 use Rattle.std.proofs.lemmas.Bool.{or_parts}
 use Rattle.gitconf_text.specs.Bytes.{is_blank, is_name_byte, is_header_byte}
@@ -20,7 +20,7 @@ use Rattle.gitconf_base.specs.Metadata.{Meta}
 use Rattle.gitconf_state.specs.State.{SectionState, State, is_value, is_assigned, is_item, is_header, HasSectionItems, is_entry}
 use Rattle.gitconf_state.specs.LineEnds.{file_line_end}
 use Rattle.gitconf_state.specs.Clean.{has_blanks, IsCleanSection}
-use Rattle.gitconf_state.specs.Edit.{is_entry_of, Spacing, leading_blanks, separator_blanks, spacing_of, assigned_value, with_value, new_entry, set_value, made_header, new_section, is_target, section_with}
+use Rattle.gitconf_state.specs.Edit.{is_entry_of, Spacing, blanks_of, before_entry, leading_blanks, separator_blanks, spacing_of, assigned_value, with_value, new_entry, set_value, made_header, new_section, is_target, section_with}
 use Rattle.gitconf_state.specs.Edits.{finds_or_makes}
 use Rattle.gitconf_state.proofs.LoadingFilters.{both_hold}
 use Rattle.gitconf_state.proofs.InsertingLineEnds.{is_told_line_end}
@@ -168,14 +168,15 @@ abbrev pub are_blanks : Option (List ℕ) → Bool
 are_blanks None = true
 are_blanks (Some run) = list_all is_blank run
 
-leading_blank : (last : Option (List ℕ)) (items : List Item) → are_blanks last ≡ true → list_all has_blanks items ≡ true → are_blanks (leading_blanks last items) ≡ true
-leading_blank last [] is all = refl
-leading_blank last (BlanksItem run ∷ items) is all =
+leading_blank : (o : Option Item) (items : List Item) → are_blanks (blanks_of o) ≡ true → list_all has_blanks items ≡ true
+    → are_blanks (blanks_of (last_or o (before_entry items))) ≡ true
+leading_blank o [] is all = is
+leading_blank o (BlanksItem run ∷ items) is all =
     let b = both_true (list_all is_blank run) (list_all has_blanks items) all in
-    leading_blank (Some run) items b.0 b.1
-leading_blank last (LineEndsItem run ∷ items) is all = leading_blank None items refl all
-leading_blank last (CommentItem tag text ∷ items) is all = leading_blank None items refl all
-leading_blank last (EntryItem e ∷ items) is all = is
+    leading_blank (Some (BlanksItem run)) items b.0 b.1
+leading_blank o (LineEndsItem run ∷ items) is all = leading_blank (Some (LineEndsItem run)) items refl all
+leading_blank o (CommentItem tag text ∷ items) is all = leading_blank (Some (CommentItem tag text)) items refl all
+leading_blank o (EntryItem e ∷ items) is all = is
 
 -- so are those before a key
 spacing_blank : (items : List Item) → list_all has_blanks items ≡ true → are_blanks (spacing_of items).leading ≡ true

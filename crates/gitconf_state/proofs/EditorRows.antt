@@ -7,10 +7,10 @@ use Rattle.gitconf_text.specs.Header.{Header, PlainHeader, DottedHeader, QuotedH
 use Rattle.gitconf_text.specs.Part.{Item, BlanksItem, LineEndsItem, CommentItem, EntryItem}
 use Rattle.gitconf_base.specs.Metadata.{api_meta}
 use Rattle.gitconf_base.specs.declared.source.Trust.TheVariants.{Reduced}
-use Rattle.gitconf_state.specs.State.{SectionState, State}
+use Rattle.gitconf_state.specs.State.{SectionState, State, cut_last}
 use Rattle.gitconf_state.specs.Printing.{printed}
 use Rattle.gitconf_state.specs.Edit.{is_entry_of}
-use Rattle.gitconf_state.specs.Editors.{Editor, editor_of, cut_last}
+use Rattle.gitconf_state.specs.Editors.{Editor, editor_of}
 use Rattle.gitconf_state.specs.Edits.{Detached, Edit, Push, PushLineEnd, SetValue, Remove, Pop, WriteAt, DeleteAt, Rename, RenameAll, NewSection, PushSection, RemoveSection, RemoveNumbered, Append, SetTrust, SetMeta, Raw, Entry, Number, answer, apply, apply_all, numbered}
 
 abbrev blanks : String → Item

@@ -1,5 +1,5 @@
 -- The items of a text whose keys have lines of their own: no line end is put among them, and none behind their header or their last one.
-use Rattle.std.proofs.Common.{◌≡◌, ℕ, Bool, true, false, not, List, [], ◌∷◌, ◌++◌, map, refl, ap, subst, ◌∙◌, append-nil}
+use Rattle.std.proofs.Common.{◌≡◌, ℕ, Bool, true, false, not, List, [], ◌∷◌, ◌++◌, map, refl, ap, sym, subst, ◌∙◌, append-nil}
 use Rattle.std.specs.Prelude.{◌||◌}
 use Rattle.std.specs.List.{fold, list_all}
 use Rattle.gitconf_text.specs.Part.{Entry, Item, BlanksItem, LineEndsItem, CommentItem, EntryItem, Part, ItemPart, spelled_item, FitsItem, spelled, AreFit}
@@ -12,6 +12,7 @@ use Rattle.gitconf_state.proofs.LoadingNames.{Follows, first_fits, only_line_end
 use Rattle.gitconf_state.proofs.ExactEnds.{EndsLine, rest_ends_line}
 use Rattle.gitconf_state.proofs.ExactItems.{item_same, last_line_ends}
 use Rattle.gitconf_state.proofs.ExactLineEnds.{holds_line_end}
+use Rattle.gitconf_state.proofs.LastLines.{ends_with, ends_line-is}
 
 -- in a body, behind an entry the line is taken
 abbrev pub Taken : (in_body : Bool) → Open → (taken : Bool) → Type 0
@@ -157,14 +158,6 @@ begins_same (LineEndsItem run ∷ items) tail keys ended = refl
 begins_same (CommentItem tag text ∷ items) tail keys ended = begins_same items tail keys ended
 begins_same (EntryItem e ∷ items) tail keys ended = absurd (cc)
 
--- what ends_line keeps from item to item
-abbrev ended_after : (line_end : List ℕ) → Bool → Item → Bool
-ended_after line_end ended i = elim i [
-  | BlanksItem run ↦ ended
-  | LineEndsItem run ↦ ended || holds line_end run
-  | _ ↦ false
-]
-
 -- where the second holds, one of the two does
 pub last_holds : (a b : Bool) → b ≡ true → (a || b) ≡ true
 last_holds true b h = refl
@@ -172,7 +165,7 @@ last_holds false b h = h
 
 -- items whose last one is line ends end with the line end that these hold, whatever stands before
 ended_from : (line_end : List ℕ) (fresh ended : Bool) (items : List Item) (tail : List Part) → (fresh ≡ true → ended ≡ true)
-    → list_all (holds_line_end line_end) (map ItemPart items ++ tail) ≡ true → ends_fresh fresh items ≡ true → fold (ended_after line_end) ended items ≡ true
+    → list_all (holds_line_end line_end) (map ItemPart items ++ tail) ≡ true → ends_fresh fresh items ≡ true → fold (ends_with line_end) ended items ≡ true
 ended_from line_end fresh ended [] tail so all is = so is
 ended_from line_end fresh ended (BlanksItem run ∷ items) tail so all is = ended_from line_end false ended items tail (λ h. absurd (cc)) all is
 ended_from line_end fresh ended (LineEndsItem run ∷ items) tail so all is =
@@ -184,7 +177,7 @@ ended_from line_end fresh ended (EntryItem e ∷ items) tail so all is = ended_f
 -- Items whose last one is line ends end with the line end that these hold.
 pub ends_same : (line_end : List ℕ) (items : List Item) (tail : List Part) → list_all (holds_line_end line_end) (map ItemPart items ++ tail) ≡ true → ends_fresh false items ≡ true
     → ends_line line_end items ≡ true
-ends_same line_end items tail all is = ended_from line_end false false items tail (λ h. h) all is
+ends_same line_end items tail all is = sym (ends_line-is line_end items) ∙ ended_from line_end false false items tail (λ h. h) all is
 
 -- Items at the end of a text that ends a line end with line ends.
 pub last_fresh : (fresh open_value : Bool) (i : Item) (items : List Item) → AreFit (map ItemPart (i ∷ items)) [] → values_are_closed open_value (map ItemPart (i ∷ items)) ≡ true

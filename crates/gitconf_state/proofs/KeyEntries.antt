@@ -8,9 +8,9 @@ use Rattle.std.proofs.lemmas.List.Elements.{filter-append}
 use Rattle.gitconf_text.specs.Names.{is_same_name}
 use Rattle.gitconf_text.specs.Part.{Assigned, Item, BlanksItem, LineEndsItem, CommentItem, EntryItem}
 use Rattle.gitconf_text.specs.Document.{DocumentEntry}
-use Rattle.gitconf_state.specs.State.{item_entries, is_entry}
+use Rattle.gitconf_state.specs.State.{item_entries, is_entry, Cut, cut_last}
 use Rattle.gitconf_state.specs.Edit.{is_entry_of, Spacing, leading_item, with_value, update_last}
-use Rattle.gitconf_state.specs.Editors.{Editor, entry_made, comment_made, end_made, line_made, pushed, value_set, Cut, cut_last, without_last_blanks, without_first_line_ends, removed, popped, last_line_end, is_before_comment, line_end_item, kept_line_end, behind_old, written_at, deleted_at}
+use Rattle.gitconf_state.specs.Editors.{Editor, entry_made, comment_made, end_made, line_made, pushed, value_set, without_last_blanks, without_first_line_ends, removed, popped, last_line_end, is_before_comment, line_end_item, kept_line_end, behind_old, written_at, deleted_at}
 use Rattle.gitconf_state.specs.Edits.{is_last_of, is_one_at}
 use Rattle.gitconf_state.proofs.EditLists.{last_passing}
 use Rattle.gitconf_state.proofs.EditValues.{of_key, of_key-none, with_value_written}

@@ -8,6 +8,7 @@ pub mod LoadingDocument
 pub mod InsertingTexts
 pub mod InsertingLineEnds
 pub mod Written
+pub mod LastLines
 pub mod Follows
 pub mod Fitted
 pub mod FittedComment

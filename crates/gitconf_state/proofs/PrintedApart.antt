@@ -6,12 +6,13 @@ use Rattle.gitconf_text.specs.Text.{is_line_end}
 use Rattle.gitconf_text.specs.Part.{Item, BlanksItem, LineEndsItem, CommentItem, EntryItem, ItemPart}
 use Rattle.gitconf_parse.proofs.ValueAgain.{both_true}
 use Rattle.gitconf_state.specs.State.{is_item}
-use Rattle.gitconf_state.specs.LineEnds.{holds}
+use Rattle.gitconf_state.specs.LineEnds.{holds, ends_line}
 use Rattle.gitconf_state.specs.Clean.{has_blanks}
 use Rattle.gitconf_state.specs.Printing.{closed_item, printed_items}
 use Rattle.gitconf_state.specs.Writing.{may_stand_behind, stand_apart_behind, Open, Closed, OpenKeyAndBlanks, OpenComment, after_blanks, after, breaks_behind, written_items}
 use Rattle.gitconf_state.proofs.Apart.{IsSound, stands, AreApart, behind_parts}
 use Rattle.gitconf_state.proofs.PrintedItem.{line_end_sound, item_sound, item_after}
+use Rattle.gitconf_state.proofs.LastLines.{ends_with, ends_line-is}
 use Rattle.gitconf_state.proofs.Written.{items_written}
 
 -- in a front the names stand apart
@@ -81,14 +82,6 @@ written_apart in_body line_end before (i ∷ items) closes are blanks placed =
       subst (λ b. AreApart b (map ItemPart (written_items in_body line_end (after before i) items))) (sym (item_after line_end before i)) (later (after before i) (placed_after in_body before i items placed)),
     )
 
--- whether a line end stands at the end, with one more item
-abbrev ends_with : (line_end : List ℕ) → Bool → Item → Bool
-ends_with line_end ended i = elim i [
-  | BlanksItem run ↦ ended
-  | LineEndsItem run ↦ ended || holds line_end run
-  | _ ↦ false
-]
-
 -- nothing is left open behind an item that ends with a line end
 item_ended : (line_end : List ℕ) (before : Open) (ended : Bool) (i : Item) → (ended ≡ true → before ≡ Closed) → ends_with line_end ended i ≡ true → after before i ≡ Closed
 item_ended line_end before ended (BlanksItem run) told h = ap (after_blanks run) (told h) ∙ go run
@@ -120,7 +113,7 @@ items_apart in_body line_end items closes are blanks placed =
     subst (λ is. AreApart Closed (map ItemPart is)) (sym (items_written in_body line_end items)) (written_apart in_body line_end Closed items closes are blanks placed)
 
 -- Nothing is left open behind printed items that end with a line end, of either kind.
-pub items_ended : (in_body : Bool) (line_end kind : List ℕ) (items : List Item) → fold (ends_with kind) false items ≡ true
+pub items_ended : (in_body : Bool) (line_end kind : List ℕ) (items : List Item) → ends_line kind items ≡ true
     → behind_parts Closed (map ItemPart (printed_items in_body line_end [] items)) ≡ Closed
 items_ended in_body line_end kind items h =
-    ap (λ is. behind_parts Closed (map ItemPart is)) (items_written in_body line_end items) ∙ written_ended in_body line_end kind Closed false items (λ _. refl) h
+    ap (λ is. behind_parts Closed (map ItemPart is)) (items_written in_body line_end items) ∙ written_ended in_body line_end kind Closed false items (λ _. refl) (ends_line-is kind items ∙ h)

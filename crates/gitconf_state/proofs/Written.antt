@@ -6,8 +6,8 @@ use Rattle.std.proofs.Math.Bool.{or-false}
 use Rattle.std.proofs.lemmas.List.Folds.{list_any-append}
 use Rattle.std.proofs.lemmas.List.Elements.{filter-append}
 use Rattle.gitconf_text.specs.Part.{Assigned, Entry, Item, BlanksItem, LineEndsItem, CommentItem, EntryItem}
-use Rattle.gitconf_state.specs.State.{is_entry}
-use Rattle.gitconf_state.specs.Printing.{is_comment, goes_on, line_behind, breaks, closed_item, printed_items}
+use Rattle.gitconf_state.specs.State.{is_entry, is_comment}
+use Rattle.gitconf_state.specs.Printing.{goes_on, line_behind, breaks, closed_item, printed_items}
 use Rattle.gitconf_state.specs.Clean.{has_value, has_bytes, is_name_alone, ends_with_name, may_stand, stand_apart}
 use Rattle.gitconf_state.specs.Writing.{Open, Closed, OpenKey, OpenKeyAndBlanks, OpenValue, OpenComment, after_blanks, after_entry, after, breaks_behind, written_items, may_stand_behind, stand_apart_behind}
 

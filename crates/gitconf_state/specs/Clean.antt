@@ -4,8 +4,8 @@ use Rattle.std.specs.List.{last_or, list_all, list_any, AllByRecursion}
 use Rattle.gitconf_text.specs.Bytes.{is_blank}
 use Rattle.gitconf_text.specs.Header.{Header, PlainHeader, DottedHeader, QuotedHeader}
 use Rattle.gitconf_text.specs.Part.{Item, BlanksItem, EntryItem}
-use Rattle.gitconf_state.specs.State.{SectionState, State, is_entry}
-use Rattle.gitconf_state.specs.Printing.{is_comment, line_behind}
+use Rattle.gitconf_state.specs.State.{SectionState, State, is_entry, is_comment}
+use Rattle.gitconf_state.specs.Printing.{line_behind}
 
 -- an empty name and no subsection
 abbrev pub is_nameless : Header → Bool

@@ -1,7 +1,8 @@
 -- Edits: each is one update of the list of sections, and its answer.
 -- Source: gix-config; that an entry without `=` gets one is this project's own rule.
 use Rattle.std.specs.Prelude.{ℕ, ◌+◌, Bool, true, false, List, [], ◌∷◌, ◌++◌, ◌&&◌, filter, Option, Some, None, length, flat_map}
-use Rattle.std.specs.List.{last_or, list_any}
+use Rattle.std.specs.List.{slice_index_or, filter_map, last_or, list_any}
+use Rattle.std.specs.Option.{option_map}
 use Rattle.gitconf_text.specs.Names.{is_same_name}
 use Rattle.gitconf_text.specs.Value.{raw_of, escaped}
 use Rattle.gitconf_text.specs.Header.{Header, PlainHeader, QuotedHeader}
@@ -32,26 +33,34 @@ pub record Spacing : Type 0 where
   pub before : List ℕ
   pub behind : List ℕ
 
--- the blanks directly before the first entry; last: those directly before these items
-abbrev pub leading_blanks : (last : Option (List ℕ)) → List Item → Option (List ℕ)
-leading_blanks last [] = None
-leading_blanks last (BlanksItem run ∷ items) = leading_blanks (Some run) items
-leading_blanks last (LineEndsItem run ∷ items) = leading_blanks None items
-leading_blanks last (CommentItem tag text ∷ items) = leading_blanks None items
-leading_blanks last (EntryItem e ∷ items) = last
+-- the bytes of blanks
+abbrev pub blanks_of : Option Item → Option (List ℕ)
+blanks_of (Some (BlanksItem run)) = Some run
+blanks_of _ = None
 
--- the blanks around the first `=`
+-- the items before the first entry
+abbrev pub before_entry : List Item → List Item
+before_entry [] = []
+before_entry (EntryItem e ∷ items) = []
+before_entry (i ∷ items) = i ∷ before_entry items
+
+-- the blanks directly before the first entry
+abbrev pub leading_blanks : List Item → Option (List ℕ)
+leading_blanks items = blanks_of (last_or None (before_entry items))
+
+-- the blanks before and behind an entry's `=`
+abbrev pub blanks_around : Item → Option (List ℕ × List ℕ)
+blanks_around (EntryItem e) = option_map (λ a. (e.blanks, a.blanks)) e.assigned
+blanks_around _ = None
+
+-- those of the first `=`
 abbrev pub separator_blanks : List Item → List ℕ × List ℕ
-separator_blanks [] = ([], [])
-separator_blanks (EntryItem e ∷ items) = elim e.assigned [ None ↦ separator_blanks items | Some a ↦ (e.blanks, a.blanks) ]
-separator_blanks (BlanksItem run ∷ items) = separator_blanks items
-separator_blanks (LineEndsItem run ∷ items) = separator_blanks items
-separator_blanks (CommentItem tag text ∷ items) = separator_blanks items
+separator_blanks items = slice_index_or (filter_map blanks_around items) 0 ([], [])
 
 -- those that a body has; a body without entries gives a tab, a space and a space
 abbrev pub spacing_of : List Item → Spacing
 spacing_of items = elim (list_any is_entry items) [
-  | true ↦ record { leading = leading_blanks None items; before = (separator_blanks items).0; behind = (separator_blanks items).1 }
+  | true ↦ record { leading = leading_blanks items; before = (separator_blanks items).0; behind = (separator_blanks items).1 }
   | false ↦ record { leading = Some (9 ∷ []); before = 32 ∷ []; behind = 32 ∷ [] }
 ]
 

@@ -6,7 +6,7 @@ use Rattle.gitconf_text.specs.Bytes.{is_whitespace}
 use Rattle.gitconf_text.specs.Text.{begins}
 use Rattle.gitconf_text.specs.Value.{Piece, plain}
 use Rattle.gitconf_text.specs.Part.{Assigned, Item, BlanksItem, LineEndsItem, CommentItem, EntryItem}
-use Rattle.gitconf_state.specs.State.{SectionState, State, is_entry}
+use Rattle.gitconf_state.specs.State.{SectionState, State, is_entry, cut_last}
 use Rattle.gitconf_state.specs.LineEnds.{file_line_end, section_line_end}
 use Rattle.gitconf_state.specs.Edit.{Spacing, spacing_of, leading_item, assigned_value, with_value, is_entry_of, update_last, item_raw}
 
@@ -58,17 +58,6 @@ abbrev pub value_set : Editor → (key value : List ℕ) → List Item → List 
 value_set editor key value items = elim (list_any (is_entry_of key) items) [
   | true ↦ update_last (is_entry_of key) (with_value editor.spacing value) items
   | false ↦ pushed editor key (Some value) None items
-]
-
--- a list cut at its last element that passes: what stands before it, and behind it
-abbrev pub Cut : Type 0
-Cut = Option (List Item × (Item × List Item))
-
-abbrev pub cut_last : (Item → Bool) → List Item → Cut
-cut_last test [] = None
-cut_last test (i ∷ items) = elim (cut_last test items) [
-  | Some c ↦ Some (i ∷ c.0, c.1)
-  | None ↦ elim (test i) [ true ↦ Some ([], (i, items)) | false ↦ None ]
 ]
 
 -- an item that is no blanks

@@ -4,12 +4,8 @@ use Rattle.std.specs.Prelude.{ℕ, Bool, true, false, not, List, [], ◌∷◌, 
 use Rattle.std.specs.List.{list_any}
 use Rattle.gitconf_text.specs.Value.{Piece}
 use Rattle.gitconf_text.specs.Part.{Assigned, Item, BlanksItem, LineEndsItem, CommentItem, EntryItem, Part, ItemPart, HeaderPart, spelled}
-use Rattle.gitconf_state.specs.State.{SectionState, State, is_entry}
+use Rattle.gitconf_state.specs.State.{SectionState, State, is_comment, is_entry}
 use Rattle.gitconf_state.specs.LineEnds.{section_line_end, file_line_end, ends_line}
-
-abbrev pub is_comment : Item → Bool
-is_comment (CommentItem tag text) = true
-is_comment _ = false
 
 -- the value goes on behind a line end
 abbrev pub goes_on : Option Assigned → Bool

@@ -33,6 +33,21 @@ abbrev pub is_entry : Item → Bool
 is_entry (EntryItem e) = true
 is_entry _ = false
 
+abbrev pub is_comment : Item → Bool
+is_comment (CommentItem tag text) = true
+is_comment _ = false
+
+-- a list cut at its last element that passes: what stands before it, and behind it
+abbrev pub Cut : Type 0
+Cut = Option (List Item × (Item × List Item))
+
+abbrev pub cut_last : (Item → Bool) → List Item → Cut
+cut_last test [] = None
+cut_last test (i ∷ items) = elim (cut_last test items) [
+  | Some c ↦ Some (i ∷ c.0, c.1)
+  | None ↦ elim (test i) [ true ↦ Some ([], (i, items)) | false ↦ None ]
+]
+
 -- the entry of an item, if it is one
 abbrev pub item_entries : Item → List DocumentEntry
 item_entries (EntryItem e) = document_entry e ∷ []

@@ -92,6 +92,14 @@ front_written state = ap (flat_map spelled_item) (sym (items_written false (file
 abbrev pub behind_text : (keeps : SectionState → Bool) → State → List ℕ
 behind_text keeps state = line_end_unless (is_front_ended keeps (file_line_end state) state.front state.sections) (file_line_end state)
 
+-- it stands so for the same line end, front and sections
+pub behind_same : (keeps : SectionState → Bool) (line_end other : List ℕ) (front items : List Item) (left sections : List SectionState)
+    → line_end ≡ other → front ≡ items → left ≡ sections
+    → line_end_unless (is_front_ended keeps line_end front left) line_end ≡ line_end_unless (is_front_ended keeps other items sections) other
+behind_same keeps line_end other front items left sections e f g =
+    ap (λ l. line_end_unless (is_front_ended keeps l front left) l) e
+    ∙ (ap (λ is. line_end_unless (is_front_ended keeps other is left) other) f ∙ ap (λ ss. line_end_unless (is_front_ended keeps other items ss) other) g)
+
 -- a fault in the front
 pub front_fault : {T E : Type 0} (r : Result T E) (keeps : SectionState → Bool) (state : State) (text : List ℕ) (old new : Option (List ℕ))
     → IsErr r → text ≡ front_text state → is_begun text old new ≡ true → Writes r (printed_kept keeps state) old new

@@ -111,7 +111,6 @@ fn holds(line_end: &[u8], run: &[u8]) -> bool
 /// Whether items end with a line end: among the blanks and line ends at their end one holds it.
 ///
 /// It walks from the end, up to an entry, a comment or a line end.
-#[tactic(auto, using(crate::proofs::LastItems::last_items))]
 pub fn ends_line(buffer: &[u8], items: &[Item], line_end: LineEnd) -> bool
     ensures { result ≡ spec.ends_line (bytes_of_line_end line_end) (items_of buffer.now items.now) }
 {

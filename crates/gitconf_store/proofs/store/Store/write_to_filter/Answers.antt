@@ -10,7 +10,7 @@ use Rattle.gitconf_write.specs.Texts.{items_text}
 use Rattle.gitconf_write.proofs.Left.{left_behind, left_fault, left_last}
 use Rattle.gitconf_store.specs.Texts.{line_end_unless, is_front_ended, sections_text}
 use Rattle.gitconf_store.specs.Views.{sections_left}
-use Rattle.gitconf_store.proofs.Texts.{front_text, front_written, behind_text, front_fault, front_left}
+use Rattle.gitconf_store.proofs.Texts.{front_text, front_written, behind_same, behind_text, front_fault, front_left}
 use Rattle.gitconf_store.proofs.store.Store.write_to_filter.Goals as goal
 
 pub returns-in_err-write_front-clause-exact : goal.returns-in_err-write_front-clause-exact
@@ -27,7 +27,10 @@ returns-in_err-write_line_end_unless-clause-exact g c = λ keeps h.
     let ended = c.front_is_ended-ended.ensures.exact keeps h in
     let shown : items_text false le Closed (items_of c.deref.result.now c.deref-2.result.now) ≡ items_text false (file_line_end state) Closed state.front = search rules in
     let same = shown ∙ front_written state in
-    let behind : line_end_unless (is_front_ended keeps le (items_of c.deref-3.result.now c.deref-4.result.now) (sections_left c.sections.result)) le ≡ behind_text keeps state = search rules in
+    let same_end : le ≡ file_line_end state = search rules in
+    let same_front : items_of c.deref-3.result.now c.deref-4.result.now ≡ state.front = search rules in
+    let same_sections : sections_left c.sections.result ≡ state.sections = search rules in
+    let behind = behind_same keeps le (file_line_end state) _ state.front _ state.sections same_end same_front same_sections in
     left_fault c.from_residual-in_err-write_line_end_unless.result (printed_kept keeps state) (behind_text keeps state ++ sections_text keeps (file_line_end state) true state.sections)
     (line_end_unless c.front_is_ended-ended.result le) (sections_text keeps (file_line_end state) true state.sections) _ _ _
     c.from_residual-in_err-write_line_end_unless.ensures.0
@@ -42,7 +45,10 @@ returns-clause-exact g c = λ keeps h.
     let ended = c.front_is_ended-ended.ensures.exact keeps h in
     let shown : items_text false le Closed (items_of c.deref.result.now c.deref-2.result.now) ≡ items_text false (file_line_end state) Closed state.front = search rules in
     let same = shown ∙ front_written state in
-    let behind : line_end_unless (is_front_ended keeps le (items_of c.deref-3.result.now c.deref-4.result.now) (sections_left c.sections.result)) le ≡ behind_text keeps state = search rules in
+    let same_end : le ≡ file_line_end state = search rules in
+    let same_front : items_of c.deref-3.result.now c.deref-4.result.now ≡ state.front = search rules in
+    let same_sections : sections_left c.sections.result ≡ state.sections = search rules in
+    let behind = behind_same keeps le (file_line_end state) _ state.front _ state.sections same_end same_front same_sections in
     let others : sections_text keeps (file_line_end state) true state.sections ≡ sections_text keeps le true (sections_left c.sections-2.result) = search rules in
     left_last c.write_sections.result (printed_kept keeps state) (sections_text keeps (file_line_end state) true state.sections)
     (sections_text keeps le true (sections_left c.sections-2.result)) _ _ _
