@@ -171,22 +171,43 @@ fn read_all<R: Read>(alloc: Global, input: &mut R) -> Result<Vec<u8>, Fault> {
     }
 }
 
+/// Standard input as a file.
+fn load(alloc: Global, text: &[u8]) -> Result<File, Fault> {
+    Ok(File::try_from_bytes(alloc, text)?)
+}
+
+/// The text of a file.
+fn print(file: &File) -> Result<BString, Fault> {
+    Ok(file.to_bstring()?)
+}
+
+/// The value of a key, on a line.
+fn get(file: &File, key: KeyRef<'_>) -> Result<BString, Fault> {
+    match file.string(key)? {
+        Some(mut value) => {
+            value.push(b'\n')?;
+            Ok(value)
+        }
+        None => Err(Fault::Missing),
+    }
+}
+
+/// Gives a key a value.
+fn set(file: &mut File, key: KeyRef<'_>, value: &str) -> Result<(), Fault> {
+    let _ = file.set_raw_value(key, value.as_bytes())?;
+    Ok(())
+}
+
 /// What is printed of a text. It is refused before a value is missing.
 fn answer_of(alloc: Global, command: Command<'_>, text: &[u8]) -> Result<BString, Fault> {
     match command {
-        Command::Get(key) => match File::try_from_bytes(alloc, text)?.string(key)? {
-            Some(mut value) => {
-                value.push(b'\n')?;
-                Ok(value)
-            }
-            None => Err(Fault::Missing),
-        },
+        Command::Get(key) => get(&load(alloc, text)?, key),
         Command::Set(key, value) => {
-            let mut file = File::try_from_bytes(alloc, text)?;
-            let _ = file.set_raw_value(key, value.as_bytes())?;
-            Ok(file.to_bstring()?)
+            let mut file = load(alloc, text)?;
+            set(&mut file, key, value)?;
+            print(&file)
         }
-        Command::Print => Ok(File::try_from_bytes(alloc, text)?.to_bstring()?),
+        Command::Print => print(&load(alloc, text)?),
         Command::Fmt => Ok(normalize(alloc, text, Options::default())?),
     }
 }
