@@ -11,7 +11,7 @@ mod values;
 
 use crate::answer::{Answer, Outcome};
 use crate::session::Session;
-use crate::words::Word;
+use gitconf_script::words::Word;
 use std::alloc::Global;
 
 /// Does the command that the first word names, with the words behind it.

@@ -3,19 +3,11 @@
 ghost use Rattle.std.specs.Prelude.{◌≡◌};
 ghost use Rattle.gix_config_script.specs.Session.{ChangesFile};
 
+use gitconf_script::words::Slot;
 use gix_config::File;
 use gix_config::file::Metadata;
 use std::alloc::{AllocError, Global};
 use std::rc::Rc;
-
-/// The place of a file.
-#[derive(Clone, Copy)]
-pub enum Slot {
-    F,
-    G,
-    H,
-    I,
-}
 
 /// The state of a script.
 #[derive(Drop)]

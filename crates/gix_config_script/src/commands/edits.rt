@@ -2,7 +2,7 @@
 
 use crate::answer::{Answer, Outcome};
 use crate::refusal::Refusal;
-use crate::words::{Word, key_of};
+use gitconf_script::words::{Word, entry_names};
 use gix_config::{File, KeyRef};
 
 /// `setraw KEY3 BYTES`: sets a value, and answers the one that was there.
@@ -10,12 +10,12 @@ pub fn setraw<'a>(file: &mut File, words: &[Word<'_>]) -> Outcome<'a> {
     let [section, subsection, name, value] = words else {
         return Err(Refusal::Line);
     };
-    let key = key_of(section, subsection, name)?;
+    let names = entry_names(section, subsection, name)?;
     let value = value.bytes()?;
     Ok(Answer::Optional(file.set_raw_value_by(
-        key.section_name,
-        key.subsection_name,
-        key.value_name,
+        names.section,
+        names.subsection,
+        names.value,
         value,
     )?))
 }

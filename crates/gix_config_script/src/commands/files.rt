@@ -9,8 +9,8 @@ use crate::answer::{Answer, Outcome};
 use crate::names::names_of;
 use crate::refusal::Refusal;
 use crate::session::Session;
-use crate::words::{Word, all_bytes, no_words, one_word};
 use crate::writers::{FailingOnce, Failure};
+use gitconf_script::words::{Word, all_bytes, no_words, one_word};
 use gix_config::file::{SectionId, SectionRef, init};
 use gix_config::{File, NoMemory};
 use std::alloc::Global;
@@ -178,10 +178,6 @@ pub fn reset<'a>(alloc: Global, session: &mut Session, words: &[Word<'_>]) -> Ou
 pub fn refusals<'a>(session: &mut Session, words: &[Word<'_>]) -> Outcome<'a>
     ensures { OnErr result (session.new ≡ session.old) }
 {
-    match one_word(words)?.plain()? {
-        b"on" => session.tell_refusals(true),
-        b"off" => session.tell_refusals(false),
-        _ => return Err(Refusal::Line),
-    }
+    session.tell_refusals(one_word(words)?.switch()?);
     Ok(Answer::Done)
 }

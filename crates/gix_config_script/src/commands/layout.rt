@@ -2,7 +2,7 @@
 
 use crate::answer::{Answer, Outcome};
 use crate::refusal::Refusal;
-use crate::words::Word;
+use gitconf_script::words::Word;
 use gix_config::format::{Indent, Newline, Options, normalize};
 use std::alloc::Global;
 

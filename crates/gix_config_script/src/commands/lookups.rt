@@ -2,7 +2,7 @@
 
 use crate::answer::{Answer, Outcome};
 use crate::refusal::Refusal;
-use crate::words::{Word, key_of, one_word};
+use gitconf_script::words::{Word, entry_names, one_word};
 use gix_config::File;
 
 /// `string KEY3`: the meaning of the last value.
@@ -10,8 +10,8 @@ pub fn string<'a>(file: &'a File, words: &[Word<'_>]) -> Outcome<'a> {
     let [section, subsection, name] = words else {
         return Err(Refusal::Line);
     };
-    let key = key_of(section, subsection, name)?;
-    Ok(Answer::found(file.string_by(key.section_name, key.subsection_name, key.value_name)?))
+    let names = entry_names(section, subsection, name)?;
+    Ok(Answer::found(file.string_by(names.section, names.subsection, names.value)?))
 }
 
 /// `stringkey BYTES`: the same, by a key.

@@ -3,7 +3,7 @@
 use crate::answer::{Answer, Outcome};
 use crate::kinds::events_without;
 use crate::refusal::Refusal;
-use crate::words::{Word, one_word};
+use gitconf_script::words::{Word, one_word};
 use gix_config::parse::Events;
 use gix_config::parse::section::{Name, ValueName};
 use std::alloc::Global;

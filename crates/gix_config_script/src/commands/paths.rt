@@ -2,7 +2,7 @@
 
 use crate::answer::{Answer, Outcome};
 use crate::refusal::Refusal;
-use crate::words::Word;
+use gitconf_script::words::Word;
 use bstr::BString;
 use gix_config::Path;
 use gix_config::glob::wildmatch;
@@ -18,14 +18,6 @@ pub fn matches<'a>(alloc: Global, words: &[Word<'_>]) -> Outcome<'a> {
     Ok(Answer::Flag(wildmatch(alloc, pattern.bytes()?, text.bytes()?, ignore_case)?))
 }
 
-/// A folder that may be told.
-fn folder<'a>(word: &'a Word<'_>) -> Result<Option<&'a str>, Refusal> {
-    match word.optional()? {
-        Some(_) => Ok(Some(word.text()?)),
-        None => Ok(None),
-    }
-}
-
 /// `interpolate BYTES OPT OPT`: a path with its shorthands replaced, by the folder where git is installed and the home
 /// folder. There is no table of users.
 pub fn interpolate<'a>(alloc: Global, words: &[Word<'_>]) -> Outcome<'a> {
@@ -33,8 +25,8 @@ pub fn interpolate<'a>(alloc: Global, words: &[Word<'_>]) -> Outcome<'a> {
         return Err(Refusal::Line);
     };
     let context = Context {
-        git_install_dir: folder(git_install_dir)?,
-        home_dir: folder(home_dir)?,
+        git_install_dir: git_install_dir.optional_text()?,
+        home_dir: home_dir.optional_text()?,
         home_for_user: None,
     };
     let path = Path::from(BString::new(Vec::from_slice(alloc, path.bytes()?)?));

@@ -2,7 +2,7 @@
 
 use crate::answer::{Answer, Outcome};
 use crate::refusal::Refusal;
-use crate::words::{Word, no_words, one_word};
+use gitconf_script::words::{Word, no_words, one_word};
 use gix_config::File;
 use gix_config::file::SectionRef;
 use std::borrow::CowSlice;

@@ -2,7 +2,7 @@
 
 use crate::answer::{Answer, Outcome};
 use crate::refusal::Refusal;
-use crate::words::{Word, one_word};
+use gitconf_script::words::{Word, one_word};
 use bstr::BString;
 use gix_config::value::normalize;
 use gix_config::{Boolean, File, Integer};
