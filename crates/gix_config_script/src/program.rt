@@ -39,10 +39,7 @@ fn answer_to(alloc: Global, session: &mut Session, line: &[u8]) -> Result<String
     let bracket = Bracket::open(alloc, is_told(session, &words))?;
     let outcome = outcome_of(alloc, session, &words);
     let refused = bracket.close(alloc);
-    match line_of(alloc, refused, outcome) {
-        Ok(line) => Ok(line),
-        Err(_) => Err(AllocError),
-    }
+    line_of(alloc, refused, outcome)
 }
 
 /// Whether the answer is to tell if a growth was refused. Of `refusals` itself it tells nothing.

@@ -2,8 +2,8 @@
 
 use crate::answer::{Answer, Outcome};
 use crate::refusal::Refusal;
-use gitconf_script::words::Word;
 use bstr::BString;
+use gitconf_script::words::Word;
 use gix_config::Path;
 use gix_config::glob::wildmatch;
 use gix_config::path::interpolate::Context;

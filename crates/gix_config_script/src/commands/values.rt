@@ -2,8 +2,8 @@
 
 use crate::answer::{Answer, Outcome};
 use crate::refusal::Refusal;
-use gitconf_script::words::{Word, one_word};
 use bstr::BString;
+use gitconf_script::words::{Word, one_word};
 use gix_config::value::normalize;
 use gix_config::{Boolean, File, Integer};
 use std::alloc::Global;
