@@ -3,8 +3,11 @@
 #![tactic(auto)]
 
 pub mod answers;
+pub mod arguments;
 pub mod bracket;
+pub mod commands;
 pub mod kinds;
+pub mod layouts;
 pub mod play;
 pub mod turns;
 pub mod words;

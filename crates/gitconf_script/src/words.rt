@@ -176,47 +176,19 @@ fn has_upper_case(text: &[u8]) -> bool
     text.iter().any(|byte| byte.is_ascii_uppercase())
 }
 
-/// The names of an entry: a section's name, a subsection, and the name of a value.
-#[derive(Clone, Copy)]
-pub struct EntryNames<'a> {
-    pub section: &'a str,
-    pub subsection: Option<&'a [u8]>,
-    pub value: &'a str,
-}
-
-/// The names that three words tell.
-pub fn entry_names<'a>(
-    section: &'a Word<'_>,
-    subsection: &'a Word<'_>,
-    value: &'a Word<'_>,
-) -> Result<EntryNames<'a>, NotUnderstood> {
-    Ok(EntryNames {
-        section: section.text()?,
-        subsection: subsection.optional()?,
-        value: value.text()?,
-    })
-}
-
-/// Refuses further words.
-pub fn no_words(words: &[Word<'_>]) -> Result<(), NotUnderstood> {
-    match words {
-        [] => Ok(()),
-        _ => Err(NotUnderstood),
-    }
-}
-
-/// The only word.
-pub fn one_word<'a, 'b>(words: &'a [Word<'b>]) -> Result<&'a Word<'b>, NotUnderstood> {
-    match words {
-        [word] => Ok(word),
-        _ => Err(NotUnderstood),
-    }
-}
-
-/// Refuses words that aren't bytes.
-pub fn all_bytes(words: &[Word<'_>]) -> Result<(), NotUnderstood> {
+/// Whether one of the words is that name, letters of either case being the same.
+pub fn is_one_of(words: &[Word<'_>], name: &[u8]) -> bool {
     for word in words {
-        let _ = word.bytes()?;
+        if is_name(word, name) {
+            return true;
+        }
     }
-    Ok(())
+    false
+}
+
+fn is_name(word: &Word<'_>, name: &[u8]) -> bool {
+    match word {
+        Word::Bytes(bytes) => bytes.eq_ignore_ascii_case(name),
+        Word::Plain(_) => false,
+    }
 }

@@ -5,8 +5,9 @@ use crate::commands::outcome_of;
 use crate::rendering::line_of;
 use crate::session::Session;
 use gitconf_script::bracket::Bracket;
+use gitconf_script::commands::{Command, StateCommand, command_of};
 use gitconf_script::play::{NO_MEMORY, Player, play};
-use gitconf_script::words::{Word, words_of};
+use gitconf_script::words::words_of;
 use std::alloc::{AllocError, Global};
 use std::io::{Read, Write};
 
@@ -15,7 +16,12 @@ pub fn run<R: Read + Drop, W: Write + Drop>(alloc: Global, input: R, out: W) -> 
     ensures { result ≤ 5 }
 {
     match Session::new(alloc) {
-        Ok(session) => play(alloc, input, out, &mut Script { alloc, session }),
+        Ok(session) => {
+            let mut script = Script { alloc, session };
+            let status = play(alloc, input, out, &mut script);
+            drop(script);
+            status
+        }
         Err(AllocError) => NO_MEMORY,
     }
 }
@@ -36,15 +42,18 @@ impl Player for Script {
 /// The answer to a line, as a line. Only what the command does stands in the bracket.
 fn answer_to(alloc: Global, session: &mut Session, line: &[u8]) -> Result<String, AllocError> {
     let words = words_of(alloc, line)?;
-    let bracket = Bracket::open(alloc, is_told(session, &words))?;
-    let outcome = outcome_of(alloc, session, &words);
+    let (command, words) = command_of(&words);
+    let bracket = Bracket::open(alloc, is_told(session, command))?;
+    let outcome = outcome_of(alloc, session, command, words);
     let refused = bracket.close(alloc);
-    line_of(alloc, refused, outcome)
+    let answer = line_of(alloc, refused, &outcome);
+    drop(outcome);
+    answer
 }
 
 /// Whether the answer is to tell if a growth was refused. Of `refusals` itself it tells nothing.
-fn is_told(session: &Session, words: &[Word<'_>]) -> bool
+fn is_told(session: &Session, command: Option<Command>) -> bool
     ensures { session.now.tells_refusals ≡ false → result ≡ false }
 {
-    session.tells_refusals() && !matches!(words, [Word::Plain(b"refusals"), ..])
+    session.tells_refusals() && !matches!(command, Some(Command::State(StateCommand::Refusals)))
 }

@@ -20,33 +20,39 @@ use std::alloc::{AllocError, Global};
 pub fn line_of(
     alloc: Global,
     refused: Option<bool>,
-    outcome: Outcome<'_>,
+    outcome: &Outcome<'_>,
 ) -> Result<String, AllocError> {
     let mut line = String::new(alloc);
     put_refused(&mut line, refused)?;
     match outcome {
         Ok(answer) => put_answer(alloc, &mut line, answer)?,
-        Err(refusal) => put_refusal(alloc, &mut line, &refusal)?,
+        Err(refusal) => put_refusal(alloc, &mut line, refusal)?,
     }
     line.push('\n')?;
     Ok(line)
 }
 
-fn put_answer(alloc: Global, line: &mut String, answer: Answer<'_>) -> Result<(), AllocError> {
+/// The first word of an answer.
+fn first_word(answer: &Answer<'_>) -> &'static str {
     match answer {
-        Answer::Absent => return line.push_str("none"),
-        Answer::Unknown => return line.push_str("unknown"),
-        _ => line.push_str("ok")?,
+        Answer::Absent => "none",
+        Answer::Unknown => "unknown",
+        _ => "ok",
     }
+}
+
+/// The words of an answer.
+fn put_answer(alloc: Global, line: &mut String, answer: &Answer<'_>) -> Result<(), AllocError> {
+    line.push_str(first_word(answer))?;
     match answer {
         Answer::Done | Answer::Absent | Answer::Unknown => Ok(()),
-        Answer::Flag(flag) => put_flag(line, flag),
-        Answer::Number(number) => put_number(line, number),
-        Answer::Integer(number) => put_integer(line, number),
+        Answer::Flag(flag) => put_flag(line, *flag),
+        Answer::Number(number) => put_number(line, *number),
+        Answer::Integer(number) => put_integer(line, *number),
         Answer::Bytes(bytes) => put_bytes(alloc, line, bytes.as_slice()),
-        Answer::Optional(Some(bytes)) => put_bytes(alloc, line, &bytes),
+        Answer::Optional(Some(bytes)) => put_bytes(alloc, line, bytes),
         Answer::Optional(None) => put_optional(alloc, line, None),
-        Answer::Message(refusal) => put_message(alloc, line, &refusal),
+        Answer::Message(refusal) => put_message(alloc, line, refusal),
         Answer::Events(events) => put_events(alloc, line, events.iter()),
         Answer::Kept(events) => {
             put_flag(line, events.keeps_entries())?;
