@@ -12,6 +12,7 @@ mod values;
 
 use crate::answer::{Answer, Outcome};
 use crate::session::Session;
+use crate::writers::Failure;
 use gitconf_script::commands::{
     Command, EditCommand, PrintCommand, StateCommand, TextCommand, ValueCommand, ViewCommand,
 };
@@ -85,8 +86,13 @@ fn print_outcome<'a>(
     match command {
         PrintCommand::All => printing::print(file, words),
         PrintCommand::Kept => printing::printif(alloc, file, words),
-        PrintCommand::Refused => printing::printfail(alloc, file, words),
-        PrintCommand::NothingTaken => printing::printnone(alloc, file, words),
+        PrintCommand::Refused => printing::print_failing(alloc, file, words, Failure::Refused),
+        PrintCommand::NothingTaken => printing::print_failing(
+            alloc,
+            file,
+            words,
+            Failure::NothingTaken,
+        ),
     }
 }
 
@@ -105,8 +111,8 @@ fn state_outcome<'a>(
 ) -> Outcome<'a> {
     match command {
         StateCommand::Select => files::select(session, words),
-        StateCommand::Load => files::load(alloc, session, words),
-        StateCommand::LoadLossy => files::lossy(alloc, session, words),
+        StateCommand::Load => files::load(alloc, session, words, false),
+        StateCommand::LoadLossy => files::load(alloc, session, words, true),
         StateCommand::LoadKept => files::loadkept(alloc, session, words),
         StateCommand::New => files::new(alloc, session, words),
         StateCommand::Clone => files::clone(session, words),

@@ -23,37 +23,21 @@ pub fn select<'a>(session: &mut Session, words: &[Word<'_>]) -> Outcome<'a>
     Ok(Answer::Done)
 }
 
-/// `load BYTES`: the current file is that text, all of it.
-pub fn load<'a>(alloc: Global, session: &mut Session, words: &[Word<'_>]) -> Outcome<'a>
-    ensures others { ChangesFile session.old.current session.old session.new }
-    ensures err { OnErr result (session.new ≡ session.old) }
-{
-    load_by(alloc, session, words, init::Options::default())
-}
-
-/// `lossy BYTES`: the current file is that text without blanks, line ends and comments.
-pub fn lossy<'a>(alloc: Global, session: &mut Session, words: &[Word<'_>]) -> Outcome<'a>
-    ensures others { ChangesFile session.old.current session.old session.new }
-    ensures err { OnErr result (session.new ≡ session.old) }
-{
-    let options = init::Options {
-        lossy: true,
-        ..init::Options::default()
-    };
-    load_by(alloc, session, words, options)
-}
-
-fn load_by<'a>(
+/// `load BYTES`, `lossy BYTES`: the current file is that text, all of it, or without blanks, line ends and comments.
+pub fn load<'a>(
     alloc: Global,
     session: &mut Session,
     words: &[Word<'_>],
-    options: init::Options<'_>,
+    lossy: bool,
 ) -> Outcome<'a>
     ensures others { ChangesFile session.old.current session.old session.new }
     ensures err { OnErr result (session.new ≡ session.old) }
 {
-    let text = bytes(words)?;
-    let file = File::from_bytes_no_includes(alloc, text, session.meta()?, options)?;
+    let options = init::Options {
+        lossy,
+        ..init::Options::default()
+    };
+    let file = File::from_bytes_no_includes(alloc, bytes(words)?, session.meta()?, options)?;
     session.put(file);
     Ok(Answer::Done)
 }

@@ -43,17 +43,8 @@ fn sections_named(
     Ok(found)
 }
 
-/// `printfail N`: writes the file to a writer that refuses its Nth write.
-pub fn printfail<'a>(alloc: Global, file: &File, words: &[Word<'_>]) -> Outcome<'a> {
-    print_failing(alloc, file, words, Failure::Refused)
-}
-
-/// `printnone N`: writes the file to a writer that takes nothing at its Nth write.
-pub fn printnone<'a>(alloc: Global, file: &File, words: &[Word<'_>]) -> Outcome<'a> {
-    print_failing(alloc, file, words, Failure::NothingTaken)
-}
-
-fn print_failing<'a>(
+/// `printfail N`, `printnone N`: writes the file to a writer that fails at its Nth write.
+pub fn print_failing<'a>(
     alloc: Global,
     file: &File,
     words: &[Word<'_>],
