@@ -1,8 +1,8 @@
 -- What a session keeps.
 use Rattle.std.specs.Prelude.{◌≡◌}
 use Rattle.gix_config_script.specs.declared.session.Session.{Session}
-use Rattle.gix_config_script.specs.declared.session.Slot.{Slot}
-use Rattle.gix_config_script.specs.declared.session.Slot.TheVariants.{F, G, H, I}
+use Rattle.gitconf_script.specs.declared.words.Slot.{Slot}
+use Rattle.gitconf_script.specs.declared.words.Slot.TheVariants.{F, G, H, I}
 
 -- nothing but the file at that place is changed
 abbrev pub ChangesFile : Slot → (old new : Session) → Type 0

@@ -1,4 +1,4 @@
-//! The commands, by their words. Each does a call of the library, or a few, and answers what that answered.
+//! The commands. Each does a call of the library, or a few, and answers what that answered.
 
 mod edits;
 mod files;
@@ -6,68 +6,117 @@ mod layout;
 mod lookups;
 mod parsing;
 mod paths;
+mod printing;
 mod sections;
 mod values;
 
 use crate::answer::{Answer, Outcome};
 use crate::session::Session;
-use crate::words::Word;
+use crate::writers::Failure;
+use gitconf_script::commands::{
+    Command, EditCommand, PrintCommand, StateCommand, TextCommand, ValueCommand, ViewCommand,
+};
+use gitconf_script::words::Word;
+use gix_config::File;
 use std::alloc::Global;
 
-/// Does the command that the first word names, with the words behind it.
+/// Does a command, with the words behind it. Of none it answers that it is unknown.
 pub fn outcome_of<'a>(
     alloc: Global,
     session: &'a mut Session,
+    command: Option<Command>,
     words: &'a [Word<'_>],
 ) -> Outcome<'a> {
-    let Some((Word::Plain(command), words)) = words.split_first() else {
+    let Some(command) = command else {
         return Ok(Answer::Unknown);
     };
-    match *command {
-        b"events" => parsing::events(alloc, words),
-        b"errtext" => parsing::errtext(alloc, words),
-        b"keeps" => parsing::keeps(alloc, words),
-        b"name" => parsing::name(alloc, words),
-        b"valuename" => parsing::valuename(alloc, words),
+    match command {
+        Command::Text(command) => text_outcome(alloc, command, words),
+        Command::Value(command) => value_outcome(alloc, command, words),
+        Command::View(command) => view_outcome(session.file(), command, words),
+        Command::Print(command) => print_outcome(alloc, session.file(), command, words),
+        Command::Edit(command) => edit_outcome(session.file_mut(), command, words),
+        Command::State(command) => state_outcome(alloc, session, command, words),
+    }
+}
 
-        b"decode" => values::decode(alloc, words),
-        b"escape" => values::escape(alloc, words),
-        b"boolean" => values::boolean(alloc, words),
-        b"integer" => values::integer(alloc, words),
+fn text_outcome<'a>(alloc: Global, command: TextCommand, words: &[Word<'_>]) -> Outcome<'a> {
+    match command {
+        TextCommand::Events => parsing::events(alloc, words),
+        TextCommand::ErrorText => parsing::errtext(alloc, words),
+        TextCommand::Keeps => parsing::keeps(alloc, words),
+        TextCommand::Name => parsing::name(alloc, words),
+        TextCommand::ValueName => parsing::valuename(alloc, words),
+        TextCommand::Layout => layout::fmt(alloc, words),
+    }
+}
 
-        b"fmt" => layout::fmt(alloc, words),
+fn value_outcome<'a>(alloc: Global, command: ValueCommand, words: &'a [Word<'_>]) -> Outcome<'a> {
+    match command {
+        ValueCommand::Decode => values::decode(alloc, words),
+        ValueCommand::Escape => values::escape(alloc, words),
+        ValueCommand::Boolean => values::boolean(alloc, words),
+        ValueCommand::Integer => values::integer(alloc, words),
+        ValueCommand::Match => paths::matches(alloc, words),
+        ValueCommand::Interpolate => paths::interpolate(alloc, words),
+    }
+}
 
-        b"match" => paths::matches(alloc, words),
-        b"interpolate" => paths::interpolate(alloc, words),
+fn view_outcome<'a>(file: &'a File, command: ViewCommand, words: &[Word<'_>]) -> Outcome<'a> {
+    match command {
+        ViewCommand::Value => lookups::string(file, words),
+        ViewCommand::ValueOfKey => lookups::stringkey(file, words),
+        ViewCommand::Dump => sections::dump(file, words),
+        ViewCommand::PrintSection => sections::printsec(file, words),
+        ViewCommand::Front => sections::front(file, words),
+        ViewCommand::Body => sections::body(file, words),
+        ViewCommand::Held => sections::post(file, words),
+        ViewCommand::Count => sections::count(file, words),
+        ViewCommand::Void => sections::void(file, words),
+        ViewCommand::LineEnd => sections::newline(file, words),
+    }
+}
 
-        b"string" => lookups::string(session.file(), words),
-        b"stringkey" => lookups::stringkey(session.file(), words),
+fn print_outcome<'a>(
+    alloc: Global,
+    file: &File,
+    command: PrintCommand,
+    words: &[Word<'_>],
+) -> Outcome<'a> {
+    match command {
+        PrintCommand::All => printing::print(file, words),
+        PrintCommand::Kept => printing::printif(alloc, file, words),
+        PrintCommand::Refused => printing::print_failing(alloc, file, words, Failure::Refused),
+        PrintCommand::NothingTaken => printing::print_failing(
+            alloc,
+            file,
+            words,
+            Failure::NothingTaken,
+        ),
+    }
+}
 
-        b"setraw" => edits::setraw(session.file_mut(), words),
-        b"setkey" => edits::setkey(session.file_mut(), words),
+fn edit_outcome<'a>(file: &mut File, command: EditCommand, words: &[Word<'_>]) -> Outcome<'a> {
+    match command {
+        EditCommand::SetRaw => edits::setraw(file, words),
+        EditCommand::SetByKey => edits::setkey(file, words),
+    }
+}
 
-        b"dump" => sections::dump(session.file(), words),
-        b"printsec" => sections::printsec(session.file(), words),
-        b"front" => sections::front(session.file(), words),
-        b"body" => sections::body(session.file(), words),
-        b"post" => sections::post(session.file(), words),
-        b"count" => sections::count(session.file(), words),
-        b"void" => sections::void(session.file(), words),
-        b"newline" => sections::newline(session.file(), words),
-
-        b"use" => files::select(session, words),
-        b"load" => files::load(alloc, session, words),
-        b"lossy" => files::lossy(alloc, session, words),
-        b"loadkept" => files::loadkept(alloc, session, words),
-        b"new" => files::new(alloc, session, words),
-        b"clone" => files::clone(session, words),
-        b"print" => files::print(session.file(), words),
-        b"printif" => files::printif(alloc, session.file(), words),
-        b"printfail" => files::printfail(alloc, session.file(), words),
-        b"printnone" => files::printnone(alloc, session.file(), words),
-        b"reset" => files::reset(alloc, session, words),
-        b"refusals" => files::refusals(session, words),
-
-        _ => Ok(Answer::Unknown),
+fn state_outcome<'a>(
+    alloc: Global,
+    session: &mut Session,
+    command: StateCommand,
+    words: &[Word<'_>],
+) -> Outcome<'a> {
+    match command {
+        StateCommand::Select => files::select(session, words),
+        StateCommand::Load => files::load(alloc, session, words, false),
+        StateCommand::LoadLossy => files::load(alloc, session, words, true),
+        StateCommand::LoadKept => files::loadkept(alloc, session, words),
+        StateCommand::New => files::new(alloc, session, words),
+        StateCommand::Clone => files::clone(session, words),
+        StateCommand::Reset => files::reset(alloc, session, words),
+        StateCommand::Refusals => files::refusals(session, words),
     }
 }

@@ -1,6 +1,9 @@
 //! The letters of the kinds of events, and filters that drop some of these kinds.
 
 use crate::refusal::Refusal;
+use gitconf_script::kinds::{
+    BLANKS, COMMENTS, LAST_PIECES, LINE_ENDS, NAMES, PIECES, SEPARATORS, VALUES, kinds_of,
+};
 use gix_config::parse::{EventRef, Events};
 use std::alloc::Global;
 
@@ -19,23 +22,6 @@ pub fn letter_of(event: &EventRef<'_>) -> char {
     }
 }
 
-// A set of kinds has a bit for each. No filter drops headers, so they have none.
-const NAMES: u8 = 1;
-
-const SEPARATORS: u8 = 2;
-
-const VALUES: u8 = 4;
-
-const PIECES: u8 = 8;
-
-const LAST_PIECES: u8 = 16;
-
-const LINE_ENDS: u8 = 32;
-
-const BLANKS: u8 = 64;
-
-const COMMENTS: u8 = 128;
-
 const VALUES_OF_PIECES: u8 = SEPARATORS | PIECES | LAST_PIECES;
 
 const SPACING: u8 = LINE_ENDS | BLANKS;
@@ -47,26 +33,6 @@ const BLANKS_AND_COMMENTS: u8 = BLANKS | COMMENTS;
 const LAYOUT: u8 = LINE_ENDS | BLANKS | COMMENTS;
 
 const ALL: u8 = 255;
-
-/// The set of the kinds of these letters.
-fn kinds_of(letters: &[u8]) -> Result<u8, Refusal> {
-    let mut kinds = 0;
-    for letter in letters {
-        kinds |= match letter {
-            b'H' => 0,
-            b'N' => NAMES,
-            b'S' => SEPARATORS,
-            b'V' => VALUES,
-            b'P' => PIECES,
-            b'D' => LAST_PIECES,
-            b'L' => LINE_ENDS,
-            b'W' => BLANKS,
-            b'C' => COMMENTS,
-            _ => return Err(Refusal::Line),
-        };
-    }
-    Ok(kinds)
-}
 
 /// The events of a text without the kinds of these letters. A set of kinds that has no filter here is refused.
 //

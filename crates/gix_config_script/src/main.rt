@@ -3,7 +3,6 @@
 #![tactic(auto)]
 
 mod answer;
-mod bracket;
 mod commands;
 mod kinds;
 mod names;
@@ -11,7 +10,6 @@ mod program;
 mod refusal;
 mod rendering;
 mod session;
-mod words;
 mod writers;
 
 use program::run;

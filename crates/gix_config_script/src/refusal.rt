@@ -1,5 +1,6 @@
 //! Why a command was not done.
 
+use gitconf_script::words::NotUnderstood;
 use gix_config::file::{init, set_raw_value};
 use gix_config::parse::section::{NameError, ValueNameError};
 use gix_config::parse::{Error, SinkFault};
@@ -21,6 +22,12 @@ pub enum Refusal {
     Unread(Error),
     /// A writer failed, which had taken these bytes.
     Unwritten(SinkFault, Vec<u8>),
+}
+
+impl From<NotUnderstood> for Refusal {
+    fn from(_: NotUnderstood) -> Refusal {
+        Refusal::Line
+    }
 }
 
 impl From<Error> for Refusal {

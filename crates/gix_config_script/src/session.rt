@@ -3,19 +3,12 @@
 ghost use Rattle.std.specs.Prelude.{◌≡◌};
 ghost use Rattle.gix_config_script.specs.Session.{ChangesFile};
 
+use gitconf_script::words::Slot;
 use gix_config::File;
 use gix_config::file::Metadata;
 use std::alloc::{AllocError, Global};
+use std::mem::replace;
 use std::rc::Rc;
-
-/// The place of a file.
-#[derive(Clone, Copy)]
-pub enum Slot {
-    F,
-    G,
-    H,
-    I,
-}
 
 /// The state of a script.
 #[derive(Drop)]
@@ -34,11 +27,13 @@ impl Session {
     /// Four empty files, the first of them the current one.
     pub fn new(alloc: Global) -> Result<Session, AllocError> {
         let meta = Rc::new(alloc, Metadata::api())?;
+        // All shares are taken before a file is made, so that no file stands where one is refused.
+        let (f, g, h, i) = (meta.clone()?, meta.clone()?, meta.clone()?, meta.clone()?);
         Ok(Session {
-            f: File::new(alloc, meta.clone()?),
-            g: File::new(alloc, meta.clone()?),
-            h: File::new(alloc, meta.clone()?),
-            i: File::new(alloc, meta.clone()?),
+            f: File::new(alloc, f),
+            g: File::new(alloc, g),
+            h: File::new(alloc, h),
+            i: File::new(alloc, i),
             current: Slot::F,
             meta,
             tells_refusals: false,
@@ -83,12 +78,12 @@ impl Session {
     pub fn put_at(&mut self, slot: Slot, file: File)
         ensures { ChangesFile slot self.old self.new }
     {
-        match slot {
-            Slot::F => self.f = file,
-            Slot::G => self.g = file,
-            Slot::H => self.h = file,
-            Slot::I => self.i = file,
-        }
+        drop(match slot {
+            Slot::F => replace(&mut self.f, file),
+            Slot::G => replace(&mut self.g, file),
+            Slot::H => replace(&mut self.h, file),
+            Slot::I => replace(&mut self.i, file),
+        });
     }
 
     /// The metadata of what is loaded or made.

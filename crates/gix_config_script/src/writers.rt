@@ -1,5 +1,6 @@
 //! A writer that fails once.
 
+use gitconf_script::turns::Turns;
 use gix_config::parse::{Sink, SinkFault};
 use std::alloc::Global;
 
@@ -16,8 +17,8 @@ pub enum Failure {
 #[derive(Drop)]
 pub struct FailingOnce {
     taken: Vec<u8>,
-    /// How many writes come before the one that fails; none behind that.
-    writes_left: Option<usize>,
+    /// Which write fails.
+    turns: Turns,
     failure: Failure,
 }
 
@@ -26,7 +27,7 @@ impl FailingOnce {
     pub fn behind(alloc: Global, writes: usize, failure: Failure) -> FailingOnce {
         FailingOnce {
             taken: Vec::new(alloc),
-            writes_left: Some(writes),
+            turns: Turns::behind(writes),
             failure,
         }
     }
@@ -47,17 +48,12 @@ impl Sink for FailingOnce {
     ghost faults = { λ _. None };
 
     fn write(&mut self, text: &[u8]) -> Result<usize, SinkFault> {
-        match self.writes_left {
-            Some(0) => {
-                self.writes_left = None;
-                return match self.failure {
-                    Failure::Refused => Err(SinkFault),
-                    Failure::NothingTaken => Ok(0),
-                };
-            }
-            Some(left) => self.writes_left = Some(left - 1),
-            None => {}
+        if !self.turns.take() {
+            return self.taken.write(text);
         }
-        self.taken.write(text)
+        match self.failure {
+            Failure::Refused => Err(SinkFault),
+            Failure::NothingTaken => Ok(0),
+        }
     }
 }

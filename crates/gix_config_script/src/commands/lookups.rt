@@ -1,21 +1,17 @@
 //! Commands that look values up.
 
 use crate::answer::{Answer, Outcome};
-use crate::refusal::Refusal;
-use crate::words::{Word, key_of, one_word};
+use gitconf_script::arguments::{bytes, names};
+use gitconf_script::words::Word;
 use gix_config::File;
 
 /// `string KEY3`: the meaning of the last value.
-pub fn string<'a>(file: &'a File, words: &[Word<'_>]) -> Outcome<'a> {
-    let [section, subsection, name] = words else {
-        return Err(Refusal::Line);
-    };
-    let key = key_of(section, subsection, name)?;
-    Ok(Answer::found(file.string_by(key.section_name, key.subsection_name, key.value_name)?))
+pub fn string<'a>(file: &File, words: &[Word<'_>]) -> Outcome<'a> {
+    let names = names(words)?;
+    Ok(Answer::found(file.string_by(names.section, names.subsection, names.value)?))
 }
 
 /// `stringkey BYTES`: the same, by a key.
-pub fn stringkey<'a>(file: &'a File, words: &[Word<'_>]) -> Outcome<'a> {
-    let key = one_word(words)?.bytes()?;
-    Ok(Answer::found(file.string(key)?))
+pub fn stringkey<'a>(file: &File, words: &[Word<'_>]) -> Outcome<'a> {
+    Ok(Answer::found(file.string(bytes(words)?)?))
 }

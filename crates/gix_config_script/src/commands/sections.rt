@@ -2,7 +2,8 @@
 
 use crate::answer::{Answer, Outcome};
 use crate::refusal::Refusal;
-use crate::words::{Word, no_words, one_word};
+use gitconf_script::arguments::{no_words, number};
+use gitconf_script::words::Word;
 use gix_config::File;
 use gix_config::file::SectionRef;
 use std::borrow::CowSlice;
@@ -15,7 +16,7 @@ pub fn dump<'a>(file: &'a File, words: &[Word<'_>]) -> Outcome<'a> {
 
 /// The section at the place that the words tell.
 fn section_at<'a>(file: &'a File, words: &[Word<'_>]) -> Result<Option<SectionRef<'a>>, Refusal> {
-    let place = one_word(words)?.number()?;
+    let place = number(words)?;
     Ok(file.sections().nth(place))
 }
 
@@ -50,13 +51,13 @@ pub fn post<'a>(file: &'a File, words: &[Word<'_>]) -> Outcome<'a> {
 }
 
 /// `count`: how many entries the sections have.
-pub fn count<'a>(file: &'a File, words: &[Word<'_>]) -> Outcome<'a> {
+pub fn count<'a>(file: &File, words: &[Word<'_>]) -> Outcome<'a> {
     no_words(words)?;
     Ok(Answer::Number(file.num_values()))
 }
 
 /// `void`: whether no section has anything in its body.
-pub fn void<'a>(file: &'a File, words: &[Word<'_>]) -> Outcome<'a> {
+pub fn void<'a>(file: &File, words: &[Word<'_>]) -> Outcome<'a> {
     no_words(words)?;
     Ok(Answer::Flag(file.is_void()))
 }

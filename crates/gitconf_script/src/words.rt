@@ -3,13 +3,23 @@ ghost use Rattle.std.specs.Prelude.{◌≡◌, ℕ, List, Ok, IfOk, IfSome, IsSo
 ghost use Rattle.std.specs.List.{list_any};
 ghost use Rattle.std.specs.Char.{is_ascii_uppercase};
 ghost use Rattle.hex.specs.Hex.{IsBytes, decode_of, encode_lower};
-ghost use Rattle.gix_config_script.specs.Words.{StandsFor, word_of_bytes};
+ghost use Rattle.gitconf_script.specs.Words.{StandsFor, word_of_bytes};
 
-use crate::refusal::Refusal;
-use crate::session::Slot;
-use gix_config::KeyRef;
 use hex::FromHexError;
 use std::alloc::{AllocError, Global};
+
+/// A line that has the wrong number of words, or a word of the wrong form.
+#[derive(Clone, Copy)]
+pub struct NotUnderstood;
+
+/// The place of a file.
+#[derive(Clone, Copy)]
+pub enum Slot {
+    F,
+    G,
+    H,
+    I,
+}
 
 /// A word of a line.
 #[derive(Drop)]
@@ -22,42 +32,42 @@ pub enum Word<'a> {
 
 impl Word<'_> {
     /// Bytes.
-    pub fn bytes(&self) -> Result<&[u8], Refusal> {
+    pub fn bytes(&self) -> Result<&[u8], NotUnderstood> {
         match self {
             Word::Bytes(bytes) => Ok(bytes),
-            Word::Plain(_) => Err(Refusal::Line),
+            Word::Plain(_) => Err(NotUnderstood),
         }
     }
 
     /// Bytes, or none for `-`.
-    pub fn optional(&self) -> Result<Option<&[u8]>, Refusal> {
+    pub fn optional(&self) -> Result<Option<&[u8]>, NotUnderstood> {
         match self {
             Word::Bytes(bytes) => Ok(Some(bytes)),
             Word::Plain(word) if *word == b"-".as_slice() => Ok(None),
-            Word::Plain(_) => Err(Refusal::Line),
+            Word::Plain(_) => Err(NotUnderstood),
         }
     }
 
     /// Bytes that are UTF-8.
-    pub fn text(&self) -> Result<&str, Refusal> {
-        str::from_utf8(self.bytes()?).map_err(|_| Refusal::Line)
+    pub fn text(&self) -> Result<&str, NotUnderstood> {
+        utf8(self.bytes()?)
     }
 
     /// A word that isn't bytes.
-    pub fn plain(&self) -> Result<&[u8], Refusal> {
+    pub fn plain(&self) -> Result<&[u8], NotUnderstood> {
         match self {
-            Word::Bytes(_) => Err(Refusal::Line),
+            Word::Bytes(_) => Err(NotUnderstood),
             Word::Plain(word) => Ok(word),
         }
     }
 
     /// A decimal number.
-    pub fn number(&self) -> Result<usize, Refusal> {
+    pub fn number(&self) -> Result<usize, NotUnderstood> {
         decimal(self.plain()?)
     }
 
     /// A decimal number in bytes, or none for `-`.
-    pub fn limit(&self) -> Result<Option<usize>, Refusal> {
+    pub fn limit(&self) -> Result<Option<usize>, NotUnderstood> {
         match self.optional()? {
             Some(digits) => Ok(Some(decimal(digits)?)),
             None => Ok(None),
@@ -65,33 +75,60 @@ impl Word<'_> {
     }
 
     /// `true` or `false`.
-    pub fn flag(&self) -> Result<bool, Refusal> {
+    pub fn flag(&self) -> Result<bool, NotUnderstood> {
         match self.plain()? {
             b"true" => Ok(true),
             b"false" => Ok(false),
-            _ => Err(Refusal::Line),
+            _ => Err(NotUnderstood),
+        }
+    }
+
+    /// UTF-8, or none for `-`.
+    pub fn optional_text(&self) -> Result<Option<&str>, NotUnderstood> {
+        match self.optional()? {
+            Some(bytes) => Ok(Some(utf8(bytes)?)),
+            None => Ok(None),
+        }
+    }
+
+    /// `on` or `off`.
+    pub fn switch(&self) -> Result<bool, NotUnderstood> {
+        match self.plain()? {
+            b"on" => Ok(true),
+            b"off" => Ok(false),
+            _ => Err(NotUnderstood),
         }
     }
 
     /// The place of a file.
-    pub fn slot(&self) -> Result<Slot, Refusal> {
+    pub fn slot(&self) -> Result<Slot, NotUnderstood> {
         match self.plain()? {
             b"f" => Ok(Slot::F),
             b"g" => Ok(Slot::G),
             b"h" => Ok(Slot::H),
             b"i" => Ok(Slot::I),
-            _ => Err(Refusal::Line),
+            _ => Err(NotUnderstood),
         }
     }
 }
 
-/// The number that decimal digits tell, without a sign.
-fn decimal(digits: &[u8]) -> Result<usize, Refusal> {
-    let digits = str::from_utf8(digits).map_err(|_| Refusal::Line)?;
-    if digits.starts_with('+') {
-        return Err(Refusal::Line);
+fn utf8(bytes: &[u8]) -> Result<&str, NotUnderstood> {
+    match str::from_utf8(bytes) {
+        Ok(text) => Ok(text),
+        Err(_) => Err(NotUnderstood),
     }
-    digits.parse::<usize>().map_err(|_| Refusal::Line)
+}
+
+/// The number that decimal digits tell, without a sign.
+fn decimal(digits: &[u8]) -> Result<usize, NotUnderstood> {
+    let digits = utf8(digits)?;
+    if digits.starts_with('+') {
+        return Err(NotUnderstood);
+    }
+    match digits.parse::<usize>() {
+        Ok(number) => Ok(number),
+        Err(_) => Err(NotUnderstood),
+    }
 }
 
 /// The words of a line, which stand one blank apart.
@@ -139,39 +176,19 @@ fn has_upper_case(text: &[u8]) -> bool
     text.iter().any(|byte| byte.is_ascii_uppercase())
 }
 
-/// The key that three words tell: a section's name, a subsection or `-`, and the name of a value.
-pub fn key_of<'a>(
-    section: &'a Word<'_>,
-    subsection: &'a Word<'_>,
-    name: &'a Word<'_>,
-) -> Result<KeyRef<'a>, Refusal> {
-    Ok(KeyRef {
-        section_name: section.text()?,
-        subsection_name: subsection.optional()?,
-        value_name: name.text()?,
-    })
-}
-
-/// Refuses further words.
-pub fn no_words(words: &[Word<'_>]) -> Result<(), Refusal> {
-    match words {
-        [] => Ok(()),
-        _ => Err(Refusal::Line),
-    }
-}
-
-/// The only word.
-pub fn one_word<'a, 'b>(words: &'a [Word<'b>]) -> Result<&'a Word<'b>, Refusal> {
-    match words {
-        [word] => Ok(word),
-        _ => Err(Refusal::Line),
-    }
-}
-
-/// Refuses words that aren't bytes.
-pub fn all_bytes(words: &[Word<'_>]) -> Result<(), Refusal> {
+/// Whether one of the words is that name, letters of either case being the same.
+pub fn is_one_of(words: &[Word<'_>], name: &[u8]) -> bool {
     for word in words {
-        let _ = word.bytes()?;
+        if is_name(word, name) {
+            return true;
+        }
     }
-    Ok(())
+    false
+}
+
+fn is_name(word: &Word<'_>, name: &[u8]) -> bool {
+    match word {
+        Word::Bytes(bytes) => bytes.eq_ignore_ascii_case(name),
+        Word::Plain(_) => false,
+    }
 }

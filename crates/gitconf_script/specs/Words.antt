@@ -1,8 +1,8 @@
 -- Bytes as words of a line.
 use Rattle.std.specs.Prelude.{◌≡◌, ℕ, List, ◌∷◌, true, false}
 use Rattle.hex.specs.Hex.{encode_lower}
-use Rattle.gix_config_script.specs.declared.words.Word.{Word}
-use Rattle.gix_config_script.specs.declared.words.Word.TheVariants.{Bytes, Plain}
+use Rattle.gitconf_script.specs.declared.words.Word.{Word}
+use Rattle.gitconf_script.specs.declared.words.Word.TheVariants.{Bytes, Plain}
 
 -- the word of some bytes: `x` (120) and their digits
 abbrev pub word_of_bytes : List ℕ → List ℕ

@@ -1,0 +1,158 @@
+//! What the words behind a command tell, a function for each form of words.
+
+use crate::words::{NotUnderstood, Slot, Word};
+
+/// Refuses further words.
+pub fn no_words(words: &[Word<'_>]) -> Result<(), NotUnderstood> {
+    match words {
+        [] => Ok(()),
+        _ => Err(NotUnderstood),
+    }
+}
+
+/// The only word.
+fn one_word<'a, 'b>(words: &'a [Word<'b>]) -> Result<&'a Word<'b>, NotUnderstood> {
+    match words {
+        [word] => Ok(word),
+        _ => Err(NotUnderstood),
+    }
+}
+
+/// Refuses words that aren't bytes.
+pub fn all_bytes(words: &[Word<'_>]) -> Result<(), NotUnderstood> {
+    for word in words {
+        let _ = word.bytes()?;
+    }
+    Ok(())
+}
+
+/// BYTES.
+pub fn bytes<'a>(words: &'a [Word<'_>]) -> Result<&'a [u8], NotUnderstood> {
+    one_word(words)?.bytes()
+}
+
+/// N.
+pub fn number(words: &[Word<'_>]) -> Result<usize, NotUnderstood> {
+    one_word(words)?.number()
+}
+
+/// N, counted from 1: how many come before.
+pub fn count_before(words: &[Word<'_>]) -> Result<usize, NotUnderstood> {
+    match number(words)? {
+        0 => Err(NotUnderstood),
+        number => Ok(number - 1),
+    }
+}
+
+/// SLOT.
+pub fn slot(words: &[Word<'_>]) -> Result<Slot, NotUnderstood> {
+    one_word(words)?.slot()
+}
+
+/// `on` or `off`.
+pub fn switch(words: &[Word<'_>]) -> Result<bool, NotUnderstood> {
+    one_word(words)?.switch()
+}
+
+/// BYTES LETTERS: a text, and the letters; none for `-`.
+pub fn text_and_letters<'a>(
+    words: &'a [Word<'_>],
+) -> Result<(&'a [u8], Option<&'a [u8]>), NotUnderstood> {
+    let [text, letters] = words else {
+        return Err(NotUnderstood);
+    };
+    let text = text.bytes()?;
+    match letters.plain()? {
+        b"-" => Ok((text, None)),
+        letters => Ok((text, Some(letters))),
+    }
+}
+
+/// The names of an entry: a section's name, a subsection, and the name of a value.
+#[derive(Clone, Copy)]
+pub struct EntryNames<'a> {
+    pub section: &'a str,
+    pub subsection: Option<&'a [u8]>,
+    pub value: &'a str,
+}
+
+/// The names that three words tell.
+fn names_of<'a>(
+    section: &'a Word<'_>,
+    subsection: &'a Word<'_>,
+    value: &'a Word<'_>,
+) -> Result<EntryNames<'a>, NotUnderstood> {
+    Ok(EntryNames {
+        section: section.text()?,
+        subsection: subsection.optional()?,
+        value: value.text()?,
+    })
+}
+
+/// KEY3.
+pub fn names<'a>(words: &'a [Word<'_>]) -> Result<EntryNames<'a>, NotUnderstood> {
+    match words {
+        [section, subsection, value] => names_of(section, subsection, value),
+        _ => Err(NotUnderstood),
+    }
+}
+
+/// KEY3 BYTES: the names of an entry, and bytes.
+pub fn names_and_bytes<'a>(
+    words: &'a [Word<'_>],
+) -> Result<(EntryNames<'a>, &'a [u8]), NotUnderstood> {
+    match words {
+        [section, subsection, value, bytes] => {
+            Ok((names_of(section, subsection, value)?, bytes.bytes()?))
+        }
+        _ => Err(NotUnderstood),
+    }
+}
+
+/// BYTES BYTES.
+pub fn two_texts<'a>(words: &'a [Word<'_>]) -> Result<(&'a [u8], &'a [u8]), NotUnderstood> {
+    match words {
+        [one, other] => Ok((one.bytes()?, other.bytes()?)),
+        _ => Err(NotUnderstood),
+    }
+}
+
+/// A path pattern and a text.
+#[derive(Clone, Copy)]
+pub struct Match<'a> {
+    pub pattern: &'a [u8],
+    pub text: &'a [u8],
+    pub ignores_case: bool,
+}
+
+/// BYTES BYTES B.
+pub fn pattern_match<'a>(words: &'a [Word<'_>]) -> Result<Match<'a>, NotUnderstood> {
+    match words {
+        [pattern, text, ignores_case] => Ok(Match {
+            pattern: pattern.bytes()?,
+            text: text.bytes()?,
+            ignores_case: ignores_case.flag()?,
+        }),
+        _ => Err(NotUnderstood),
+    }
+}
+
+/// A path, and the folders that its shorthands stand for.
+#[derive(Clone, Copy)]
+pub struct PathWithFolders<'a> {
+    pub path: &'a [u8],
+    pub git_install_dir: Option<&'a str>,
+    pub home_dir: Option<&'a str>,
+}
+
+/// BYTES OPT OPT.
+pub fn path_with_folders<'a>(words: &'a [Word<'_>]) -> Result<PathWithFolders<'a>, NotUnderstood> {
+    match words {
+        [path, git_install_dir, home_dir] => Ok(PathWithFolders {
+            path: path.bytes()?,
+            git_install_dir: git_install_dir.optional_text()?,
+            home_dir: home_dir.optional_text()?,
+        }),
+        _ => Err(NotUnderstood),
+    }
+}

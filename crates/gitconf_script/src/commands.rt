@@ -1,0 +1,218 @@
+//! The commands of a script, by their words.
+
+use crate::words::Word;
+
+/// A command, by what it asks for.
+#[derive(Clone, Copy)]
+pub enum Command {
+    Text(TextCommand),
+    Value(ValueCommand),
+    View(ViewCommand),
+    Print(PrintCommand),
+    Edit(EditCommand),
+    State(StateCommand),
+}
+
+/// Commands on texts and names, which ask no file.
+#[derive(Clone, Copy)]
+pub enum TextCommand {
+    /// `events`
+    Events,
+    /// `errtext`
+    ErrorText,
+    /// `keeps`
+    Keeps,
+    /// `name`
+    Name,
+    /// `valuename`
+    ValueName,
+    /// `fmt`
+    Layout,
+}
+
+/// Commands on values and paths, which ask no file.
+#[derive(Clone, Copy)]
+pub enum ValueCommand {
+    /// `decode`
+    Decode,
+    /// `escape`
+    Escape,
+    /// `boolean`
+    Boolean,
+    /// `integer`
+    Integer,
+    /// `match`
+    Match,
+    /// `interpolate`
+    Interpolate,
+}
+
+/// Commands that look at a file.
+#[derive(Clone, Copy)]
+pub enum ViewCommand {
+    /// `string`
+    Value,
+    /// `stringkey`
+    ValueOfKey,
+    /// `dump`
+    Dump,
+    /// `printsec`
+    PrintSection,
+    /// `front`
+    Front,
+    /// `body`
+    Body,
+    /// `post`
+    Held,
+    /// `count`
+    Count,
+    /// `void`
+    Void,
+    /// `newline`
+    LineEnd,
+}
+
+/// Commands that write a file.
+#[derive(Clone, Copy)]
+pub enum PrintCommand {
+    /// `print`
+    All,
+    /// `printif`
+    Kept,
+    /// `printfail`
+    Refused,
+    /// `printnone`
+    NothingTaken,
+}
+
+/// Commands that change a file.
+#[derive(Clone, Copy)]
+pub enum EditCommand {
+    /// `setraw`
+    SetRaw,
+    /// `setkey`
+    SetByKey,
+}
+
+/// Commands on whole files, and on the state of the script.
+#[derive(Clone, Copy)]
+pub enum StateCommand {
+    /// `use`
+    Select,
+    /// `load`
+    Load,
+    /// `lossy`
+    LoadLossy,
+    /// `loadkept`
+    LoadKept,
+    /// `new`
+    New,
+    /// `clone`
+    Clone,
+    /// `reset`
+    Reset,
+    /// `refusals`
+    Refusals,
+}
+
+/// The command that the first word names, and the words behind it; nothing, and all words, where there is none such.
+pub fn command_of<'a, 'b>(words: &'a [Word<'b>]) -> (Option<Command>, &'a [Word<'b>]) {
+    match words.split_first() {
+        Some((Word::Plain(word), rest)) => (named(word), rest),
+        _ => (None, words),
+    }
+}
+
+fn named(word: &[u8]) -> Option<Command> {
+    if let Some(command) = text_command(word) {
+        return Some(Command::Text(command));
+    }
+    if let Some(command) = value_command(word) {
+        return Some(Command::Value(command));
+    }
+    if let Some(command) = view_command(word) {
+        return Some(Command::View(command));
+    }
+    if let Some(command) = print_command(word) {
+        return Some(Command::Print(command));
+    }
+    if let Some(command) = edit_command(word) {
+        return Some(Command::Edit(command));
+    }
+    match state_command(word) {
+        Some(command) => Some(Command::State(command)),
+        None => None,
+    }
+}
+
+fn text_command(word: &[u8]) -> Option<TextCommand> {
+    match word {
+        b"events" => Some(TextCommand::Events),
+        b"errtext" => Some(TextCommand::ErrorText),
+        b"keeps" => Some(TextCommand::Keeps),
+        b"name" => Some(TextCommand::Name),
+        b"valuename" => Some(TextCommand::ValueName),
+        b"fmt" => Some(TextCommand::Layout),
+        _ => None,
+    }
+}
+
+fn value_command(word: &[u8]) -> Option<ValueCommand> {
+    match word {
+        b"decode" => Some(ValueCommand::Decode),
+        b"escape" => Some(ValueCommand::Escape),
+        b"boolean" => Some(ValueCommand::Boolean),
+        b"integer" => Some(ValueCommand::Integer),
+        b"match" => Some(ValueCommand::Match),
+        b"interpolate" => Some(ValueCommand::Interpolate),
+        _ => None,
+    }
+}
+
+fn view_command(word: &[u8]) -> Option<ViewCommand> {
+    match word {
+        b"string" => Some(ViewCommand::Value),
+        b"stringkey" => Some(ViewCommand::ValueOfKey),
+        b"dump" => Some(ViewCommand::Dump),
+        b"printsec" => Some(ViewCommand::PrintSection),
+        b"front" => Some(ViewCommand::Front),
+        b"body" => Some(ViewCommand::Body),
+        b"post" => Some(ViewCommand::Held),
+        b"count" => Some(ViewCommand::Count),
+        b"void" => Some(ViewCommand::Void),
+        b"newline" => Some(ViewCommand::LineEnd),
+        _ => None,
+    }
+}
+
+fn print_command(word: &[u8]) -> Option<PrintCommand> {
+    match word {
+        b"print" => Some(PrintCommand::All),
+        b"printif" => Some(PrintCommand::Kept),
+        b"printfail" => Some(PrintCommand::Refused),
+        b"printnone" => Some(PrintCommand::NothingTaken),
+        _ => None,
+    }
+}
+
+fn edit_command(word: &[u8]) -> Option<EditCommand> {
+    match word {
+        b"setraw" => Some(EditCommand::SetRaw),
+        b"setkey" => Some(EditCommand::SetByKey),
+        _ => None,
+    }
+}
+
+fn state_command(word: &[u8]) -> Option<StateCommand> {
+    match word {
+        b"use" => Some(StateCommand::Select),
+        b"load" => Some(StateCommand::Load),
+        b"lossy" => Some(StateCommand::LoadLossy),
+        b"loadkept" => Some(StateCommand::LoadKept),
+        b"new" => Some(StateCommand::New),
+        b"clone" => Some(StateCommand::Clone),
+        b"reset" => Some(StateCommand::Reset),
+        b"refusals" => Some(StateCommand::Refusals),
+        _ => None,
+    }
+}

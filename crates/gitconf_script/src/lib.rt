@@ -1,0 +1,13 @@
+//! Scripts as lines of words: what is read of a line, what is written of an answer, and the streams of both. It knows
+//! nothing of files; the language is told in docs/scripts.md.
+#![tactic(auto)]
+
+pub mod answers;
+pub mod arguments;
+pub mod bracket;
+pub mod commands;
+pub mod kinds;
+pub mod layouts;
+pub mod play;
+pub mod turns;
+pub mod words;

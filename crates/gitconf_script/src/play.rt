@@ -1,0 +1,106 @@
+//! A script is played: what the program does with its streams, whatever these are.
+ghost use Rattle.std.specs.Prelude.{◌≤◌};
+
+use bstr::io::{BufReadExt, ByteLines};
+use std::alloc::{AllocError, Global};
+use std::io::{BufReader, ErrorKind, Read, Write};
+
+/// What answers the lines of a script.
+pub trait Player {
+    /// The answer to a line that isn't empty, with its line end.
+    fn answer(&mut self, line: &[u8]) -> Result<String, AllocError>;
+}
+
+/// Why the program ended before its script did.
+#[derive(Drop)]
+enum Fault {
+    /// Standard input can't be read.
+    Input,
+    /// Standard output failed.
+    Output,
+    /// Memory was wanting, but for the calls that commands make.
+    Memory,
+}
+
+impl From<AllocError> for Fault {
+    fn from(_: AllocError) -> Fault {
+        Fault::Memory
+    }
+}
+
+/// The exit status where memory was wanting outside of any command.
+pub const NO_MEMORY: u8 = 5;
+
+/// Answers the script that the input is, a line for each of its lines that isn't empty, and each at once. It answers
+/// the exit status: 0 behind the last line, 4 where a stream failed, 5 where memory was wanting outside of any command.
+pub fn play<R: Read + Drop, W: Write + Drop, P: Player>(
+    alloc: Global,
+    input: R,
+    out: W,
+    player: &mut P,
+) -> u8
+    ensures { result ≤ 5 }
+{
+    match answer_all(alloc, input, out, player) {
+        Ok(()) => 0,
+        Err(Fault::Input | Fault::Output) => 4,
+        Err(Fault::Memory) => NO_MEMORY,
+    }
+}
+
+/// What is read, and what is answered.
+#[derive(Drop)]
+struct Streams<R: Read + Drop, W: Write + Drop> {
+    lines: ByteLines<BufReader<R>>,
+    out: W,
+}
+
+impl<R: Read + Drop, W: Write + Drop> Streams<R, W> {
+    fn new(alloc: Global, input: R, out: W) -> Result<Streams<R, W>, Fault> {
+        match BufReader::new(alloc, input) {
+            Ok(reader) => Ok(Streams {
+                lines: reader.byte_lines(alloc),
+                out,
+            }),
+            Err(_) => Err(Fault::Memory),
+        }
+    }
+
+    /// The next line, without its end; `None` behind the last one.
+    fn next_line(&mut self) -> Result<Option<Vec<u8>>, Fault> {
+        match self.lines.next() {
+            None => Ok(None),
+            Some(Ok(line)) => Ok(Some(line)),
+            Some(Err(fault)) if fault.kind() == ErrorKind::OutOfMemory => Err(Fault::Memory),
+            Some(Err(_)) => Err(Fault::Input),
+        }
+    }
+
+    /// Writes a line, and holds nothing back.
+    fn tell(&mut self, line: &str) -> Result<(), Fault> {
+        if self.out.write_all(line.as_bytes()).is_err() || self.out.flush().is_err() {
+            return Err(Fault::Output);
+        }
+        Ok(())
+    }
+}
+
+/// Answers each line in turn.
+fn answer_all<R: Read + Drop, W: Write + Drop, P: Player>(
+    alloc: Global,
+    input: R,
+    out: W,
+    player: &mut P,
+) -> Result<(), Fault> {
+    let mut streams = Streams::new(alloc, input, out)?;
+    for _ in 0..u64::MAX {
+        let Some(line) = streams.next_line()? else {
+            break;
+        };
+        if !line.is_empty() {
+            let answer = player.answer(&line)?;
+            streams.tell(&answer)?;
+        }
+    }
+    Ok(())
+}
