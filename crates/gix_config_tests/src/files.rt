@@ -7,27 +7,42 @@ use std::alloc::Global;
 use std::rc::Rc;
 use std::test::Fail;
 
+/// Whether the file tells this metadata, lent and shared.
+fn has_meta(file: &File, meta: &Metadata) -> Result<bool, Fail> {
+    Ok(*file.meta() == *meta && *file.meta_owned()? == *meta)
+}
+
 /// A file has the metadata that it was made with, or that was set; its sections and its copies keep theirs.
 #[test]
 fn metadata_of_a_file(rt: HostRuntime) -> Result<(), Fail> {
+    let api = Metadata::api();
     let mut file = File::try_from_bytes(rt.alloc(), b"[a] k = v")?;
-    assert!(rt; *file.meta() == Metadata::api() && *file.meta_owned()? == Metadata::api());
+    assert!(rt; has_meta(&file, &api)?);
     let copy = file.try_clone()?;
-    let user = Metadata::from(Source::User);
     file.set_meta(Rc::new(rt.alloc(), Metadata::from(Source::User))?);
-    assert!(rt; *file.meta() == user && *file.meta_owned()? == user);
-    for section in file.sections() {
-        assert!(rt; *section.meta() == Metadata::api());
-    }
-    let empty = File::new(rt.alloc(), file.meta_owned()?);
-    assert!(rt; *empty.meta() == user && empty.to_bstring()?.is_empty());
+    assert!(rt; has_meta(&file, &Metadata::from(Source::User))?);
+    assert!(rt; file.sections().all(|section| *section.meta() == api));
     drop(file);
-    assert!(rt; *copy.meta() == Metadata::api());
+    assert!(rt; *copy.meta() == api);
+    Ok(())
+}
+
+#[test]
+fn metadata_of_an_empty_file(rt: HostRuntime) -> Result<(), Fail> {
+    let mut file = File::try_from_bytes(rt.alloc(), b"[a] k = v")?;
+    file.set_meta(Rc::new(rt.alloc(), Metadata::from(Source::User))?);
+    let empty = File::new(rt.alloc(), file.meta_owned()?);
+    assert!(rt; *empty.meta() == Metadata::from(Source::User));
+    assert!(rt; empty.to_bstring()?.is_empty());
+    Ok(())
+}
+
+#[test]
+fn a_refused_text(rt: HostRuntime) -> Result<(), Fail> {
     let Err(error) = File::try_from_bytes(rt.alloc(), b"[a]\n$") else {
-        assert!(rt; false, "read");
-        return Ok(());
+        return Err(Fail::new("read"));
     };
-    assert!(rt; error.number() == 1 && error.line_number() == 2 && error.kind() == "name");
+    assert!(rt; (error.number(), error.line_number(), error.kind()) == (1, 2, "name"));
     Ok(())
 }
 
@@ -48,30 +63,38 @@ fn is_value(found: &Option<BString>, expected: Option<&[u8]>) -> bool {
     }
 }
 
-/// A text, a key, and its value where all sections pass. Where none does, there is no value.
+/// Whether the key has this value where all sections pass. Where none does, it has none.
+fn is_found(file: &File, key: &[u8], expected: Option<&[u8]>) -> Result<bool, Fail> {
+    Ok(
+        is_value(&file.string_filter(key, is_api)?, expected)
+            && is_value(&file.string_filter(key, is_user)?, None),
+    )
+}
+
+/// The same, by the names of the key.
+fn is_found_by(file: &File, key: KeyRef<'_>, expected: Option<&[u8]>) -> Result<bool, Fail> {
+    let (section, subsection, name) = (key.section_name, key.subsection_name, key.value_name);
+    let found = file.string_filter_by(section, subsection, name, is_api)?;
+    let missed = file.string_filter_by(section, subsection, name, is_user)?;
+    Ok(is_value(&found, expected) && is_value(&missed, None))
+}
+
+/// A text, a key, and its value where all sections pass.
+const VALUES: [(&[u8], &[u8], Option<&[u8]>); 5] = [
+    (b"[a] k = v", b"a.k", Some(b"v")),
+    (b"[a] k", b"a.k", None),
+    (b"[a]\nk=1\n[A]\nk=2\n", b"a.k", Some(b"2")),
+    (b"[a \"B\"]\nk=1\n[a.B]\nk=2\n", b"a.B.k", Some(b"1")),
+    (b"[a] k = v", b"ak", None),
+];
+
 #[test]
 fn values_where_sections_pass(rt: HostRuntime) -> Result<(), Fail> {
-    let rows: [(&[u8], &[u8], Option<&[u8]>); 5] = [
-        (b"[a] k = v", b"a.k", Some(b"v")),
-        (b"[a] k", b"a.k", None),
-        (b"[a]\nk=1\n[A]\nk=2\n", b"a.k", Some(b"2")),
-        (b"[a \"B\"]\nk=1\n[a.B]\nk=2\n", b"a.B.k", Some(b"1")),
-        (b"[a] k = v", b"ak", None),
-    ];
-    for (text, key, expected) in rows {
+    for (text, key, expected) in VALUES {
         let file = File::try_from_bytes(rt.alloc(), text)?;
-        assert!(rt; is_value(&file.string_filter(key, is_api)?, expected));
-        assert!(rt; is_value(&file.string_filter(key, is_user)?, None));
+        assert!(rt; is_found(&file, key, expected)?);
         if let Some(key) = KeyRef::parse_unvalidated(key) {
-            let (section, subsection, name) = (
-                key.section_name,
-                key.subsection_name,
-                key.value_name,
-            );
-            let found = file.string_filter_by(section, subsection, name, is_api)?;
-            assert!(rt; is_value(&found, expected));
-            let found = file.string_filter_by(section, subsection, name, is_user)?;
-            assert!(rt; is_value(&found, None));
+            assert!(rt; is_found_by(&file, key, expected)?);
         }
     }
     Ok(())
@@ -91,22 +114,53 @@ fn a_filter_that_changes_its_mind(rt: HostRuntime) -> Result<(), Fail> {
     Ok(())
 }
 
+/// Sets the value of `a.k` in the sections from there, and answers whether it was this one before.
+fn replaces(
+    file: &mut File,
+    value: &[u8],
+    source: Source,
+    old: Option<&[u8]>,
+) -> Result<bool, Fail> {
+    let Some(key) = KeyRef::parse_unvalidated(b"a.k") else {
+        return Err(Fail::new("no key"));
+    };
+    let found = file.set_raw_value_filter(key, value, |meta| meta.source == source)?;
+    Ok(is_value(&found, old))
+}
+
+/// The same, by the names of a section and of a value.
+fn replaces_by(
+    file: &mut File,
+    names: (&str, &str),
+    value: &[u8],
+    source: Source,
+    old: Option<&[u8]>,
+) -> Result<bool, Fail> {
+    let (section, name) = names;
+    let found = file.set_raw_value_filter_by(
+        section,
+        None,
+        name,
+        value,
+        |meta| meta.source == source,
+    )?;
+    Ok(is_value(&found, old))
+}
+
+fn is_printed(file: &File, text: &[u8]) -> Result<bool, Fail> {
+    Ok(file.to_bstring()?.as_bytes() == text)
+}
+
 /// A section that the filter drops is left alone, and another one is made.
 #[test]
 fn values_are_set_where_a_filter_passes(rt: HostRuntime) -> Result<(), Fail> {
-    let Some(key) = KeyRef::parse_unvalidated(b"a.k") else {
-        assert!(rt; false, "no key");
-        return Ok(());
-    };
     let mut file = File::try_from_bytes(rt.alloc(), b"[a]\nk=1\n")?;
-    assert!(rt; is_value(&file.set_raw_value_filter(key, b"2", is_user)?, None));
-    assert!(rt; file.to_bstring()?.as_bytes() == b"[a]\nk=1\n[a]\n\tk = 2\n".as_slice());
-    assert!(rt; is_value(&file.set_raw_value_filter(key, b"3", is_api)?, Some(b"2")));
-    let found = file.set_raw_value_filter_by("A", None, "K", b"4", is_api)?;
-    assert!(rt; is_value(&found, Some(b"3")));
-    assert!(rt; file.to_bstring()?.as_bytes() == b"[a]\nk=1\n[a]\n\tk = 4\n".as_slice());
-    let found = file.set_raw_value_filter_by("a", None, "k", b"5", is_user)?;
-    assert!(rt; is_value(&found, None));
+    assert!(rt; replaces(&mut file, b"2", Source::User, None)?);
+    assert!(rt; is_printed(&file, b"[a]\nk=1\n[a]\n\tk = 2\n")?);
+    assert!(rt; replaces(&mut file, b"3", Source::Api, Some(b"2"))?);
+    assert!(rt; replaces_by(&mut file, ("A", "K"), b"4", Source::Api, Some(b"3"))?);
+    assert!(rt; is_printed(&file, b"[a]\nk=1\n[a]\n\tk = 4\n")?);
+    assert!(rt; replaces_by(&mut file, ("a", "k"), b"5", Source::User, None)?);
     assert_eq!(rt; file.sections().count(), 3);
     Ok(())
 }
