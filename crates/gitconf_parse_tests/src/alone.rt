@@ -4,18 +4,6 @@ use gitconf_parse::event_ref::EventRef;
 use std::alloc::Global;
 use std::test::Fail;
 
-fn header(
-    name: &'static [u8],
-    separator: Option<&'static [u8]>,
-    subsection_name: Option<&'static [u8]>,
-) -> EventRef<'static> {
-    EventRef::SectionHeader {
-        name,
-        separator,
-        subsection_name,
-    }
-}
-
 fn comment(tag: u8, text: &'static [u8]) -> EventRef<'static> {
     EventRef::Comment { tag, text }
 }
@@ -55,32 +43,58 @@ fn events_alone(rt: HostRuntime) -> Result<(), Fail> {
     Ok(())
 }
 
-/// A header, and what it is written as. One that isn't in UTF-8 is shown otherwise.
+/// A header's name, its separator and its subsection.
+type Header = (&'static [u8], Option<&'static [u8]>, Option<&'static [u8]>);
+
+/// Whether the header is written as these bytes, and shown as this text.
+fn is_header_written(
+    alloc: Global,
+    header: Header,
+    bytes: &[u8],
+    text: &str,
+) -> Result<bool, Fail> {
+    let (name, separator, subsection_name) = header;
+    let event = EventRef::SectionHeader {
+        name,
+        separator,
+        subsection_name,
+    };
+    is_written(alloc, event, bytes, text)
+}
+
+/// Headers, and what they are written as.
+const HEADERS: [(Header, &str); 9] = [
+    ((b"a", None, None), "[a]"),
+    ((b"", None, None), "[]"),
+    ((b"", Some(b"."), Some(b"b")), "[.b]"),
+    ((b"a", Some(b"."), Some(b"B\"\\")), "[a.B\"\\]"),
+    ((b"a", Some(b" "), Some(b"")), "[a \"\"]"),
+    (
+        (b"a", Some(b" \t"), Some(b"q\"uo\\te")),
+        "[a \t\"q\\\"uo\\\\te\"]",
+    ),
+    ((b"a", Some(b"\t "), Some(b"\\\"b")), "[a\t \"\\\\\\\"b\"]"),
+    ((b"a", Some(b" "), None), "[a]"),
+    ((b"a", None, Some(b"b")), "[a]"),
+];
+
 #[test]
 fn headers_alone(rt: HostRuntime) -> Result<(), Fail> {
-    let rows: [(EventRef<'static>, &str); 9] = [
-        (header(b"a", None, None), "[a]"),
-        (header(b"", None, None), "[]"),
-        (header(b"", Some(b"."), Some(b"b")), "[.b]"),
-        (header(b"a", Some(b"."), Some(b"B\"\\")), "[a.B\"\\]"),
-        (header(b"a", Some(b" "), Some(b"")), "[a \"\"]"),
-        (
-            header(b"a", Some(b" \t"), Some(b"q\"uo\\te")),
-            "[a \t\"q\\\"uo\\\\te\"]",
-        ),
-        (
-            header(b"a", Some(b"\t "), Some(b"\\\"b")),
-            "[a\t \"\\\\\\\"b\"]",
-        ),
-        (header(b"a", Some(b" "), None), "[a]"),
-        (header(b"a", None, Some(b"b")), "[a]"),
-    ];
-    for (event, text) in rows {
-        assert!(rt; is_written(rt.alloc(), event, text.as_bytes(), text)?);
+    for (header, text) in HEADERS {
+        assert!(rt;
+            is_header_written(rt.alloc(), header, text.as_bytes(), text)?,
+            "{text}"
+        );
     }
-    let event = header(b"a", Some(b" "), Some(b"\xc3\xa4\"\xff\xe2\x82\""));
+    Ok(())
+}
+
+/// A header that isn't in UTF-8 is shown otherwise.
+#[test]
+fn a_header_not_in_utf8(rt: HostRuntime) -> Result<(), Fail> {
+    let header: Header = (b"a", Some(b" "), Some(b"\xc3\xa4\"\xff\xe2\x82\""));
     let bytes = b"[a \"\xc3\xa4\\\"\xff\xe2\x82\\\"\"]";
     let text = "[a \"ä\\\"\u{fffd}\u{fffd}\\\"\"]";
-    assert!(rt; is_written(rt.alloc(), event, bytes, text)?);
+    assert!(rt; is_header_written(rt.alloc(), header, bytes, text)?);
     Ok(())
 }
