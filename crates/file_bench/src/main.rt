@@ -33,6 +33,47 @@ fn found(file: &File, key: &str) -> Result<u32> {
     Ok(n)
 }
 
+/// The text as a file, and the nanoseconds that this took.
+fn load<R: Clock + AllocGlobal>(rt: &R, text: &[u8]) -> Result<(File, u128)> {
+    let start = Instant::now(rt)?;
+    let file = File::try_from_bytes(rt.alloc(), text)?;
+    Ok((file, start.elapsed(rt)?.as_nanos()))
+}
+
+/// How many of the look-ups find the key, and the nanoseconds that they took.
+fn look_up<R: Clock>(rt: &R, file: &File, key: &str) -> Result<(u32, u128)> {
+    let start = Instant::now(rt)?;
+    let hits = found(file, key)?;
+    Ok((hits, start.elapsed(rt)?.as_nanos()))
+}
+
+/// How many bytes the file is printed as, and the nanoseconds that this took.
+fn print<R: Clock>(rt: &R, file: &File) -> Result<(usize, u128)> {
+    let start = Instant::now(rt)?;
+    let bytes = file.to_bstring()?.len();
+    Ok((bytes, start.elapsed(rt)?.as_nanos()))
+}
+
+/// How many bytes the layout of the text has, and the nanoseconds that it took.
+fn lay_out<R: Clock + AllocGlobal>(rt: &R, text: &[u8]) -> Result<(usize, u128)> {
+    let start = Instant::now(rt)?;
+    let text = normalize(rt.alloc(), text, Options::default())?;
+    Ok((text.len(), start.elapsed(rt)?.as_nanos()))
+}
+
+/// A round over the text, and what it tells.
+fn round(rt: HostRuntime, text: &[u8], key: &str, is_timed: bool) -> Result<()> {
+    let (file, loaded) = load(&rt, text)?;
+    let (hits, looked_up) = look_up(&rt, &file, key)?;
+    let (written, printed) = print(&rt, &file)?;
+    let (set, laid_out) = lay_out(&rt, text)?;
+    if is_timed {
+        println!(rt; "{loaded} {looked_up} {printed} {laid_out}")?;
+    }
+    println!(rt; "{hits} of {LOOKUPS} found, {written} bytes written, {set} laid out")?;
+    Ok(())
+}
+
 /// The key to look up.
 fn key_of(args: &[String]) -> &str {
     match args.get(2) {
@@ -41,35 +82,20 @@ fn key_of(args: &[String]) -> &str {
     }
 }
 
+/// How often to do it all.
+fn rounds_of(args: &[String]) -> Result<u32> {
+    match args.get(1) {
+        Some(word) => word.parse::<u32>().context("how many rounds?"),
+        None => Ok(1),
+    }
+}
+
 fn main(rt: HostRuntime) -> Result<()> {
     let args: Vec<String> = env::args(&rt)?.collect(rt.alloc())?;
-    let rounds = match args.get(1) {
-        Some(word) => word.parse::<u32>().context("how many rounds?")?,
-        None => 1,
-    };
     let is_timed = args.get(3).is_some_and(|word| word.as_str() == "times");
     let text = input(&rt)?;
-    for _ in 0..rounds {
-        let start = Instant::now(&rt)?;
-        let file = File::try_from_bytes(rt.alloc(), &text)?;
-        let loaded = start.elapsed(&rt)?.as_nanos();
-        let start = Instant::now(&rt)?;
-        let hits = found(&file, key_of(&args))?;
-        let looked_up = start.elapsed(&rt)?.as_nanos();
-        let start = Instant::now(&rt)?;
-        let printed = file.to_bstring()?;
-        let written = start.elapsed(&rt)?.as_nanos();
-        let start = Instant::now(&rt)?;
-        let set = normalize(rt.alloc(), &text, Options::default())?;
-        let laid_out = start.elapsed(&rt)?.as_nanos();
-        if is_timed {
-            println!(rt; "{loaded} {looked_up} {written} {laid_out}")?;
-        }
-        println!(rt;
-            "{hits} of {LOOKUPS} found, {} bytes written, {} laid out",
-            printed.len(),
-            set.len()
-        )?;
+    for _ in 0..rounds_of(&args)? {
+        round(rt, &text, key_of(&args), is_timed)?;
     }
     Ok(())
 }

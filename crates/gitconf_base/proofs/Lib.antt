@@ -1,4 +1,2 @@
 pub mod KeyLemmas
 pub mod KeyRows
-pub mod SectionLemmas
-pub mod TableClones

@@ -7,4 +7,3 @@ pub mod key;
 pub mod laws;
 pub mod meta;
 pub mod source;
-pub mod util;

@@ -195,12 +195,18 @@ fn write_remaining<W: fmt::Write>(remaining: &[u8], f: &mut fmt::Formatter<W>) -
     if remaining.len() <= SHOWN {
         return write!(f, "'{text}'");
     }
+    write_start(text, f)?;
     let omitted = remaining.len() - SHOWN;
+    write!(f, " ... ({omitted} characters omitted)")
+}
+
+/// The first characters of a text, in quotes.
+fn write_start<W: fmt::Write>(text: &str, f: &mut fmt::Formatter<W>) -> fmt::Result {
     f.write_char('\'')?;
     for ch in text.chars().take(SHOWN) {
         f.write_char(ch)?;
     }
-    write!(f, "' ... ({omitted} characters omitted)")
+    f.write_char('\'')
 }
 
 impl std::error::Error for Error {}

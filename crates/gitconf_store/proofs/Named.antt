@@ -6,13 +6,13 @@ use Rattle.std.specs.Option.{option_eq}
 use Rattle.std.specs.Str.{bytes_eq}
 use Rattle.gitconf_text.specs.Header.{name_of}
 use Rattle.gitconf_text.specs.Names.{is_same_name}
-use Rattle.gitconf_base.specs.Sections.{SectionEntry}
-use Rattle.gitconf_base.specs.Sections as table
-use Rattle.gitconf_base.proofs.SectionLemmas.{has_name-new}
+use Rattle.gitconf_table.specs.Sections.{SectionEntry}
+use Rattle.gitconf_table.specs.Sections as table
+use Rattle.gitconf_table.proofs.SectionLemmas.{has_name-new}
 use Rattle.gitconf_parse.specs.Events.{header_of}
 use Rattle.gitconf_base.specs.Metadata.{Meta}
-use Rattle.gitconf_base.specs.SectionIters.{named_left}
-use Rattle.gitconf_base.specs.declared.util.by_name.Named.{Named}
+use Rattle.gitconf_table.specs.SectionIters.{named_left}
+use Rattle.gitconf_table.specs.declared.table.by_name.Named.{Named}
 use Rattle.gitconf_parse.specs.declared.items.Item.{Item}
 use Rattle.gitconf_state.specs.State.{State}
 use Rattle.gitconf_store.specs.Lookups.{named_sections}

@@ -13,7 +13,7 @@ use Rattle.gitconf_text.specs.declared.parse.section.header.Error.{Error as Head
 use Rattle.gitconf_text.specs.declared.parse.section.header.Error.TheVariants.{InvalidName, InvalidSubSection}
 use Rattle.gitconf_text.specs.declared.parse.section.header.Error.TheVariants as headers
 use Rattle.gitconf_base.specs.Metadata.{Meta}
-use Rattle.gitconf_base.specs.Sections.{no_number}
+use Rattle.gitconf_table.specs.Sections.{no_number}
 use Rattle.gitconf_body.specs.Places.{IsLastAt}
 use Rattle.gitconf_state.specs.Edit.{is_target, old_value, section_tokens, section_with, set_raw_value, set_raw_value_tokens, set_tokens, token_bytes, with_used}
 use Rattle.gitconf_state.specs.LineEnds.{file_line_end}

@@ -6,7 +6,7 @@ use Rattle.std.specs.Prelude.{◌&&◌, ◌||◌}
 use Rattle.std.proofs.lemmas.Option.{slice_get_within}
 use Rattle.std.proofs.lemmas.List.{take_all, length-take-le, map-append, length-map}
 use Rattle.gitconf_base.specs.Metadata.{Meta}
-use Rattle.gitconf_base.specs.Sections.{SectionEntry, is_named}
+use Rattle.gitconf_table.specs.Sections.{SectionEntry, is_named}
 use Rattle.gitconf_state.specs.Edit.{is_target}
 use Rattle.gitconf_body.specs.Places.{IsFront, IsLastAt, IsLastPlace}
 use Rattle.gitconf_body.proofs.Places.{front_all, front_less, front_last, front_none}

@@ -2,8 +2,8 @@
 use Rattle.std.proofs.Common.{◌≡◌, ◌==◌, ℕ, false, List, [], ◌∷◌, map, refl, ap, subst}
 use Rattle.std.specs.List.{AllByRecursion}
 use Rattle.gitconf_base.specs.Metadata.{Meta}
-use Rattle.gitconf_base.specs.Sections.{SectionEntry, Sections}
-use Rattle.gitconf_base.specs.Sections as table
+use Rattle.gitconf_table.specs.Sections.{SectionEntry, Sections}
+use Rattle.gitconf_table.specs.Sections as table
 use Rattle.gitconf_parse.specs.declared.items.Item.{Item}
 use Rattle.gitconf_state.specs.State.{State, SectionState, AreNumbered, IsState}
 use Rattle.gitconf_store.specs.declared.section.Section.{Section}

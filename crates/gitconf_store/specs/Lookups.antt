@@ -2,8 +2,8 @@
 use Rattle.std.specs.Prelude.{◌≡◌, ◌≢◌, ℕ, Bool, List, Option, None, Result, Ok, Err, map, filter}
 use Rattle.std.specs.List.{last_or, filter_map}
 use Rattle.std.specs.Option.{option_map}
-use Rattle.gitconf_base.specs.declared.util.by_name.Named.{Named}
-use Rattle.gitconf_base.specs.SectionIters.{named_left}
+use Rattle.gitconf_table.specs.declared.table.by_name.Named.{Named}
+use Rattle.gitconf_table.specs.SectionIters.{named_left}
 use Rattle.gitconf_text.specs.Value.{plain}
 use Rattle.gitconf_base.specs.Metadata.{Meta}
 use Rattle.gitconf_state.specs.Lookup.{Listed, listing, entries_of_key, deciding}

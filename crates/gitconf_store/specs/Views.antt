@@ -1,6 +1,6 @@
 -- What the views of a store show.
 use Rattle.std.specs.Prelude.{ℕ, List, map}
-use Rattle.gitconf_base.specs.SectionIters as table
+use Rattle.gitconf_table.specs.SectionIters as table
 use Rattle.gitconf_state.specs.State.{SectionState}
 use Rattle.gitconf_store.specs.declared.section.Section.{Section}
 use Rattle.gitconf_store.specs.declared.section.SectionRef.{SectionRef}

@@ -3,13 +3,13 @@ ghost use Rattle.std.specs.Fn.{ComputesKey};
 ghost use Rattle.std.specs.Option.{option_copied, option_map};
 ghost use Rattle.std.specs.Prelude.{◌≡◌, ◌&&◌, ◌<◌, Bool, Some, length, slice_get, IfSome};
 ghost use Rattle.gitconf_base.specs.Metadata.{Meta};
-ghost use Rattle.gitconf_base.specs.Sections.{is_named};
+ghost use Rattle.gitconf_table.specs.Sections.{is_named};
 ghost use Rattle.gitconf_body.specs.Places.{IsLastPlace};
 
 use crate::lookup::passes;
 use crate::section::Section;
 use gitconf_base::meta::Metadata;
-use gitconf_base::util::SectionTable;
+use gitconf_table::table::SectionTable;
 
 /// Whether the section at a place has the name and the subsection, and its metadata passes.
 fn is_target<F: FnMut(&Metadata) -> bool>(

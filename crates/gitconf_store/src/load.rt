@@ -6,9 +6,9 @@ ghost use Rattle.gitconf_store.specs.Store.{AllSectionsFit, section_state, loade
 
 use crate::section::Section;
 use gitconf_base::meta::Metadata;
-use gitconf_base::util::SectionTable;
 use gitconf_parse::events::{decoded_header, subsection_name};
 use gitconf_parse::items;
+use gitconf_table::table::SectionTable;
 use gitconf_text::NoMemory;
 use std::alloc::Global;
 use std::rc::Rc;

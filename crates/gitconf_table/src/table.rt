@@ -196,6 +196,7 @@ impl<T> SectionTable<T> {
     pub fn iter(&self) -> SectionIter<'_, T>
         ensures left { sections_left result ≡ sections_of self.now }
         ensures fits { length (sections_left result) < 2 ^ 64 }
+        ensures numbered { IsNumbered self.now }
     {
         SectionIter { rows: &self.rows }
     }

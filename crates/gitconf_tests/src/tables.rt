@@ -2,7 +2,7 @@
 
 use self::Step::{Change, Put, PutAll, Remove, Rename};
 use crate::shim::{MOST, Outcome, begin, each_refused, was_refused};
-use gitconf_base::util::{SectionId, SectionTable};
+use gitconf_table::table::{SectionId, SectionTable};
 use gitconf_text::NoMemory;
 use gitconf_text::parse::span;
 use std::alloc::{AllocError, Global};

@@ -2,7 +2,7 @@ use Rattle.std.proofs.Common.{rules, ◌≡◌, ◌-◌, suc, Some, true, false}
 use Rattle.std.specs.List.{slice_get}
 use Rattle.std.specs.Option.{option_copied, option_map}
 use Rattle.std.specs.Prelude.{◌&&◌}
-use Rattle.gitconf_base.specs.Sections.{is_named}
+use Rattle.gitconf_table.specs.Sections.{is_named}
 use Rattle.gitconf_store.proofs.Targets.{target_found, target_passed}
 use Rattle.gitconf_store.proofs.edit.last_place.Goals as goal
 

@@ -3,7 +3,7 @@ use Rattle.std.specs.Fn.{ComputesKey}
 use Rattle.std.specs.Option.{option_copied}
 use Rattle.std.specs.Prelude.{◌&&◌}
 use Rattle.gitconf_base.specs.Metadata.{Meta}
-use Rattle.gitconf_base.specs.Sections.{is_named}
+use Rattle.gitconf_table.specs.Sections.{is_named}
 use Rattle.gitconf_body.specs.Places.{IsFront}
 use Rattle.gitconf_store.proofs.edit.last_place.Given as goal
 

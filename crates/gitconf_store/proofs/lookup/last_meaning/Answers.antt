@@ -3,7 +3,7 @@ use Rattle.std.specs.Option.{option_map}
 use Rattle.bstr.specs.Owned.{bstring_bytes}
 use Rattle.gitconf_text.specs.Value.{raw_of}
 use Rattle.gitconf_parse.specs.Items.{value_of}
-use Rattle.gitconf_base.specs.SectionIters.{named_left}
+use Rattle.gitconf_table.specs.SectionIters.{named_left}
 use Rattle.gitconf_state.specs.Lookup.{listing}
 use Rattle.gitconf_store.specs.Store.{section_under}
 use Rattle.gitconf_store.specs.Lookups.{deciding_in, named_sections}

@@ -1,7 +1,7 @@
 use Rattle.std.proofs.Common.{◌≡◌, Bool, length}
 use Rattle.std.specs.Fn.{ComputesKey}
 use Rattle.gitconf_base.specs.Metadata.{Meta}
-use Rattle.gitconf_base.specs.SectionIters.{named_left}
+use Rattle.gitconf_table.specs.SectionIters.{named_left}
 use Rattle.gitconf_store.specs.Lookups.{last_among, named_sections}
 use Rattle.gitconf_store.proofs.lookup.last_meaning.Given as goal
 

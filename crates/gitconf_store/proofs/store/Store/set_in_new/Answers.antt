@@ -1,7 +1,7 @@
 use Rattle.std.proofs.Common.{rules, ◌≡◌, true, [], sym, ap, ◌∙◌}
 use Rattle.std.specs.Option.{option_copied}
 use Rattle.gitconf_text.specs.Names.{is_made_name, is_valid_or_none}
-use Rattle.gitconf_base.specs.Sections.{with_last}
+use Rattle.gitconf_table.specs.Sections.{with_last}
 use Rattle.gitconf_parse.specs.Events.{header_of}
 use Rattle.gitconf_state.specs.Edit.{made_header}
 use Rattle.gitconf_state.specs.LineEnds.{file_line_end}

@@ -1,9 +1,0 @@
-use Rattle.std.proofs.Common.{◌≡◌, length}
-use Rattle.gitconf_base.specs.SectionIters.{ids_left}
-use Rattle.gitconf_base.proofs.util.IdsDoubleEndedIterator.next_back.Given as goal
-
-abbrev pub invariant-loop-row : goal.invariant-loop-row
-invariant-loop-row g l = ids_left l.self ≡ ids_left l.initial.self
-
-abbrev pub decreases-loop-row : goal.decreases-loop-row
-decreases-loop-row g l = length l.self.rows.now

@@ -1,9 +1,0 @@
-use Rattle.std.proofs.Common.{◌≡◌, vec_len}
-use Rattle.gitconf_base.proofs.SectionLemmas.{numbered_until}
-use Rattle.gitconf_base.proofs.util.renumber.Given as goal
-
-abbrev pub invariant-loop-at : goal.invariant-loop-at
-invariant-loop-at g l = record {
-  numbers : l.rows.items ≡ numbered_until l.at l.next l.initial.rows.items;
-  same_len : vec_len l.rows ≡ vec_len l.initial.rows;
-}
