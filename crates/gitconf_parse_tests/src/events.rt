@@ -8,6 +8,11 @@ use std::alloc::Global;
 use std::str;
 use std::test::Fail;
 
+/// The events of a text.
+pub fn read(alloc: Global, text: &[u8]) -> Result<Events, Fail> {
+    Ok(Events::from_bytes(alloc, text, None)?)
+}
+
 /// What the events write, all in a row.
 pub fn written(alloc: Global, events: EventIter<'_>) -> Result<Vec<u8>, Fail> {
     let mut out = Vec::new(alloc);
@@ -35,7 +40,7 @@ fn no_values(event: &EventRef<'_>) -> bool {
 
 /// Whether the events and a copy of them write these parts, and the copy keeps all entries.
 fn are_written(alloc: Global, text: &[u8], parts: &[u8]) -> Result<bool, Fail> {
-    let events = Events::from_bytes(alloc, text, None)?;
+    let events = read(alloc, text)?;
     let copy = events.try_clone()?;
     Ok(
         copy.keeps_entries()
@@ -94,18 +99,26 @@ fn refused_characters(rt: HostRuntime) {
     assert!(rt; told.is_some() && told == again);
 }
 
-/// Looking at events takes no memory.
-#[test]
-fn events_looked_at(rt: HostRuntime) -> Result<(), Fail> {
-    let events = Events::from_bytes(rt.alloc(), TEXT, None)?;
-    begin(rt.alloc())?;
-    let front = events.frontmatter().count();
+/// How many events stand before the first section, how many in all sections, and whether all entries are among them.
+fn counts(events: &Events) -> (usize, usize, bool) {
     let mut in_sections: usize = 0;
     for section in events.sections() {
         in_sections = in_sections.saturating_add(section.body().count());
     }
-    let keeps_entries = events.keeps_entries();
+    (
+        events.frontmatter().count(),
+        in_sections,
+        events.keeps_entries(),
+    )
+}
+
+/// Looking at events takes no memory.
+#[test]
+fn events_looked_at(rt: HostRuntime) -> Result<(), Fail> {
+    let events = read(rt.alloc(), TEXT)?;
+    begin(rt.alloc())?;
+    let counts = counts(&events);
     assert!(rt; !was_refused(rt.alloc()));
-    assert!(rt; front == 10 && in_sections == 48 && keeps_entries);
+    assert!(rt; counts == (10, 48, true));
     Ok(())
 }

@@ -1,6 +1,6 @@
 //! Calls on events that no command makes, each with one of its growths refused in turn.
 
-use crate::events::written;
+use crate::events::{read, written};
 use crate::texts::{TEXT, WRITTEN};
 use gitconf_parse::event_ref::EventRef;
 use gitconf_parse::events::Events;
@@ -35,7 +35,7 @@ fn a_text_read(alloc: Global) -> Result<Outcome, Fail> {
 }
 
 fn events_copied(alloc: Global) -> Result<Outcome, Fail> {
-    let events = Events::from_bytes(alloc, TEXT, None)?;
+    let events = read(alloc, TEXT)?;
     begin(alloc)?;
     let answer = events.try_clone();
     let refused = was_refused(alloc);

@@ -133,6 +133,16 @@ fn key_of(names: Names<'_>) -> KeyRef<'_> {
     }
 }
 
+/// Whether the text is a key of these names in all its types.
+fn is_key(alloc: Global, text: &[u8], names: Option<Names<'_>>) -> Result<bool, AllocError> {
+    let expected = names.map(key_of);
+    Ok(
+        bytes_answer(alloc, text, expected)?
+            && text_answers(alloc, text, expected)?
+            && key_answers(expected),
+    )
+}
+
 /// A key of a value, cut at its first dot and at its last.
 const KEYS: [(&[u8], Option<Names<'static>>); 13] = [
     (b"", None),
@@ -159,11 +169,7 @@ const KEYS: [(&[u8], Option<Names<'static>>); 13] = [
 #[test]
 fn keys_of_values(rt: HostRuntime) -> Result<(), Fail> {
     for (text, names) in KEYS {
-        let expected = names.map(key_of);
-        let shown = BStr::new(text);
-        assert!(rt; bytes_answer(rt.alloc(), text, expected)?, "'{shown}'");
-        assert!(rt; text_answers(rt.alloc(), text, expected)?, "'{shown}'");
-        assert!(rt; key_answers(expected), "'{shown}'");
+        assert!(rt; is_key(rt.alloc(), text, names)?, "'{}'", BStr::new(text));
     }
     Ok(())
 }

@@ -38,7 +38,7 @@ pub struct Outcome {
 /// Makes the call again and again, until no growth of it is refused. Each of its outcomes has to fit.
 pub fn each_refused<F: Fn(Global) -> Result<Outcome, Fail>>(
     alloc: Global,
-    what: &'static str,
+    what: &str,
     call: F,
 ) -> Result<(), Fail>
     requires { F.IsAlwaysCallable call }

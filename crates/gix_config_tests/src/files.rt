@@ -1,9 +1,10 @@
 //! Files: their metadata, and filters that are asked.
 
+use crate::loads::loaded;
 use bstr::BString;
 use gix_config::file::{Metadata, SectionRef, init};
 use gix_config::{File, KeyRef, Source};
-use std::alloc::Global;
+use std::alloc::{AllocError, Global};
 use std::rc::Rc;
 use std::test::Fail;
 
@@ -12,28 +13,50 @@ fn has_meta(file: &File, meta: &Metadata) -> Result<bool, Fail> {
     Ok(*file.meta() == *meta && *file.meta_owned()? == *meta)
 }
 
+/// Says that the file comes from the user.
+fn hand_to_user(alloc: Global, file: &mut File) -> Result<(), AllocError> {
+    file.set_meta(Rc::new(alloc, Metadata::from(Source::User))?);
+    Ok(())
+}
+
+/// Whether each section has this metadata.
+fn sections_have(file: &File, meta: &Metadata) -> bool {
+    for section in file.sections() {
+        if *section.meta() != *meta {
+            return false;
+        }
+    }
+    true
+}
+
 /// A file has the metadata that it was made with, or that was set; its sections and its copies keep theirs.
 #[test]
 fn metadata_of_a_file(rt: HostRuntime) -> Result<(), Fail> {
     let api = Metadata::api();
-    let mut file = File::try_from_bytes(rt.alloc(), b"[a] k = v")?;
+    let mut file = loaded(rt.alloc(), b"[a] k = v")?;
     assert!(rt; has_meta(&file, &api)?);
     let copy = file.try_clone()?;
-    file.set_meta(Rc::new(rt.alloc(), Metadata::from(Source::User))?);
+    hand_to_user(rt.alloc(), &mut file)?;
     assert!(rt; has_meta(&file, &Metadata::from(Source::User))?);
-    assert!(rt; file.sections().all(|section| *section.meta() == api));
+    assert!(rt; sections_have(&file, &api));
     drop(file);
     assert!(rt; *copy.meta() == api);
     Ok(())
 }
 
+/// Whether a file that is made with this metadata has nothing else.
+fn is_empty_with(alloc: Global, meta: Rc<Metadata>, expected: &Metadata) -> Result<bool, Fail> {
+    let file = File::new(alloc, meta);
+    Ok(*file.meta() == *expected && file.to_bstring()?.is_empty())
+}
+
+/// A file that is made with the metadata of another one.
 #[test]
 fn metadata_of_an_empty_file(rt: HostRuntime) -> Result<(), Fail> {
-    let mut file = File::try_from_bytes(rt.alloc(), b"[a] k = v")?;
-    file.set_meta(Rc::new(rt.alloc(), Metadata::from(Source::User))?);
-    let empty = File::new(rt.alloc(), file.meta_owned()?);
-    assert!(rt; *empty.meta() == Metadata::from(Source::User));
-    assert!(rt; empty.to_bstring()?.is_empty());
+    let mut file = loaded(rt.alloc(), b"[a] k = v")?;
+    hand_to_user(rt.alloc(), &mut file)?;
+    let meta = file.meta_owned()?;
+    assert!(rt; is_empty_with(rt.alloc(), meta, &Metadata::from(Source::User))?);
     Ok(())
 }
 
@@ -91,7 +114,7 @@ const VALUES: [(&[u8], &[u8], Option<&[u8]>); 5] = [
 #[test]
 fn values_where_sections_pass(rt: HostRuntime) -> Result<(), Fail> {
     for (text, key, expected) in VALUES {
-        let file = File::try_from_bytes(rt.alloc(), text)?;
+        let file = loaded(rt.alloc(), text)?;
         assert!(rt; is_found(&file, key, expected)?);
         if let Some(key) = KeyRef::parse_unvalidated(key) {
             assert!(rt; is_found_by(&file, key, expected)?);
@@ -103,7 +126,7 @@ fn values_where_sections_pass(rt: HostRuntime) -> Result<(), Fail> {
 /// Sections are asked for from the last one on: a filter that drops the first one that it sees leaves the others.
 #[test]
 fn a_filter_that_changes_its_mind(rt: HostRuntime) -> Result<(), Fail> {
-    let file = File::try_from_bytes(rt.alloc(), b"[a]\nk=1\n[a]\nk=2\n[a]\nk=3\n")?;
+    let file = loaded(rt.alloc(), b"[a]\nk=1\n[a]\nk=2\n[a]\nk=3\n")?;
     let mut was_asked = false;
     let found = file.string_filter("a.k", |_| {
         let passes = was_asked;
@@ -154,7 +177,7 @@ fn is_printed(file: &File, text: &[u8]) -> Result<bool, Fail> {
 /// A section that the filter drops is left alone, and another one is made.
 #[test]
 fn values_are_set_where_a_filter_passes(rt: HostRuntime) -> Result<(), Fail> {
-    let mut file = File::try_from_bytes(rt.alloc(), b"[a]\nk=1\n")?;
+    let mut file = loaded(rt.alloc(), b"[a]\nk=1\n")?;
     assert!(rt; replaces(&mut file, b"2", Source::User, None)?);
     assert!(rt; is_printed(&file, b"[a]\nk=1\n[a]\n\tk = 2\n")?);
     assert!(rt; replaces(&mut file, b"3", Source::Api, Some(b"2"))?);
@@ -194,7 +217,7 @@ fn sections_by_their_numbers(rt: HostRuntime) -> Result<(), Fail> {
         (b"[a \"x\"] k [a \"y\"]j", 1, b"[a \"y\"]\nj\n"),
     ];
     for (text, place, expected) in rows {
-        let file = File::try_from_bytes(rt.alloc(), text)?;
+        let file = loaded(rt.alloc(), text)?;
         assert!(rt; printed_of(rt.alloc(), &file, place)?.as_slice() == expected);
     }
     Ok(())
@@ -242,7 +265,7 @@ fn how_often_a_filter_is_asked(rt: HostRuntime) -> Result<(), Fail> {
         (b"k [a]", 2, 2),
     ];
     for (text, all, none) in rows {
-        let file = File::try_from_bytes(rt.alloc(), text)?;
+        let file = loaded(rt.alloc(), text)?;
         assert_eq!(rt; times_asked(rt.alloc(), &file, true)?, all);
         assert_eq!(rt; times_asked(rt.alloc(), &file, false)?, none);
     }

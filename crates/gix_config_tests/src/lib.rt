@@ -5,6 +5,8 @@
 #[cfg(test)]
 mod files;
 #[cfg(test)]
+mod loads;
+#[cfg(test)]
 mod messages;
 #[cfg(test)]
 mod options;

@@ -1,11 +1,11 @@
 //! Calls on files that no command makes, each with one of its growths refused in turn.
 
+use crate::loads::loaded;
 use gitconf_parse::sink::SinkFault;
 use gitconf_parse_tests::texts::{PRINTED, TEXT};
 use gitconf_tests::shim::{Outcome, begin, each_refused, was_refused};
 use gitconf_text::NoMemory;
 use gix_config::File;
-use gix_config::file::SectionRef;
 use gix_config::refusals::Refusal as _;
 use std::alloc::Global;
 use std::test::Fail;
@@ -42,7 +42,7 @@ fn a_file_written(alloc: Global, file: &File) -> Result<Outcome, Fail> {
 #[test]
 fn files(rt: HostRuntime) -> Result<(), Fail> {
     each_refused(rt.alloc(), "a text that is loaded", a_text_loaded)?;
-    let file = File::try_from_bytes(rt.alloc(), TEXT)?;
+    let file = loaded(rt.alloc(), TEXT)?;
     each_refused(rt.alloc(), "a file that is written", |alloc| {
         a_file_written(alloc, &file)
     })
@@ -52,11 +52,10 @@ fn files(rt: HostRuntime) -> Result<(), Fail> {
 const SECTION: &[u8] =
     b"[core] # c\n\tk = v\n j\n\tlong = a \\\n  b \\\r\n c ; end\ne = \"x\\ty\" z\n";
 
-fn a_section_written(
-    alloc: Global,
-    file: &File,
-    section: &SectionRef<'_>,
-) -> Result<Outcome, Fail> {
+fn a_section_written(alloc: Global, file: &File) -> Result<Outcome, Fail> {
+    let Some(section) = file.sections().next() else {
+        return Err(Fail::new("no section"));
+    };
     let mut out = Vec::new(alloc);
     begin(alloc)?;
     let answer = section.write_to(&mut out);
@@ -68,7 +67,10 @@ fn a_section_written(
     Ok(Outcome { refused, fits })
 }
 
-fn a_section_copied(alloc: Global, file: &File, section: &SectionRef<'_>) -> Result<Outcome, Fail> {
+fn a_section_copied(alloc: Global, file: &File) -> Result<Outcome, Fail> {
+    let Some(section) = file.sections().next() else {
+        return Err(Fail::new("no section"));
+    };
     begin(alloc)?;
     let answer = section.to_bstring();
     let refused = was_refused(alloc);
@@ -81,14 +83,11 @@ fn a_section_copied(alloc: Global, file: &File, section: &SectionRef<'_>) -> Res
 
 #[test]
 fn sections(rt: HostRuntime) -> Result<(), Fail> {
-    let file = File::try_from_bytes(rt.alloc(), TEXT)?;
-    let Some(section) = file.sections().next() else {
-        return Err(Fail::new("no section"));
-    };
+    let file = loaded(rt.alloc(), TEXT)?;
     each_refused(rt.alloc(), "a section that is written", |alloc| {
-        a_section_written(alloc, &file, &section)
+        a_section_written(alloc, &file)
     })?;
     each_refused(rt.alloc(), "a section's text", |alloc| {
-        a_section_copied(alloc, &file, &section)
+        a_section_copied(alloc, &file)
     })
 }

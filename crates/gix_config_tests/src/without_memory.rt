@@ -1,5 +1,6 @@
 //! Calls that take no memory: the shim refuses their first growth, and there is none.
 
+use crate::loads::loaded;
 use gitconf_parse_tests::texts::TEXT;
 use gitconf_tests::shim::{begin, was_refused};
 use gix_config::File;
@@ -25,7 +26,7 @@ fn is_a_miss(file: &File, key: &str) -> bool {
 
 #[test]
 fn misses(rt: HostRuntime) -> Result<(), Fail> {
-    let file = File::try_from_bytes(rt.alloc(), TEXT)?;
+    let file = loaded(rt.alloc(), TEXT)?;
     begin(rt.alloc())?;
     let are_misses = MISSES.iter().all(|key| is_a_miss(&file, key));
     assert!(rt; !was_refused(rt.alloc()) && are_misses);
@@ -52,7 +53,7 @@ fn is_told(file: &File) -> bool {
 
 #[test]
 fn counts_and_views(rt: HostRuntime) -> Result<(), Fail> {
-    let file = File::try_from_bytes(rt.alloc(), TEXT)?;
+    let file = loaded(rt.alloc(), TEXT)?;
     begin(rt.alloc())?;
     let is_told = is_told(&file);
     let shared = file.meta_owned();
@@ -64,7 +65,7 @@ fn counts_and_views(rt: HostRuntime) -> Result<(), Fail> {
 /// A writer that has room is not refused anything.
 #[test]
 fn a_file_written_where_there_is_room(rt: HostRuntime) -> Result<(), Fail> {
-    let file = File::try_from_bytes(rt.alloc(), b"[a] k = v")?;
+    let file = loaded(rt.alloc(), b"[a] k = v")?;
     let mut out = Vec::with_capacity(rt.alloc(), 100)?;
     begin(rt.alloc())?;
     let answer = file.write_to(&mut out);

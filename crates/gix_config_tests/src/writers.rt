@@ -1,5 +1,6 @@
 //! What writers that fail take of a file, of a part of one, and of a section.
 
+use crate::loads::loaded;
 use gitconf_parse::sink::SinkFault;
 use gitconf_parse_tests::narrow::{Narrow, check};
 use gitconf_parse_tests::texts::{PRINTED, TEXT};
@@ -21,7 +22,7 @@ const ROWS: [(&[u8], &[u8]); 7] = [
 #[test]
 fn writers_that_fail(rt: HostRuntime) -> Result<(), Fail> {
     for (text, printed) in ROWS {
-        let file = File::try_from_bytes(rt.alloc(), text)?;
+        let file = loaded(rt.alloc(), text)?;
         check(rt.alloc(), printed, |out| file.write_to(out))?;
     }
     Ok(())
@@ -44,7 +45,7 @@ fn write_section(file: &File, at: usize, out: &mut Narrow) -> Result<(), SinkFau
 
 #[test]
 fn writers_that_fail_at_parts(rt: HostRuntime) -> Result<(), Fail> {
-    let file = File::try_from_bytes(rt.alloc(), b"  [a] k [b]\nj")?;
+    let file = loaded(rt.alloc(), b"  [a] k [b]\nj")?;
     check(
         rt.alloc(),
         b"  \n[b]\nj\n",
