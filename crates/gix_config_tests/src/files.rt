@@ -1,6 +1,6 @@
 //! Files: their metadata, and filters that are asked.
 
-use crate::loads::loaded;
+use crate::loads::{loaded, section_at, section_count, sections};
 use bstr::BString;
 use gix_config::file::{Metadata, SectionRef, init};
 use gix_config::{File, KeyRef, Source};
@@ -21,7 +21,7 @@ fn hand_to_user(alloc: Global, file: &mut File) -> Result<(), AllocError> {
 
 /// Whether each section has this metadata.
 fn sections_have(file: &File, meta: &Metadata) -> bool {
-    for section in file.sections() {
+    for section in sections(file) {
         if *section.meta() != *meta {
             return false;
         }
@@ -174,28 +174,38 @@ fn is_printed(file: &File, text: &[u8]) -> Result<bool, Fail> {
     Ok(file.to_bstring()?.as_bytes() == text)
 }
 
+/// A value that is set where no section passes: another section is made.
+fn is_set_beside(file: &mut File) -> Result<bool, Fail> {
+    Ok(replaces(file, b"2", Source::User, None)? && is_printed(file, b"[a]\nk=1\n[a]\n\tk = 2\n")?)
+}
+
+/// Values that are set in that section.
+fn is_set_in_place(file: &mut File) -> Result<bool, Fail> {
+    Ok(
+        replaces(file, b"3", Source::Api, Some(b"2"))?
+            && replaces_by(file, ("A", "K"), b"4", Source::Api, Some(b"3"))?
+            && is_printed(file, b"[a]\nk=1\n[a]\n\tk = 4\n")?,
+    )
+}
+
 /// A section that the filter drops is left alone, and another one is made.
 #[test]
 fn values_are_set_where_a_filter_passes(rt: HostRuntime) -> Result<(), Fail> {
     let mut file = loaded(rt.alloc(), b"[a]\nk=1\n")?;
-    assert!(rt; replaces(&mut file, b"2", Source::User, None)?);
-    assert!(rt; is_printed(&file, b"[a]\nk=1\n[a]\n\tk = 2\n")?);
-    assert!(rt; replaces(&mut file, b"3", Source::Api, Some(b"2"))?);
-    assert!(rt; replaces_by(&mut file, ("A", "K"), b"4", Source::Api, Some(b"3"))?);
-    assert!(rt; is_printed(&file, b"[a]\nk=1\n[a]\n\tk = 4\n")?);
+    assert!(rt; is_set_beside(&mut file)?);
+    assert!(rt; is_set_in_place(&mut file)?);
     assert!(rt; replaces_by(&mut file, ("a", "k"), b"5", Source::User, None)?);
-    assert_eq!(rt; file.sections().count(), 3);
+    assert_eq!(rt; section_count(&file), 3);
     Ok(())
 }
 
 /// What is printed of the section at this place alone, which the filter tells by its number.
 fn printed_of(alloc: Global, file: &File, place: usize) -> Result<Vec<u8>, Fail> {
+    let Some(kept) = section_at(file, place) else {
+        return Err(Fail::new("no such section"));
+    };
     let mut out = Vec::new(alloc);
-    for (at, kept) in file.sections().enumerate() {
-        if at == place {
-            file.write_to_filter(&mut out, |section| section.id() == kept.id())?;
-        }
-    }
+    file.write_to_filter(&mut out, |section| section.id() == kept.id())?;
     Ok(out)
 }
 

@@ -1,6 +1,6 @@
 //! Calls on files that no command makes, each with one of its growths refused in turn.
 
-use crate::loads::loaded;
+use crate::loads::{loaded, section_at};
 use gitconf_parse::sink::SinkFault;
 use gitconf_parse_tests::texts::{PRINTED, TEXT};
 use gitconf_tests::shim::{Outcome, begin, each_refused, was_refused};
@@ -53,7 +53,7 @@ const SECTION: &[u8] =
     b"[core] # c\n\tk = v\n j\n\tlong = a \\\n  b \\\r\n c ; end\ne = \"x\\ty\" z\n";
 
 fn a_section_written(alloc: Global, file: &File) -> Result<Outcome, Fail> {
-    let Some(section) = file.sections().next() else {
+    let Some(section) = section_at(file, 0) else {
         return Err(Fail::new("no section"));
     };
     let mut out = Vec::new(alloc);
@@ -68,7 +68,7 @@ fn a_section_written(alloc: Global, file: &File) -> Result<Outcome, Fail> {
 }
 
 fn a_section_copied(alloc: Global, file: &File) -> Result<Outcome, Fail> {
-    let Some(section) = file.sections().next() else {
+    let Some(section) = section_at(file, 0) else {
         return Err(Fail::new("no section"));
     };
     begin(alloc)?;

@@ -1,6 +1,6 @@
 //! Calls that take no memory: the shim refuses their first growth, and there is none.
 
-use crate::loads::loaded;
+use crate::loads::{loaded, section_count};
 use gitconf_parse_tests::texts::TEXT;
 use gitconf_tests::shim::{begin, was_refused};
 use gix_config::File;
@@ -39,13 +39,13 @@ fn a_new_file(rt: HostRuntime) -> Result<(), Fail> {
     begin(rt.alloc())?;
     let file = File::new(rt.alloc(), meta);
     assert!(rt; !was_refused(rt.alloc()));
-    assert!(rt; file.is_void() && file.sections().next().is_none());
+    assert!(rt; file.is_void() && section_count(&file) == 0);
     Ok(())
 }
 
 /// Whether what is told of the file is that of the text.
 fn is_told(file: &File) -> bool {
-    let counts = (file.num_values(), file.is_void(), file.sections().count());
+    let counts = (file.num_values(), file.is_void(), section_count(file));
     counts == (6, false, 3)
         && file.detect_newline_style() == b"\n".as_slice()
         && *file.meta() == Metadata::api()

@@ -1,6 +1,6 @@
 //! What writers that fail take of a file, of a part of one, and of a section.
 
-use crate::loads::loaded;
+use crate::loads::{loaded, section_at};
 use gitconf_parse::sink::SinkFault;
 use gitconf_parse_tests::narrow::{Narrow, check};
 use gitconf_parse_tests::texts::{PRINTED, TEXT};
@@ -36,8 +36,8 @@ fn is_b(section: &SectionRef<'_>) -> bool {
 }
 
 /// Writes the section at this place alone.
-fn write_section(file: &File, at: usize, out: &mut Narrow) -> Result<(), SinkFault> {
-    match file.sections().nth(at) {
+fn write_section(file: &File, place: usize, out: &mut Narrow) -> Result<(), SinkFault> {
+    match section_at(file, place) {
         Some(section) => section.write_to(out),
         None => Ok(()),
     }
