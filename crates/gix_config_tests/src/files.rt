@@ -102,6 +102,21 @@ fn is_found_by(file: &File, key: KeyRef<'_>, expected: Option<&[u8]>) -> Result<
     Ok(is_value(&found, expected) && is_value(&missed, None))
 }
 
+/// Whether the key is found so, written and, where it is one, by its names.
+fn is_found_in(
+    alloc: Global,
+    text: &[u8],
+    key: &[u8],
+    expected: Option<&[u8]>,
+) -> Result<bool, Fail> {
+    let file = loaded(alloc, text)?;
+    let is_found_by_names = match KeyRef::parse_unvalidated(key) {
+        Some(names) => is_found_by(&file, names, expected)?,
+        None => true,
+    };
+    Ok(is_found_by_names && is_found(&file, key, expected)?)
+}
+
 /// A text, a key, and its value where all sections pass.
 const VALUES: [(&[u8], &[u8], Option<&[u8]>); 5] = [
     (b"[a] k = v", b"a.k", Some(b"v")),
@@ -114,11 +129,7 @@ const VALUES: [(&[u8], &[u8], Option<&[u8]>); 5] = [
 #[test]
 fn values_where_sections_pass(rt: HostRuntime) -> Result<(), Fail> {
     for (text, key, expected) in VALUES {
-        let file = loaded(rt.alloc(), text)?;
-        assert!(rt; is_found(&file, key, expected)?);
-        if let Some(key) = KeyRef::parse_unvalidated(key) {
-            assert!(rt; is_found_by(&file, key, expected)?);
-        }
+        assert!(rt; is_found_in(rt.alloc(), text, key, expected)?);
     }
     Ok(())
 }

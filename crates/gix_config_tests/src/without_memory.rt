@@ -43,12 +43,22 @@ fn a_new_file(rt: HostRuntime) -> Result<(), Fail> {
     Ok(())
 }
 
+/// How many values the file has, whether it is void, and how many sections it has.
+fn counts(file: &File) -> (usize, bool, usize) {
+    (file.num_values(), file.is_void(), section_count(file))
+}
+
+fn has_line_feeds(file: &File) -> bool {
+    file.detect_newline_style() == b"\n".as_slice()
+}
+
+fn has_meta(file: &File, meta: &Metadata) -> bool {
+    *file.meta() == *meta
+}
+
 /// Whether what is told of the file is that of the text.
 fn is_told(file: &File) -> bool {
-    let counts = (file.num_values(), file.is_void(), section_count(file));
-    counts == (6, false, 3)
-        && file.detect_newline_style() == b"\n".as_slice()
-        && *file.meta() == Metadata::api()
+    counts(file) == (6, false, 3) && has_line_feeds(file) && has_meta(file, &Metadata::api())
 }
 
 #[test]
@@ -62,14 +72,19 @@ fn counts_and_views(rt: HostRuntime) -> Result<(), Fail> {
     Ok(())
 }
 
+/// Whether the file is written.
+fn is_written(file: &File, out: &mut Vec<u8>) -> bool {
+    file.write_to(out).is_ok()
+}
+
 /// A writer that has room is not refused anything.
 #[test]
 fn a_file_written_where_there_is_room(rt: HostRuntime) -> Result<(), Fail> {
     let file = loaded(rt.alloc(), b"[a] k = v")?;
     let mut out = Vec::with_capacity(rt.alloc(), 100)?;
     begin(rt.alloc())?;
-    let answer = file.write_to(&mut out);
+    let is_written = is_written(&file, &mut out);
     assert!(rt; !was_refused(rt.alloc()));
-    assert!(rt; answer.is_ok() && out.as_slice() == b"[a]\n k = v\n".as_slice());
+    assert!(rt; is_written && out.as_slice() == b"[a]\n k = v\n".as_slice());
     Ok(())
 }

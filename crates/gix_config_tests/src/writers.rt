@@ -6,6 +6,7 @@ use gitconf_parse_tests::narrow::{Narrow, check};
 use gitconf_parse_tests::texts::{PRINTED, TEXT};
 use gix_config::File;
 use gix_config::file::SectionRef;
+use std::alloc::Global;
 use std::test::Fail;
 
 /// Texts, and what is printed of them.
@@ -19,11 +20,16 @@ const ROWS: [(&[u8], &[u8]); 7] = [
     (TEXT, PRINTED),
 ];
 
+/// What failing writers take of the file of a text.
+fn check_file(alloc: Global, text: &[u8], printed: &[u8]) -> Result<(), Fail> {
+    let file = loaded(alloc, text)?;
+    check(alloc, printed, |out| file.write_to(out))
+}
+
 #[test]
 fn writers_that_fail(rt: HostRuntime) -> Result<(), Fail> {
     for (text, printed) in ROWS {
-        let file = loaded(rt.alloc(), text)?;
-        check(rt.alloc(), printed, |out| file.write_to(out))?;
+        check_file(rt.alloc(), text, printed)?;
     }
     Ok(())
 }
