@@ -2,7 +2,7 @@
 
 use crate::loads::{loaded, section_at, section_count, sections};
 use bstr::BString;
-use gix_config::file::{Metadata, SectionRef, init};
+use gix_config::file::{Metadata, init};
 use gix_config::{File, KeyRef, Source};
 use std::alloc::{AllocError, Global};
 use std::rc::Rc;
@@ -29,34 +29,48 @@ fn sections_have(file: &File, meta: &Metadata) -> bool {
     true
 }
 
-/// A file has the metadata that it was made with, or that was set; its sections and its copies keep theirs.
+/// Hands the file to the user, and answers whether it tells that, and its sections keep their metadata.
+fn is_handed_to_user(alloc: Global, file: &mut File) -> Result<bool, Fail> {
+    hand_to_user(alloc, file)?;
+    let is_told = has_meta(file, &Metadata::from(Source::User))?;
+    Ok(is_told && sections_have(file, &Metadata::api()))
+}
+
+fn has_meta_of_api(file: &File) -> Result<bool, Fail> {
+    has_meta(file, &Metadata::api())
+}
+
+/// A file has the metadata that it was made with, or that was set; its sections keep theirs.
 #[test]
 fn metadata_of_a_file(rt: HostRuntime) -> Result<(), Fail> {
-    let api = Metadata::api();
     let mut file = loaded(rt.alloc(), b"[a] k = v")?;
-    assert!(rt; has_meta(&file, &api)?);
-    let copy = file.try_clone()?;
-    hand_to_user(rt.alloc(), &mut file)?;
-    assert!(rt; has_meta(&file, &Metadata::from(Source::User))?);
-    assert!(rt; sections_have(&file, &api));
-    drop(file);
-    assert!(rt; *copy.meta() == api);
+    assert!(rt; has_meta_of_api(&file)?);
+    assert!(rt; is_handed_to_user(rt.alloc(), &mut file)?);
     Ok(())
 }
 
-/// Whether a file that is made with this metadata has nothing else.
-fn is_empty_with(alloc: Global, meta: Rc<Metadata>, expected: &Metadata) -> Result<bool, Fail> {
-    let file = File::new(alloc, meta);
-    Ok(*file.meta() == *expected && file.to_bstring()?.is_empty())
+/// A copy keeps its metadata where the file is handed to the user and dropped.
+#[test]
+fn metadata_of_a_copy(rt: HostRuntime) -> Result<(), Fail> {
+    let mut file = loaded(rt.alloc(), b"[a] k = v")?;
+    let copy = file.try_clone()?;
+    hand_to_user(rt.alloc(), &mut file)?;
+    drop(file);
+    assert!(rt; has_meta_of_api(&copy)?);
+    Ok(())
 }
 
-/// A file that is made with the metadata of another one.
+/// Whether a file that is made with the metadata of this one has it, and nothing else.
+fn is_met_by_an_empty_file(alloc: Global, file: &File) -> Result<bool, Fail> {
+    let empty = File::new(alloc, file.meta_owned()?);
+    Ok(*empty.meta() == Metadata::from(Source::User) && empty.to_bstring()?.is_empty())
+}
+
 #[test]
 fn metadata_of_an_empty_file(rt: HostRuntime) -> Result<(), Fail> {
     let mut file = loaded(rt.alloc(), b"[a] k = v")?;
     hand_to_user(rt.alloc(), &mut file)?;
-    let meta = file.meta_owned()?;
-    assert!(rt; is_empty_with(rt.alloc(), meta, &Metadata::from(Source::User))?);
+    assert!(rt; is_met_by_an_empty_file(rt.alloc(), &file)?);
     Ok(())
 }
 
@@ -199,14 +213,18 @@ fn is_set_in_place(file: &mut File) -> Result<bool, Fail> {
     )
 }
 
+/// The same as the first, by names.
+fn is_set_beside_by_names(file: &mut File) -> Result<bool, Fail> {
+    Ok(replaces_by(file, ("a", "k"), b"5", Source::User, None)? && section_count(file) == 3)
+}
+
 /// A section that the filter drops is left alone, and another one is made.
 #[test]
 fn values_are_set_where_a_filter_passes(rt: HostRuntime) -> Result<(), Fail> {
     let mut file = loaded(rt.alloc(), b"[a]\nk=1\n")?;
     assert!(rt; is_set_beside(&mut file)?);
     assert!(rt; is_set_in_place(&mut file)?);
-    assert!(rt; replaces_by(&mut file, ("a", "k"), b"5", Source::User, None)?);
-    assert_eq!(rt; section_count(&file), 3);
+    assert!(rt; is_set_beside_by_names(&mut file)?);
     Ok(())
 }
 
@@ -220,12 +238,15 @@ fn printed_of(alloc: Global, file: &File, place: usize) -> Result<Vec<u8>, Fail>
     Ok(out)
 }
 
-fn is_of_user(section: &SectionRef<'_>) -> bool {
-    section.meta().source == Source::User
-}
-
-fn is_of_api(section: &SectionRef<'_>) -> bool {
-    section.meta().source == Source::Api
+/// Whether this is printed of the section at a place of the text.
+fn is_printed_alone(
+    alloc: Global,
+    text: &[u8],
+    place: usize,
+    expected: &[u8],
+) -> Result<bool, Fail> {
+    let file = loaded(alloc, text)?;
+    Ok(printed_of(alloc, &file, place)?.as_slice() == expected)
 }
 
 /// Sections that are kept by their numbers, of which each has its own.
@@ -238,8 +259,7 @@ fn sections_by_their_numbers(rt: HostRuntime) -> Result<(), Fail> {
         (b"[a \"x\"] k [a \"y\"]j", 1, b"[a \"y\"]\nj\n"),
     ];
     for (text, place, expected) in rows {
-        let file = loaded(rt.alloc(), text)?;
-        assert!(rt; printed_of(rt.alloc(), &file, place)?.as_slice() == expected);
+        assert!(rt; is_printed_alone(rt.alloc(), text, place, expected)?);
     }
     Ok(())
 }
@@ -251,15 +271,19 @@ fn file_of_user(alloc: Global) -> Result<File, Fail> {
     Ok(File::from_bytes_no_includes(alloc, text, meta, init::Options::default())?)
 }
 
+/// Whether this is printed of the front and the sections that come from there.
+fn is_printed_from(alloc: Global, source: Source, text: &[u8]) -> Result<bool, Fail> {
+    let file = file_of_user(alloc)?;
+    let mut out = Vec::new(alloc);
+    file.write_to_filter(&mut out, |section| section.meta().source == source)?;
+    Ok(out.as_slice() == text)
+}
+
 /// Sections that are kept by where they come from.
 #[test]
 fn sections_by_their_source(rt: HostRuntime) -> Result<(), Fail> {
-    let file = file_of_user(rt.alloc())?;
-    let mut out = Vec::new(rt.alloc());
-    file.write_to_filter(&mut out, is_of_api)?;
-    assert!(rt; out.as_slice() == b"# f\n".as_slice());
-    file.write_to_filter(&mut out, is_of_user)?;
-    assert!(rt; out.as_slice() == b"# f\n# f\n[a]\n\tk = v\n[b]\n j\n".as_slice());
+    assert!(rt; is_printed_from(rt.alloc(), Source::Api, b"# f\n")?);
+    assert!(rt; is_printed_from(rt.alloc(), Source::User, b"# f\n[a]\n\tk = v\n[b]\n j\n")?);
     Ok(())
 }
 
@@ -274,6 +298,15 @@ fn times_asked(alloc: Global, file: &File, answer: bool) -> Result<u64, Fail> {
     Ok(asked)
 }
 
+/// How often a filter is asked that keeps all sections, and how often one that keeps none.
+fn asked(alloc: Global, text: &[u8]) -> Result<(u64, u64), Fail> {
+    let file = loaded(alloc, text)?;
+    Ok((
+        times_asked(alloc, &file, true)?,
+        times_asked(alloc, &file, false)?,
+    ))
+}
+
 /// A text, how often a filter is asked that keeps all sections, and how often one that keeps none.
 #[test]
 fn how_often_a_filter_is_asked(rt: HostRuntime) -> Result<(), Fail> {
@@ -286,9 +319,7 @@ fn how_often_a_filter_is_asked(rt: HostRuntime) -> Result<(), Fail> {
         (b"k [a]", 2, 2),
     ];
     for (text, all, none) in rows {
-        let file = loaded(rt.alloc(), text)?;
-        assert_eq!(rt; times_asked(rt.alloc(), &file, true)?, all);
-        assert_eq!(rt; times_asked(rt.alloc(), &file, false)?, none);
+        assert!(rt; asked(rt.alloc(), text)? == (all, none));
     }
     Ok(())
 }
