@@ -291,35 +291,42 @@ fn ids_from_both_ends(table: &SectionTable<char>) -> [Option<SectionId>; 5] {
 }
 
 /// A section's number and its content.
-type Found<'a> = Option<(SectionId, &'a char)>;
+type Found = Option<(SectionId, char)>;
+
+fn copied(found: Option<(SectionId, &char)>) -> Found {
+    match found {
+        Some((id, content)) => Some((id, *content)),
+        None => None,
+    }
+}
 
 /// The sections of a name and no subsection, from both ends.
-fn named_from_both_ends(table: &SectionTable<char>) -> [Found<'_>; 5] {
+fn named_from_both_ends(table: &SectionTable<char>) -> [Found; 5] {
     let mut named = table.named("core", None);
     [
-        named.next_back(),
-        named.next(),
-        named.next_back(),
-        named.next(),
-        named.next_back(),
+        copied(named.next_back()),
+        copied(named.next()),
+        copied(named.next_back()),
+        copied(named.next()),
+        copied(named.next_back()),
     ]
 }
 
 /// The sections of a name from both ends.
-fn with_name_from_both_ends(table: &SectionTable<char>) -> [Found<'_>; 4] {
+fn with_name_from_both_ends(table: &SectionTable<char>) -> [Found; 4] {
     let mut any = table.with_name("cORE");
     [
-        any.next_back(),
-        any.next(),
-        any.next_back(),
-        any.next_back(),
+        copied(any.next_back()),
+        copied(any.next()),
+        copied(any.next_back()),
+        copied(any.next_back()),
     ]
 }
 
 /// The last section, the first one, and how many stand between them.
-fn all_from_both_ends(table: &SectionTable<char>) -> (Found<'_>, Found<'_>, usize) {
+fn all_from_both_ends(table: &SectionTable<char>) -> (Found, Found, usize) {
     let mut all = table.iter();
-    (all.next_back(), all.next(), all.count())
+    (copied(all.next_back()), copied(all.next()), all.count())
 }
 
 #[test]
@@ -327,11 +334,7 @@ fn tables_are_walked_from_both_ends(rt: HostRuntime) -> Result<(), Fail> {
     let (table, [first, second, third]) = three_of_one_name(rt.alloc())?;
     let ids = [Some(first), Some(third), Some(second), None, None];
     assert!(rt; ids_from_both_ends(&table) == ids);
-    let (a, c, d) = (
-        Some((first, &'a')),
-        Some((second, &'c')),
-        Some((third, &'d')),
-    );
+    let (a, c, d) = (Some((first, 'a')), Some((second, 'c')), Some((third, 'd')));
     assert!(rt; named_from_both_ends(&table) == [d, a, c, None, None]);
     assert!(rt; with_name_from_both_ends(&table) == [d, a, c, None]);
     assert!(rt; all_from_both_ends(&table) == (d, a, 2));
