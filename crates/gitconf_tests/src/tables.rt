@@ -278,66 +278,52 @@ fn three_of_one_name(alloc: Global) -> Result<(SectionTable<char>, [SectionId; 3
     Ok((table, [first, second, third]))
 }
 
-/// The numbers of a name from both ends.
-fn ids_from_both_ends(table: &SectionTable<char>) -> [Option<SectionId>; 5] {
+/// Whether the numbers of a name are found so from both ends.
+fn ids_are_walked(table: &SectionTable<char>, numbers: &[SectionId; 3]) -> bool {
+    let [first, second, third] = *numbers;
     let mut ids = table.ids("core", None);
-    [
-        ids.next(),
-        ids.next_back(),
-        ids.next(),
-        ids.next_back(),
-        ids.next(),
-    ]
+    ids.next() == Some(first)
+        && ids.next_back() == Some(third)
+        && ids.next() == Some(second)
+        && ids.next_back().is_none()
+        && ids.next().is_none()
 }
 
-/// A section's number and its content.
-type Found = Option<(SectionId, char)>;
-
-fn copied(found: Option<(SectionId, &char)>) -> Found {
-    match found {
-        Some((id, content)) => Some((id, *content)),
-        None => None,
-    }
-}
-
-/// The sections of a name and no subsection, from both ends.
-fn named_from_both_ends(table: &SectionTable<char>) -> [Found; 5] {
+/// The same of the sections of a name and no subsection.
+fn named_are_walked(table: &SectionTable<char>, numbers: &[SectionId; 3]) -> bool {
+    let [first, second, third] = *numbers;
     let mut named = table.named("core", None);
-    [
-        copied(named.next_back()),
-        copied(named.next()),
-        copied(named.next_back()),
-        copied(named.next()),
-        copied(named.next_back()),
-    ]
+    named.next_back() == Some((third, &'d'))
+        && named.next() == Some((first, &'a'))
+        && named.next_back() == Some((second, &'c'))
+        && named.next().is_none()
+        && named.next_back().is_none()
 }
 
-/// The sections of a name from both ends.
-fn with_name_from_both_ends(table: &SectionTable<char>) -> [Found; 4] {
+/// The same of the sections of a name.
+fn with_name_are_walked(table: &SectionTable<char>, numbers: &[SectionId; 3]) -> bool {
+    let [first, second, third] = *numbers;
     let mut any = table.with_name("cORE");
-    [
-        copied(any.next_back()),
-        copied(any.next()),
-        copied(any.next_back()),
-        copied(any.next_back()),
-    ]
+    any.next_back() == Some((third, &'d'))
+        && any.next() == Some((first, &'a'))
+        && any.next_back() == Some((second, &'c'))
+        && any.next_back().is_none()
 }
 
-/// The last section, the first one, and how many stand between them.
-fn all_from_both_ends(table: &SectionTable<char>) -> (Found, Found, usize) {
+/// The same of all sections: the last one, the first one, and two between them.
+fn all_are_walked(table: &SectionTable<char>, numbers: &[SectionId; 3]) -> bool {
+    let [first, _, third] = *numbers;
     let mut all = table.iter();
-    (copied(all.next_back()), copied(all.next()), all.count())
+    all.next_back() == Some((third, &'d')) && all.next() == Some((first, &'a')) && all.count() == 2
 }
 
 #[test]
 fn tables_are_walked_from_both_ends(rt: HostRuntime) -> Result<(), Fail> {
-    let (table, [first, second, third]) = three_of_one_name(rt.alloc())?;
-    let ids = [Some(first), Some(third), Some(second), None, None];
-    assert!(rt; ids_from_both_ends(&table) == ids);
-    let (a, c, d) = (Some((first, 'a')), Some((second, 'c')), Some((third, 'd')));
-    assert!(rt; named_from_both_ends(&table) == [d, a, c, None, None]);
-    assert!(rt; with_name_from_both_ends(&table) == [d, a, c, None]);
-    assert!(rt; all_from_both_ends(&table) == (d, a, 2));
+    let (table, numbers) = three_of_one_name(rt.alloc())?;
+    assert!(rt; ids_are_walked(&table, &numbers));
+    assert!(rt; named_are_walked(&table, &numbers));
+    assert!(rt; with_name_are_walked(&table, &numbers));
+    assert!(rt; all_are_walked(&table, &numbers));
     Ok(())
 }
 
