@@ -6,6 +6,7 @@ use gitconf_base::meta::Metadata;
 use gitconf_base::source::{Kind, Source, Trust};
 use gitconf_values::Homes;
 use std::alloc::{AllocError, Global};
+use std::cmp::Ordering;
 use std::test::Fail;
 
 /// The sources, lowest first, each with its group, and whether the group lists it.
@@ -32,14 +33,12 @@ fn sources_stand_in_groups(rt: HostRuntime) {
     }
 }
 
+/// The four parts of metadata.
+type Parts<'a> = (Option<&'a str>, Source, u8, Trust);
+
 /// Metadata of these four parts.
-fn of_parts(
-    alloc: Global,
-    path: Option<&str>,
-    source: Source,
-    level: u8,
-    trust: Trust,
-) -> Result<Metadata, AllocError> {
+fn of_parts(alloc: Global, parts: &Parts<'_>) -> Result<Metadata, AllocError> {
+    let (path, source, level, trust) = *parts;
     let path = match path {
         Some(path) => Some(String::from_str(alloc, path)?),
         None => None,
@@ -52,19 +51,35 @@ fn of_parts(
     })
 }
 
+/// Whether it is the metadata of these four parts.
+fn is_of_parts(alloc: Global, made: &Metadata, parts: &Parts<'_>) -> Result<bool, AllocError> {
+    Ok(*made == of_parts(alloc, parts)?)
+}
+
 #[test]
 fn metadata_is_made(rt: HostRuntime) -> Result<(), Fail> {
     let alloc = rt.alloc();
-    let api = of_parts(alloc, None, Source::Api, 0, Trust::Full)?;
-    assert!(rt; Metadata::api() == api && Metadata::default() == api);
-    let variables = of_parts(alloc, None, Source::Env, 0, Trust::Full)?;
-    assert!(rt; Metadata::from(Source::Env) == variables);
-    let expected = of_parts(alloc, Some("/a"), Source::Env, 0, Trust::Reduced)?;
-    let made = Metadata::from(Source::Env).with(Trust::Reduced);
-    assert!(rt; made.at(String::from_str(alloc, "/a")?) == expected);
+    let api = (None, Source::Api, 0, Trust::Full);
+    assert!(rt; is_of_parts(alloc, &Metadata::api(), &api)?);
+    assert!(rt; is_of_parts(alloc, &Metadata::default(), &api)?);
+    let variables = (None, Source::Env, 0, Trust::Full);
+    assert!(rt; is_of_parts(alloc, &Metadata::from(Source::Env), &variables)?);
+    let made = Metadata::from(Source::Env)
+        .with(Trust::Reduced)
+        .at(String::from_str(alloc, "/a")?);
+    assert!(rt; is_of_parts(alloc, &made, &FILE)?);
+    Ok(())
+}
+
+/// The file `/a`, which isn't trusted.
+const FILE: Parts<'static> = (Some("/a"), Source::Env, 0, Trust::Reduced);
+
+#[test]
+fn metadata_of_a_file(rt: HostRuntime) -> Result<(), Fail> {
+    let alloc = rt.alloc();
     let path = String::from_str(alloc, "/a")?;
     let made = Metadata::try_from_path(path, Source::Env, Ok(Trust::Reduced));
-    assert!(rt; made == Ok(expected));
+    assert!(rt; made == Ok(of_parts(alloc, &FILE)?));
     let fault = FileFault {
         stage: Stage::Read,
         not_found: true,
@@ -75,33 +90,44 @@ fn metadata_is_made(rt: HostRuntime) -> Result<(), Fail> {
     Ok(())
 }
 
+/// Whether a copy of the metadata of these parts has these parts.
+fn is_copied(alloc: Global, parts: &Parts<'_>) -> Result<bool, Fail> {
+    let copy = of_parts(alloc, parts)?.try_clone()?;
+    Ok((copy.path.as_deref(), copy.source, copy.level, copy.trust) == *parts)
+}
+
+/// How the metadata of two rows stands in order, and whether it is the same.
+fn compared(
+    alloc: Global,
+    one: &Parts<'_>,
+    other: &Parts<'_>,
+) -> Result<(Ordering, bool), AllocError> {
+    let one = of_parts(alloc, one)?;
+    let other = of_parts(alloc, other)?;
+    Ok((one.cmp(&other), one == other))
+}
+
 /// Metadata in ascending order.
+const ASCENDING: [Parts<'static>; 10] = [
+    (None, Source::System, 9, Trust::Full),
+    (None, Source::Api, 0, Trust::Reduced),
+    (None, Source::Api, 0, Trust::Full),
+    (None, Source::Api, 1, Trust::Reduced),
+    (Some(""), Source::Api, 0, Trust::Full),
+    (Some("/a"), Source::GitInstallation, 0, Trust::Full),
+    (Some("/a"), Source::User, 255, Trust::Full),
+    (Some("/a"), Source::Local, 0, Trust::Reduced),
+    (Some("/a/b"), Source::System, 0, Trust::Full),
+    (Some("/b"), Source::GitInstallation, 0, Trust::Full),
+];
+
 #[test]
 fn metadata_is_ordered_and_copied(rt: HostRuntime) -> Result<(), Fail> {
-    let rows = [
-        (None, Source::System, 9, Trust::Full),
-        (None, Source::Api, 0, Trust::Reduced),
-        (None, Source::Api, 0, Trust::Full),
-        (None, Source::Api, 1, Trust::Reduced),
-        (Some(""), Source::Api, 0, Trust::Full),
-        (Some("/a"), Source::GitInstallation, 0, Trust::Full),
-        (Some("/a"), Source::User, 255, Trust::Full),
-        (Some("/a"), Source::Local, 0, Trust::Reduced),
-        (Some("/a/b"), Source::System, 0, Trust::Full),
-        (Some("/b"), Source::GitInstallation, 0, Trust::Full),
-    ];
-    for (at, (path, source, level, trust)) in rows.iter().enumerate() {
-        let one = of_parts(rt.alloc(), *path, *source, *level, *trust)?;
-        let copy = one.try_clone()?;
-        assert!(rt;
-            copy.path.as_deref() == *path && copy.source == *source,
-            "{at}"
-        );
-        assert!(rt; copy.level == *level && copy.trust == *trust, "{at}");
-        for (place, (path, source, level, trust)) in rows.iter().enumerate() {
-            let other = of_parts(rt.alloc(), *path, *source, *level, *trust)?;
-            assert!(rt; one.cmp(&other) == at.cmp(&place), "{at}, {place}");
-            assert_eq!(rt; one == other, at == place, "{at}, {place}");
+    for (at, one) in ASCENDING.iter().enumerate() {
+        assert!(rt; is_copied(rt.alloc(), one)?, "{at}");
+        for (place, other) in ASCENDING.iter().enumerate() {
+            let found = compared(rt.alloc(), one, other)?;
+            assert!(rt; found == (at.cmp(&place), at == place), "{at}, {place}");
         }
     }
     Ok(())

@@ -1,13 +1,17 @@
-//! Tests of what stands below files: sources, metadata, home folders, keys, names, and tables of sections. Beside them stands
-//! what tests say to the shim that refuses growths.
+//! Tests of what stands below the parser: sources, metadata, home folders, keys, names, tables of sections, and the texts of
+//! their refusals. Beside them stands what tests say to the shim that refuses growths.
 #![tactic(auto)]
 
 #[cfg(test)]
 mod base;
 #[cfg(test)]
+mod messages;
+#[cfg(test)]
 mod names;
 #[cfg(test)]
 mod paths;
+#[cfg(test)]
+mod refused;
 pub mod shim;
 #[cfg(test)]
 mod tables;

@@ -3,7 +3,7 @@
 use bstr::{BStr, BString};
 use gitconf_base::key::{AsKey, KeyRef};
 use gitconf_text::parse::section::{Name, ValueName, unvalidated};
-use std::alloc::Global;
+use std::alloc::{AllocError, Global};
 use std::str;
 use std::test::Fail;
 
@@ -86,55 +86,90 @@ fn answers<K: AsKey>(key: K, expected: Option<KeyRef<'_>>) -> bool {
     }
 }
 
+/// Whether these bytes are a key of these names, borrowed and owned.
+fn bytes_answer(
+    alloc: Global,
+    text: &[u8],
+    expected: Option<KeyRef<'_>>,
+) -> Result<bool, AllocError> {
+    let owned = BString::from_slice(alloc, text)?;
+    Ok(
+        KeyRef::parse_unvalidated(text) == expected
+            && answers(text, expected)
+            && answers(&owned, expected),
+    )
+}
+
+/// The same of a text. What isn't one has nothing to answer.
+fn text_answers(
+    alloc: Global,
+    text: &[u8],
+    expected: Option<KeyRef<'_>>,
+) -> Result<bool, AllocError> {
+    let Ok(text) = str::from_utf8(text) else {
+        return Ok(true);
+    };
+    let owned = String::from_str(alloc, text)?;
+    Ok(answers(text, expected) && answers(&owned, expected))
+}
+
+/// The same of the names themselves.
+fn key_answers(expected: Option<KeyRef<'_>>) -> bool {
+    match expected {
+        Some(key) => answers(key, expected) && answers(&key, expected),
+        None => true,
+    }
+}
+
+/// The names of a section, a subsection and a value.
+type Names<'a> = (&'a str, Option<&'a [u8]>, &'a str);
+
+fn key_of(names: Names<'_>) -> KeyRef<'_> {
+    let (section_name, subsection_name, value_name) = names;
+    KeyRef {
+        section_name,
+        subsection_name,
+        value_name,
+    }
+}
+
+/// Whether the text is a key of these names in all its types.
+fn is_key(alloc: Global, text: &[u8], names: Option<Names<'_>>) -> Result<bool, AllocError> {
+    let expected = names.map(key_of);
+    Ok(
+        bytes_answer(alloc, text, expected)?
+            && text_answers(alloc, text, expected)?
+            && key_answers(expected),
+    )
+}
+
 /// A key of a value, cut at its first dot and at its last.
+const KEYS: [(&[u8], Option<Names<'static>>); 13] = [
+    (b"", None),
+    (b"core", None),
+    (b".", Some(("", None, ""))),
+    (b"core.", Some(("core", None, ""))),
+    (b"core.Editor", Some(("core", None, "Editor"))),
+    (b"..", Some(("", Some(b""), ""))),
+    (b"a..c", Some(("a", Some(b""), "c"))),
+    (b"a.B c.d", Some(("a", Some(b"B c"), "d"))),
+    (
+        b"remote.https://x.y/z.url",
+        Some(("remote", Some(b"https://x.y/z"), "url")),
+    ),
+    (
+        b"\xc3\xa4.\xff.\xc3\xbc",
+        Some(("\u{e4}", Some(b"\xff"), "\u{fc}")),
+    ),
+    (b"\xff.a", None),
+    (b"a.\xff", None),
+    (b"a.b.\xff", None),
+];
+
 #[test]
 fn keys_of_values(rt: HostRuntime) -> Result<(), Fail> {
-    let rows: [(&[u8], Option<(&str, Option<&[u8]>, &str)>); 13] = [
-        (b"", None),
-        (b"core", None),
-        (b".", Some(("", None, ""))),
-        (b"core.", Some(("core", None, ""))),
-        (b"core.Editor", Some(("core", None, "Editor"))),
-        (b"..", Some(("", Some(b""), ""))),
-        (b"a..c", Some(("a", Some(b""), "c"))),
-        (b"a.B c.d", Some(("a", Some(b"B c"), "d"))),
-        (
-            b"remote.https://x.y/z.url",
-            Some(("remote", Some(b"https://x.y/z"), "url")),
-        ),
-        (
-            b"\xc3\xa4.\xff.\xc3\xbc",
-            Some(("\u{e4}", Some(b"\xff"), "\u{fc}")),
-        ),
-        (b"\xff.a", None),
-        (b"a.\xff", None),
-        (b"a.b.\xff", None),
-    ];
-    for (text, names) in rows {
-        let shown = BStr::new(text);
-        let expected = match names {
-            Some((section_name, subsection_name, value_name)) => Some(KeyRef {
-                section_name,
-                subsection_name,
-                value_name,
-            }),
-            None => None,
-        };
-        assert!(rt; KeyRef::parse_unvalidated(text) == expected, "'{shown}'");
-        assert!(rt; answers(text, expected), "'{shown}'");
-        let owned = BString::from_slice(rt.alloc(), text)?;
-        assert!(rt; answers(&owned, expected), "'{shown}'");
-        if let Ok(text) = str::from_utf8(text) {
-            assert!(rt; answers(text, expected), "'{shown}'");
-            let owned = String::from_str(rt.alloc(), text)?;
-            assert!(rt; answers(&owned, expected), "'{shown}'");
-        }
-        if let Some(key) = expected {
-            assert!(rt;
-                answers(key, expected) && answers(&key, expected),
-                "'{shown}'"
-            );
-        }
+    for (text, names) in KEYS {
+        assert!(rt; is_key(rt.alloc(), text, names)?, "'{}'", BStr::new(text));
     }
     Ok(())
 }

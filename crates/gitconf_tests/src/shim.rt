@@ -1,6 +1,11 @@
 //! How a test speaks to the shim that refuses a growth (`tools/refuse.c`): by the sizes of two blocks.
-
+//!
+//! The shim, where it is loaded, learns by these blocks where a call begins and ends. In a process it refuses the first
+//! growth of the first call; the next one where it refused one in the last call; and the first one again behind a call
+//! that it left alone. So each call is made until nothing of it is refused, and then gives its full answer. Before, it
+//! says that memory was wanting, and all is as it was. Without the shim it is made once.
 use std::alloc::{AllocError, Global};
+use std::test::Fail;
 
 const BEGIN: usize = 999_979;
 
@@ -19,4 +24,33 @@ pub fn begin(alloc: Global) -> Result<(), AllocError> {
 pub fn was_refused(alloc: Global) -> bool {
     let block: Result<Vec<u8>, AllocError> = Vec::with_capacity(alloc, END);
     block.is_err()
+}
+
+/// How a call went of which a growth may have been refused.
+#[derive(Clone, Copy)]
+pub struct Outcome {
+    /// Whether a growth was refused.
+    pub refused: bool,
+    /// Whether the answer is the full one, or else says that memory was wanting and left all as it was.
+    pub fits: bool,
+}
+
+/// Makes the call again and again, until no growth of it is refused. Each of its outcomes has to fit.
+pub fn each_refused<F: Fn(Global) -> Result<Outcome, Fail>>(
+    alloc: Global,
+    what: &str,
+    call: F,
+) -> Result<(), Fail>
+    requires { F.IsAlwaysCallable call }
+{
+    for _ in 0..MOST {
+        let outcome = call(alloc)?;
+        if !outcome.fits {
+            return Err(Fail::new(what));
+        }
+        if !outcome.refused {
+            return Ok(());
+        }
+    }
+    Err(Fail::new("too many growths"))
 }

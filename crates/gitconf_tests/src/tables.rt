@@ -1,12 +1,11 @@
 //! The table of sections: its changes, and walks over it from both ends.
 
 use self::Step::{Change, Put, PutAll, Remove, Rename};
-use crate::shim::{MOST, begin, was_refused};
+use crate::shim::{MOST, Outcome, begin, each_refused, was_refused};
 use gitconf_table::table::{SectionId, SectionTable};
 use gitconf_text::NoMemory;
 use gitconf_text::parse::span;
 use std::alloc::{AllocError, Global};
-use std::process::Abort;
 use std::test::Fail;
 
 /// A section's name and its subsection.
@@ -156,147 +155,201 @@ fn told(
     Ok(out)
 }
 
-/// Takes the step, with each of its growths refused before, which leaves the table as it was.
-fn check_step<R: Abort + AllocGlobal>(
-    rt: &R,
+/// Whether the step was taken. Where a growth of it was refused instead, the table is as it was.
+fn is_taken(
+    alloc: Global,
     table: &mut SectionTable<u8>,
     numbers: &[SectionId],
     step: Step<'_>,
     answer: Option<u8>,
-) -> Result<(), Fail> {
-    let before = told(rt.alloc(), table, numbers)?;
+) -> Result<bool, Fail> {
+    let before = told(alloc, table, numbers)?;
+    begin(alloc)?;
+    let taken = take(alloc, table, numbers, step);
+    let refused = was_refused(alloc);
+    match taken {
+        Ok(taken) if taken == answer => Ok(true),
+        Err(error) if refused && error.number() == 27 && told(alloc, table, numbers)? == before =>
+            Ok(false),
+        _ => Err(Fail::new("a step's answer")),
+    }
+}
+
+/// Takes the step, with each of its growths refused before, and answers whether the table is then told so.
+fn leads_to(
+    alloc: Global,
+    table: &mut SectionTable<u8>,
+    numbers: &[SectionId],
+    step: Step<'_>,
+    answer: Option<u8>,
+    expected: &[u8],
+) -> Result<bool, Fail> {
     for _ in 0..MOST {
-        begin(rt.alloc())?;
-        let taken = take(rt.alloc(), table, numbers, step);
-        let refused = was_refused(rt.alloc());
-        match taken {
-            Ok(taken) => {
-                assert!(rt; taken == answer);
-                return Ok(());
-            }
-            Err(error) => assert!(rt; refused && error.number() == 27),
+        if is_taken(alloc, table, numbers, step, answer)? {
+            return Ok(
+                table.get(SectionId::default()).is_none()
+                    && told(alloc, table, numbers)?.as_slice() == expected,
+            );
         }
-        assert!(rt; told(rt.alloc(), table, numbers)?.as_slice() == before.as_slice());
     }
     Err(Fail::new("too many growths"))
 }
 
+const THREE: [(Names<'static>, u8); 3] = [(CORE, b'f'), (BRANCH, b'g'), (UPPER, b'h')];
+
+const ONE: [(Names<'static>, u8); 1] = [(CORE, b'i')];
+
+const TEN: [(Names<'static>, u8); 10] = [
+    (BRANCH, b'0'),
+    (BRANCH, b'1'),
+    (BRANCH, b'2'),
+    (BRANCH, b'3'),
+    (BRANCH, b'4'),
+    (BRANCH, b'5'),
+    (BRANCH, b'6'),
+    (BRANCH, b'7'),
+    (BRANCH, b'8'),
+    (BRANCH, b'9'),
+];
+
 /// A step, its answer, and what is told of the table behind it.
+const ROWS: [(Step<'static>, Option<u8>, &[u8]); 18] = [
+    (Put(LAST, CORE, b'a'), Some(b'a'), b"a|a|||||a----------"),
+    (
+        Put(LAST, LOWER, b'b'),
+        Some(b'b'),
+        b"ab|a||b||b|ab---------",
+    ),
+    (
+        Put(LAST, UPPER, b'c'),
+        Some(b'c'),
+        b"abc|a||b|c|bc|abc--------",
+    ),
+    (
+        Put(0, LOWER, b'd'),
+        Some(b'd'),
+        b"adbc|a||db|c|dbc|abcd-------",
+    ),
+    (
+        Put(3, EMPTY, b'e'),
+        Some(b'e'),
+        b"adbce|a|e|db|c|dbc|abcde------",
+    ),
+    (Remove(1), Some(b'b'), b"adce|a|e|d|c|dc|a-cde------"),
+    (Remove(1), None, b"adce|a|e|d|c|dc|a-cde------"),
+    (Rename(2, CORE), None, b"adce|ac|e|d||d|a-cde------"),
+    (PutAll(1, &THREE), None, b"afghdce|afc|e|d|h|hd|a-cdefgh---"),
+    (Remove(0), Some(b'a'), b"fghdce|fc|e|d|h|hd|--cdefgh---"),
+    (PutAll(6, &ONE), None, b"fghdcei|fci|e|d|h|hd|--cdefghi--"),
+    (PutAll(0, &[]), None, b"fghdcei|fci|e|d|h|hd|--cdefghi--"),
+    (Remove(8), Some(b'i'), b"fghdce|fc|e|d|h|hd|--cdefgh---"),
+    (
+        Put(LAST, OTHER, b'j'),
+        Some(b'j'),
+        b"fghdcej|fc|e|d|h|hd|--cdefgh-j-",
+    ),
+    (Rename(5, LOWER), None, b"fghdcej|fc||de|h|hde|--cdefgh-j-"),
+    (Change(1, b'k'), None, b"fkhdcej|fc||de|h|hde|--cdefkh-j-"),
+    (Remove(10), None, b"fkhdcej|fc||de|h|hde|--cdefkh-j-"),
+    (
+        PutAll(1, &TEN),
+        None,
+        b"f0123456789khdcej|fc||de|h|hde|--cdefkh-j0",
+    ),
+];
+
 #[test]
 fn tables_are_changed(rt: HostRuntime) -> Result<(), Fail> {
-    let three = [(CORE, b'f'), (BRANCH, b'g'), (UPPER, b'h')];
-    let one = [(CORE, b'i')];
-    let ten = [
-        (BRANCH, b'0'),
-        (BRANCH, b'1'),
-        (BRANCH, b'2'),
-        (BRANCH, b'3'),
-        (BRANCH, b'4'),
-        (BRANCH, b'5'),
-        (BRANCH, b'6'),
-        (BRANCH, b'7'),
-        (BRANCH, b'8'),
-        (BRANCH, b'9'),
-    ];
-    let rows: [(Step<'_>, Option<u8>, &[u8]); 18] = [
-        (Put(LAST, CORE, b'a'), Some(b'a'), b"a|a|||||a----------"),
-        (
-            Put(LAST, LOWER, b'b'),
-            Some(b'b'),
-            b"ab|a||b||b|ab---------",
-        ),
-        (
-            Put(LAST, UPPER, b'c'),
-            Some(b'c'),
-            b"abc|a||b|c|bc|abc--------",
-        ),
-        (
-            Put(0, LOWER, b'd'),
-            Some(b'd'),
-            b"adbc|a||db|c|dbc|abcd-------",
-        ),
-        (
-            Put(3, EMPTY, b'e'),
-            Some(b'e'),
-            b"adbce|a|e|db|c|dbc|abcde------",
-        ),
-        (Remove(1), Some(b'b'), b"adce|a|e|d|c|dc|a-cde------"),
-        (Remove(1), None, b"adce|a|e|d|c|dc|a-cde------"),
-        (Rename(2, CORE), None, b"adce|ac|e|d||d|a-cde------"),
-        (PutAll(1, &three), None, b"afghdce|afc|e|d|h|hd|a-cdefgh---"),
-        (Remove(0), Some(b'a'), b"fghdce|fc|e|d|h|hd|--cdefgh---"),
-        (PutAll(6, &one), None, b"fghdcei|fci|e|d|h|hd|--cdefghi--"),
-        (PutAll(0, &[]), None, b"fghdcei|fci|e|d|h|hd|--cdefghi--"),
-        (Remove(8), Some(b'i'), b"fghdce|fc|e|d|h|hd|--cdefgh---"),
-        (
-            Put(LAST, OTHER, b'j'),
-            Some(b'j'),
-            b"fghdcej|fc|e|d|h|hd|--cdefgh-j-",
-        ),
-        (Rename(5, LOWER), None, b"fghdcej|fc||de|h|hde|--cdefgh-j-"),
-        (Change(1, b'k'), None, b"fkhdcej|fc||de|h|hde|--cdefkh-j-"),
-        (Remove(10), None, b"fkhdcej|fc||de|h|hde|--cdefkh-j-"),
-        (
-            PutAll(1, &ten),
-            None,
-            b"f0123456789khdcej|fc||de|h|hde|--cdefkh-j0",
-        ),
-    ];
     let numbers = numbers(rt.alloc())?;
     let mut table = SectionTable::new(rt.alloc());
-    for (step, answer, expected) in rows {
-        check_step(&rt, &mut table, &numbers, step, answer)?;
-        assert!(rt; told(rt.alloc(), &table, &numbers)?.as_slice() == expected);
-        assert!(rt; table.get(SectionId::default()).is_none());
+    for (step, answer, expected) in ROWS {
+        assert!(rt; leads_to(rt.alloc(), &mut table, &numbers, step, answer, expected)?);
     }
     Ok(())
 }
 
-#[test]
-fn tables_are_walked_from_both_ends(rt: HostRuntime) -> Result<(), Fail> {
-    let mut table = SectionTable::new(rt.alloc());
+/// A table that has three sections of one name, and another one, and the numbers of the three.
+fn three_of_one_name(alloc: Global) -> Result<(SectionTable<char>, [SectionId; 3]), Fail> {
+    let mut table = SectionTable::new(alloc);
     let first = table.push(b"core", None, 'a')?;
     table.push(b"other", None, 'b')?;
     let second = table.push(b"Core", None, 'c')?;
     let third = table.push(b"CORE", None, 'd')?;
+    Ok((table, [first, second, third]))
+}
+
+/// Whether the numbers of a name are found so from both ends.
+fn ids_are_walked(table: &SectionTable<char>, numbers: &[SectionId; 3]) -> bool {
+    let [first, second, third] = *numbers;
     let mut ids = table.ids("core", None);
-    assert!(rt; ids.next() == Some(first) && ids.next_back() == Some(third));
-    assert!(rt; ids.next() == Some(second));
-    assert!(rt; ids.next_back().is_none() && ids.next().is_none());
+    ids.next() == Some(first)
+        && ids.next_back() == Some(third)
+        && ids.next() == Some(second)
+        && ids.next_back().is_none()
+        && ids.next().is_none()
+}
+
+/// The same of the sections of a name and no subsection.
+fn named_are_walked(table: &SectionTable<char>, numbers: &[SectionId; 3]) -> bool {
+    let [first, second, third] = *numbers;
     let mut named = table.named("core", None);
-    assert!(rt; named.next_back() == Some((third, &'d')));
-    assert!(rt; named.next() == Some((first, &'a')));
-    assert!(rt; named.next_back() == Some((second, &'c')));
-    assert!(rt; named.next().is_none() && named.next_back().is_none());
+    named.next_back() == Some((third, &'d'))
+        && named.next() == Some((first, &'a'))
+        && named.next_back() == Some((second, &'c'))
+        && named.next().is_none()
+        && named.next_back().is_none()
+}
+
+/// The same of the sections of a name.
+fn with_name_are_walked(table: &SectionTable<char>, numbers: &[SectionId; 3]) -> bool {
+    let [first, second, third] = *numbers;
     let mut any = table.with_name("cORE");
-    assert!(rt; any.next_back() == Some((third, &'d')));
-    assert!(rt; any.next() == Some((first, &'a')));
-    assert!(rt; any.next_back() == Some((second, &'c')) && any.next_back().is_none());
+    any.next_back() == Some((third, &'d'))
+        && any.next() == Some((first, &'a'))
+        && any.next_back() == Some((second, &'c'))
+        && any.next_back().is_none()
+}
+
+/// The same of all sections: the last one, the first one, and two between them.
+fn all_are_walked(table: &SectionTable<char>, numbers: &[SectionId; 3]) -> bool {
+    let [first, _, third] = *numbers;
     let mut all = table.iter();
-    assert!(rt; all.next_back() == Some((third, &'d')));
-    assert!(rt; all.next() == Some((first, &'a')));
-    assert_eq!(rt; all.count(), 2);
+    all.next_back() == Some((third, &'d')) && all.next() == Some((first, &'a')) && all.count() == 2
+}
+
+#[test]
+fn tables_are_walked_from_both_ends(rt: HostRuntime) -> Result<(), Fail> {
+    let (table, numbers) = three_of_one_name(rt.alloc())?;
+    assert!(rt; ids_are_walked(&table, &numbers));
+    assert!(rt; named_are_walked(&table, &numbers));
+    assert!(rt; with_name_are_walked(&table, &numbers));
+    assert!(rt; all_are_walked(&table, &numbers));
     Ok(())
 }
 
 /// A copy of a table has the same sections under the same numbers, and is had or refused with each growth.
+fn a_table_copied(
+    alloc: Global,
+    table: &SectionTable<u8>,
+    numbers: &[SectionId],
+) -> Result<Outcome, Fail> {
+    let expected: &[u8] = b"cr|c||r||r|-cr--------";
+    begin(alloc)?;
+    let answer = table.try_clone();
+    let refused = was_refused(alloc);
+    let stays = told(alloc, table, numbers)?.as_slice() == expected;
+    let fits = match answer {
+        Ok(copy) => stays && told(alloc, &copy, numbers)?.as_slice() == expected,
+        Err(NoMemory) => stays && refused,
+    };
+    Ok(Outcome { refused, fits })
+}
+
 #[test]
 fn tables_are_copied(rt: HostRuntime) -> Result<(), Fail> {
     let table = table_of(rt.alloc(), &[(CORE, b'c'), (LOWER, b'r')])?;
     let numbers = numbers(rt.alloc())?;
-    let expected: &[u8] = b"cr|c||r||r|-cr--------";
-    for _ in 0..MOST {
-        begin(rt.alloc())?;
-        let answer = table.try_clone();
-        let refused = was_refused(rt.alloc());
-        assert!(rt; told(rt.alloc(), &table, &numbers)?.as_slice() == expected);
-        match answer {
-            Ok(copy) => {
-                assert!(rt; told(rt.alloc(), &copy, &numbers)?.as_slice() == expected);
-                return Ok(());
-            }
-            Err(NoMemory) => assert!(rt; refused),
-        }
-    }
-    Err(Fail::new("too many growths"))
+    each_refused(rt.alloc(), "a copy of a table", |alloc| {
+        a_table_copied(alloc, &table, &numbers)
+    })
 }

@@ -1,33 +1,85 @@
 //! Files: their metadata, and filters that are asked.
 
+use crate::loads::{loaded, section_at, section_count, sections};
 use bstr::BString;
-use gix_config::file::{Metadata, SectionRef, init};
+use gix_config::file::{Metadata, init};
 use gix_config::{File, KeyRef, Source};
-use std::alloc::Global;
+use std::alloc::{AllocError, Global};
 use std::rc::Rc;
 use std::test::Fail;
 
-/// A file has the metadata that it was made with, or that was set; its sections and its copies keep theirs.
+/// Whether the file tells this metadata, lent and shared.
+fn has_meta(file: &File, meta: &Metadata) -> Result<bool, Fail> {
+    Ok(*file.meta() == *meta && *file.meta_owned()? == *meta)
+}
+
+/// Says that the file comes from the user.
+fn hand_to_user(alloc: Global, file: &mut File) -> Result<(), AllocError> {
+    file.set_meta(Rc::new(alloc, Metadata::from(Source::User))?);
+    Ok(())
+}
+
+/// Whether each section has this metadata.
+fn sections_have(file: &File, meta: &Metadata) -> bool {
+    for section in sections(file) {
+        if *section.meta() != *meta {
+            return false;
+        }
+    }
+    true
+}
+
+/// Hands the file to the user, and answers whether it tells that, and its sections keep their metadata.
+fn is_handed_to_user(alloc: Global, file: &mut File) -> Result<bool, Fail> {
+    hand_to_user(alloc, file)?;
+    let is_told = has_meta(file, &Metadata::from(Source::User))?;
+    Ok(is_told && sections_have(file, &Metadata::api()))
+}
+
+fn has_meta_of_api(file: &File) -> Result<bool, Fail> {
+    has_meta(file, &Metadata::api())
+}
+
+/// A file has the metadata that it was made with, or that was set; its sections keep theirs.
 #[test]
 fn metadata_of_a_file(rt: HostRuntime) -> Result<(), Fail> {
-    let mut file = File::try_from_bytes(rt.alloc(), b"[a] k = v")?;
-    assert!(rt; *file.meta() == Metadata::api() && *file.meta_owned()? == Metadata::api());
+    let mut file = loaded(rt.alloc(), b"[a] k = v")?;
+    assert!(rt; has_meta_of_api(&file)?);
+    assert!(rt; is_handed_to_user(rt.alloc(), &mut file)?);
+    Ok(())
+}
+
+/// A copy keeps its metadata where the file is handed to the user and dropped.
+#[test]
+fn metadata_of_a_copy(rt: HostRuntime) -> Result<(), Fail> {
+    let mut file = loaded(rt.alloc(), b"[a] k = v")?;
     let copy = file.try_clone()?;
-    let user = Metadata::from(Source::User);
-    file.set_meta(Rc::new(rt.alloc(), Metadata::from(Source::User))?);
-    assert!(rt; *file.meta() == user && *file.meta_owned()? == user);
-    for section in file.sections() {
-        assert!(rt; *section.meta() == Metadata::api());
-    }
-    let empty = File::new(rt.alloc(), file.meta_owned()?);
-    assert!(rt; *empty.meta() == user && empty.to_bstring()?.is_empty());
+    hand_to_user(rt.alloc(), &mut file)?;
     drop(file);
-    assert!(rt; *copy.meta() == Metadata::api());
+    assert!(rt; has_meta_of_api(&copy)?);
+    Ok(())
+}
+
+/// Whether a file that is made with the metadata of this one has it, and nothing else.
+fn is_met_by_an_empty_file(alloc: Global, file: &File) -> Result<bool, Fail> {
+    let empty = File::new(alloc, file.meta_owned()?);
+    Ok(*empty.meta() == Metadata::from(Source::User) && empty.to_bstring()?.is_empty())
+}
+
+#[test]
+fn metadata_of_an_empty_file(rt: HostRuntime) -> Result<(), Fail> {
+    let mut file = loaded(rt.alloc(), b"[a] k = v")?;
+    hand_to_user(rt.alloc(), &mut file)?;
+    assert!(rt; is_met_by_an_empty_file(rt.alloc(), &file)?);
+    Ok(())
+}
+
+#[test]
+fn a_refused_text(rt: HostRuntime) -> Result<(), Fail> {
     let Err(error) = File::try_from_bytes(rt.alloc(), b"[a]\n$") else {
-        assert!(rt; false, "read");
-        return Ok(());
+        return Err(Fail::new("read"));
     };
-    assert!(rt; error.number() == 1 && error.line_number() == 2 && error.kind() == "name");
+    assert!(rt; (error.number(), error.line_number(), error.kind()) == (1, 2, "name"));
     Ok(())
 }
 
@@ -48,31 +100,50 @@ fn is_value(found: &Option<BString>, expected: Option<&[u8]>) -> bool {
     }
 }
 
-/// A text, a key, and its value where all sections pass. Where none does, there is no value.
+/// Whether the key has this value where all sections pass. Where none does, it has none.
+fn is_found(file: &File, key: &[u8], expected: Option<&[u8]>) -> Result<bool, Fail> {
+    Ok(
+        is_value(&file.string_filter(key, is_api)?, expected)
+            && is_value(&file.string_filter(key, is_user)?, None),
+    )
+}
+
+/// The same, by the names of the key.
+fn is_found_by(file: &File, key: KeyRef<'_>, expected: Option<&[u8]>) -> Result<bool, Fail> {
+    let (section, subsection, name) = (key.section_name, key.subsection_name, key.value_name);
+    let found = file.string_filter_by(section, subsection, name, is_api)?;
+    let missed = file.string_filter_by(section, subsection, name, is_user)?;
+    Ok(is_value(&found, expected) && is_value(&missed, None))
+}
+
+/// Whether the key is found so, written and, where it is one, by its names.
+fn is_found_in(
+    alloc: Global,
+    text: &[u8],
+    key: &[u8],
+    expected: Option<&[u8]>,
+) -> Result<bool, Fail> {
+    let file = loaded(alloc, text)?;
+    let is_found_by_names = match KeyRef::parse_unvalidated(key) {
+        Some(names) => is_found_by(&file, names, expected)?,
+        None => true,
+    };
+    Ok(is_found_by_names && is_found(&file, key, expected)?)
+}
+
+/// A text, a key, and its value where all sections pass.
+const VALUES: [(&[u8], &[u8], Option<&[u8]>); 5] = [
+    (b"[a] k = v", b"a.k", Some(b"v")),
+    (b"[a] k", b"a.k", None),
+    (b"[a]\nk=1\n[A]\nk=2\n", b"a.k", Some(b"2")),
+    (b"[a \"B\"]\nk=1\n[a.B]\nk=2\n", b"a.B.k", Some(b"1")),
+    (b"[a] k = v", b"ak", None),
+];
+
 #[test]
 fn values_where_sections_pass(rt: HostRuntime) -> Result<(), Fail> {
-    let rows: [(&[u8], &[u8], Option<&[u8]>); 5] = [
-        (b"[a] k = v", b"a.k", Some(b"v")),
-        (b"[a] k", b"a.k", None),
-        (b"[a]\nk=1\n[A]\nk=2\n", b"a.k", Some(b"2")),
-        (b"[a \"B\"]\nk=1\n[a.B]\nk=2\n", b"a.B.k", Some(b"1")),
-        (b"[a] k = v", b"ak", None),
-    ];
-    for (text, key, expected) in rows {
-        let file = File::try_from_bytes(rt.alloc(), text)?;
-        assert!(rt; is_value(&file.string_filter(key, is_api)?, expected));
-        assert!(rt; is_value(&file.string_filter(key, is_user)?, None));
-        if let Some(key) = KeyRef::parse_unvalidated(key) {
-            let (section, subsection, name) = (
-                key.section_name,
-                key.subsection_name,
-                key.value_name,
-            );
-            let found = file.string_filter_by(section, subsection, name, is_api)?;
-            assert!(rt; is_value(&found, expected));
-            let found = file.string_filter_by(section, subsection, name, is_user)?;
-            assert!(rt; is_value(&found, None));
-        }
+    for (text, key, expected) in VALUES {
+        assert!(rt; is_found_in(rt.alloc(), text, key, expected)?);
     }
     Ok(())
 }
@@ -80,7 +151,7 @@ fn values_where_sections_pass(rt: HostRuntime) -> Result<(), Fail> {
 /// Sections are asked for from the last one on: a filter that drops the first one that it sees leaves the others.
 #[test]
 fn a_filter_that_changes_its_mind(rt: HostRuntime) -> Result<(), Fail> {
-    let file = File::try_from_bytes(rt.alloc(), b"[a]\nk=1\n[a]\nk=2\n[a]\nk=3\n")?;
+    let file = loaded(rt.alloc(), b"[a]\nk=1\n[a]\nk=2\n[a]\nk=3\n")?;
     let mut was_asked = false;
     let found = file.string_filter("a.k", |_| {
         let passes = was_asked;
@@ -91,43 +162,91 @@ fn a_filter_that_changes_its_mind(rt: HostRuntime) -> Result<(), Fail> {
     Ok(())
 }
 
+/// Sets the value of `a.k` in the sections from there, and answers whether it was this one before.
+fn replaces(
+    file: &mut File,
+    value: &[u8],
+    source: Source,
+    old: Option<&[u8]>,
+) -> Result<bool, Fail> {
+    let Some(key) = KeyRef::parse_unvalidated(b"a.k") else {
+        return Err(Fail::new("no key"));
+    };
+    let found = file.set_raw_value_filter(key, value, |meta| meta.source == source)?;
+    Ok(is_value(&found, old))
+}
+
+/// The same, by the names of a section and of a value.
+fn replaces_by(
+    file: &mut File,
+    names: (&str, &str),
+    value: &[u8],
+    source: Source,
+    old: Option<&[u8]>,
+) -> Result<bool, Fail> {
+    let (section, name) = names;
+    let found = file.set_raw_value_filter_by(
+        section,
+        None,
+        name,
+        value,
+        |meta| meta.source == source,
+    )?;
+    Ok(is_value(&found, old))
+}
+
+fn is_printed(file: &File, text: &[u8]) -> Result<bool, Fail> {
+    Ok(file.to_bstring()?.as_bytes() == text)
+}
+
+/// A value that is set where no section passes: another section is made.
+fn is_set_beside(file: &mut File) -> Result<bool, Fail> {
+    Ok(replaces(file, b"2", Source::User, None)? && is_printed(file, b"[a]\nk=1\n[a]\n\tk = 2\n")?)
+}
+
+/// Values that are set in that section.
+fn is_set_in_place(file: &mut File) -> Result<bool, Fail> {
+    Ok(
+        replaces(file, b"3", Source::Api, Some(b"2"))?
+            && replaces_by(file, ("A", "K"), b"4", Source::Api, Some(b"3"))?
+            && is_printed(file, b"[a]\nk=1\n[a]\n\tk = 4\n")?,
+    )
+}
+
+/// The same as the first, by names.
+fn is_set_beside_by_names(file: &mut File) -> Result<bool, Fail> {
+    Ok(replaces_by(file, ("a", "k"), b"5", Source::User, None)? && section_count(file) == 3)
+}
+
 /// A section that the filter drops is left alone, and another one is made.
 #[test]
 fn values_are_set_where_a_filter_passes(rt: HostRuntime) -> Result<(), Fail> {
-    let Some(key) = KeyRef::parse_unvalidated(b"a.k") else {
-        assert!(rt; false, "no key");
-        return Ok(());
-    };
-    let mut file = File::try_from_bytes(rt.alloc(), b"[a]\nk=1\n")?;
-    assert!(rt; is_value(&file.set_raw_value_filter(key, b"2", is_user)?, None));
-    assert!(rt; file.to_bstring()?.as_bytes() == b"[a]\nk=1\n[a]\n\tk = 2\n".as_slice());
-    assert!(rt; is_value(&file.set_raw_value_filter(key, b"3", is_api)?, Some(b"2")));
-    let found = file.set_raw_value_filter_by("A", None, "K", b"4", is_api)?;
-    assert!(rt; is_value(&found, Some(b"3")));
-    assert!(rt; file.to_bstring()?.as_bytes() == b"[a]\nk=1\n[a]\n\tk = 4\n".as_slice());
-    let found = file.set_raw_value_filter_by("a", None, "k", b"5", is_user)?;
-    assert!(rt; is_value(&found, None));
-    assert_eq!(rt; file.sections().count(), 3);
+    let mut file = loaded(rt.alloc(), b"[a]\nk=1\n")?;
+    assert!(rt; is_set_beside(&mut file)?);
+    assert!(rt; is_set_in_place(&mut file)?);
+    assert!(rt; is_set_beside_by_names(&mut file)?);
     Ok(())
 }
 
 /// What is printed of the section at this place alone, which the filter tells by its number.
 fn printed_of(alloc: Global, file: &File, place: usize) -> Result<Vec<u8>, Fail> {
+    let Some(kept) = section_at(file, place) else {
+        return Err(Fail::new("no such section"));
+    };
     let mut out = Vec::new(alloc);
-    for (at, kept) in file.sections().enumerate() {
-        if at == place {
-            file.write_to_filter(&mut out, |section| section.id() == kept.id())?;
-        }
-    }
+    file.write_to_filter(&mut out, |section| section.id() == kept.id())?;
     Ok(out)
 }
 
-fn is_of_user(section: &SectionRef<'_>) -> bool {
-    section.meta().source == Source::User
-}
-
-fn is_of_api(section: &SectionRef<'_>) -> bool {
-    section.meta().source == Source::Api
+/// Whether this is printed of the section at a place of the text.
+fn is_printed_alone(
+    alloc: Global,
+    text: &[u8],
+    place: usize,
+    expected: &[u8],
+) -> Result<bool, Fail> {
+    let file = loaded(alloc, text)?;
+    Ok(printed_of(alloc, &file, place)?.as_slice() == expected)
 }
 
 /// Sections that are kept by their numbers, of which each has its own.
@@ -140,8 +259,7 @@ fn sections_by_their_numbers(rt: HostRuntime) -> Result<(), Fail> {
         (b"[a \"x\"] k [a \"y\"]j", 1, b"[a \"y\"]\nj\n"),
     ];
     for (text, place, expected) in rows {
-        let file = File::try_from_bytes(rt.alloc(), text)?;
-        assert!(rt; printed_of(rt.alloc(), &file, place)?.as_slice() == expected);
+        assert!(rt; is_printed_alone(rt.alloc(), text, place, expected)?);
     }
     Ok(())
 }
@@ -153,15 +271,19 @@ fn file_of_user(alloc: Global) -> Result<File, Fail> {
     Ok(File::from_bytes_no_includes(alloc, text, meta, init::Options::default())?)
 }
 
+/// Whether this is printed of the front and the sections that come from there.
+fn is_printed_from(alloc: Global, source: Source, text: &[u8]) -> Result<bool, Fail> {
+    let file = file_of_user(alloc)?;
+    let mut out = Vec::new(alloc);
+    file.write_to_filter(&mut out, |section| section.meta().source == source)?;
+    Ok(out.as_slice() == text)
+}
+
 /// Sections that are kept by where they come from.
 #[test]
 fn sections_by_their_source(rt: HostRuntime) -> Result<(), Fail> {
-    let file = file_of_user(rt.alloc())?;
-    let mut out = Vec::new(rt.alloc());
-    file.write_to_filter(&mut out, is_of_api)?;
-    assert!(rt; out.as_slice() == b"# f\n".as_slice());
-    file.write_to_filter(&mut out, is_of_user)?;
-    assert!(rt; out.as_slice() == b"# f\n# f\n[a]\n\tk = v\n[b]\n j\n".as_slice());
+    assert!(rt; is_printed_from(rt.alloc(), Source::Api, b"# f\n")?);
+    assert!(rt; is_printed_from(rt.alloc(), Source::User, b"# f\n[a]\n\tk = v\n[b]\n j\n")?);
     Ok(())
 }
 
@@ -176,6 +298,15 @@ fn times_asked(alloc: Global, file: &File, answer: bool) -> Result<u64, Fail> {
     Ok(asked)
 }
 
+/// How often a filter is asked that keeps all sections, and how often one that keeps none.
+fn asked(alloc: Global, text: &[u8]) -> Result<(u64, u64), Fail> {
+    let file = loaded(alloc, text)?;
+    Ok((
+        times_asked(alloc, &file, true)?,
+        times_asked(alloc, &file, false)?,
+    ))
+}
+
 /// A text, how often a filter is asked that keeps all sections, and how often one that keeps none.
 #[test]
 fn how_often_a_filter_is_asked(rt: HostRuntime) -> Result<(), Fail> {
@@ -188,9 +319,7 @@ fn how_often_a_filter_is_asked(rt: HostRuntime) -> Result<(), Fail> {
         (b"k [a]", 2, 2),
     ];
     for (text, all, none) in rows {
-        let file = File::try_from_bytes(rt.alloc(), text)?;
-        assert_eq!(rt; times_asked(rt.alloc(), &file, true)?, all);
-        assert_eq!(rt; times_asked(rt.alloc(), &file, false)?, none);
+        assert!(rt; asked(rt.alloc(), text)? == (all, none));
     }
     Ok(())
 }

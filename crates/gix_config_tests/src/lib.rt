@@ -1,11 +1,11 @@
-//! What no script reaches of events and files: texts of errors, filters that are asked, both ends of iterators, the limit of
-//! spans, options, and growths that are refused in calls that no command makes. What stands below is in `gitconf_tests`.
+//! What no script reaches of files: texts of errors, filters that are asked, options, writers that fail, and growths that are
+//! refused in calls that no command makes. What stands below is in `gitconf_tests` and `gitconf_parse_tests`.
 #![tactic(auto)]
 
 #[cfg(test)]
-mod events;
-#[cfg(test)]
 mod files;
+#[cfg(test)]
+mod loads;
 #[cfg(test)]
 mod messages;
 #[cfg(test)]

@@ -73,6 +73,12 @@ fn options_that_follow(rt: HostRuntime) -> Result<(), Fail> {
         .interpolate_with(interpolate::Context::default());
     assert!(rt; told(&options) == (10, true, true, true));
     assert!(rt; known(&options) == (false, false, false, true, true));
+    Ok(())
+}
+
+#[test]
+fn options_without_conditions(rt: HostRuntime) -> Result<(), Fail> {
+    let homes = homes(rt.alloc(), &[("u", "/u")])?;
     let options = includes::Options::follow_without_conditional(Some("/h"), Some(&homes));
     assert!(rt; told(&options) == (10, true, false, true));
     assert!(rt; known(&options) == (false, true, true, false, false));

@@ -1,0 +1,124 @@
+//! Events that are walked over and copied.
+
+use crate::texts::{TEXT, WRITTEN};
+use gitconf_parse::event_ref::EventRef;
+use gitconf_parse::events::{EventIter, Events};
+use gitconf_tests::shim::{begin, was_refused};
+use std::alloc::Global;
+use std::str;
+use std::test::Fail;
+
+/// The events of a text.
+pub fn read(alloc: Global, text: &[u8]) -> Result<Events, Fail> {
+    Ok(Events::from_bytes(alloc, text, None)?)
+}
+
+/// What the events write, all in a row.
+pub fn written(alloc: Global, events: EventIter<'_>) -> Result<Vec<u8>, Fail> {
+    let mut out = Vec::new(alloc);
+    for event in events {
+        event.write_to(&mut out)?;
+    }
+    Ok(out)
+}
+
+/// What the events of the front write, and then for each section its header, and between `<` and `>` its body.
+fn written_parts(alloc: Global, events: &Events) -> Result<Vec<u8>, Fail> {
+    let mut out = written(alloc, events.frontmatter())?;
+    for section in events.sections() {
+        section.header().write_to(&mut out)?;
+        out.push(b'<')?;
+        out.extend_from_slice(&written(alloc, section.body())?)?;
+        out.push(b'>')?;
+    }
+    Ok(out)
+}
+
+fn no_values(event: &EventRef<'_>) -> bool {
+    !matches!(*event, EventRef::Value(_))
+}
+
+/// Whether the events and a copy of them write these parts, and the copy keeps all entries.
+fn are_written(alloc: Global, text: &[u8], parts: &[u8]) -> Result<bool, Fail> {
+    let events = read(alloc, text)?;
+    let copy = events.try_clone()?;
+    Ok(
+        copy.keeps_entries()
+            && written_parts(alloc, &events)?.as_slice() == parts
+            && written_parts(alloc, &copy)?.as_slice() == parts,
+    )
+}
+
+/// Whether all that makes entries is left where values are dropped, as a copy tells it.
+fn is_kept_without_values(alloc: Global, text: &[u8]) -> Result<bool, Fail> {
+    let filtered = Events::from_bytes(alloc, text, Some(no_values))?;
+    Ok(filtered.try_clone()?.keeps_entries())
+}
+
+/// A text, what its events write by parts, and whether they are all that makes entries where values are dropped.
+const ROWS: [(&[u8], &[u8], bool); 7] = [
+    (b"", b"", true),
+    (b"# c", b"# c", true),
+    (b"[a][b][a]", b"[a]<>[b]<>[a]<>", true),
+    (
+        b"j\n[a] k [b \"\\x\"]# c",
+        b"j\n[a]< k >[b \"x\"]<# c>",
+        false,
+    ),
+    (b"[a]\r\nk = v\\\nw", b"[a]<\r\nk = v\\\nw>", true),
+    (b"[a]\nk = v", b"[a]<\nk = v>", false),
+    (
+        b"x=0\n[A \"B\"]\n[c.D] e",
+        b"x=0\n[A \"B\"]<\n>[c.d]< e>",
+        false,
+    ),
+];
+
+#[test]
+fn events_are_cut_at_headers_and_copied(rt: HostRuntime) -> Result<(), Fail> {
+    for (text, parts, keeps_entries) in ROWS {
+        assert!(rt; are_written(rt.alloc(), text, parts)?);
+        assert_eq!(rt; is_kept_without_values(rt.alloc(), text)?, keeps_entries);
+    }
+    Ok(())
+}
+
+/// Characters are read as bytes are.
+#[test]
+fn characters(rt: HostRuntime) -> Result<(), Fail> {
+    let events = Events::from_str(rt.alloc(), str::from_utf8(TEXT)?)?;
+    assert!(rt; written(rt.alloc(), events.iter())?.as_slice() == WRITTEN);
+    Ok(())
+}
+
+/// And refused as bytes are.
+#[test]
+fn refused_characters(rt: HostRuntime) {
+    let told = Events::from_str(rt.alloc(), "[a] k$rest of line").err();
+    let again = Events::from_bytes(rt.alloc(), b"[a] k$rest of line", None).err();
+    assert!(rt; told.is_some() && told == again);
+}
+
+/// How many events stand before the first section, how many in all sections, and whether all entries are among them.
+fn counts(events: &Events) -> (usize, usize, bool) {
+    let mut in_sections: usize = 0;
+    for section in events.sections() {
+        in_sections = in_sections.saturating_add(section.body().count());
+    }
+    (
+        events.frontmatter().count(),
+        in_sections,
+        events.keeps_entries(),
+    )
+}
+
+/// Looking at events takes no memory.
+#[test]
+fn events_looked_at(rt: HostRuntime) -> Result<(), Fail> {
+    let events = read(rt.alloc(), TEXT)?;
+    begin(rt.alloc())?;
+    let counts = counts(&events);
+    assert!(rt; !was_refused(rt.alloc()));
+    assert!(rt; counts == (10, 48, true));
+    Ok(())
+}

@@ -1,0 +1,112 @@
+//! Texts and numbers of refusals, and the limit of spans.
+
+use gitconf_parse::error::{Error, Expected};
+use gitconf_parse::event::Span;
+use gitconf_parse::sink::SinkFault;
+use gitconf_text::parse::span;
+use std::alloc::{AllocError, Global};
+use std::test::Fail;
+
+/// What is told of a refusal: its number, the line, what was expected there, the rest of the data, and the text.
+type Told<'a> = (u8, usize, &'a str, &'a [u8], &'a str);
+
+/// Whether the refusal tells this.
+fn tells(alloc: Global, error: &Error, told: Told<'_>) -> Result<bool, AllocError> {
+    let text = format!(in alloc; "{error}")?;
+    let found = (
+        error.number(),
+        error.line_number(),
+        error.kind(),
+        error.remaining_data(),
+        text.as_str(),
+    );
+    Ok(found == told)
+}
+
+/// What no text can be refused by: the last line of all, and no data left.
+#[test]
+fn a_refusal_on_the_last_line(rt: HostRuntime) -> Result<(), Fail> {
+    let last = 18446744073709551615;
+    let text =
+        "Got an unexpected token on line 18446744073709551615 while trying to parse a name: ''";
+    let error = Error::unexpected(last, Expected::Name, Vec::new(rt.alloc()));
+    assert!(rt; tells(rt.alloc(), &error, (1, last, "name", b"", text))?);
+    Ok(())
+}
+
+#[test]
+fn a_refused_value(rt: HostRuntime) -> Result<(), Fail> {
+    let text =
+        "Got an unexpected token on line 1 while trying to parse a value: '$rest of l' ... (3 characters omitted)";
+    let data = b"$rest of line".to_vec(rt.alloc())?;
+    let error = Error::unexpected(1, Expected::Value, data);
+    assert!(rt; tells(rt.alloc(), &error, (1, 1, "value", b"$rest of line", text))?);
+    Ok(())
+}
+
+/// And 4294967296 bytes.
+#[test]
+fn a_text_that_is_too_large(rt: HostRuntime) -> Result<(), Fail> {
+    let text =
+        "Configuration input is 4294967296 bytes large, but at most 4294967295 bytes are supported";
+    let error = Error::too_large(4294967296);
+    assert!(rt; tells(rt.alloc(), &error, (2, 1, "", b"", text))?);
+    assert!(rt; error != Error::too_large(4294967297));
+    Ok(())
+}
+
+#[test]
+fn want_of_memory(rt: HostRuntime) -> Result<(), Fail> {
+    assert!(rt;
+        tells(
+            rt.alloc(),
+            &Error::memory(),
+            (27, 1, "", b"", "out of memory")
+        )?
+    );
+    assert!(rt; Error::memory() == Error::memory());
+    assert!(rt; Error::memory() != Error::too_large(4294967296));
+    Ok(())
+}
+
+#[test]
+fn a_writer_that_failed(rt: HostRuntime) -> Result<(), Fail> {
+    let fault = SinkFault;
+    assert_eq!(rt;
+        format!(in rt.alloc(); "{fault}")?.as_str(),
+        "the writer failed"
+    );
+    Ok(())
+}
+
+/// The number of the refusal, where there is no such span.
+fn refusal(span: &Result<Span, span::Error>) -> Option<u8> {
+    match span {
+        Ok(_) => None,
+        Err(refused) => Some(refused.number()),
+    }
+}
+
+/// A start, a length, and the number of the refusal where there is no such span.
+#[test]
+fn spans_end_at_the_limit(rt: HostRuntime) {
+    let rows = [
+        (0, 0, None),
+        (4294967295, 0, None),
+        (4294967295, 4294967295, None),
+        (4294967296, 0, Some(3)),
+        (0, 4294967296, Some(3)),
+    ];
+    for (start, len, expected) in rows {
+        let span = Span::try_new(start, len);
+        assert_eq!(rt; refusal(&span), expected, "start {start}, length {len}");
+    }
+}
+
+#[test]
+fn the_last_span_stays(rt: HostRuntime) -> Result<(), Fail> {
+    let last = Span::try_new(4294967295, 0)?;
+    assert_eq!(rt; last.moved(0)?, last);
+    assert_eq!(rt; refusal(&last.moved(1)), Some(3));
+    Ok(())
+}
