@@ -28,3 +28,4 @@ pub mod EscapedRuns
 pub mod Grouping
 pub mod GroupLaws
 pub mod Clones
+pub mod OneFault

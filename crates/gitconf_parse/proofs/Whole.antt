@@ -29,7 +29,7 @@ wanted_name (ItemPart i ∷ parts) = wanted_name parts
 wanted_name (HeaderPart h ∷ parts) = wanted_name parts
 
 -- what is looked for is told by whether a header came before
-wanted_kind : (parts : List Part) → kind_of (wanted_after expected.SectionHeader parts) ≡ kind_behind parts
+pub wanted_kind : (parts : List Part) → kind_of (wanted_after expected.SectionHeader parts) ≡ kind_behind parts
 wanted_kind [] = refl
 wanted_kind (ItemPart i ∷ parts) = wanted_kind parts
 wanted_kind (HeaderPart h ∷ parts) = wanted_name parts

@@ -4,6 +4,7 @@ ghost use Rattle.std.specs.Prelude.{filter};
 ghost use Rattle.std.specs.List.{list_all, flat_map};
 ghost use Rattle.gitconf_text.specs.Part.{Part};
 ghost use Rattle.gitconf_text.specs.Document.{Document, IsText, Reads, gathered, unmarked};
+ghost use Rattle.gitconf_text.specs.Stuck.{IsStuck};
 ghost use Rattle.gitconf_text.specs.Token.{Token, spelled_token, tokens_of};
 ghost use Rattle.gitconf_text.specs.Header.{is_spelling, unquoted};
 ghost use Rattle.gitconf_parse.specs.EventRef.{Shown, escaped_subsection};
@@ -22,6 +23,12 @@ pub fn escaped_subsection_reads_back()
 pub fn one_document()
     ensures document { (text : List ℕ) (document other : Document) → Reads text document → Reads text other → document ≡ other }
     ensures tokens { (text : List ℕ) (parts others : List Part) → IsText text parts → IsText text others → tokens_of parts ≡ tokens_of others }
+{}
+
+/// A text is stuck at one place alone: in one line, before one rest, and one kind of token was looked for there.
+pub fn stuck_at_one_place()
+    ensures { (text : List ℕ) (line other : ℕ) (rest rest_too kind kind_too : List ℕ) → IsStuck text line rest kind → IsStuck text other rest_too kind_too
+        → (line ≡ other) × (rest ≡ rest_too) × (kind ≡ kind_too) }
 {}
 
 /// The tokens of a text, joined as they are spelled, give the text without its mark.

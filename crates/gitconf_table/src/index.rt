@@ -4,6 +4,7 @@ ghost use Rattle.std.specs.Iterator.{item_count, YieldsFirst, YieldsLast};
 ghost use Rattle.gitconf_table.specs.Links.{bucket_of, words_of, AreLinked, IsLed};
 ghost use Rattle.gitconf_table.specs.Words.{places_of};
 
+use crate::lists::put_at;
 use std::alloc::{AllocError, Global};
 use std::marker::Model;
 
@@ -207,7 +208,7 @@ impl WordIndex {
         if added.is_empty() {
             return;
         }
-        put_links(&mut self.links, at, &mut added);
+        put_at(&mut self.links, at, &mut added);
         relink_all(&mut self.links, &mut self.buckets);
     }
 
@@ -249,26 +250,6 @@ impl WordIndex {
             behind: bucket.behind,
         }
     }
-}
-
-// Moves the added links behind the first `at` ones.
-fn put_links(links: &mut Vec<Link>, at: usize, added: &mut Vec<Link>)
-    requires within { at ≤ vec_len links.old }
-    requires room { vec_len links.old + vec_len added.old ≤ vec_capacity links.old }
-    ensures { links.new.items ≡ take at links.old.items ++ added.old.items ++ drop at links.old.items }
-{
-    let behind = links.len() - at;
-    links.append(added).unwrap();
-    rotate_tail(links, at, behind);
-}
-
-// Moves the first `count` links from `at` on to the end.
-fn rotate_tail(links: &mut [Link], at: usize, count: usize)
-    requires { at + count ≤ length links.old }
-    ensures { links.new ≡ take at links.old ++ (drop count (drop at links.old) ++ take count (drop at links.old)) }
-{
-    let (_, tail) = links.split_at_mut(at);
-    tail.rotate_left(count);
 }
 
 // A link in no chain.

@@ -2,5 +2,6 @@
 #![tactic(auto)]
 
 mod index;
+mod lists;
 pub mod table;
 mod word;

@@ -15,6 +15,7 @@ ghost use Rattle.gitconf_table.specs.Words.{places_of};
 ghost use Rattle.gitconf_table.specs.SectionIters.{ids_left, named_left, sections_left, shown_section, with_name_left};
 
 use crate::index::{Places, WordIndex};
+use crate::lists::put_at;
 use crate::word::{full_word, name_word};
 use gitconf_text::NoMemory;
 use gitconf_text::parse::section::bytes::is_same_name;
@@ -410,7 +411,7 @@ impl<T> SectionTable<T> {
         self.full.reserve(count)?;
         add_places(&mut self.places, self.next, count)?;
         renumber(&mut added, self.next);
-        put_rows(&mut self.rows, position, &mut added);
+        put_at(&mut self.rows, position, &mut added);
         relocate(&self.rows, &mut self.places);
         self.names.insert_all(position, names);
         self.full.insert_all(position, full);
@@ -541,26 +542,6 @@ fn renumber<T>(rows: &mut Vec<Row<T>>, next: usize)
         let row = &mut rows[at];
         row.id = SectionId { number: next + at };
     }
-}
-
-// Moves the added rows behind the first `at` ones.
-fn put_rows<T>(rows: &mut Vec<Row<T>>, at: usize, added: &mut Vec<Row<T>>)
-    requires within { at ≤ vec_len rows.old }
-    requires room { vec_len rows.old + vec_len added.old ≤ vec_capacity rows.old }
-    ensures { rows.new.items ≡ take at rows.old.items ++ added.old.items ++ drop at rows.old.items }
-{
-    let behind = rows.len() - at;
-    rows.append(added).unwrap();
-    rotate_tail(rows, at, behind);
-}
-
-// Moves the first `count` rows from `at` on to the end.
-fn rotate_tail<T>(rows: &mut [Row<T>], at: usize, count: usize)
-    requires { at + count ≤ length rows.old }
-    ensures { rows.new ≡ take at rows.old ++ (drop count (drop at rows.old) ++ take count (drop at rows.old)) }
-{
-    let (_, tail) = rows.split_at_mut(at);
-    tail.rotate_left(count);
 }
 
 // The row at a place, if there is one.

@@ -10,26 +10,26 @@ relocate-requires-clause-within g c =
     let old = c.self.inside in
     let other = c.other.inside in
     let count : c.len-count.result ≡ length (entries_of other.rows.items) = omega (arith, c.len-count.ensures, other.rows.ok, length-map other.rows.items entry_of_row) in
-    let entries = put_all c.args.position old.next old.rows.items other.rows.items c.renumber.new.rows.items c.put_rows.new.rows.items (c.put_rows.ensures ∙ (λ j. take c.args.position (c.reserve.ensures.items j) ++ c.renumber.new.rows.items ++ drop c.args.position (c.reserve.ensures.items j))) c.renumber.ensures.entries in
+    let entries = put_all c.args.position old.next old.rows.items other.rows.items c.renumber.new.rows.items c.put_at.new.list.items (c.put_at.ensures ∙ (λ j. take c.args.position (c.reserve.ensures.items j) ++ c.renumber.new.rows.items ++ drop c.args.position (c.reserve.ensures.items j))) c.renumber.ensures.entries in
     let once = rw (← entries) at (all_put_numbered old.next c.args.position (entries_of old.rows.items) (entries_of other.rows.items) c.self.invariant.numbered.once) in
     let places : length c.add_places.new.places.items ≡ old.next + length (entries_of other.rows.items) = omega (arith, c.in_ok-add_places.ensures.ok, c.add_places.new.places.ok, count) in
-    numbers_within _ (entries_of c.put_rows.new.rows.items) c.add_places.new.places.items once places
+    numbers_within _ (entries_of c.put_at.new.list.items) c.add_places.new.places.items once places
 
 pub relocate-requires-clause-once : goal.relocate-requires-clause-once
 relocate-requires-clause-once g c =
     let old = c.self.inside in
     let other = c.other.inside in
     let count : c.len-count.result ≡ length (entries_of other.rows.items) = omega (arith, c.len-count.ensures, other.rows.ok, length-map other.rows.items entry_of_row) in
-    let entries = put_all c.args.position old.next old.rows.items other.rows.items c.renumber.new.rows.items c.put_rows.new.rows.items (c.put_rows.ensures ∙ (λ j. take c.args.position (c.reserve.ensures.items j) ++ c.renumber.new.rows.items ++ drop c.args.position (c.reserve.ensures.items j))) c.renumber.ensures.entries in
+    let entries = put_all c.args.position old.next old.rows.items other.rows.items c.renumber.new.rows.items c.put_at.new.list.items (c.put_at.ensures ∙ (λ j. take c.args.position (c.reserve.ensures.items j) ++ c.renumber.new.rows.items ++ drop c.args.position (c.reserve.ensures.items j))) c.renumber.ensures.entries in
     let once = rw (← entries) at (all_put_numbered old.next c.args.position (entries_of old.rows.items) (entries_of other.rows.items) c.self.invariant.numbered.once) in
-    numbered_apart _ (entries_of c.put_rows.new.rows.items) once
+    numbered_apart _ (entries_of c.put_at.new.list.items) once
 
 pub invariant_of-self-2 : goal.invariant_of-self-2
 invariant_of-self-2 g c =
     let old = c.self.inside in
     let other = c.other.inside in
     let count : c.len-count.result ≡ length (entries_of other.rows.items) = omega (arith, c.len-count.ensures, other.rows.ok, length-map other.rows.items entry_of_row) in
-    let entries = put_all c.args.position old.next old.rows.items other.rows.items c.renumber.new.rows.items c.put_rows.new.rows.items (c.put_rows.ensures ∙ (λ j. take c.args.position (c.reserve.ensures.items j) ++ c.renumber.new.rows.items ++ drop c.args.position (c.reserve.ensures.items j))) c.renumber.ensures.entries in
+    let entries = put_all c.args.position old.next old.rows.items other.rows.items c.renumber.new.rows.items c.put_at.new.list.items (c.put_at.ensures ∙ (λ j. take c.args.position (c.reserve.ensures.items j) ++ c.renumber.new.rows.items ++ drop c.args.position (c.reserve.ensures.items j))) c.renumber.ensures.entries in
     let once = rw (← entries) at (all_put_numbered old.next c.args.position (entries_of old.rows.items) (entries_of other.rows.items) c.self.invariant.numbered.once) in
     let at = c.args.position in
     let places : length c.add_places.new.places.items ≡ old.next + c.len-count.result = omega (arith, c.in_ok-add_places.ensures.ok, c.add_places.new.places.ok) in
@@ -44,9 +44,9 @@ returns-clause-ok g c =
     let old = c.self.inside in
     let other = c.other.inside in
     let count : c.len-count.result ≡ length (entries_of other.rows.items) = omega (arith, c.len-count.ensures, other.rows.ok, length-map other.rows.items entry_of_row) in
-    let entries = put_all c.args.position old.next old.rows.items other.rows.items c.renumber.new.rows.items c.put_rows.new.rows.items (c.put_rows.ensures ∙ (λ j. take c.args.position (c.reserve.ensures.items j) ++ c.renumber.new.rows.items ++ drop c.args.position (c.reserve.ensures.items j))) c.renumber.ensures.entries in
+    let entries = put_all c.args.position old.next old.rows.items other.rows.items c.renumber.new.rows.items c.put_at.new.list.items (c.put_at.ensures ∙ (λ j. take c.args.position (c.reserve.ensures.items j) ++ c.renumber.new.rows.items ++ drop c.args.position (c.reserve.ensures.items j))) c.renumber.ensures.entries in
     let once = rw (← entries) at (all_put_numbered old.next c.args.position (entries_of old.rows.items) (entries_of other.rows.items) c.self.invariant.numbered.once) in
     rw (← c.self.view_is, ← c.other.view_is) (λ j. record { entries = entries j; next = old.next + count j })
 
-pub put_rows-requires-clause-room : goal.put_rows-requires-clause-room
-put_rows-requires-clause-room g c = omega (arith, c.in_ok-reserve.ensures.ok, c.renumber.ensures.len, c.len-count.ensures)
+pub put_at-requires-clause-room : goal.put_at-requires-clause-room
+put_at-requires-clause-room g c = omega (arith, c.in_ok-reserve.ensures.ok, c.renumber.ensures.len, c.len-count.ensures)
