@@ -12,7 +12,7 @@ use Rattle.gitconf_text.specs.Header.{Header, PlainHeader, DottedHeader, QuotedH
 use Rattle.gitconf_text.specs.Part.{Assigned, BlanksItem, LineEndsItem, CommentItem, EntryItem, Part, ItemPart, HeaderPart, spelled_part, spelled, FitsItem, FitsPart, AreFit}
 use Rattle.gitconf_text.specs.Document.{Document, with_part, gathered}
 use Rattle.gitconf_parse.proofs.ValueAgain.{both_true, apart}
-use Rattle.gitconf_state.specs.Comments.{stripped, part_comments, comments_of}
+use Rattle.gitconf_state.specs.Comments.{without_white_end, part_comments, comments_of}
 use Rattle.gitconf_state.specs.Writing.{Closed, OpenKey, OpenValue, OpenComment, after_blanks}
 use Rattle.gitconf_state.proofs.Follows.{may_follow, may_follow_key, line_end_follows}
 use Rattle.gitconf_state.proofs.Fitted.{Fitted, put, respelled, put_blanks, put_line_ends}
@@ -166,24 +166,24 @@ end_value e line name blanks between (p ∷ pieces) [] rest fits =
     )
 
 -- a comment that loses CRs at its end is the same without its blanks and CRs there
-trimmed_stripped : (text : List ℕ) → list_all (λ b. not (b == 10)) text ≡ true → stripped (trimmed text) ≡ stripped text
+trimmed_stripped : (text : List ℕ) → list_all (λ b. not (b == 10)) text ≡ true → without_white_end (trimmed text) ≡ without_white_end text
 trimmed_stripped [] h = refl
 trimmed_stripped (b ∷ text) h = go (trimmed text) refl (trimmed_stripped text p.1)
   where
     p : (not (b == 10) ≡ true) × (list_all (λ b. not (b == 10)) text ≡ true)
     p = both_true (not (b == 10)) (list_all (λ b. not (b == 10)) text) h
 
-    go : (rest : List ℕ) → trimmed text ≡ rest → stripped (trimmed text) ≡ stripped text → stripped (trimmed (b ∷ text)) ≡ stripped (b ∷ text)
-    go (c ∷ rest) k later = rw (trimmed, k, stripped, sym later, k) refl
+    go : (rest : List ℕ) → trimmed text ≡ rest → without_white_end (trimmed text) ≡ without_white_end text → without_white_end (trimmed (b ∷ text)) ≡ without_white_end (b ∷ text)
+    go (c ∷ rest) k later = rw (trimmed, k, without_white_end, sym later, k) refl
     go [] k later = last (b == 13) refl (b == 10) refl
       where
-        none : [] ≡ stripped text
-        none = ap stripped (sym k) ∙ later
+        none : [] ≡ without_white_end text
+        none = ap without_white_end (sym k) ∙ later
 
-        last : (t : Bool) → (b == 13) ≡ t → (f : Bool) → (b == 10) ≡ f → stripped (trimmed (b ∷ text)) ≡ stripped (b ∷ text)
-        last true x f y = rw (trimmed, k, x, stripped, sym none, eqb-true b 13 x) refl
+        last : (t : Bool) → (b == 13) ≡ t → (f : Bool) → (b == 10) ≡ f → without_white_end (trimmed (b ∷ text)) ≡ without_white_end (b ∷ text)
+        last true x f y = rw (trimmed, k, x, without_white_end, sym none, eqb-true b 13 x) refl
         last false x true y = absurd (let z : false ≡ true = rw y at p.0 in cc)
-        last false x false y = rw (trimmed, k, x, y, stripped, sym none) refl
+        last false x false y = rw (trimmed, k, x, y, without_white_end, sym none) refl
 
 trimmed_lines : (text : List ℕ) → list_all (λ b. not (b == 10)) text ≡ true → list_all (λ b. not (b == 10)) (trimmed text) ≡ true
 trimmed_lines [] h = refl

@@ -15,7 +15,7 @@ use Rattle.gitconf_text.specs.Document.{Document, with_part, gathered}
 use Rattle.gitconf_parse.specs.EventRef.{written}
 use Rattle.gitconf_parse.specs.ShownEvents.{shown_token}
 use Rattle.gitconf_parse.proofs.ValueAgain.{both_true}
-use Rattle.gitconf_state.specs.Comments.{stripped, comments_of}
+use Rattle.gitconf_state.specs.Comments.{without_white_end, comments_of}
 use Rattle.gitconf_state.specs.Writing.{may_stand_behind, Open, Closed, OpenKey, OpenKeyAndBlanks, OpenValue, OpenComment, after_blanks, after_entry, after}
 use Rattle.gitconf_state.proofs.Follows.{may_follow, may_follow_key, blanks_follow, line_end_follows, mark_follows, letter_follows}
 use Rattle.gitconf_state.proofs.Fitted.{Fitted, put, respelled, put_blanks, put_line_ends}
@@ -168,9 +168,9 @@ tight_comment OpenComment (b ∷ run) no_comment e = no_comment refl
 -- a comment behind its indent
 set_comment : (state : Open) (front : List ℕ) (tag : ℕ) (words text : List ℕ) (document : Document) (comments : List (List ℕ)) → list_all is_blank front ≡ true → is_mark tag ≡ true
     → list_all (λ b. not (b == 10)) words ≡ true → (state ≡ OpenComment → ⊥) → Laid OpenComment text document comments
-    → Laid state ((front ++ (tag ∷ words)) ++ text) document ((tag ∷ stripped words) ∷ comments)
+    → Laid state ((front ++ (tag ∷ words)) ++ text) document ((tag ∷ without_white_end words) ∷ comments)
 set_comment state front tag words text document comments all mark lines other later =
-    let comment : Fitted (tag ∷ (words ++ text)) document ((tag ∷ stripped words) ∷ comments) = put_comment tag words mark lines later.follows later.fitted in
+    let comment : Fitted (tag ∷ (words ++ text)) document ((tag ∷ without_white_end words) ∷ comments) = put_comment tag words mark lines later.follows later.fitted in
     let same : (front ++ (tag ∷ words)) ++ text ≡ front ++ (tag ∷ (words ++ text)) = append_assoc front (tag ∷ words) text in
     record {
       fitted = respelled (sym same) (put_blanks front all comment);

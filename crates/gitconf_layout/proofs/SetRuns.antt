@@ -8,7 +8,7 @@ use Rattle.gitconf_text.specs.Bytes.{is_blank}
 use Rattle.gitconf_text.specs.Text.{begins, begins_line_end, are_line_ends, is_line_end}
 use Rattle.gitconf_parse.specs.EventRef.{Shown}
 use Rattle.gitconf_parse.proofs.ValueAgain.{both_true}
-use Rattle.gitconf_state.specs.Comments.{stripped}
+use Rattle.gitconf_state.specs.Comments.{without_white_end}
 use Rattle.gitconf_state.proofs.Fitted.{line_ends-append}
 use Rattle.gitconf_layout.specs.declared.format.Indent.{Indent}
 use Rattle.gitconf_layout.specs.declared.format.Indent.TheVariants.{Tabs, Spaces}
@@ -79,24 +79,24 @@ ends_line o e line p content (b ∷ run) some all none = go (b == 10) refl (λ s
         let k : (b == 13 && begins (λ c. c == 10) run) ≡ true = rw h at q.0 in
         later (next run (both_true (b == 13) _ k).1) (rw (h, ends_text) at none)
 
--- the same text stripped
+-- the same text without its white end
 strip_step : ℕ → List ℕ → List ℕ
 strip_step b text = elim text [ [] ↦ elim (is_blank b || b == 13) [ true ↦ [] | false ↦ b ∷ [] ] | c ∷ rest ↦ b ∷ c ∷ rest ]
 
-stripped_cr : (text : List ℕ) → stripped (without_cr text) ≡ stripped text
+stripped_cr : (text : List ℕ) → without_white_end (without_cr text) ≡ without_white_end text
 unfolding strip_step
 stripped_cr [] = refl
 stripped_cr (b ∷ []) = go (b == 13) refl
   where
-    go : (t : Bool) → (b == 13) ≡ t → stripped (without_cr (b ∷ [])) ≡ stripped (b ∷ [])
+    go : (t : Bool) → (b == 13) ≡ t → without_white_end (without_cr (b ∷ [])) ≡ without_white_end (b ∷ [])
     go true h = rw (eqb-true b 13 h) refl
     go false h = rw (h, without_cr) refl
 stripped_cr (b ∷ c ∷ text) = ap (strip_step b) (stripped_cr (c ∷ text))
 
-pub stripped_comment : (text : List ℕ) (rest : List Shown) → stripped (comment_text text rest) ≡ stripped text
+pub stripped_comment : (text : List ℕ) (rest : List Shown) → without_white_end (comment_text text rest) ≡ without_white_end text
 stripped_comment text rest = go (begins_newline rest) refl
   where
-    go : (t : Bool) → begins_newline rest ≡ t → stripped (comment_text text rest) ≡ stripped text
+    go : (t : Bool) → begins_newline rest ≡ t → without_white_end (comment_text text rest) ≡ without_white_end text
     go true h = rw (h, comment_text) (stripped_cr text)
     go false h = rw (h, comment_text) refl
 

@@ -78,9 +78,9 @@ behind before (ShownNewline run) = before
 behind before (ShownValue bytes) = Value
 behind before _ = Other
 
-abbrev pub is_comment : Shown → Bool
-is_comment (ShownComment tag text) = true
-is_comment _ = false
+abbrev pub is_comment_event : Shown → Bool
+is_comment_event (ShownComment tag text) = true
+is_comment_event _ = false
 
 abbrev pub is_newline : Shown → Bool
 is_newline (ShownNewline run) = true
@@ -88,7 +88,7 @@ is_newline _ = false
 
 abbrev pub begins_comment : List Shown → Bool
 begins_comment [] = false
-begins_comment (t ∷ rest) = is_comment t
+begins_comment (t ∷ rest) = is_comment_event t
 
 abbrev pub begins_newline : List Shown → Bool
 begins_newline [] = false

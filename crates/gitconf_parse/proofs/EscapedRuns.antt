@@ -4,7 +4,7 @@ use Rattle.std.proofs.lemmas.List.{take-append-drop, take_more, get_or-drop, tak
 use Rattle.std.specs.Prelude.{IsErr}
 use Rattle.std.proofs.lemmas.Grind.{flat_map-append}
 use Rattle.gitconf_parse.specs.Sink.{with_text, is_begun, Writes}
-use Rattle.gitconf_parse.specs.EventRef.{needs_backslash, escaped_byte, escaped_subsection}
+use Rattle.gitconf_parse.specs.EventRef.{needs_backslash, escaped_subsection_byte, escaped_subsection}
 use Rattle.gitconf_parse.proofs.SinkLaws.{with_text-with_text, begun_behind, begun_before, Writes-fault, Writes-behind}
 
 -- the run that waits to be written, from `done` up to i
@@ -18,8 +18,8 @@ pub record Waits (s : List ℕ) (done i : ℕ) : Type 0 where
   pub spelled : escaped_subsection (take i s) ≡ escaped_subsection (take done s) ++ waiting s done i
 
 -- one byte more is spelled
-escaped_more : (s : List ℕ) (i : ℕ) → i < length s → escaped_subsection (take (i + 1) s) ≡ escaped_subsection (take i s) ++ (escaped_byte (get_or s i 0) ++ [])
-escaped_more s i within = ap escaped_subsection (take_more s i 0 within) ∙ flat_map-append escaped_byte (take i s) (get_or s i 0 ∷ [])
+escaped_more : (s : List ℕ) (i : ℕ) → i < length s → escaped_subsection (take (i + 1) s) ≡ escaped_subsection (take i s) ++ (escaped_subsection_byte (get_or s i 0) ++ [])
+escaped_more s i within = ap escaped_subsection (take_more s i 0 within) ∙ flat_map-append escaped_subsection_byte (take i s) (get_or s i 0 ∷ [])
 
 -- the run grows by a byte that needs no backslash
 pub waits_more : (s : List ℕ) (done i : ℕ) → Waits s done i → i < length s → needs_backslash (get_or s i 0) ≡ false → Waits s done (i + 1)
@@ -58,7 +58,7 @@ spelled_whole s done i w past = ap escaped_subsection (sym (take_all i s past)) 
 pub begun_within : (s : List ℕ) (i : ℕ) (old new : Option (List ℕ)) → is_begun (escaped_subsection (take i s)) old new ≡ true → is_begun (escaped_subsection s) old new ≡ true
 begun_within s i old new holds =
     let whole : escaped_subsection (take i s) ++ escaped_subsection (drop i s) ≡ escaped_subsection s =
-    sym (flat_map-append escaped_byte (take i s) (drop i s)) ∙ ap escaped_subsection (take-append-drop i s) in
+    sym (flat_map-append escaped_subsection_byte (take i s) (drop i s)) ∙ ap escaped_subsection (take-append-drop i s) in
     subst (λ t. is_begun t old new ≡ true) whole (begun_before (escaped_subsection (take i s)) (escaped_subsection (drop i s)) old new holds)
 
 -- a fault while the run is written

@@ -6,7 +6,7 @@ use Rattle.gitconf_text.specs.Bytes.{is_whitespace}
 use Rattle.std.proofs.lemmas.List.Sums.{sum_by-cons}
 use Rattle.gitconf_text.specs.Unit.{TextUnit, Escape, Plain, Class, Mark, White, Other, class_of, units_behind, units_of}
 use Rattle.gitconf_text.specs.Header.{is_subsection_unit, is_spelling, subsection_byte, unquoted}
-use Rattle.gitconf_parse.specs.EventRef.{needs_backslash, escaped_byte, escaped_subsection}
+use Rattle.gitconf_parse.specs.EventRef.{needs_backslash, escaped_subsection_byte, escaped_subsection}
 
 -- each byte that needs a backslash makes the spelling longer by one
 pub length-escaped_subsection : (bytes : List ℕ) → length (escaped_subsection bytes) ≡ length bytes + count_by needs_backslash bytes
@@ -34,7 +34,7 @@ record Respelled (b : ℕ) : Type 0 where
   unit : TextUnit
   fits : is_subsection_unit unit ≡ true
   byte : subsection_byte unit ≡ b ∷ []
-  first : (rest : List ℕ) → units_of (escaped_byte b ++ rest) ≡ unit ∷ units_of rest
+  first : (rest : List ℕ) → units_of (escaped_subsection_byte b ++ rest) ≡ unit ∷ units_of rest
 
 -- a byte of any other class stands for itself
 plainly : (b : ℕ) (c : Class) → class_of b ≡ c → is_subsection_unit (Plain b) ≡ true → (b == 34) ≡ false → (b == 92) ≡ false

@@ -45,12 +45,12 @@ abbrev pub needs_backslash : ℕ → Bool
 needs_backslash b = b == 34 || b == 92
 
 -- a byte of a subsection in quotes: a quote and a backslash stand behind a backslash
-abbrev pub escaped_byte : ℕ → List ℕ
-escaped_byte b = if needs_backslash b then 92 ∷ b ∷ [] else b ∷ []
+abbrev pub escaped_subsection_byte : ℕ → List ℕ
+escaped_subsection_byte b = if needs_backslash b then 92 ∷ b ∷ [] else b ∷ []
 
 -- a subsection as it is spelled in quotes
 abbrev pub escaped_subsection : List ℕ → List ℕ
-escaped_subsection bytes = flat_map escaped_byte bytes
+escaped_subsection bytes = flat_map escaped_subsection_byte bytes
 
 -- a subsection with what stands round it: behind a dot as it is, and else in quotes
 abbrev pub written_subsection : (separator subsection : List ℕ) → List ℕ

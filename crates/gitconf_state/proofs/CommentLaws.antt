@@ -9,7 +9,7 @@ use Rattle.gitconf_text.specs.Document.{unmarked, IsText}
 use Rattle.gitconf_parse.proofs.OneDocument.{one_tokens}
 use Rattle.gitconf_state.specs.State.{SectionState, State, HasSectionItems, HasItems}
 use Rattle.gitconf_state.specs.Clean.{IsCleanSection, IsClean}
-use Rattle.gitconf_state.specs.Comments.{stripped, item_comments, part_comments, comments_of, comments_of_kept, comments}
+use Rattle.gitconf_state.specs.Comments.{without_white_end, item_comments, part_comments, comments_of, comments_of_kept, comments}
 use Rattle.gitconf_state.specs.Printing.{section_parts, printed_parts, printed_kept, printed, printed_section}
 use Rattle.gitconf_state.specs.Writing.{Closed}
 use Rattle.gitconf_state.proofs.Apart.{AreApart, fitted}
@@ -19,7 +19,7 @@ use Rattle.gitconf_state.proofs.ReadsBack.{is_text, filter_all}
 
 -- the comment of a token, if it is one
 abbrev token_comments : Token → List (List ℕ)
-token_comments (CommentToken tag text) = (tag ∷ stripped text) ∷ []
+token_comments (CommentToken tag text) = (tag ∷ without_white_end text) ∷ []
 token_comments _ = []
 
 -- blanks are no comment

@@ -11,7 +11,7 @@ use Rattle.gitconf_text.specs.Part.{Item, BlanksItem, LineEndsItem, CommentItem,
 use Rattle.gitconf_text.specs.Token.{Token, CommentToken, HeaderToken, NameToken, ValueToken, NewlineToken, ValueNotDoneToken, ValueDoneToken, WhitespaceToken, SeparatorToken, spelled_token, item_tokens}
 use Rattle.gitconf_state.specs.State.{SectionState, State}
 use Rattle.gitconf_state.specs.LineEnds.{line_end_of, section_line_end, file_line_end}
-use Rattle.gitconf_state.specs.Printing.{line_behind, breaks, closed_item, printed_items, begins_on_a_line, unless, behind_header, printed_body, section_parts, ends_with_line, held_items, sections_parts, behind_front, printed}
+use Rattle.gitconf_state.specs.Printing.{line_after, breaks, closed_item, printed_items, begins_on_a_line, unless, behind_header, printed_body, section_parts, ends_with_line, held_items, sections_parts, behind_front, printed}
 use Rattle.gitconf_state.specs.Inserted.{Inserted}
 use Rattle.gitconf_state.specs.Loads.{section_tokens, state_tokens}
 use Rattle.gitconf_state.proofs.InsertingTexts.{Behind, texts_before, texts_before-append, same_whole, put_text, put_unless, put_item}
@@ -56,16 +56,16 @@ put_items : (in_body : Bool) (line_end : List ℕ) (before : List Item) (items :
     → Behind (texts_before (flat_map item_tokens items) texts) (items_text (printed_items in_body line_end before items) ++ whole)
 put_items in_body line_end before [] texts whole is_end is = is
 put_items in_body line_end before (i ∷ items) texts whole is_end is =
-    go (breaks in_body before i) refl (put_items in_body line_end (line_behind [] i) items texts whole is_end is) (put_items in_body line_end (line_behind before i) items texts whole is_end is)
+    go (breaks in_body before i) refl (put_items in_body line_end (line_after [] i) items texts whole is_end is) (put_items in_body line_end (line_after before i) items texts whole is_end is)
   where
     go : (t : Bool) → breaks in_body before i ≡ t
-        → Behind (texts_before (flat_map item_tokens items) texts) (items_text (printed_items in_body line_end (line_behind [] i) items) ++ whole)
-        → Behind (texts_before (flat_map item_tokens items) texts) (items_text (printed_items in_body line_end (line_behind before i) items) ++ whole)
+        → Behind (texts_before (flat_map item_tokens items) texts) (items_text (printed_items in_body line_end (line_after [] i) items) ++ whole)
+        → Behind (texts_before (flat_map item_tokens items) texts) (items_text (printed_items in_body line_end (line_after before i) items) ++ whole)
         → Behind (texts_before (flat_map item_tokens (i ∷ items)) texts) (items_text (printed_items in_body line_end before (i ∷ items)) ++ whole)
     go true e broken same = rw (e, printed_items) (
-        inr (line_end, _, is_end, put_item_before line_end i (flat_map item_tokens items) (printed_items in_body line_end (line_behind [] i) items) texts whole is_end broken, append_assoc line_end _ whole))
+        inr (line_end, _, is_end, put_item_before line_end i (flat_map item_tokens items) (printed_items in_body line_end (line_after [] i) items) texts whole is_end broken, append_assoc line_end _ whole))
     go false e broken same = rw (e, printed_items) (
-        inl (put_item_before line_end i (flat_map item_tokens items) (printed_items in_body line_end (line_behind before i) items) texts whole is_end same))
+        inl (put_item_before line_end i (flat_map item_tokens items) (printed_items in_body line_end (line_after before i) items) texts whole is_end same))
 
 -- before the first of items no line end is put
 none_first : (in_body : Bool) (i : Item) → breaks in_body [] i ≡ false
@@ -80,8 +80,8 @@ put_first_items : (in_body : Bool) (line_end : List ℕ) (i : Item) (items : Lis
     → Inserted (texts_before (flat_map item_tokens (i ∷ items)) texts) (items_text (printed_items in_body line_end [] (i ∷ items)) ++ whole)
 put_first_items in_body line_end i items texts whole is_end is =
     rw (none_first in_body i, printed_items) (
-    put_item_before line_end i (flat_map item_tokens items) (printed_items in_body line_end (line_behind [] i) items) texts whole is_end
-    (put_items in_body line_end (line_behind [] i) items texts whole is_end is))
+    put_item_before line_end i (flat_map item_tokens items) (printed_items in_body line_end (line_after [] i) items) texts whole is_end
+    (put_items in_body line_end (line_after [] i) items texts whole is_end is))
 
 -- a section's body, behind its header
 put_body : (line_end : List ℕ) (items : List Item) (texts : List (List ℕ)) (whole : List ℕ) → is_line_end line_end ≡ true → Behind texts whole

@@ -11,7 +11,7 @@ use Rattle.gitconf_state.specs.State.{SectionState, State, item_entries, entries
 use Rattle.gitconf_state.specs.LineEnds.{ends_line, section_line_end, file_line_end}
 use Rattle.gitconf_state.specs.Clean.{IsCleanSection, IsClean}
 use Rattle.gitconf_state.specs.Comments.{item_comments, part_comments, comments_of, comments_of_kept}
-use Rattle.gitconf_state.specs.Printing.{line_behind, breaks, closed_item, printed_items, begins_on_a_line, unless, behind_header, printed_body, section_parts, ends_with_line, held_items, sections_parts, behind_front, printed_parts}
+use Rattle.gitconf_state.specs.Printing.{line_after, breaks, closed_item, printed_items, begins_on_a_line, unless, behind_header, printed_body, section_parts, ends_with_line, held_items, sections_parts, behind_front, printed_parts}
 use Rattle.gitconf_state.proofs.PrintedItem.{item_entries-is, item_comments-is}
 use Rattle.gitconf_state.proofs.SectionsApart.{with_held, with_front}
 
@@ -36,8 +36,8 @@ items_tell f kept in_body line_end before (i ∷ items) = go (breaks in_body bef
   where
     go : (t : Bool) → breaks in_body before i ≡ t → ((b : List Item) → flat_map f (printed_items in_body line_end b items) ≡ flat_map f items)
         → flat_map f (printed_items in_body line_end before (i ∷ items)) ≡ flat_map f (i ∷ items)
-    go true e later = rw (e, printed_items, kept.lines line_end, kept.closed line_end i) (ap (λ t. f i ++ t) (later (line_behind [] i)))
-    go false e later = rw (e, printed_items, kept.closed line_end i) (ap (λ t. f i ++ t) (later (line_behind before i)))
+    go true e later = rw (e, printed_items, kept.lines line_end, kept.closed line_end i) (ap (λ t. f i ++ t) (later (line_after [] i)))
+    go false e later = rw (e, printed_items, kept.closed line_end i) (ap (λ t. f i ++ t) (later (line_after before i)))
 
 -- a line end that is put in tells nothing
 line_tells : {A : Type 0} (f : Item → List A) → IsKept f → (ended : Bool) (line_end : List ℕ) → flat_map f (unless ended line_end) ≡ []

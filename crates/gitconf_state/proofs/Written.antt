@@ -7,7 +7,7 @@ use Rattle.std.proofs.lemmas.List.Folds.{list_any-append}
 use Rattle.std.proofs.lemmas.List.Elements.{filter-append}
 use Rattle.gitconf_text.specs.Part.{Assigned, Entry, Item, BlanksItem, LineEndsItem, CommentItem, EntryItem}
 use Rattle.gitconf_state.specs.State.{is_entry, is_comment}
-use Rattle.gitconf_state.specs.Printing.{goes_on, line_behind, breaks, closed_item, printed_items}
+use Rattle.gitconf_state.specs.Printing.{has_pieces, line_after, breaks, closed_item, printed_items}
 use Rattle.gitconf_state.specs.Clean.{has_value, has_bytes, is_name_alone, ends_with_name, may_stand, stand_apart}
 use Rattle.gitconf_state.specs.Writing.{Open, Closed, OpenKey, OpenKeyAndBlanks, OpenValue, OpenComment, after_blanks, after_entry, after, breaks_behind, written_items, may_stand_behind, stand_apart_behind}
 
@@ -95,24 +95,24 @@ entry_open OpenKeyAndBlanks blanks (Some a) = refl
 entry_open OpenValue blanks (Some a) = refl
 
 entry_comment : (before : Open) (blanks : List ℕ) (assigned : Option Assigned)
-    → is_comment_open (after_entry before blanks assigned) ≡ (not (goes_on assigned) && is_comment_open before)
+    → is_comment_open (after_entry before blanks assigned) ≡ (not (has_pieces assigned) && is_comment_open before)
 entry_comment OpenComment blanks None = refl
 entry_comment OpenComment blanks (Some a) = go a.value.pieces refl
   where
-    go : (pieces : _) → a.value.pieces ≡ pieces → is_comment_open (after_entry OpenComment blanks (Some a)) ≡ (not (goes_on (Some a)) && true)
-    go [] e = rw (e, after_entry, goes_on) refl
-    go (p ∷ pieces) e = rw (e, after_entry, goes_on) refl
+    go : (pieces : _) → a.value.pieces ≡ pieces → is_comment_open (after_entry OpenComment blanks (Some a)) ≡ (not (has_pieces (Some a)) && true)
+    go [] e = rw (e, after_entry, has_pieces) refl
+    go (p ∷ pieces) e = rw (e, after_entry, has_pieces) refl
 entry_comment Closed blanks None = blanks_comment blanks OpenKey
 entry_comment OpenKey blanks None = blanks_comment blanks OpenKey
 entry_comment OpenKeyAndBlanks blanks None = blanks_comment blanks OpenKey
 entry_comment OpenValue blanks None = blanks_comment blanks OpenKey
-entry_comment Closed blanks (Some a) = sym (and_false (not (goes_on (Some a))))
-entry_comment OpenKey blanks (Some a) = sym (and_false (not (goes_on (Some a))))
-entry_comment OpenKeyAndBlanks blanks (Some a) = sym (and_false (not (goes_on (Some a))))
-entry_comment OpenValue blanks (Some a) = sym (and_false (not (goes_on (Some a))))
+entry_comment Closed blanks (Some a) = sym (and_false (not (has_pieces (Some a))))
+entry_comment OpenKey blanks (Some a) = sym (and_false (not (has_pieces (Some a))))
+entry_comment OpenKeyAndBlanks blanks (Some a) = sym (and_false (not (has_pieces (Some a))))
+entry_comment OpenValue blanks (Some a) = sym (and_false (not (has_pieces (Some a))))
 
 -- both agree behind the next item
-agrees_behind : (line : List Item) (before : Open) (i : Item) → Agrees line before → Agrees (line_behind line i) (after before i)
+agrees_behind : (line : List Item) (before : Open) (i : Item) → Agrees line before → Agrees (line_after line i) (after before i)
 agrees_behind line before (BlanksItem run) same = record {
   comment = any_same is_comment line (BlanksItem run) refl ∙ (same.comment ∙ sym (blanks_comment run before));
   words = any_same has_words line (BlanksItem run) refl ∙ (same.words ∙ sym (blanks_open run before));
@@ -122,14 +122,14 @@ agrees_behind line before (CommentItem tag text) same = record {
   comment = any_now is_comment line (CommentItem tag text) refl;
   words = any_now has_words line (CommentItem tag text) refl;
 }
-agrees_behind line before (EntryItem e) same = go (goes_on e.assigned) refl
+agrees_behind line before (EntryItem e) same = go (has_pieces e.assigned) refl
   where
-    go : (t : Bool) → goes_on e.assigned ≡ t → Agrees (line_behind line (EntryItem e)) (after before (EntryItem e))
-    go true on = rw (on, line_behind) (record {
+    go : (t : Bool) → has_pieces e.assigned ≡ t → Agrees (line_after line (EntryItem e)) (after before (EntryItem e))
+    go true on = rw (on, line_after) (record {
       comment = sym (entry_comment before e.blanks e.assigned ∙ ap (λ b. not b && is_comment_open before) on);
       words = sym (entry_open before e.blanks e.assigned);
     })
-    go false on = rw (on, line_behind) (record {
+    go false on = rw (on, line_after) (record {
       comment = any_same is_comment line (EntryItem e) refl ∙ (same.comment ∙ sym (entry_comment before e.blanks e.assigned ∙ ap (λ b. not b && is_comment_open before) on));
       words = any_now has_words line (EntryItem e) refl ∙ sym (entry_open before e.blanks e.assigned);
     })
@@ -178,12 +178,12 @@ written : (in_body : Bool) (line_end : List ℕ) (line : List Item) (before : Op
     → printed_items in_body line_end line items ≡ written_items in_body line_end before items
 written in_body line_end line before [] same = refl
 written in_body line_end line before (i ∷ items) same = go (breaks_behind in_body before i) refl (breaks_same in_body line before i same)
-    (written in_body line_end (line_behind [] i) (after Closed i) items (agrees_behind [] Closed i (record { comment = refl; words = refl })))
-    (written in_body line_end (line_behind line i) (after before i) items (agrees_behind line before i same))
+    (written in_body line_end (line_after [] i) (after Closed i) items (agrees_behind [] Closed i (record { comment = refl; words = refl })))
+    (written in_body line_end (line_after line i) (after before i) items (agrees_behind line before i same))
   where
     go : (t : Bool) → breaks_behind in_body before i ≡ t → breaks in_body line i ≡ breaks_behind in_body before i
-        → printed_items in_body line_end (line_behind [] i) items ≡ written_items in_body line_end (after Closed i) items
-        → printed_items in_body line_end (line_behind line i) items ≡ written_items in_body line_end (after before i) items
+        → printed_items in_body line_end (line_after [] i) items ≡ written_items in_body line_end (after Closed i) items
+        → printed_items in_body line_end (line_after line i) items ≡ written_items in_body line_end (after before i) items
         → printed_items in_body line_end line (i ∷ items) ≡ written_items in_body line_end before (i ∷ items)
     go true e is broken later = rw (is, e, printed_items, written_items) (ap (λ is. LineEndsItem line_end ∷ closed_item line_end i ∷ is) broken)
     go false e is broken later = rw (is, e, printed_items, written_items) (ap (λ is. closed_item line_end i ∷ is) later)
@@ -245,7 +245,7 @@ blanks_key b run OpenComment = refl
 -- behind an entry that may stand where it does
 entry_behind : (line : List Item) (before : Open) (e : Entry) → list_any has_text line ≡ false
     → ((blanks : List ℕ) → after_entry before blanks None ≡ after_blanks blanks OpenKey) → ((blanks : List ℕ) (a : Assigned) → after_entry before blanks (Some a) ≡ OpenValue)
-    → NamesAgree (line_behind line (EntryItem e)) (after_entry before e.blanks e.assigned)
+    → NamesAgree (line_after line (EntryItem e)) (after_entry before e.blanks e.assigned)
 entry_behind line before e none alone valued = go e.assigned refl
   where
     name_behind : (blanks : List ℕ) → e.blanks ≡ blanks → e.assigned ≡ None → is_name_alone (EntryItem e) ≡ is_key_open (after_blanks blanks OpenKey)
@@ -259,25 +259,25 @@ entry_behind line before e none alone valued = go e.assigned refl
     with_value : (a : Assigned) → e.assigned ≡ Some a → has_text (EntryItem e) ≡ true
     with_value a at = rw (at, has_value) refl
 
-    placed : (a : Assigned) → e.assigned ≡ Some a → (t : Bool) → goes_on e.assigned ≡ t → NamesAgree (line_behind line (EntryItem e)) OpenValue
-    placed a at true on = rw (on, line_behind) (record {
+    placed : (a : Assigned) → e.assigned ≡ Some a → (t : Bool) → has_pieces e.assigned ≡ t → NamesAgree (line_after line (EntryItem e)) OpenValue
+    placed a at true on = rw (on, line_after) (record {
       text = any_now has_text [] (EntryItem e) (with_value a at);
       name = ends_more [] (EntryItem e) refl ∙ no_name a e.blanks refl at;
     })
-    placed a at false on = rw (on, line_behind) (record {
+    placed a at false on = rw (on, line_after) (record {
       text = any_now has_text line (EntryItem e) (with_value a at);
       name = ends_more line (EntryItem e) refl ∙ no_name a e.blanks refl at;
     })
 
-    go : (o : Option Assigned) → e.assigned ≡ o → NamesAgree (line_behind line (EntryItem e)) (after_entry before e.blanks e.assigned)
-    go None at = rw (at, alone e.blanks, line_behind, goes_on) (record {
+    go : (o : Option Assigned) → e.assigned ≡ o → NamesAgree (line_after line (EntryItem e)) (after_entry before e.blanks e.assigned)
+    go None at = rw (at, alone e.blanks, line_after, has_pieces) (record {
       text = any_same has_text line (EntryItem e) (rw (at, has_value) refl) ∙ (none ∙ sym (blanks_text e.blanks OpenKey));
       name = ends_more line (EntryItem e) refl ∙ name_behind e.blanks refl at;
     })
-    go (Some a) at = subst (NamesAgree (line_behind line (EntryItem e))) (sym (ap (after_entry before e.blanks) at ∙ valued e.blanks a)) (placed a at (goes_on e.assigned) refl)
+    go (Some a) at = subst (NamesAgree (line_after line (EntryItem e))) (sym (ap (after_entry before e.blanks) at ∙ valued e.blanks a)) (placed a at (has_pieces e.assigned) refl)
 
 -- both agree behind the next item, where it may stand
-names_behind : (line : List Item) (before : Open) (i : Item) → NamesAgree line before → may_stand_behind before i ≡ true → NamesAgree (line_behind line i) (after before i)
+names_behind : (line : List Item) (before : Open) (i : Item) → NamesAgree line before → may_stand_behind before i ≡ true → NamesAgree (line_after line i) (after before i)
 names_behind line before (BlanksItem []) same stands = record {
   text = any_same has_text line (BlanksItem []) refl ∙ same.text;
   name = ends_same line ∙ same.name;
@@ -335,10 +335,10 @@ stands_same line before (EntryItem e) same = ap (λ t. not t && not (ends_with_n
 apart : (line : List Item) (before : Open) (items : List Item) → NamesAgree line before → stand_apart line items ≡ stand_apart_behind before items
 apart line before [] same = refl
 apart line before (i ∷ items) same =
-    go (may_stand_behind before i) refl (stands_same line before i same) (λ e. apart (line_behind line i) (after before i) items (names_behind line before i same e))
+    go (may_stand_behind before i) refl (stands_same line before i same) (λ e. apart (line_after line i) (after before i) items (names_behind line before i same e))
   where
     go : (t : Bool) → may_stand_behind before i ≡ t → may_stand line i ≡ may_stand_behind before i
-        → (may_stand_behind before i ≡ true → stand_apart (line_behind line i) items ≡ stand_apart_behind (after before i) items)
+        → (may_stand_behind before i ≡ true → stand_apart (line_after line i) items ≡ stand_apart_behind (after before i) items)
         → stand_apart line (i ∷ items) ≡ stand_apart_behind before (i ∷ items)
     go true e is later = rw (is, e, stand_apart, stand_apart_behind) (later e)
     go false e is later = rw (is, e, stand_apart, stand_apart_behind) refl

@@ -5,7 +5,7 @@ use Rattle.gitconf_text.specs.Bytes.{is_blank}
 use Rattle.gitconf_text.specs.Header.{Header, PlainHeader, DottedHeader, QuotedHeader}
 use Rattle.gitconf_text.specs.Part.{Item, BlanksItem, EntryItem}
 use Rattle.gitconf_state.specs.State.{SectionState, State, is_entry, is_comment}
-use Rattle.gitconf_state.specs.Printing.{line_behind}
+use Rattle.gitconf_state.specs.Printing.{line_after}
 
 -- an empty name and no subsection
 abbrev pub is_nameless : Header → Bool
@@ -46,7 +46,7 @@ may_stand line i = true
 -- the names of items stand where they may; line: those before, behind the last line end
 abbrev pub stand_apart : (line : List Item) → List Item → Bool
 stand_apart line [] = true
-stand_apart line (i ∷ items) = may_stand line i && stand_apart (line_behind line i) items
+stand_apart line (i ∷ items) = may_stand line i && stand_apart (line_after line i) items
 
 -- The section has a name or a subsection, its blanks are spaces and tabs, and no entry is held behind it.
 pub record IsCleanSection (s : SectionState) : Type 0 where

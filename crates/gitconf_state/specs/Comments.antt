@@ -5,13 +5,13 @@ use Rattle.gitconf_text.specs.Part.{Item, CommentItem, Part, ItemPart, HeaderPar
 use Rattle.gitconf_state.specs.State.{SectionState, State}
 
 -- a text without the spaces, tabs and CRs at its end
-abbrev pub stripped : List ℕ → List ℕ
-stripped [] = []
-stripped (b ∷ text) = elim (stripped text) [ [] ↦ elim (is_blank b || b == 13) [ true ↦ [] | false ↦ b ∷ [] ] | c ∷ rest ↦ b ∷ c ∷ rest ]
+abbrev pub without_white_end : List ℕ → List ℕ
+without_white_end [] = []
+without_white_end (b ∷ text) = elim (without_white_end text) [ [] ↦ elim (is_blank b || b == 13) [ true ↦ [] | false ↦ b ∷ [] ] | c ∷ rest ↦ b ∷ c ∷ rest ]
 
 -- the comment of an item, if it is one: its tag, and its text without the spaces, tabs and CRs at its end
 abbrev pub item_comments : Item → List (List ℕ)
-item_comments (CommentItem tag text) = (tag ∷ stripped text) ∷ []
+item_comments (CommentItem tag text) = (tag ∷ without_white_end text) ∷ []
 item_comments _ = []
 
 abbrev pub part_comments : Part → List (List ℕ)

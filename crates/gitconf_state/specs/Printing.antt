@@ -8,15 +8,15 @@ use Rattle.gitconf_state.specs.State.{SectionState, State, is_comment, is_entry}
 use Rattle.gitconf_state.specs.LineEnds.{section_line_end, file_line_end, ends_line}
 
 -- the value goes on behind a line end
-abbrev pub goes_on : Option Assigned → Bool
-goes_on None = false
-goes_on (Some a) = elim a.value.pieces [ [] ↦ false | p ∷ pieces ↦ true ]
+abbrev pub has_pieces : Option Assigned → Bool
+has_pieces None = false
+has_pieces (Some a) = elim a.value.pieces [ [] ↦ false | p ∷ pieces ↦ true ]
 
 -- the items behind the last line end, one item further; an entry whose value goes on ends on a line of its own
-abbrev pub line_behind : (line : List Item) → Item → List Item
-line_behind line (LineEndsItem run) = []
-line_behind line (EntryItem e) = elim (goes_on e.assigned) [ true ↦ EntryItem e ∷ [] | false ↦ line ++ EntryItem e ∷ [] ]
-line_behind line i = line ++ i ∷ []
+abbrev pub line_after : (line : List Item) → Item → List Item
+line_after line (LineEndsItem run) = []
+line_after line (EntryItem e) = elim (has_pieces e.assigned) [ true ↦ EntryItem e ∷ [] | false ↦ line ++ EntryItem e ∷ [] ]
+line_after line i = line ++ i ∷ []
 
 -- A line end is put before a comment behind a comment of its line, and in a body before an entry behind a comment or an entry of its line.
 abbrev pub breaks : (in_body : Bool) → (line : List Item) → Item → Bool
@@ -43,8 +43,8 @@ closed_item line_end (EntryItem e) = EntryItem (record { name = e.name; blanks =
 abbrev pub printed_items : (in_body : Bool) → (line_end : List ℕ) → (line : List Item) → List Item → List Item
 printed_items in_body line_end line [] = []
 printed_items in_body line_end line (i ∷ items) = elim (breaks in_body line i) [
-  | true ↦ LineEndsItem line_end ∷ closed_item line_end i ∷ printed_items in_body line_end (line_behind [] i) items
-  | false ↦ closed_item line_end i ∷ printed_items in_body line_end (line_behind line i) items
+  | true ↦ LineEndsItem line_end ∷ closed_item line_end i ∷ printed_items in_body line_end (line_after [] i) items
+  | false ↦ closed_item line_end i ∷ printed_items in_body line_end (line_after line i) items
 ]
 
 -- the items hold a line end before their first entry, or, without one, any
