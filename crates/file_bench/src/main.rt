@@ -1,19 +1,47 @@
-//! Loads standard input as a file as often as the first argument says, looks the second up in it, a key, prints it, and lays it out.
+//! Times what the library does with standard input, as often as asked: `file_bench WHAT ROUNDS KEY [times]`.
 //!
-//! With `times` as third argument each round tells the nanoseconds of loading, of the look-ups, of printing, and of the layout.
+//! WHAT is `load`, `look-up`, `print`, `set`, `lay-out` or `decode`, or `all` for each of them in turn. `decode` takes
+//! standard input for a raw value. With `times` each round tells its nanoseconds.
 #![tactic(auto)]
 
-use anyhow::{Context, Result};
-use gix_config::File;
+use anyhow::{Context, Result, bail};
 use gix_config::format::{Options, normalize};
+use gix_config::{File, KeyRef, value};
 use std::alloc::Global;
 use std::io::{BufReader, Read};
+use std::mem::replace;
 use std::rt::Clock;
 use std::time::Instant;
 use std::{env, io};
 
 /// How often a key is looked up in a round.
-const LOOKUPS: u32 = 16;
+const LOOKUPS: u32 = 256;
+
+/// What is timed.
+#[derive(Clone, Copy)]
+enum Measure {
+    /// Loading a file, and letting an earlier one go.
+    Load,
+    /// Looking a key up.
+    LookUp,
+    /// Printing a file.
+    Print,
+    /// Setting a value of a file that was not edited before.
+    Set,
+    /// Laying a text out.
+    LayOut,
+    /// The meaning of a raw value.
+    Decode,
+}
+
+/// What it is timed with.
+#[derive(Clone, Copy)]
+struct Task<'a> {
+    text: &'a [u8],
+    key: KeyRef<'a>,
+    rounds: u32,
+    is_timed: bool,
+}
 
 /// All of standard input.
 fn input<R: Input + AllocGlobal>(rt: &R) -> io::Result<Vec<u8>> {
@@ -22,8 +50,39 @@ fn input<R: Input + AllocGlobal>(rt: &R) -> io::Result<Vec<u8>> {
     Ok(bytes)
 }
 
+/// Tells the nanoseconds of a round, if they are wanted.
+fn tell(rt: HostRuntime, task: Task<'_>, nanos: u128) -> io::Result<()> {
+    if task.is_timed {
+        println!(rt; "{nanos}")?;
+    }
+    Ok(())
+}
+
+/// The text as a file.
+fn load(alloc: Global, text: &[u8]) -> Result<File> {
+    Ok(File::try_from_bytes(alloc, text)?)
+}
+
+/// Puts the text in the place of a file, and answers the nanoseconds that this took.
+fn reload<R: Clock + AllocGlobal>(rt: &R, file: &mut File, text: &[u8]) -> Result<u128> {
+    let start = Instant::now(rt)?;
+    let next = load(rt.alloc(), text)?;
+    drop(replace(file, next));
+    Ok(start.elapsed(rt)?.as_nanos())
+}
+
+fn time_load(rt: HostRuntime, task: Task<'_>) -> Result<()> {
+    let mut file = load(rt.alloc(), task.text)?;
+    for _ in 0..task.rounds {
+        let nanos = reload(&rt, &mut file, task.text)?;
+        tell(rt, task, nanos)?;
+    }
+    println!(rt; "{} entries loaded", file.num_values())?;
+    Ok(())
+}
+
 /// How many of the look-ups find the key.
-fn found(file: &File, key: &str) -> Result<u32> {
+fn found(file: &File, key: KeyRef<'_>) -> Result<u32> {
     let mut n = 0u32;
     for _ in 0..LOOKUPS {
         if file.string(key)?.is_some() {
@@ -33,18 +92,23 @@ fn found(file: &File, key: &str) -> Result<u32> {
     Ok(n)
 }
 
-/// The text as a file, and the nanoseconds that this took.
-fn load<R: Clock + AllocGlobal>(rt: &R, text: &[u8]) -> Result<(File, u128)> {
-    let start = Instant::now(rt)?;
-    let file = File::try_from_bytes(rt.alloc(), text)?;
-    Ok((file, start.elapsed(rt)?.as_nanos()))
-}
-
 /// How many of the look-ups find the key, and the nanoseconds that they took.
-fn look_up<R: Clock>(rt: &R, file: &File, key: &str) -> Result<(u32, u128)> {
+fn look_up<R: Clock>(rt: &R, file: &File, key: KeyRef<'_>) -> Result<(u32, u128)> {
     let start = Instant::now(rt)?;
     let hits = found(file, key)?;
     Ok((hits, start.elapsed(rt)?.as_nanos()))
+}
+
+fn time_look_up(rt: HostRuntime, task: Task<'_>) -> Result<()> {
+    let file = load(rt.alloc(), task.text)?;
+    let mut hits = 0;
+    for _ in 0..task.rounds {
+        let (found, nanos) = look_up(&rt, &file, task.key)?;
+        tell(rt, task, nanos / LOOKUPS as u128)?;
+        hits = found;
+    }
+    println!(rt; "{hits} of {LOOKUPS} found")?;
+    Ok(())
 }
 
 /// How many bytes the file is printed as, and the nanoseconds that this took.
@@ -54,6 +118,40 @@ fn print<R: Clock>(rt: &R, file: &File) -> Result<(usize, u128)> {
     Ok((bytes, start.elapsed(rt)?.as_nanos()))
 }
 
+fn time_print(rt: HostRuntime, task: Task<'_>) -> Result<()> {
+    let file = load(rt.alloc(), task.text)?;
+    let mut written = 0;
+    for _ in 0..task.rounds {
+        let (bytes, nanos) = print(&rt, &file)?;
+        tell(rt, task, nanos)?;
+        written = bytes;
+    }
+    println!(rt; "{written} bytes written")?;
+    Ok(())
+}
+
+/// Sets the key's value, and answers the nanoseconds that this took.
+fn set<R: Clock>(rt: &R, file: &mut File, key: KeyRef<'_>) -> Result<u128> {
+    let start = Instant::now(rt)?;
+    let _ = file.set_raw_value(key, b"a new value")?;
+    Ok(start.elapsed(rt)?.as_nanos())
+}
+
+/// Sets the key's value in the text, and answers the nanoseconds of the edit alone.
+fn set_in<R: Clock + AllocGlobal>(rt: &R, text: &[u8], key: KeyRef<'_>) -> Result<u128> {
+    let mut file = load(rt.alloc(), text)?;
+    set(rt, &mut file, key)
+}
+
+fn time_set(rt: HostRuntime, task: Task<'_>) -> Result<()> {
+    for _ in 0..task.rounds {
+        let nanos = set_in(&rt, task.text, task.key)?;
+        tell(rt, task, nanos)?;
+    }
+    println!(rt; "{} values set", task.rounds)?;
+    Ok(())
+}
+
 /// How many bytes the layout of the text has, and the nanoseconds that it took.
 fn lay_out<R: Clock + AllocGlobal>(rt: &R, text: &[u8]) -> Result<(usize, u128)> {
     let start = Instant::now(rt)?;
@@ -61,41 +159,95 @@ fn lay_out<R: Clock + AllocGlobal>(rt: &R, text: &[u8]) -> Result<(usize, u128)>
     Ok((text.len(), start.elapsed(rt)?.as_nanos()))
 }
 
-/// A round over the text, and what it tells.
-fn round(rt: HostRuntime, text: &[u8], key: &str, is_timed: bool) -> Result<()> {
-    let (file, loaded) = load(&rt, text)?;
-    let (hits, looked_up) = look_up(&rt, &file, key)?;
-    let (written, printed) = print(&rt, &file)?;
-    let (set, laid_out) = lay_out(&rt, text)?;
-    if is_timed {
-        println!(rt; "{loaded} {looked_up} {printed} {laid_out}")?;
+fn time_lay_out(rt: HostRuntime, task: Task<'_>) -> Result<()> {
+    let mut written = 0;
+    for _ in 0..task.rounds {
+        let (bytes, nanos) = lay_out(&rt, task.text)?;
+        tell(rt, task, nanos)?;
+        written = bytes;
     }
-    println!(rt; "{hits} of {LOOKUPS} found, {written} bytes written, {set} laid out")?;
+    println!(rt; "{written} bytes laid out")?;
     Ok(())
 }
 
-/// The key to look up.
-fn key_of(args: &[String]) -> &str {
-    match args.get(2) {
-        Some(word) => word.as_str(),
-        None => "remote.origin.url",
+/// How many bytes the raw value means, and the nanoseconds that it took to find them.
+fn decode<R: Clock + AllocGlobal>(rt: &R, text: &[u8]) -> Result<(usize, u128)> {
+    let start = Instant::now(rt)?;
+    let meaning = value::normalize(rt.alloc(), text)?;
+    Ok((meaning.len(), start.elapsed(rt)?.as_nanos()))
+}
+
+fn time_decode(rt: HostRuntime, task: Task<'_>) -> Result<()> {
+    let mut meant = 0;
+    for _ in 0..task.rounds {
+        let (bytes, nanos) = decode(&rt, task.text)?;
+        tell(rt, task, nanos)?;
+        meant = bytes;
+    }
+    println!(rt; "{meant} bytes meant")?;
+    Ok(())
+}
+
+fn time(rt: HostRuntime, measure: Measure, task: Task<'_>) -> Result<()> {
+    match measure {
+        Measure::Load => time_load(rt, task),
+        Measure::LookUp => time_look_up(rt, task),
+        Measure::Print => time_print(rt, task),
+        Measure::Set => time_set(rt, task),
+        Measure::LayOut => time_lay_out(rt, task),
+        Measure::Decode => time_decode(rt, task),
     }
 }
 
-/// How often to do it all.
-fn rounds_of(args: &[String]) -> Result<u32> {
-    match args.get(1) {
-        Some(word) => word.parse::<u32>().context("how many rounds?"),
-        None => Ok(1),
-    }
+/// Whether the word asks for it.
+fn is_asked(word: &str, measure: Measure) -> bool {
+    let name = match measure {
+        Measure::Load => "load",
+        Measure::LookUp => "look-up",
+        Measure::Print => "print",
+        Measure::Set => "set",
+        Measure::LayOut => "lay-out",
+        Measure::Decode => "decode",
+    };
+    word == name || word == "all"
+}
+
+const MEASURES: [Measure; 6] = [
+    Measure::Load,
+    Measure::LookUp,
+    Measure::Print,
+    Measure::Set,
+    Measure::LayOut,
+    Measure::Decode,
+];
+
+/// The key that a word is.
+fn key_of(word: &str) -> Result<KeyRef<'_>> {
+    KeyRef::parse_unvalidated(word.as_bytes()).context("a key has a dot")
+}
+
+/// What the words behind the program's name ask for: the word of the measure, and the task.
+fn task_of<'a>(words: &'a [String], text: &'a [u8]) -> Result<(&'a str, Task<'a>)> {
+    let [_, what, rounds, key, more @ ..] = words else {
+        bail!("usage: file_bench WHAT ROUNDS KEY [times]");
+    };
+    let task = Task {
+        text,
+        key: key_of(key)?,
+        rounds: rounds.parse::<u32>().context("how many rounds?")?,
+        is_timed: !more.is_empty(),
+    };
+    Ok((what, task))
 }
 
 fn main(rt: HostRuntime) -> Result<()> {
-    let args: Vec<String> = env::args(&rt)?.collect(rt.alloc())?;
-    let is_timed = args.get(3).is_some_and(|word| word.as_str() == "times");
+    let words: Vec<String> = env::args(&rt)?.collect(rt.alloc())?;
     let text = input(&rt)?;
-    for _ in 0..rounds_of(&args)? {
-        round(rt, &text, key_of(&args), is_timed)?;
+    let (what, task) = task_of(&words, &text)?;
+    for measure in MEASURES {
+        if is_asked(what, measure) {
+            time(rt, measure, task)?;
+        }
     }
     Ok(())
 }

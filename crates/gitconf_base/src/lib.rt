@@ -1,8 +1,6 @@
-//! What a git configuration stands on below its files: keys, sources of configuration with their
-//! metadata, and the numbered table of a file's sections.
+//! What a git configuration stands on below its files: keys, and sources of configuration with their metadata.
 #![tactic(auto)]
 
-pub mod host;
 pub mod key;
 pub mod laws;
 pub mod meta;

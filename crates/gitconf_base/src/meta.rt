@@ -2,7 +2,6 @@
 ghost use Rattle.std.specs.Prelude.{◌≡◌, IfOk, IfErr, string_bytes};
 ghost use Rattle.gitconf_base.specs.Metadata.{api_meta, meta_of_file, meta_of_source};
 
-use crate::host::FileFault;
 use crate::source::{Source, Trust};
 use gitconf_text::NoMemory;
 use std::cmp::Ordering;
@@ -46,20 +45,23 @@ impl Metadata {
     }
 
     /// The metadata of the file at `path`, at level 0. A fault that the trust was asked with is handed back.
-    pub fn try_from_path(
+    pub fn try_from_path<E>(
         path: String,
         source: Source,
-        trust: Result<Trust, FileFault>,
-    ) -> Result<Metadata, FileFault>
+        trust: Result<Trust, E>,
+    ) -> Result<Metadata, E>
         ensures trusted { IfOk trust (λ full. result ≡ Ok (meta_of_file (string_bytes path) source full)) }
         ensures fault { IfErr trust (λ fault. result ≡ Err fault) }
     {
-        Ok(Metadata {
-            path: Some(path),
-            source,
-            level: 0,
-            trust: trust?,
-        })
+        match trust {
+            Ok(trust) => Ok(Metadata {
+                path: Some(path),
+                source,
+                level: 0,
+                trust,
+            }),
+            Err(fault) => Err(fault),
+        }
     }
 
     /// The same with that trust.

@@ -6,3 +6,4 @@ pub mod Spacings
 pub mod Entries
 pub mod Counts
 pub mod Headers
+pub mod Copies

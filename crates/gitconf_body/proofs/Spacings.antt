@@ -92,4 +92,11 @@ default_spacing buffer is none =
     let any : list_any is_entry (items_of buffer is) ≡ false = any_entry_shown buffer is ∙ none in
     rw (any, state.spacing_of) refl
 
-pub ruleset spacings = (found_spacing, default_spacing)
+-- and how many bytes are put for them
+pub default_put : (buffer : List ℕ) (is : List Item) → list_any is_stored_entry is ≡ false → state.blank_bytes (items_of buffer is) ≡ 2
+default_put buffer is none = let any : list_any is_entry (items_of buffer is) ≡ false = any_entry_shown buffer is ∙ none in rw (any, state.blank_bytes) refl
+
+pub found_put : (buffer : List ℕ) (is : List Item) → list_any is_stored_entry is ≡ true → state.blank_bytes (items_of buffer is) ≡ 0
+found_put buffer is some = let any : list_any is_entry (items_of buffer is) ≡ true = any_entry_shown buffer is ∙ some in rw (any, state.blank_bytes) refl
+
+pub ruleset spacings = (found_spacing, default_spacing, default_put, found_put)

@@ -2,3 +2,4 @@ pub mod Buffers
 pub mod Places
 pub mod Lines
 pub mod Spacings
+pub mod Copies

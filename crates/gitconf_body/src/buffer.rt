@@ -1,5 +1,5 @@
 //! Bytes put behind those of a buffer.
-ghost use Rattle.std.specs.Prelude.{◌≡◌, ◌+◌, ◌<◌, ◌≤◌, ◌^◌, ◌++◌, length, IfOk, OnOk, OnErr, IsErrOf};
+ghost use Rattle.std.specs.Prelude.{◌≡◌, ◌↔◌, ◌+◌, ◌<◌, ◌≤◌, ◌^◌, ◌++◌, length, IfOk, IfErr, OnOk, OnErr, IsErrOf};
 ghost use Rattle.gitconf_body.specs.Buffers.{Grows, StandsAt};
 
 use gitconf_parse::event::Span;
@@ -26,4 +26,20 @@ pub fn append(buffer: &mut Vec<u8>, bytes: &[u8]) -> Result<Span, span::Error>
     }
     buffer.extend_from_slice(bytes)?;
     Ok(Span::between(start, start + bytes.len()))
+}
+
+/// Asks whether so many bytes may be put behind those of a buffer. Takes no memory.
+///
+/// # Errors
+///
+/// A [`span::Error`], number 3, where the buffer would be longer than 4294967295 bytes.
+pub fn check_room(buffer: &[u8], count: usize) -> Result<(), span::Error>
+    requires room { length buffer.now < 2 ^ 32 }
+    ensures too_large { IsErrOf result 3 ↔ (2 ^ 32 ≤ length buffer.now + count) }
+    ensures only { IfErr result (λ e. e ≡ 3) }
+{
+    if count > u32::MAX as usize - buffer.len() {
+        return Err(span::Error::too_large());
+    }
+    Ok(())
 }

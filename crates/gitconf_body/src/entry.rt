@@ -1,5 +1,5 @@
 //! Setting the value of a key in a body.
-ghost use Rattle.std.specs.Prelude.{◌≡◌, ℕ, List, ◌+◌, ◌<◌, ◌^◌, true, ◌∷◌, ◌++◌, [], length, flat_map, IfOk, OnOk, OnErr, option_map};
+ghost use Rattle.std.specs.Prelude.{◌≡◌, ℕ, List, ◌+◌, ◌-◌, ◌<◌, ◌≤◌, ◌^◌, min, Some, true, ◌∷◌, ◌++◌, [], length, flat_map, IfOk, OnOk, OnErr, IsErrOf, option_map};
 ghost use Rattle.std.specs.List.{list_any};
 ghost use Rattle.gitconf_text.specs.Part as parts;
 ghost use Rattle.gitconf_text.specs.Token.{item_tokens};
@@ -8,23 +8,22 @@ ghost use Rattle.gitconf_parse.specs.declared.items.Item.TheVariants as kinds;
 ghost use Rattle.gitconf_parse.specs.Items.{item_of, entry_of};
 ghost use Rattle.gitconf_parse.specs.ItemsFit.{AreItemsWithin, EntryFits};
 ghost use Rattle.gitconf_state.specs.Edit as state;
-ghost use Rattle.gitconf_state.specs.Edit.{token_bytes};
 ghost use Rattle.gitconf_write.specs.Bodies.{items_of};
 ghost use Rattle.gitconf_write.specs.LineEnds.{bytes_of_line_end};
 ghost use Rattle.gitconf_body.specs.Buffers.{Grows, StandsAt};
 ghost use Rattle.gitconf_body.specs.Lines.{LineStands};
 ghost use Rattle.gitconf_body.specs.Places.{IsLastAt, IsLastPlace};
-ghost use Rattle.gitconf_body.specs.Spacings.{is_stored_entry, leading_items, spacing_bytes};
+ghost use Rattle.gitconf_body.specs.Spacings.{is_stored_entry, leading_items};
 
-use crate::buffer::append;
-use crate::spacing::{separator_of, spacing_of};
+use crate::buffer::{append, check_room};
+use crate::spacing::{blanks_len, separator_of, spacing_of};
 use crate::values::item_text;
 use gitconf_parse::event::Span;
 use gitconf_parse::items::{Assigned, Entry, Item, Value};
 use gitconf_text::NoMemory;
 use gitconf_text::parse::section::bytes::is_same_name;
 use gitconf_text::parse::span;
-use gitconf_text::value::escape;
+use gitconf_text::value::{escape, escaped_len};
 use gitconf_write::line_end::LineEnd;
 
 /// Whether the item is an entry of the key.
@@ -153,7 +152,7 @@ fn push_entry(
     ensures ok { OnOk result (items_of buffer.new.items items.new.items ≡ items_of buffer.old.items items.old.items
         ++ state.new_entry (state.spacing_of (items_of buffer.old.items items.old.items)) (bytes_of_line_end line_end) key.now value.now) }
     ensures within { AreItemsWithin (length buffer.new.items) items.new.items }
-    ensures grows { Grows result (spacing_bytes (state.spacing_of (items_of buffer.old.items items.old.items))
+    ensures grows { Grows result (state.blank_bytes (items_of buffer.old.items items.old.items)
         + (length key.now + length (escaped value.now) + length (bytes_of_line_end line_end))) buffer.old.items buffer.new.items }
     ensures err { OnErr result (items.new.items ≡ items.old.items) }
 {
@@ -200,6 +199,64 @@ fn set_entry(
     Ok(())
 }
 
+/// How many bytes a new entry puts into a buffer; the greatest number where they are more.
+pub(crate) fn entry_len(blanks: usize, line_end: LineEnd, key: &[u8], value: &[u8]) -> usize
+    ensures { result ≡ min (blanks + (length key.now + length (escaped value.now) + length (bytes_of_line_end line_end))) (2 ^ 64 - 1) }
+{
+    blanks
+        .saturating_add(key.len())
+        .saturating_add(escaped_len(value))
+        .saturating_add(line_end.as_bytes().len())
+}
+
+/// Puts a new entry of the key behind the items, as [`push_entry`], where there is room for what it puts into the buffer.
+fn push_checked(
+    buffer: &mut Vec<u8>,
+    items: &mut Vec<Item>,
+    line_end: LineEnd,
+    key: &[u8],
+    value: &[u8],
+) -> Result<(), span::Error>
+    requires room { length buffer.old.items < 2 ^ 32 }
+    requires within { AreItemsWithin (length buffer.old.items) items.old.items }
+    ensures ok { OnOk result (items_of buffer.new.items items.new.items ≡ items_of buffer.old.items items.old.items
+        ++ state.new_entry (state.spacing_of (items_of buffer.old.items items.old.items)) (bytes_of_line_end line_end) key.now value.now) }
+    ensures within { AreItemsWithin (length buffer.new.items) items.new.items }
+    ensures grows { Grows result (state.blank_bytes (items_of buffer.old.items items.old.items)
+        + (length key.now + length (escaped value.now) + length (bytes_of_line_end line_end))) buffer.old.items buffer.new.items }
+    ensures refused { 2 ^ 32 ≤ length buffer.old.items + (state.blank_bytes (items_of buffer.old.items items.old.items)
+        + (length key.now + length (escaped value.now) + length (bytes_of_line_end line_end))) → IsErrOf result 3 }
+    ensures err { OnErr result (items.new.items ≡ items.old.items) }
+{
+    check_room(buffer, entry_len(blanks_len(items), line_end, key, value))?;
+    push_entry(buffer, items, line_end, key, value)
+}
+
+/// Gives the entry at a place another value, as [`set_entry`], where there is room for it in the buffer. Answers the old value's raw text.
+fn set_checked(
+    buffer: &mut Vec<u8>,
+    items: &mut Vec<Item>,
+    at: usize,
+    key: &[u8],
+    value: &[u8],
+) -> Result<Vec<u8>, span::Error>
+    requires room { length buffer.old.items < 2 ^ 32 }
+    requires within { AreItemsWithin (length buffer.old.items) items.old.items }
+    requires last { IsLastAt (λ i. state.is_entry_of key.now (item_of buffer.old.items i)) items.old.items at }
+    ensures ok { OnOk result ((line_end : List ℕ) → items_of buffer.new.items items.new.items
+        ≡ state.set_value line_end key.now value.now (items_of buffer.old.items items.old.items)) }
+    ensures old { IfOk result (λ o. Some o.items ≡ state.old_value key.now (items_of buffer.old.items items.old.items)) }
+    ensures within { AreItemsWithin (length buffer.new.items) items.new.items }
+    ensures grows { Grows result (length (escaped value.now)) buffer.old.items buffer.new.items }
+    ensures refused { 2 ^ 32 ≤ length buffer.old.items + length (escaped value.now) → IsErrOf result 3 }
+    ensures err { OnErr result (items.new.items ≡ items.old.items) }
+{
+    check_room(buffer, escaped_len(value))?;
+    let old = item_text(*buffer.allocator(), buffer, &items[at])?;
+    set_entry(buffer, items, at, key, value)?;
+    Ok(old)
+}
+
 /// Gives the last entry of a key another value: what stands behind `=` is replaced, and `=` is put in where there is none, with the
 /// blanks that the items use. Where no entry has the key, a new one stands on a line of its own behind the items, with these blanks and
 /// the line end. Answers the raw text of the old value: its pieces joined, not decoded; nothing for an entry without `=`; `None` where
@@ -209,8 +266,8 @@ fn set_entry(
 ///
 /// # Errors
 ///
-/// A [`span::Error`]: number 3 where the buffer would be longer than 4294967295 bytes, and else 27 for want of memory. The items are
-/// then as they were, and the buffer may have grown.
+/// A [`span::Error`]: number 3 exactly where the buffer would be longer than 4294967295 bytes, before any growth, and else 27 for want of
+/// memory. The items are then as they were, and the buffer may have grown.
 pub fn set_value(
     buffer: &mut Vec<u8>,
     items: &mut Vec<Item>,
@@ -224,15 +281,15 @@ pub fn set_value(
         ≡ state.set_value (bytes_of_line_end line_end) key.now value.now (items_of buffer.old.items items.old.items)) }
     ensures old { IfOk result (λ o. option_map (λ v. v.items) o ≡ state.old_value key.now (items_of buffer.old.items items.old.items)) }
     ensures within { AreItemsWithin (length buffer.new.items) items.new.items }
-    ensures grows { Grows result (token_bytes (state.set_tokens (bytes_of_line_end line_end) key.now value.now (items_of buffer.old.items items.old.items)))
+    ensures grows { Grows result (state.set_bytes (bytes_of_line_end line_end) key.now value.now (items_of buffer.old.items items.old.items))
         buffer.old.items buffer.new.items }
+    ensures refused { 2 ^ 32 ≤ length buffer.old.items + state.set_bytes (bytes_of_line_end line_end) key.now value.now (items_of buffer.old.items items.old.items)
+        → IsErrOf result 3 }
     ensures err { OnErr result (items.new.items ≡ items.old.items) }
 {
     let Some(at) = last_place(buffer, items, key) else {
-        push_entry(buffer, items, line_end, key, value)?;
+        push_checked(buffer, items, line_end, key, value)?;
         return Ok(None);
     };
-    let old = item_text(*buffer.allocator(), buffer, &items[at])?;
-    set_entry(buffer, items, at, key, value)?;
-    Ok(Some(old))
+    Ok(Some(set_checked(buffer, items, at, key, value)?))
 }

@@ -2,6 +2,7 @@
 #![tactic(auto)]
 
 pub mod buffer;
+pub mod copying;
 pub mod entry;
 pub mod section;
 pub mod spacing;

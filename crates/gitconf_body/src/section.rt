@@ -1,7 +1,6 @@
 //! Sections that are made.
-ghost use Rattle.std.specs.Prelude.{◌≡◌, ℕ, ◌+◌, ◌<◌, ◌^◌, true, ◌∷◌, [], List, length, Some, None, IfOk};
+ghost use Rattle.std.specs.Prelude.{◌≡◌, ℕ, ◌+◌, ◌-◌, ◌<◌, ◌≤◌, ◌^◌, min, true, ◌∷◌, [], List, length, Some, None, IfOk, IsErrOf};
 ghost use Rattle.std.specs.Option.{option_copied};
-ghost use Rattle.gitconf_text.specs.Header.{spelled_header};
 ghost use Rattle.gitconf_text.specs.Names.{is_valid_or_none};
 ghost use Rattle.gitconf_text.specs.Part as parts;
 ghost use Rattle.gitconf_parse.specs.declared.event.Event.TheVariants as events;
@@ -9,16 +8,16 @@ ghost use Rattle.gitconf_parse.specs.EventRef.{escaped_subsection};
 ghost use Rattle.gitconf_parse.specs.Events.{header_of};
 ghost use Rattle.gitconf_parse.specs.ItemsFit.{AreItemsWithin};
 ghost use Rattle.gitconf_parse.specs.ShownEvents.{decoded_or, CopyFits, IsExtended, IsShown};
-ghost use Rattle.gitconf_state.specs.Edit.{made_header, new_section_tokens, set_value, token_bytes};
+ghost use Rattle.gitconf_state.specs.Edit.{header_bytes, made_header, new_section_bytes, set_value};
 ghost use Rattle.gitconf_write.specs.Bodies.{items_of};
 ghost use Rattle.gitconf_write.specs.LineEnds.{bytes_of_line_end};
 ghost use Rattle.gitconf_body.specs.Buffers.{Grows};
 ghost use Rattle.gitconf_body.specs.Lines.{QuotedStands};
 
-use crate::buffer::append;
-use crate::entry::set_value;
+use crate::buffer::{append, check_room};
+use crate::entry::{entry_len, set_value};
 use gitconf_parse::event::{Copied, Header, Span};
-use gitconf_parse::event_ref::write_escaped_subsection;
+use gitconf_parse::event_ref::{escaped_subsection_len, write_escaped_subsection};
 use gitconf_parse::items::{Item, Section};
 use gitconf_text::NoMemory;
 use gitconf_text::parse::span;
@@ -87,7 +86,7 @@ struct Quoted {
 fn append_quoted(buffer: &mut Vec<u8>, name: &[u8], spelling: &[u8]) -> Result<Quoted, span::Error>
     requires room { length buffer.old.items < 2 ^ 32 }
     ensures stands { IfOk result (λ q. QuotedStands buffer.new.items q name.now spelling.now) }
-    ensures grows { Grows result (length name.now + 1 + length spelling.now) buffer.old.items buffer.new.items }
+    ensures grows { Grows result (length name.now + (1 + length spelling.now)) buffer.old.items buffer.new.items }
 {
     let name = append(buffer, name)?;
     let separator = append(buffer, b" ")?;
@@ -116,7 +115,7 @@ fn append_header(
     requires valid { is_valid_or_none (option_copied subsection) ≡ true }
     ensures header { IfOk result (λ h. header_of buffer.new.items h ≡ made_header name.now (option_copied subsection.entry)) }
     ensures shown { IfOk result (λ h. IsShown buffer.new.items copies.new.items (events.SectionHeader h)) }
-    ensures grows { Grows result (length (spelled_header (made_header name.now (option_copied subsection.entry)))) buffer.old.items buffer.new.items }
+    ensures grows { Grows result (header_bytes name.now (option_copied subsection.entry)) buffer.old.items buffer.new.items }
     ensures extended { IsExtended copies.old.items copies.new.items }
 {
     let Some(subsection) = subsection else {
@@ -147,6 +146,35 @@ fn one_line(buffer: &mut Vec<u8>, line_end: LineEnd) -> Result<Vec<Item>, span::
     Ok(items)
 }
 
+/// How many bytes the text of a header puts into a buffer; the greatest number where they are more.
+fn header_len(name: &[u8], subsection: Option<&[u8]>) -> usize
+    ensures { result ≡ min (header_bytes name.now (option_copied subsection.entry)) (2 ^ 64 - 1) }
+{
+    match subsection {
+        Some(subsection) => name
+            .len()
+            .saturating_add(1)
+            .saturating_add(escaped_subsection_len(subsection)),
+        None => name.len(),
+    }
+}
+
+/// How many bytes [`section_with`] puts into a buffer; the greatest number where they are more.
+fn section_len(
+    line_end: LineEnd,
+    name: &[u8],
+    subsection: Option<&[u8]>,
+    key: &[u8],
+    value: &[u8],
+) -> usize
+    ensures { result ≡ min (new_section_bytes (bytes_of_line_end line_end) name.now (option_copied subsection.entry) key.now value.now) (2 ^ 64 - 1) }
+{
+    // A body of one line end has no entry, so a tab and a space are put.
+    entry_len(2, line_end, key, value)
+        .saturating_add(line_end.as_bytes().len())
+        .saturating_add(header_len(name, subsection))
+}
+
 /// A section that is made, its body one line end, with one entry behind that. Takes memory for what is put into the buffer, and for
 /// the items.
 ///
@@ -171,9 +199,11 @@ pub fn section_with(
     ensures items { IfOk result (λ s. items_of buffer.new.items s.items.items
         ≡ set_value (bytes_of_line_end line_end) key.now value.now (parts.LineEndsItem (bytes_of_line_end line_end) ∷ [])) }
     ensures within { IfOk result (λ s. AreItemsWithin (length buffer.new.items) s.items.items) }
-    ensures grows { Grows result (token_bytes (new_section_tokens (bytes_of_line_end line_end) name.now (option_copied subsection.entry) key.now value.now)) buffer.old.items buffer.new.items }
+    ensures grows { Grows result (new_section_bytes (bytes_of_line_end line_end) name.now (option_copied subsection.entry) key.now value.now) buffer.old.items buffer.new.items }
+    ensures refused { 2 ^ 32 ≤ length buffer.old.items + new_section_bytes (bytes_of_line_end line_end) name.now (option_copied subsection.entry) key.now value.now → IsErrOf result 3 }
     ensures extended { IsExtended copies.old.items copies.new.items }
 {
+    check_room(buffer, section_len(line_end, name, subsection, key, value))?;
     let mut items = one_line(buffer, line_end)?;
     set_value(buffer, &mut items, line_end, key, value)?;
     let header = append_header(buffer, copies, name, subsection)?;

@@ -1,5 +1,5 @@
 //! The blanks that an editor uses: those that a body has.
-ghost use Rattle.std.specs.Prelude.{◌≡◌, ◌<◌, ◌^◌, ◌∷◌, None, length, IfOk};
+ghost use Rattle.std.specs.Prelude.{◌≡◌, ◌<◌, ◌^◌, ◌∷◌, None, length, IfOk, ℕ, List};
 ghost use Rattle.std.specs.List.{list_any};
 ghost use Rattle.gitconf_parse.specs.declared.items.Item.TheVariants as kinds;
 ghost use Rattle.gitconf_parse.specs.ItemsFit.{AreItemsWithin};
@@ -7,7 +7,7 @@ ghost use Rattle.gitconf_state.specs.Edit as state;
 ghost use Rattle.gitconf_write.specs.Bodies.{items_of};
 ghost use Rattle.gitconf_body.specs.Buffers.{Grows};
 ghost use Rattle.gitconf_body.specs.Spacings as spec;
-ghost use Rattle.gitconf_body.specs.Spacings.{SpacingStands, spacing_bytes};
+ghost use Rattle.gitconf_body.specs.Spacings.{SpacingStands};
 
 use crate::buffer::append;
 use gitconf_parse::event::Span;
@@ -32,6 +32,14 @@ fn has_entry(items: &[Item]) -> bool
     ensures { result ≡ list_any spec.is_stored_entry items.now }
 {
     items.iter().any(|item| matches!(item, Item::Entry(_)))
+}
+
+/// How many bytes [`spacing_of`] puts into a buffer.
+#[tactic(auto, using(crate::proofs::Spacings::spacings))]
+pub(crate) fn blanks_len(items: &[Item]) -> usize
+    ensures { (buffer : List ℕ) → result ≡ state.blank_bytes (items_of buffer items.now) }
+{
+    if has_entry(items) { 0 } else { 2 }
 }
 
 /// The blanks directly before the first entry.
@@ -78,7 +86,7 @@ pub(crate) fn separator_of(entry: &Entry, items: &[Item]) -> (Span, Span)
 fn default_spacing(buffer: &mut Vec<u8>) -> Result<Spacing, span::Error>
     requires room { length buffer.old.items < 2 ^ 32 }
     ensures stands { IfOk result (λ s. SpacingStands buffer.new.items s spec.default_blanks) }
-    ensures grows { Grows result (spacing_bytes spec.default_blanks) buffer.old.items buffer.new.items }
+    ensures grows { Grows result 2 buffer.old.items buffer.new.items }
 {
     let tab = append(buffer, b"\t")?;
     let space = append(buffer, b" ")?;
@@ -101,7 +109,7 @@ pub fn spacing_of(buffer: &mut Vec<u8>, items: &[Item]) -> Result<Spacing, span:
     requires room { length buffer.old.items < 2 ^ 32 }
     requires within { AreItemsWithin (length buffer.old.items) items.now }
     ensures stands { IfOk result (λ s. SpacingStands buffer.new.items s (state.spacing_of (items_of buffer.old.items items.now))) }
-    ensures grows { Grows result (spacing_bytes (state.spacing_of (items_of buffer.old.items items.now))) buffer.old.items buffer.new.items }
+    ensures grows { Grows result (state.blank_bytes (items_of buffer.old.items items.now)) buffer.old.items buffer.new.items }
 {
     if !has_entry(items) {
         return default_spacing(buffer);

@@ -8,7 +8,8 @@ use Rattle.gitconf_text.specs.Part as parts
 use Rattle.gitconf_text.specs.Token.{Token, NewlineToken, ValueNotDoneToken, ValueDoneToken, filled, piece_tokens, value_tokens, item_tokens}
 use Rattle.gitconf_parse.specs.declared.items.Piece.{Piece}
 use Rattle.gitconf_parse.specs.Events.{bytes_of}
-use Rattle.gitconf_parse.specs.Items.{piece_of, is_filled, Place, Between, BehindPieceEnd, are_items, AreBehind}
+use Rattle.gitconf_parse.specs.Items.{piece_of}
+use Rattle.gitconf_parse.specs.Grouping.{is_filled, Place, Between, BehindPieceEnd, are_items, AreBehind}
 
 -- bytes that are there make one token
 pub filled_first : (place : Place) (token : List ℕ → Token) (bytes : List ℕ) (others : List Token) → (is_filled bytes && are_items place others) ≡ true

@@ -12,6 +12,7 @@ pub mod PartAgain
 pub mod PartTakes
 pub mod TextTakes
 pub mod TokensLaws
+pub mod TokenDocument
 pub mod OneDocument
 pub mod TextLaws
 pub mod Fitting
@@ -24,8 +25,12 @@ pub mod Kept
 pub mod Selections
 pub mod Filtering
 pub mod Cuts
+pub mod Compacts
 pub mod EscapedRuns
 pub mod Grouping
 pub mod GroupLaws
 pub mod Clones
 pub mod OneFault
+pub mod Classes
+pub mod Plain
+pub mod Documents

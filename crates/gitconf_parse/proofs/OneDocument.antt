@@ -8,7 +8,7 @@ use Rattle.gitconf_text.specs.Token.{Token, NameToken, NewlineToken, ValueNotDon
 use Rattle.gitconf_text.specs.Document.{with_part, gathered}
 use Rattle.gitconf_parse.specs.declared.reading.Expected.TheVariants as expected
 use Rattle.gitconf_parse.specs.Reading.{text_from}
-use Rattle.gitconf_parse.specs.TokenDocument.{Told, nothing, before, told}
+use Rattle.gitconf_parse.proofs.TokenDocument.{Told, nothing, before, told}
 use Rattle.gitconf_parse.specs.Events.{token_of}
 use Rattle.gitconf_parse.proofs.At.{behind_front}
 use Rattle.gitconf_parse.proofs.Skips.{text_from-end}

@@ -8,7 +8,8 @@ use Rattle.gitconf_text.specs.Part.{Assigned, BlanksItem, LineEndsItem, CommentI
 use Rattle.gitconf_text.specs.Token.{Token, CommentToken, HeaderToken, NameToken, ValueToken, NewlineToken, ValueNotDoneToken, ValueDoneToken, WhitespaceToken, SeparatorToken, spelled_token, filled, piece_tokens, value_tokens, assigned_tokens, part_tokens, tokens_of}
 use Rattle.gitconf_parse.specs.EventList.{keeps_token, keeps_entry_token, may_miss, IsSelection}
 use Rattle.gitconf_parse.proofs.Selections.{filter_selection}
-use Rattle.gitconf_parse.specs.TokenDocument.{nothing, before, told, keeps_meaning}
+use Rattle.gitconf_parse.specs.TokenDocument.{keeps_meaning}
+use Rattle.gitconf_parse.proofs.TokenDocument.{nothing, before, told}
 
 -- a token that stands only where there are bytes
 joined_blanks : (bytes : List ℕ) → flat_map spelled_token (filled WhitespaceToken bytes) ≡ bytes
@@ -89,7 +90,3 @@ lossy_keeps_entries (ValueNotDoneToken bytes ∷ tokens) = lossy_keeps_entries t
 lossy_keeps_entries (ValueDoneToken bytes ∷ tokens) = lossy_keeps_entries tokens
 lossy_keeps_entries (WhitespaceToken bytes ∷ tokens) = lossy_keeps_entries tokens
 lossy_keeps_entries (SeparatorToken ∷ tokens) = lossy_keeps_entries tokens
-
--- What a lossy load keeps has the document of all.
-pub lossy_document : (tokens : List Token) → told (filter (keeps_token keeps_meaning) tokens) nothing ≡ told tokens nothing
-lossy_document tokens = selected_document tokens _ (filter_selection keeps_meaning true tokens (λ e. lossy_keeps_entries tokens))

@@ -3,16 +3,17 @@ use Rattle.std.specs.Prelude.{List, map}
 use Rattle.gitconf_parse.specs.declared.events.iters.EventIter.{EventIter}
 use Rattle.gitconf_parse.specs.declared.events.iters.SectionRef.{SectionRef}
 use Rattle.gitconf_parse.specs.declared.events.iters.SectionIter.{SectionIter}
+use Rattle.gitconf_parse.specs.Compact.{events_of}
 use Rattle.gitconf_parse.specs.EventRef.{Shown}
 use Rattle.gitconf_parse.specs.ShownEvents.{shown_event}
 use Rattle.gitconf_parse.specs.Sections.{is_header_event, sections_of}
 
 abbrev pub events_left : EventIter → List Shown
-events_left s = map (shown_event s.buffer.now s.copies.now) s.events.now
+events_left s = map (shown_event s.buffer.now s.copies.now) (events_of s.events)
 
 -- a section's header and what stands behind it
 abbrev pub shown_section : SectionRef → List Shown
-shown_section s = map (shown_event s.buffer.now s.copies.now) s.events.now
+shown_section s = map (shown_event s.buffer.now s.copies.now) (events_of s.events)
 
 abbrev pub sections_left : SectionIter → List (List Shown)
-sections_left s = map (λ events. map (shown_event s.buffer.now s.copies.now) events) (sections_of is_header_event s.events.now)
+sections_left s = map (λ events. map (shown_event s.buffer.now s.copies.now) events) (sections_of is_header_event (events_of s.events))

@@ -1,9 +1,8 @@
--- Items as the code has them, and which tokens make items.
-use Rattle.std.specs.Prelude.{◌≡◌, ℕ, Bool, true, false, not, ◌&&◌, List, [], ◌∷◌, ◌++◌, map, flat_map, Option, Some, None}
-use Rattle.gitconf_text.specs.Text.{begins}
+-- Items as the code has them.
+use Rattle.std.specs.Prelude.{ℕ, List, ◌∷◌, ◌++◌, map, flat_map, Option, Some, None}
 use Rattle.gitconf_text.specs.Value as grammar
 use Rattle.gitconf_text.specs.Part as parts
-use Rattle.gitconf_text.specs.Token.{Token, CommentToken, HeaderToken, NameToken, ValueToken, NewlineToken, ValueNotDoneToken, ValueDoneToken, WhitespaceToken, SeparatorToken, value_tokens, item_tokens}
+use Rattle.gitconf_text.specs.Token.{Token, HeaderToken, value_tokens, item_tokens}
 use Rattle.gitconf_parse.specs.declared.items.Piece.{Piece}
 use Rattle.gitconf_parse.specs.declared.items.Value.{Value}
 use Rattle.gitconf_parse.specs.declared.items.Assigned.{Assigned}
@@ -46,47 +45,3 @@ tokens_of_section buffer s = HeaderToken (header_of buffer s.header) ∷ tokens_
 -- the tokens of the front and of the sections, in order
 abbrev pub tokens_of_all : (buffer : List ℕ) → Items → List Token
 tokens_of_all buffer g = tokens_of_items buffer g.front.items ++ flat_map (tokens_of_section buffer) g.sections.items
-
--- where a token may stand
-pub data Place : Type 0 where
-  Between : Place
-  BehindName : Place
-  BehindNameBlanks : Place
-  BehindSeparator : Place
-  BehindSeparatorBlanks : Place
-  BehindPiece : Place
-  BehindPieceEnd : Place
-
-abbrev pub is_filled : List ℕ → Bool
-is_filled bytes = begins (λ _. true) bytes
-
--- The tokens go on, from this place, as items: between entries stand headers, blanks, line ends, comments and names; behind a name blanks,
--- and then an empty value or a separator; behind that blanks, and then a value or pieces, each with a line end, and the last one.
-abbrev pub are_items : Place → List Token → Bool
-are_items Between [] = true
-are_items Between (HeaderToken h ∷ tokens) = are_items Between tokens
-are_items Between (CommentToken tag text ∷ tokens) = are_items Between tokens
-are_items Between (NewlineToken bytes ∷ tokens) = are_items Between tokens
-are_items Between (WhitespaceToken bytes ∷ tokens) = are_items Between tokens
-are_items Between (NameToken bytes ∷ tokens) = are_items BehindName tokens
-are_items BehindName (WhitespaceToken bytes ∷ tokens) = is_filled bytes && are_items BehindNameBlanks tokens
-are_items BehindName (ValueToken bytes ∷ tokens) = not (is_filled bytes) && are_items Between tokens
-are_items BehindName (SeparatorToken ∷ tokens) = are_items BehindSeparator tokens
-are_items BehindNameBlanks (ValueToken bytes ∷ tokens) = not (is_filled bytes) && are_items Between tokens
-are_items BehindNameBlanks (SeparatorToken ∷ tokens) = are_items BehindSeparator tokens
-are_items BehindSeparator (WhitespaceToken bytes ∷ tokens) = is_filled bytes && are_items BehindSeparatorBlanks tokens
-are_items BehindSeparator (ValueToken bytes ∷ tokens) = are_items Between tokens
-are_items BehindSeparator (ValueNotDoneToken bytes ∷ tokens) = are_items BehindPiece tokens
-are_items BehindSeparatorBlanks (ValueToken bytes ∷ tokens) = are_items Between tokens
-are_items BehindSeparatorBlanks (ValueNotDoneToken bytes ∷ tokens) = are_items BehindPiece tokens
-are_items BehindPiece (NewlineToken bytes ∷ tokens) = is_filled bytes && are_items BehindPieceEnd tokens
-are_items BehindPiece (ValueNotDoneToken bytes ∷ tokens) = are_items BehindPiece tokens
-are_items BehindPiece (ValueDoneToken bytes ∷ tokens) = are_items Between tokens
-are_items BehindPieceEnd (ValueNotDoneToken bytes ∷ tokens) = are_items BehindPiece tokens
-are_items BehindPieceEnd (ValueDoneToken bytes ∷ tokens) = are_items Between tokens
-are_items _ _ = false
-
--- the first tokens and then the others are all of them, and the others go on as items from this place
-pub record AreBehind (place : Place) (first others all : List Token) : Type 0 where
-  pub joined : first ++ others ≡ all
-  pub go_on : are_items place others ≡ true

@@ -1,3 +1,4 @@
+pub mod Compact
 pub mod Reading
 pub mod Events
 pub mod Parsing
@@ -14,3 +15,4 @@ pub mod EventIters
 pub mod TokenDocument
 pub mod Items
 pub mod ItemsFit
+pub mod Grouping

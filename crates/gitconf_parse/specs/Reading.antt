@@ -79,6 +79,10 @@ value_from first events joined from kept quoted n zero (b ∷ rest) = elim (clas
 abbrev pub value_at : (first : ℕ) → List Event → List ℕ → Read
 value_at first events text = value_from first events false first first false first 0 text
 
+-- a byte that stands for itself in a value, quotes or not
+abbrev pub is_plain : ℕ → Bool
+is_plain b = elim (class_of b) [ Other ↦ true | _ ↦ false ]
+
 -- what a run consists of, told by the text from a byte on
 abbrev pub run_test : Run → List ℕ → Bool
 run_test runs.Blanks text = begins is_blank text
@@ -86,6 +90,7 @@ run_test runs.LineEnds text = begins_line_end text
 run_test runs.CommentText text = not (begins_line_end text)
 run_test runs.NameBytes text = begins is_name_byte text
 run_test runs.HeaderBytes text = begins is_header_byte text
+run_test runs.PlainBytes text = begins is_plain text
 
 -- the offset behind the run that stands at the offset n
 unfoldable pub end_of_run : (List ℕ → Bool) → (n : ℕ) → List ℕ → ℕ

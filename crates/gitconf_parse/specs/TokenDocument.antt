@@ -1,50 +1,15 @@
--- The document that tokens say, read from the last one on.
-use Rattle.std.specs.Prelude.{ℕ, Bool, true, false, List, [], ◌∷◌, ◌++◌, Some, None, if◌then◌else◌}
-use Rattle.gitconf_text.specs.Header.{name_of, subsection_of}
-use Rattle.gitconf_text.specs.Token.{Token, CommentToken, HeaderToken, NameToken, ValueToken, NewlineToken, ValueNotDoneToken, ValueDoneToken, WhitespaceToken, SeparatorToken}
-use Rattle.gitconf_text.specs.Document.{Document}
+-- Which document tokens say, and what a lossy load keeps of them.
+use Rattle.std.specs.Prelude.{◌≡◌, Bool, true, false, List}
+use Rattle.gitconf_text.specs.Part.{Part}
+use Rattle.gitconf_text.specs.Token.{Token, tokens_of}
+use Rattle.gitconf_text.specs.Document.{Document, gathered}
 use Rattle.gitconf_parse.specs.EventRef.{Shown, ShownComment, ShownNewline, ShownBlanks}
 
--- what the tokens from here on say: the document, and what stands before the next name: whether a separator does, and the raw text
-pub record Told : Type 0 where
-  pub document : Document
-  pub assigned : Bool
-  pub raw : List ℕ
-
--- no token: nothing is said
-abbrev pub nothing : Told
-nothing = record { document = record { front = []; sections = [] }; assigned = false; raw = [] }
-
--- an entry of this name and this value is put first
-abbrev pub with_entry : (name : List ℕ) → Told → Document
-with_entry name t = record {
-  front = (record { name = name; raw = if t.assigned then Some t.raw else None }) ∷ t.document.front;
-  sections = t.document.sections;
-}
-
--- a token before what others say: blanks, line ends and comments say nothing
-abbrev pub before : Token → Told → Told
-before (CommentToken tag text) t = t
-before (NewlineToken bytes) t = t
-before (WhitespaceToken bytes) t = t
-before (HeaderToken h) t = record {
-  document = record { front = []; sections = (record { name = name_of h; subsection = subsection_of h; entries = t.document.front }) ∷ t.document.sections };
-  assigned = false;
-  raw = [];
-}
-before (NameToken name) t = record { document = with_entry name t; assigned = false; raw = [] }
-before (ValueToken bytes) t = record { document = t.document; assigned = false; raw = bytes }
-before (ValueNotDoneToken bytes) t = record { document = t.document; assigned = false; raw = bytes ++ t.raw }
-before (ValueDoneToken bytes) t = record { document = t.document; assigned = false; raw = bytes }
-before SeparatorToken t = record { document = t.document; assigned = true; raw = t.raw }
-
-abbrev pub told : List Token → Told → Told
-told [] t = t
-told (x ∷ tokens) t = before x (told tokens t)
-
--- the document of a list of tokens
-abbrev pub document_of_tokens : List Token → Document
-document_of_tokens tokens = (told tokens nothing).document
+-- the tokens are those of some parts, and these have the document
+pub record SayDocument (tokens : List Token) (document : Document) : Type 0 where
+  pub parts : List Part
+  pub tokens_are : tokens ≡ tokens_of parts
+  pub document_is : gathered parts ≡ document
 
 -- what a lossy load keeps: all but blanks, line ends and comments
 abbrev pub keeps_meaning : Shown → Bool

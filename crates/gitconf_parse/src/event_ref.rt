@@ -1,5 +1,5 @@
 //! Tokens that borrow their bytes.
-ghost use Rattle.std.specs.Prelude.{◌≡◌, ◌<◌, ◌^◌, length, option_copied, IfOk};
+ghost use Rattle.std.specs.Prelude.{◌≡◌, ◌-◌, ◌<◌, ◌^◌, min, length, option_copied, IfOk};
 ghost use Rattle.bstr.specs.Owned.{bstring_bytes};
 ghost use Rattle.gitconf_parse.specs.EventRef as spec;
 ghost use Rattle.gitconf_parse.specs.Sink.{Writes, Counts};
@@ -232,12 +232,22 @@ fn header_len(name: &[u8], separator: Option<&[u8]>, subsection: Option<&[u8]>) 
 fn subsection_len(separator: &[u8], subsection: &[u8]) -> usize
     ensures { let len = length (written_subsection separator.now subsection.now) in len < 2 ^ 64 → result ≡ len }
 {
-    let bytes = separator.len().saturating_add(subsection.len());
     if separator == b".".as_slice() {
-        return bytes;
+        return separator.len().saturating_add(subsection.len());
     }
+    let quotes_and_separator = separator.len().saturating_add(2);
+    quotes_and_separator.saturating_add(escaped_subsection_len(subsection))
+}
+
+/// How many bytes a subsection has that is spelled in quotes, without these; the greatest number where they are more.
+///
+/// It reads the subsection once, and takes no memory.
+#[tactic(auto, using(crate::proofs::Subsections::lengths))]
+pub fn escaped_subsection_len(subsection: &[u8]) -> usize
+    ensures { result ≡ min (length (escaped_subsection subsection.now)) (2 ^ 64 - 1) }
+{
     let backslashes = subsection.iter().filter(|b| needs_backslash(**b)).count();
-    bytes.saturating_add(2).saturating_add(backslashes)
+    subsection.len().saturating_add(backslashes)
 }
 
 /// Whether the byte stands behind a backslash in a quoted subsection.

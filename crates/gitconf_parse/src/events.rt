@@ -9,22 +9,20 @@ ghost use Rattle.gitconf_parse.specs.ParseError.{too_large_input};
 ghost use Rattle.gitconf_parse.specs.EventList.{IsParsed};
 ghost use Rattle.gitconf_parse.specs.EventResult.{IsRefusal, IsRefused};
 
-mod decode;
+pub(crate) mod decode;
 mod filter;
 mod iters;
 mod lend;
 
+use crate::compact::EventVec;
 use crate::error::Error;
-use crate::event::Event;
 use crate::event_ref::EventRef;
 use crate::items::{Items, grouped};
 use crate::reading::{Fault, ReadError, read};
-use decode::decoded_events;
 pub use decode::decoded_header;
 pub use filter::keeps_meaning;
 use filter::kept_events;
 use gitconf_text::NoMemory;
-use iters::front_len;
 pub use iters::{EventIter, SectionIter, SectionRef};
 pub use lend::subsection_name;
 use std::alloc::Global;
@@ -36,7 +34,7 @@ pub struct Events {
     buffer: Vec<u8>,
     /// The decoded subsections of the headers that need one.
     copies: Vec<u8>,
-    events: Vec<Event>,
+    events: EventVec,
     keeps_entries: bool,
 }
 
@@ -48,12 +46,12 @@ impl Model for Events {
     ghost Value = { EventList };
 
     ghost view = { λ e. record {
-      tokens = map (token_of e.buffer.items) e.events.items;
+      tokens = map (token_of e.buffer.items) e.events;
       keeps_entries = e.keeps_entries;
       used = length e.buffer.items;
     } };
 
-    ghost invariant = { λ e. EventsFit e.buffer.items e.copies.items e.events.items e.keeps_entries };
+    ghost invariant = { λ e. EventsFit e.buffer.items e.copies.items e.events e.keeps_entries };
 }
 
 /// Refuses an input of more than 4294967295 bytes.
@@ -92,13 +90,13 @@ fn copied(alloc: Global, input: &[u8]) -> Result<Vec<u8>, NoMemory>
 }
 
 /// The events of a text that has a document.
-fn events_of(alloc: Global, input: &[u8]) -> Result<Vec<Event>, Error>
-    ensures found { IfOk result (λ events. IsRead input.now events.items) }
+fn events_of(alloc: Global, input: &[u8]) -> Result<EventVec, Error>
+    ensures found { IfOk result (λ events. IsRead input.now events) }
     ensures fits { OnOk result (length input.now < 2 ^ 32) }
     ensures refused { IfErr result (IsRefused input.now) }
 {
     check_len(input.len())?;
-    let mut events = Vec::new(alloc);
+    let mut events = EventVec::new(alloc);
     match read(input, &mut events) {
         Ok(()) => Ok(events),
         Err(ReadError::Memory) => Err(Error::memory()),
@@ -119,7 +117,7 @@ impl Events {
     ghost use Rattle.gitconf_parse.specs.EventList.{IsParsed, IsWhole, IsFiltered, IsSelected};
     ghost use Rattle.gitconf_parse.specs.EventResult.{IsRefused};
     ghost use Rattle.std.specs.Prelude.{length, ◌<◌, ◌^◌};
-    ghost use Rattle.gitconf_parse.specs.Items.{Between, are_items, tokens_of_all};
+    ghost use Rattle.gitconf_parse.specs.Items.{tokens_of_all};
     ghost use Rattle.gitconf_parse.specs.ItemsFit.{ItemsFit};
 
     /// All events of a text.
@@ -131,7 +129,7 @@ impl Events {
         let events = events_of(alloc, input)?;
         let buffer = copied(alloc, input)?;
         let mut copies = Vec::new(alloc);
-        let events = decoded_events(&buffer, events, &mut copies)?;
+        let events = events.decoded(&buffer, &mut copies)?;
         Ok(Events {
             buffer,
             copies,
@@ -153,7 +151,7 @@ impl Events {
             alloc,
             &self.buffer,
             &self.copies,
-            &self.events,
+            self.events.as_slice(),
             filter,
         )?;
         Ok(Events {
@@ -213,18 +211,19 @@ impl Events {
 
     /// The items of what was kept, by section, and the buffer that their spans are offsets of.
     ///
-    /// It asks that names, separators and values stand as in a text; they do where `keeps_entries` is true, by
+    /// It asks that these are the tokens of some parts of a text; they are where `keeps_entries` is true, by
     /// `laws::kept_entries_make_items`. One pass.
     ///
     /// # Errors
     ///
     /// Want of memory.
+    #[tactic(auto, using(crate::proofs::GroupLaws::tokens_items))]
     pub fn items(&self, alloc: Global) -> Result<(Items, &[u8]), NoMemory>
-        requires { are_items Between self.now.tokens ≡ true }
+        requires { (parts : List Part) × (self.now.tokens ≡ tokens_of parts) }
         ensures tokens { IfOk result (λ r. tokens_of_all r.1.now r.0 ≡ self.now.tokens) }
         ensures within { IfOk result (λ r. ItemsFit (length r.1.now) r.0) }
     {
-        let items = grouped(alloc, &self.buffer, &self.events)?;
+        let items = grouped(alloc, &self.buffer, self.events.as_slice())?;
         Ok((items, &self.buffer))
     }
 
@@ -235,14 +234,15 @@ impl Events {
     /// # Errors
     ///
     /// Want of memory.
+    #[tactic(auto, using(crate::proofs::GroupLaws::tokens_items))]
     pub fn into_items(self, alloc: Global) -> Result<(Vec<u8>, Items), NoMemory>
-        requires { are_items Between self.tokens ≡ true }
+        requires { (parts : List Part) × (self.tokens ≡ tokens_of parts) }
         ensures tokens { IfOk result (λ r. tokens_of_all r.0.items r.1 ≡ self.tokens) }
         ensures within { IfOk result (λ r. ItemsFit (length r.0.items) r.1) }
         ensures used { IfOk result (λ r. length r.0.items ≡ self.used) }
         ensures fits { IfOk result (λ r. length r.0.items < 2 ^ 32) }
     {
-        let items = grouped(alloc, &self.buffer, &self.events)?;
+        let items = grouped(alloc, &self.buffer, self.events.as_slice())?;
         Ok((self.buffer, items))
     }
 
@@ -250,14 +250,14 @@ impl Events {
     pub fn iter(&self) -> EventIter<'_>
         ensures { events_left result ≡ map shown_token self.now.tokens }
     {
-        EventIter::over(&self.buffer, &self.copies, &self.events)
+        EventIter::over(&self.buffer, &self.copies, self.events.as_slice())
     }
 
     /// The events before the first header.
     pub fn frontmatter(&self) -> EventIter<'_>
         ensures { events_left result ≡ front_of is_shown_header (map shown_token self.now.tokens) }
     {
-        let front = self.events.split_at(front_len(&self.events)).0;
+        let front = self.events.as_slice().split_front().0;
         EventIter::over(&self.buffer, &self.copies, front)
     }
 
@@ -265,7 +265,7 @@ impl Events {
     pub fn sections(&self) -> SectionIter<'_>
         ensures { sections_left result ≡ sections_of is_shown_header (map shown_token self.now.tokens) }
     {
-        SectionIter::over(&self.buffer, &self.copies, &self.events)
+        SectionIter::over(&self.buffer, &self.copies, self.events.as_slice())
     }
 
     /// Whether the filter kept every name, separator, value and piece of a value.
@@ -285,9 +285,10 @@ impl Events {
     pub fn try_clone(&self) -> Result<Events, NoMemory>
         ensures { IfOk result (λ events. events ≡ self.now) }
     {
-        let buffer = self.buffer.clone()?;
-        let copies = self.copies.clone()?;
-        let events = self.events.clone()?;
+        let alloc = *self.buffer.allocator();
+        let buffer = copied(alloc, &self.buffer)?;
+        let copies = copied(alloc, &self.copies)?;
+        let events = self.events.try_clone()?;
         Ok(Events {
             buffer,
             copies,

@@ -1,12 +1,15 @@
 //! Items: what a body is made of, as the parser's events say it.
-ghost use Rattle.std.specs.Prelude.{◌≡◌, ◌∷◌, ◌++◌, true, false, length, map, flat_map, IfOk};
+ghost use Rattle.std.specs.Prelude.{◌≡◌, ◌≤◌, ◌∷◌, ◌++◌, [], true, false, length, map, flat_map, IfOk, OnOk};
 ghost use Rattle.gitconf_text.specs.Token.{WhitespaceToken, NewlineToken, ValueNotDoneToken, item_tokens, assigned_tokens, filled};
+ghost use Rattle.gitconf_parse.specs.Compact.{events_of};
 ghost use Rattle.gitconf_parse.specs.Events.{bytes_of, token_of, SpanFits, EventFits};
 ghost use Rattle.gitconf_parse.specs.Sections.{is_header_event, is_cut};
 ghost use Rattle.gitconf_parse.specs.ItemsFit.{EventsWithin, AreItemsWithin, AssignedFits, ItemFits, ItemsFit, ValueFits};
 ghost use Rattle.gitconf_parse.specs.Items as spec;
-ghost use Rattle.gitconf_parse.specs.Items.{item_of, assigned_of, Place, Between, BehindName, BehindNameBlanks, BehindSeparator, BehindSeparatorBlanks, BehindPiece, BehindPieceEnd, are_items};
+ghost use Rattle.gitconf_parse.specs.Items.{item_of, assigned_of};
+ghost use Rattle.gitconf_parse.specs.Grouping.{Place, Between, BehindName, BehindNameBlanks, BehindSeparator, BehindSeparatorBlanks, BehindPiece, BehindPieceEnd, are_items, AreBehind};
 
+use crate::compact::EventSlice;
 use crate::event::{Event, Header, Span, is_header};
 use gitconf_text::NoMemory;
 use std::alloc::Global;
@@ -68,32 +71,33 @@ pub struct Items {
 const NOTHING: Span = Span { start: 0, len: 0 };
 
 /// The blanks that the events begin with, or no bytes, and the events behind them.
-fn blanks_first<'e>(buffer: &[u8], events: &'e [Event]) -> (Span, &'e [Event])
-    requires within { EventsWithin (length buffer.now) events.now }
-    ensures name { are_items BehindName (map (token_of buffer.now) events.now) ≡ true → spec.AreBehind BehindNameBlanks
-        (filled WhitespaceToken (bytes_of buffer.now result.0)) (map (token_of buffer.now) result.1.now) (map (token_of buffer.now) events.now) }
-    ensures separator { are_items BehindSeparator (map (token_of buffer.now) events.now) ≡ true → spec.AreBehind BehindSeparatorBlanks
-        (filled WhitespaceToken (bytes_of buffer.now result.0)) (map (token_of buffer.now) result.1.now) (map (token_of buffer.now) events.now) }
+fn blanks_first<'e>(buffer: &[u8], events: EventSlice<'e>) -> (Span, EventSlice<'e>)
+    requires within { EventsWithin (length buffer.now) (events_of events) }
+    ensures name { are_items BehindName (map (token_of buffer.now) (events_of events.entry)) ≡ true → AreBehind BehindNameBlanks
+        (filled WhitespaceToken (bytes_of buffer.now result.0)) (map (token_of buffer.now) (events_of result.1)) (map (token_of buffer.now) (events_of events.entry)) }
+    ensures separator { are_items BehindSeparator (map (token_of buffer.now) (events_of events.entry)) ≡ true → AreBehind BehindSeparatorBlanks
+        (filled WhitespaceToken (bytes_of buffer.now result.0)) (map (token_of buffer.now) (events_of result.1)) (map (token_of buffer.now) (events_of events.entry)) }
     ensures first { SpanFits (length buffer.now) result.0 }
-    ensures others { EventsWithin (length buffer.now) result.1.now }
+    ensures others { EventsWithin (length buffer.now) (events_of result.1) }
 {
     match events.split_first() {
-        Some((Event::Whitespace(run), behind)) => (*run, behind),
+        Some((Event::Whitespace(run), behind)) => (run, behind),
         _ => (NOTHING, events),
     }
 }
 
 /// The line end that the events begin with, or no bytes, and the events behind it.
-fn line_end_first<'e>(buffer: &[u8], events: &'e [Event]) -> (Span, &'e [Event])
-    requires items { are_items BehindPiece (map (token_of buffer.now) events.now) ≡ true }
-    requires within { EventsWithin (length buffer.now) events.now }
-    ensures tokens { spec.AreBehind BehindPieceEnd
-        (filled NewlineToken (bytes_of buffer.now result.0)) (map (token_of buffer.now) result.1.now) (map (token_of buffer.now) events.now) }
+fn line_end_first<'e>(buffer: &[u8], events: EventSlice<'e>) -> (Span, EventSlice<'e>)
+    requires items { are_items BehindPiece (map (token_of buffer.now) (events_of events)) ≡ true }
+    requires within { EventsWithin (length buffer.now) (events_of events) }
+    ensures tokens { AreBehind BehindPieceEnd
+        (filled NewlineToken (bytes_of buffer.now result.0)) (map (token_of buffer.now) (events_of result.1)) (map (token_of buffer.now) (events_of events.entry)) }
     ensures first { SpanFits (length buffer.now) result.0 }
-    ensures others { EventsWithin (length buffer.now) result.1.now }
+    ensures others { EventsWithin (length buffer.now) (events_of result.1) }
+    ensures shorter { length (events_of result.1) ≤ length (events_of events.entry) }
 {
     match events.split_first() {
-        Some((Event::Newline(run), behind)) => (*run, behind),
+        Some((Event::Newline(run), behind)) => (run, behind),
         _ => (NOTHING, events),
     }
 }
@@ -103,15 +107,15 @@ fn pieces_first<'e>(
     alloc: Global,
     buffer: &[u8],
     text: Span,
-    events: &'e [Event],
-) -> Result<(Value, &'e [Event]), NoMemory>
-    requires items { are_items BehindPiece (map (token_of buffer.now) events.now) ≡ true }
+    events: EventSlice<'e>,
+) -> Result<(Value, EventSlice<'e>), NoMemory>
+    requires items { are_items BehindPiece (map (token_of buffer.now) (events_of events)) ≡ true }
     requires text { SpanFits (length buffer.now) text }
-    requires within { EventsWithin (length buffer.now) events.now }
-    ensures tokens { IfOk result (λ r. spec.AreBehind Between (spec.tokens_of_value buffer.now r.0) (map (token_of buffer.now) r.1.now)
-        (ValueNotDoneToken (bytes_of buffer.now text) ∷ map (token_of buffer.now) events.now)) }
+    requires within { EventsWithin (length buffer.now) (events_of events) }
+    ensures tokens { IfOk result (λ r. AreBehind Between (spec.tokens_of_value buffer.now r.0) (map (token_of buffer.now) (events_of r.1))
+        (ValueNotDoneToken (bytes_of buffer.now text) ∷ map (token_of buffer.now) (events_of events.entry))) }
     ensures first { IfOk result (λ r. ValueFits (length buffer.now) r.0) }
-    ensures others { IfOk result (λ r. EventsWithin (length buffer.now) r.1.now) }
+    ensures others { IfOk result (λ r. EventsWithin (length buffer.now) (events_of r.1)) }
 {
     let mut pieces = Vec::new(alloc);
     let mut text = text;
@@ -121,11 +125,10 @@ fn pieces_first<'e>(
         pieces.push(Piece { text, line_end })?;
         match behind.split_first() {
             Some((Event::ValueNotDone(next), behind)) => {
-                text = *next;
+                text = next;
                 rest = behind;
             }
             Some((Event::ValueDone(last), behind)) => {
-                let last = *last;
                 return Ok((Value { pieces, last }, behind));
             }
             _ => unreachable!(),
@@ -137,23 +140,23 @@ fn pieces_first<'e>(
 fn value_first<'e>(
     alloc: Global,
     buffer: &[u8],
-    events: &'e [Event],
-) -> Result<(Value, &'e [Event]), NoMemory>
-    requires items { are_items BehindSeparatorBlanks (map (token_of buffer.now) events.now) ≡ true }
-    requires within { EventsWithin (length buffer.now) events.now }
+    events: EventSlice<'e>,
+) -> Result<(Value, EventSlice<'e>), NoMemory>
+    requires items { are_items BehindSeparatorBlanks (map (token_of buffer.now) (events_of events)) ≡ true }
+    requires within { EventsWithin (length buffer.now) (events_of events) }
     ensures first { IfOk result (λ r. ValueFits (length buffer.now) r.0) }
-    ensures others { IfOk result (λ r. EventsWithin (length buffer.now) r.1.now) }
-    ensures tokens { IfOk result (λ r. spec.AreBehind Between (spec.tokens_of_value buffer.now r.0) (map (token_of buffer.now) r.1.now) (map (token_of buffer.now) events.now)) }
+    ensures others { IfOk result (λ r. EventsWithin (length buffer.now) (events_of r.1)) }
+    ensures tokens { IfOk result (λ r. AreBehind Between (spec.tokens_of_value buffer.now r.0) (map (token_of buffer.now) (events_of r.1)) (map (token_of buffer.now) (events_of events.entry))) }
 {
     match events.split_first() {
         Some((Event::Value(last), behind)) => {
             let value = Value {
                 pieces: Vec::new(alloc),
-                last: *last,
+                last,
             };
             Ok((value, behind))
         }
-        Some((Event::ValueNotDone(text), behind)) => pieces_first(alloc, buffer, *text, behind),
+        Some((Event::ValueNotDone(text), behind)) => pieces_first(alloc, buffer, text, behind),
         _ => unreachable!(),
     }
 }
@@ -162,13 +165,13 @@ fn value_first<'e>(
 fn assigned_first<'e>(
     alloc: Global,
     buffer: &[u8],
-    events: &'e [Event],
-) -> Result<(Option<Assigned>, &'e [Event]), NoMemory>
-    requires items { are_items BehindNameBlanks (map (token_of buffer.now) events.now) ≡ true }
-    requires within { EventsWithin (length buffer.now) events.now }
+    events: EventSlice<'e>,
+) -> Result<(Option<Assigned>, EventSlice<'e>), NoMemory>
+    requires items { are_items BehindNameBlanks (map (token_of buffer.now) (events_of events)) ≡ true }
+    requires within { EventsWithin (length buffer.now) (events_of events) }
     ensures first { IfOk result (λ r. AssignedFits (length buffer.now) r.0) }
-    ensures others { IfOk result (λ r. EventsWithin (length buffer.now) r.1.now) }
-    ensures tokens { IfOk result (λ r. spec.AreBehind Between (assigned_tokens (assigned_of buffer.now r.0)) (map (token_of buffer.now) r.1.now) (map (token_of buffer.now) events.now)) }
+    ensures others { IfOk result (λ r. EventsWithin (length buffer.now) (events_of r.1)) }
+    ensures tokens { IfOk result (λ r. AreBehind Between (assigned_tokens (assigned_of buffer.now r.0)) (map (token_of buffer.now) (events_of r.1)) (map (token_of buffer.now) (events_of events.entry))) }
 {
     match events.split_first() {
         Some((Event::Value(_), behind)) => Ok((None, behind)),
@@ -185,18 +188,18 @@ fn assigned_first<'e>(
 fn item_first<'e>(
     alloc: Global,
     buffer: &[u8],
-    first: &Event,
-    behind: &'e [Event],
-) -> Result<(Item, &'e [Event]), NoMemory>
-    requires items { are_items Between (token_of buffer.now first.now ∷ map (token_of buffer.now) behind.now) ≡ true }
-    requires no_header { is_header_event first.now ≡ false }
-    requires first_within { EventFits (length buffer.now) first.now }
-    requires within { EventsWithin (length buffer.now) behind.now }
+    first: Event,
+    behind: EventSlice<'e>,
+) -> Result<(Item, EventSlice<'e>), NoMemory>
+    requires items { are_items Between (token_of buffer.now first ∷ map (token_of buffer.now) (events_of behind)) ≡ true }
+    requires no_header { is_header_event first ≡ false }
+    requires first_within { EventFits (length buffer.now) first }
+    requires within { EventsWithin (length buffer.now) (events_of behind) }
     ensures first { IfOk result (λ r. ItemFits (length buffer.now) r.0) }
-    ensures others { IfOk result (λ r. EventsWithin (length buffer.now) r.1.now) }
-    ensures tokens { IfOk result (λ r. spec.AreBehind Between (item_tokens (item_of buffer.now r.0)) (map (token_of buffer.now) r.1.now) (token_of buffer.now first.now ∷ map (token_of buffer.now) behind.now)) }
+    ensures others { IfOk result (λ r. EventsWithin (length buffer.now) (events_of r.1)) }
+    ensures tokens { IfOk result (λ r. AreBehind Between (item_tokens (item_of buffer.now r.0)) (map (token_of buffer.now) (events_of r.1)) (token_of buffer.now first ∷ map (token_of buffer.now) (events_of behind.entry))) }
 {
-    match *first {
+    match first {
         Event::Comment { tag, text } => Ok((Item::Comment { tag, text }, behind)),
         Event::Newline(run) => Ok((Item::LineEnds(run), behind)),
         Event::Whitespace(run) => Ok((Item::Blanks(run), behind)),
@@ -214,30 +217,44 @@ fn item_first<'e>(
     }
 }
 
+/// The items in a list of just their length. None are left where they stood.
+fn moved_out(alloc: Global, items: &mut Vec<Item>) -> Result<Vec<Item>, NoMemory>
+    ensures moved { IfOk result (λ moved. moved.items ≡ items.old.items) }
+    ensures empty { OnOk result (items.new.items ≡ []) }
+{
+    let mut moved = Vec::with_capacity(alloc, items.len())?;
+    moved.append(items)?;
+    Ok(moved)
+}
+
 /// The items that the events begin with, up to a header or the end, and the events behind them.
+///
+/// They are put together in `scratch`, which holds nothing before and behind that.
 fn items_first<'e>(
     alloc: Global,
     buffer: &[u8],
-    events: &'e [Event],
-) -> Result<(Vec<Item>, &'e [Event]), NoMemory>
-    requires items { are_items Between (map (token_of buffer.now) events.now) ≡ true }
-    requires within { EventsWithin (length buffer.now) events.now }
+    events: EventSlice<'e>,
+    scratch: &mut Vec<Item>,
+) -> Result<(Vec<Item>, EventSlice<'e>), NoMemory>
+    requires empty { scratch.old.items ≡ [] }
+    requires items { are_items Between (map (token_of buffer.now) (events_of events)) ≡ true }
+    requires within { EventsWithin (length buffer.now) (events_of events) }
     ensures first { IfOk result (λ r. AreItemsWithin (length buffer.now) r.0.items) }
-    ensures others { IfOk result (λ r. EventsWithin (length buffer.now) r.1.now) }
-    ensures items { IfOk result (λ r. spec.AreBehind Between (spec.tokens_of_items buffer.now r.0.items) (map (token_of buffer.now) r.1.now) (map (token_of buffer.now) events.now)) }
-    ensures cut { IfOk result (λ r. is_cut is_header_event r.1.now ≡ true) }
+    ensures others { IfOk result (λ r. EventsWithin (length buffer.now) (events_of r.1)) }
+    ensures items { IfOk result (λ r. AreBehind Between (spec.tokens_of_items buffer.now r.0.items) (map (token_of buffer.now) (events_of r.1)) (map (token_of buffer.now) (events_of events.entry))) }
+    ensures cut { IfOk result (λ r. is_cut is_header_event (events_of r.1) ≡ true) }
+    ensures empty { OnOk result (scratch.new.items ≡ []) }
 {
-    let mut items = Vec::new(alloc);
     let mut rest = events;
     while let Some((first, behind)) = rest.split_first() {
-        if is_header(first) {
+        if is_header(&first) {
             break;
         }
         let (item, behind) = item_first(alloc, buffer, first, behind)?;
-        items.push(item)?;
+        scratch.push(item)?;
         rest = behind;
     }
-    Ok((items, rest))
+    Ok((moved_out(alloc, scratch)?, rest))
 }
 
 /// The items of events by section; the spans are offsets of the buffer. Their tokens are the events' again.
@@ -247,21 +264,23 @@ fn items_first<'e>(
 /// # Errors
 ///
 /// Want of memory.
-pub(crate) fn grouped(alloc: Global, buffer: &[u8], events: &[Event]) -> Result<Items, NoMemory>
-    requires items { are_items Between (map (token_of buffer.now) events.now) ≡ true }
-    requires within { EventsWithin (length buffer.now) events.now }
+pub(crate) fn grouped(
+    alloc: Global,
+    buffer: &[u8],
+    events: EventSlice<'_>,
+) -> Result<Items, NoMemory>
+    requires items { are_items Between (map (token_of buffer.now) (events_of events)) ≡ true }
+    requires within { EventsWithin (length buffer.now) (events_of events) }
     ensures within { IfOk result (ItemsFit (length buffer.now)) }
-    ensures tokens { IfOk result (λ g. spec.tokens_of_all buffer.now g ≡ map (token_of buffer.now) events.now) }
+    ensures tokens { IfOk result (λ g. spec.tokens_of_all buffer.now g ≡ map (token_of buffer.now) (events_of events.entry)) }
 {
-    let (front, behind) = items_first(alloc, buffer, events)?;
+    let mut scratch = Vec::new(alloc);
+    let (front, behind) = items_first(alloc, buffer, events, &mut scratch)?;
     let mut rest = behind;
     let mut sections = Vec::new(alloc);
     while let Some((Event::SectionHeader(header), behind)) = rest.split_first() {
-        let (items, behind) = items_first(alloc, buffer, behind)?;
-        sections.push(Section {
-            header: *header,
-            items,
-        })?;
+        let (items, behind) = items_first(alloc, buffer, behind, &mut scratch)?;
+        sections.push(Section { header, items })?;
         rest = behind;
     }
     Ok(Items { front, sections })

@@ -9,8 +9,7 @@ ghost use Rattle.gitconf_text.specs.Token.{Token, spelled_token, tokens_of};
 ghost use Rattle.gitconf_text.specs.Header.{is_spelling, unquoted};
 ghost use Rattle.gitconf_parse.specs.EventRef.{Shown, escaped_subsection};
 ghost use Rattle.gitconf_parse.specs.EventList.{EventList, IsParsed, IsSelected, IsSelection, IsWhole, keeps_token};
-ghost use Rattle.gitconf_parse.specs.Items.{Between, are_items};
-ghost use Rattle.gitconf_parse.specs.TokenDocument.{document_of_tokens, keeps_meaning};
+ghost use Rattle.gitconf_parse.specs.TokenDocument.{SayDocument, keeps_meaning};
 
 /// A subsection without LF that is spelled in quotes, with `"` and `\` each behind a backslash, may stand in a header,
 /// and is read back as it was.
@@ -36,17 +35,18 @@ pub fn tokens_join()
     ensures { (text : List ℕ) (parts : List Part) → IsText text parts → flat_map spelled_token (tokens_of parts) ≡ unmarked text }
 {}
 
-/// The tokens of a text say its document, and so do those that are left without blanks, line ends and comments, all of these
-/// or some.
+/// Parts with the same tokens have the same document. The tokens that are left of a text without blanks, line ends and
+/// comments, all of these or some, are those of parts with the text's document.
 pub fn lossy_tokens_have_the_document()
-    ensures all { (parts : List Part) → document_of_tokens (tokens_of parts) ≡ gathered parts }
-    ensures lossy { (parts : List Part) → document_of_tokens (filter (keeps_token keeps_meaning) (tokens_of parts)) ≡ gathered parts }
-    ensures selected { (parts : List Part) (tokens : List Token) → IsSelection true (tokens_of parts) tokens → document_of_tokens tokens ≡ gathered parts }
+    ensures one { (parts others : List Part) → tokens_of parts ≡ tokens_of others → gathered parts ≡ gathered others }
+    ensures lossy { (parts : List Part) → SayDocument (filter (keeps_token keeps_meaning) (tokens_of parts)) (gathered parts) }
+    ensures selected { (parts : List Part) (tokens : List Token) → IsSelection true (tokens_of parts) tokens → SayDocument tokens (gathered parts) }
 {}
 
-/// Events of a text make items by section, without a filter, and with any that kept each name, separator and value.
+/// Events of a text are the tokens of parts, and so make items by section, without a filter, and with any that kept each name, separator
+/// and value.
 pub fn kept_entries_make_items()
-    ensures whole { (text : List ℕ) (list : EventList) → IsWhole text list → are_items Between list.tokens ≡ true }
-    ensures kept { (p : Shown → Bool) (text : List ℕ) (list : EventList) → IsParsed p text list → list.keeps_entries ≡ true → are_items Between list.tokens ≡ true }
-    ensures selected { (text : List ℕ) (list : EventList) → IsSelected text list → list.keeps_entries ≡ true → are_items Between list.tokens ≡ true }
+    ensures whole { (text : List ℕ) (list : EventList) → IsWhole text list → (parts : List Part) × (list.tokens ≡ tokens_of parts) }
+    ensures kept { (p : Shown → Bool) (text : List ℕ) (list : EventList) → IsParsed p text list → list.keeps_entries ≡ true → (parts : List Part) × (list.tokens ≡ tokens_of parts) }
+    ensures selected { (text : List ℕ) (list : EventList) → IsSelected text list → list.keeps_entries ≡ true → (parts : List Part) × (list.tokens ≡ tokens_of parts) }
 {}

@@ -1,6 +1,7 @@
 //! The parser of git-config files: from bytes to events.
 #![tactic(auto)]
 
+mod compact;
 pub mod error;
 pub mod event;
 pub mod event_ref;

@@ -5,9 +5,9 @@ ghost use Rattle.gitconf_text.specs.Document.{unmarked, IsText};
 ghost use Rattle.gitconf_parse.specs.Parsing.{IsReading, NoFault};
 ghost use Rattle.gitconf_parse.specs.declared.reading.ReadError.TheVariants.{Memory};
 
-use crate::event::Event;
+use crate::compact::EventVec;
+use gitconf_text::NoMemory;
 use part::parts;
-use std::alloc::AllocFailed;
 
 /// What was looked for where the text was refused.
 #[derive(Clone, Copy, Debug, PartialEq, Eq)]
@@ -30,14 +30,15 @@ pub enum ReadError {
     Fault(Fault),
 }
 
-impl<T: Drop> From<AllocFailed<T>> for ReadError {
+impl From<NoMemory> for ReadError {
     ghost from_gives = { λ _ e. e ≡ Memory };
 
-    fn from(_failed: AllocFailed<T>) -> ReadError {
+    fn from(_refused: NoMemory) -> ReadError {
         ReadError::Memory
     }
 }
 
+mod class;
 mod entry;
 mod header;
 mod part;
@@ -59,10 +60,10 @@ fn mark_len(input: &[u8]) -> usize
 
 /// Reads the text into `events`, which hold nothing before: they are its tokens where it has a document, and else the
 /// refusal tells where and why it has none. One pass.
-pub fn read(input: &[u8], events: &mut Vec<Event>) -> Result<(), ReadError>
+pub fn read(input: &[u8], events: &mut EventVec) -> Result<(), ReadError>
     requires fits { length input.now < 2 ^ 32 }
-    requires empty { events.old.items ≡ [] }
-    ensures found { IsReading input.now events.new.items result }
+    requires empty { events.old ≡ [] }
+    ensures found { IsReading input.now events.new result }
     // A text with a document is never refused.
     ensures only { (parts : List Part) → IsText input.now parts → NoFault result }
 {

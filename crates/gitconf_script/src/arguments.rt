@@ -97,6 +97,61 @@ pub fn names<'a>(words: &'a [Word<'_>]) -> Result<EntryNames<'a>, NotUnderstood>
     }
 }
 
+/// The names of a section: its name, and a subsection.
+#[derive(Clone, Copy)]
+pub struct SectionNames<'a> {
+    pub name: &'a str,
+    pub subsection: Option<&'a [u8]>,
+}
+
+/// SEC2.
+pub fn section_names<'a>(words: &'a [Word<'_>]) -> Result<SectionNames<'a>, NotUnderstood> {
+    match words {
+        [name, subsection] => Ok(SectionNames {
+            name: name.text()?,
+            subsection: subsection.optional()?,
+        }),
+        _ => Err(NotUnderstood),
+    }
+}
+
+/// SEC2 B: the names of a section, and what a filter answers.
+pub fn section_names_and_flag<'a>(
+    words: &'a [Word<'_>],
+) -> Result<(SectionNames<'a>, bool), NotUnderstood> {
+    match words {
+        [name, subsection, flag] => {
+            let names = SectionNames {
+                name: name.text()?,
+                subsection: subsection.optional()?,
+            };
+            Ok((names, flag.flag()?))
+        }
+        _ => Err(NotUnderstood),
+    }
+}
+
+/// BYTES: a name.
+pub fn text<'a>(words: &'a [Word<'_>]) -> Result<&'a str, NotUnderstood> {
+    one_word(words)?.text()
+}
+
+/// BYTES B: a name, and what a filter answers.
+pub fn text_and_flag<'a>(words: &'a [Word<'_>]) -> Result<(&'a str, bool), NotUnderstood> {
+    match words {
+        [text, flag] => Ok((text.text()?, flag.flag()?)),
+        _ => Err(NotUnderstood),
+    }
+}
+
+/// N BYTES: a place, and a name.
+pub fn number_and_text<'a>(words: &'a [Word<'_>]) -> Result<(usize, &'a str), NotUnderstood> {
+    match words {
+        [number, text] => Ok((number.number()?, text.text()?)),
+        _ => Err(NotUnderstood),
+    }
+}
+
 /// KEY3 BYTES: the names of an entry, and bytes.
 pub fn names_and_bytes<'a>(
     words: &'a [Word<'_>],

@@ -7,7 +7,10 @@ use crate::words::Word;
 pub enum Command {
     Text(TextCommand),
     Value(ValueCommand),
+    LookUp(LookUpCommand),
     View(ViewCommand),
+    Section(SectionCommand),
+    Part(PartCommand),
     Print(PrintCommand),
     Edit(EditCommand),
     State(StateCommand),
@@ -47,13 +50,32 @@ pub enum ValueCommand {
     Interpolate,
 }
 
+/// Commands that look values of a key up.
+#[derive(Clone, Copy)]
+pub enum LookUpCommand {
+    /// `string`
+    Text,
+    /// `stringkey`
+    TextOfKey,
+    /// `strings`
+    Texts,
+    /// `raw`
+    Raw,
+    /// `raws`
+    RawAll,
+    /// `path`
+    Path,
+    /// `bool`
+    Boolean,
+    /// `int`
+    Integer,
+    /// `ints`
+    Integers,
+}
+
 /// Commands that look at a file.
 #[derive(Clone, Copy)]
 pub enum ViewCommand {
-    /// `string`
-    Value,
-    /// `stringkey`
-    ValueOfKey,
     /// `dump`
     Dump,
     /// `printsec`
@@ -70,6 +92,48 @@ pub enum ViewCommand {
     Void,
     /// `newline`
     LineEnd,
+}
+
+/// Commands that look sections up, or compare files.
+#[derive(Clone, Copy)]
+pub enum SectionCommand {
+    /// `section`
+    Last,
+    /// `sectionkey`
+    LastOfKey,
+    /// `sectionif`
+    LastPassing,
+    /// `ids`
+    Numbers,
+    /// `byname`
+    ByName,
+    /// `bynameif`
+    ByNamePassing,
+    /// `equal`
+    Equal,
+    /// `display`
+    Display,
+}
+
+/// Commands that look at one section, by its place.
+#[derive(Clone, Copy)]
+pub enum PartCommand {
+    /// `headerof`
+    Header,
+    /// `valueof`
+    Value,
+    /// `implicitof`
+    Implicit,
+    /// `valuesof`
+    Values,
+    /// `namesof`
+    Names,
+    /// `hasname`
+    HasName,
+    /// `entriesof`
+    Entries,
+    /// `countof`
+    Count,
 }
 
 /// Commands that write a file.
@@ -130,8 +194,17 @@ fn named(word: &[u8]) -> Option<Command> {
     if let Some(command) = value_command(word) {
         return Some(Command::Value(command));
     }
+    if let Some(command) = look_up_command(word) {
+        return Some(Command::LookUp(command));
+    }
     if let Some(command) = view_command(word) {
         return Some(Command::View(command));
+    }
+    if let Some(command) = section_command(word) {
+        return Some(Command::Section(command));
+    }
+    if let Some(command) = part_command(word) {
+        return Some(Command::Part(command));
     }
     if let Some(command) = print_command(word) {
         return Some(Command::Print(command));
@@ -169,10 +242,23 @@ fn value_command(word: &[u8]) -> Option<ValueCommand> {
     }
 }
 
+fn look_up_command(word: &[u8]) -> Option<LookUpCommand> {
+    match word {
+        b"string" => Some(LookUpCommand::Text),
+        b"stringkey" => Some(LookUpCommand::TextOfKey),
+        b"strings" => Some(LookUpCommand::Texts),
+        b"raw" => Some(LookUpCommand::Raw),
+        b"raws" => Some(LookUpCommand::RawAll),
+        b"path" => Some(LookUpCommand::Path),
+        b"bool" => Some(LookUpCommand::Boolean),
+        b"int" => Some(LookUpCommand::Integer),
+        b"ints" => Some(LookUpCommand::Integers),
+        _ => None,
+    }
+}
+
 fn view_command(word: &[u8]) -> Option<ViewCommand> {
     match word {
-        b"string" => Some(ViewCommand::Value),
-        b"stringkey" => Some(ViewCommand::ValueOfKey),
         b"dump" => Some(ViewCommand::Dump),
         b"printsec" => Some(ViewCommand::PrintSection),
         b"front" => Some(ViewCommand::Front),
@@ -181,6 +267,34 @@ fn view_command(word: &[u8]) -> Option<ViewCommand> {
         b"count" => Some(ViewCommand::Count),
         b"void" => Some(ViewCommand::Void),
         b"newline" => Some(ViewCommand::LineEnd),
+        _ => None,
+    }
+}
+
+fn section_command(word: &[u8]) -> Option<SectionCommand> {
+    match word {
+        b"section" => Some(SectionCommand::Last),
+        b"sectionkey" => Some(SectionCommand::LastOfKey),
+        b"sectionif" => Some(SectionCommand::LastPassing),
+        b"ids" => Some(SectionCommand::Numbers),
+        b"byname" => Some(SectionCommand::ByName),
+        b"bynameif" => Some(SectionCommand::ByNamePassing),
+        b"equal" => Some(SectionCommand::Equal),
+        b"display" => Some(SectionCommand::Display),
+        _ => None,
+    }
+}
+
+fn part_command(word: &[u8]) -> Option<PartCommand> {
+    match word {
+        b"headerof" => Some(PartCommand::Header),
+        b"valueof" => Some(PartCommand::Value),
+        b"implicitof" => Some(PartCommand::Implicit),
+        b"valuesof" => Some(PartCommand::Values),
+        b"namesof" => Some(PartCommand::Names),
+        b"hasname" => Some(PartCommand::HasName),
+        b"entriesof" => Some(PartCommand::Entries),
+        b"countof" => Some(PartCommand::Count),
         _ => None,
     }
 }

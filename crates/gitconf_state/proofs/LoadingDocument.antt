@@ -4,9 +4,8 @@ use Rattle.gitconf_text.specs.Header.{name_of, subsection_of}
 use Rattle.gitconf_text.specs.Part.{Item, BlanksItem, LineEndsItem, CommentItem, EntryItem, Part, ItemPart, HeaderPart}
 use Rattle.gitconf_text.specs.Document.{DocumentEntry, DocumentSection, Document, with_item, with_part, gathered}
 use Rattle.gitconf_text.specs.Token.{tokens_of}
-use Rattle.gitconf_parse.specs.TokenDocument.{Told, nothing, told, keeps_meaning}
-use Rattle.gitconf_parse.proofs.OneDocument.{told_parts}
-use Rattle.gitconf_parse.proofs.TextLaws as tokens
+use Rattle.gitconf_parse.specs.TokenDocument.{SayDocument, keeps_meaning}
+use Rattle.gitconf_parse.proofs.Documents.{same_tokens, selected_say, lossy_say}
 use Rattle.gitconf_state.specs.State.{SectionState, State, entries_of, section_document, document_of}
 use Rattle.gitconf_state.specs.Loads.{state_tokens, IsLoad, IsFullLoad, IsPartLoad}
 use Rattle.gitconf_state.proofs.LoadingTokens.{own_section_parts, own_parts, own_tokens}
@@ -43,21 +42,17 @@ own_document state =
     ∙ ap (λ (entries : List DocumentEntry). record { front = entries; sections = map section_document state.sections }) (append-nil (entries_of state.front))
 
 -- the document that a state's tokens say
-tokens_document : (state : State) → document_of state ≡ (told (state_tokens state) nothing).document
-tokens_document state = sym (own_document state) ∙ sym (told_parts (own_parts state)) ∙ ap (λ t. (told t nothing).document) (own_tokens state)
+said_document : (state : State) (document : Document) → SayDocument (state_tokens state) document → document_of state ≡ document
+said_document state document say = sym (own_document state) ∙ same_tokens (own_parts state) say.parts (own_tokens state ∙ say.tokens_are) ∙ say.document_is
 
 -- A whole load says the text's document.
 pub full_document : (parts : List Part) (state : State) → IsFullLoad parts state → document_of state ≡ gathered parts
-full_document parts state load = tokens_document state ∙ ap (λ t. (told t nothing).document) load.tokens ∙ told_parts parts
+full_document parts state load = said_document state _ (record { parts = parts; tokens_are = load.tokens; document_is = refl })
 
 -- So does a load of some of its tokens, all that make entries among them.
 pub part_load_document : (parts : List Part) (state : State) → IsPartLoad parts state → document_of state ≡ gathered parts
-part_load_document parts state load = tokens_document state ∙ ap (λ (t : Told). t.document) (tokens.selected_document (tokens_of parts) (state_tokens state) load.tokens) ∙ told_parts parts
+part_load_document parts state load = said_document state _ (selected_say parts (state_tokens state) load.tokens)
 
 -- And so does a lossy load.
 pub lossy_document : (parts : List Part) (state : State) → IsLoad keeps_meaning parts state → document_of state ≡ gathered parts
-lossy_document parts state load =
-    tokens_document state
-    ∙ ap (λ t. (told t nothing).document) load.tokens
-    ∙ ap (λ (t : Told). t.document) (tokens.lossy_document (tokens_of parts))
-    ∙ told_parts parts
+lossy_document parts state load = said_document state _ (rw load.tokens (lossy_say parts))

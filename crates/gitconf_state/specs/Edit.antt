@@ -188,6 +188,34 @@ set_raw_value_tokens name subsection key keeps value state = elim (last_or None 
 abbrev pub token_bytes : List Token → ℕ
 token_bytes tokens = length (flat_map spelled_token tokens)
 
+-- How many bytes an edit puts behind those of the buffer: its tokens' without those that stand there already. The blanks of a body that has
+-- entries are used again; else a tab and a space are put, and the space stands on both sides of `=`.
+abbrev pub blank_bytes : List Item → ℕ
+blank_bytes items = elim (list_any is_entry items) [ true ↦ 0 | false ↦ 2 ]
+
+-- of a value that is set in a body
+abbrev pub set_bytes : (line_end key value : List ℕ) → List Item → ℕ
+set_bytes line_end key value items = elim (list_any (is_entry_of key) items) [
+  | true ↦ length (escaped value)
+  | false ↦ blank_bytes items + (length key + length (escaped value) + length line_end)
+]
+
+-- of a header that is made: its brackets and quotes stand in no buffer
+abbrev pub header_bytes : (name : List ℕ) → (subsection : Option (List ℕ)) → ℕ
+header_bytes name None = length name
+header_bytes name (Some subsection) = length name + (1 + length (escaped_subsection subsection))
+
+-- of a new section with the value
+abbrev pub new_section_bytes : (line_end name : List ℕ) → (subsection : Option (List ℕ)) → (key value : List ℕ) → ℕ
+new_section_bytes line_end name subsection key value = length line_end + (set_bytes line_end key value (LineEndsItem line_end ∷ []) + header_bytes name subsection)
+
+-- of a value that is set in a state
+abbrev pub set_raw_value_bytes : (name : List ℕ) → (subsection : Option (List ℕ)) → (key : List ℕ) → (keeps : Meta → Bool) → (value : List ℕ) → State → ℕ
+set_raw_value_bytes name subsection key keeps value state = elim (last_or None (filter (is_target name subsection keeps) state.sections)) [
+  | None ↦ new_section_bytes (file_line_end state) name subsection key value
+  | Some s ↦ set_bytes (file_line_end state) key value s.items
+]
+
 -- a state whose buffer has so many bytes
 abbrev pub with_used : (used : ℕ) → State → State
 with_used used state = record { front = state.front; meta = state.meta; next = state.next; used = used; sections = state.sections }

@@ -19,7 +19,7 @@ entries_push buffer before i =
     ap entries_of (map-append (item_of buffer) before (i ∷ [])) ∙ flat_map-append item_entries (items_of buffer before) (item_of buffer i ∷ [])
     ∙ ap (λ es. entries_of (items_of buffer before) ++ es) (append-nil (item_entries (item_of buffer i)))
 
-last_yes : {A : Type 0} (test : A → Bool) (o : Option A) (xs : List A) (x : A) → test x ≡ true → last_or o (filter test (xs ++ x ∷ [])) ≡ Some x
+pub last_yes : {A : Type 0} (test : A → Bool) (o : Option A) (xs : List A) (x : A) → test x ≡ true → last_or o (filter test (xs ++ x ∷ [])) ≡ Some x
 last_yes {A} test o [] x yes' = rw yes' refl
 last_yes {A} test o (y ∷ xs) x yes' = go (test y) refl (λ p. last_yes test p xs x yes')
   where
@@ -27,7 +27,7 @@ last_yes {A} test o (y ∷ xs) x yes' = go (test y) refl (λ p. last_yes test p 
     go true is later = rw is (later (Some y))
     go false is later = rw is (later o)
 
-last_no : {A : Type 0} (test : A → Bool) (o : Option A) (xs : List A) (x : A) → test x ≡ false → last_or o (filter test (xs ++ x ∷ [])) ≡ last_or o (filter test xs)
+pub last_no : {A : Type 0} (test : A → Bool) (o : Option A) (xs : List A) (x : A) → test x ≡ false → last_or o (filter test (xs ++ x ∷ [])) ≡ last_or o (filter test xs)
 last_no {A} test o [] x no' = rw no' refl
 last_no {A} test o (y ∷ xs) x no' = go (test y) refl (λ p. last_no test p xs x no')
   where

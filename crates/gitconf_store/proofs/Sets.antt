@@ -2,20 +2,19 @@
 use Rattle.std.proofs.Common.{◌≡◌, ◌⊎◌, ℕ, ◌+◌, ◌≤◌, ◌^◌, Bool, true, false, List, [], ◌∷◌, ◌++◌, length, Option, Some, None, Result, Ok, Err, inl, inr, refl, ap, sym, subst, ◌∙◌}
 use Rattle.std.specs.List.{list_any, last_or, slice_get}
 use Rattle.std.specs.Option.{option_map}
-use Rattle.std.specs.Prelude.{◌==◌, if◌then◌else◌, filter, IfErr, IfSome, IsErrOf, IsOk, ◌↔◌}
+use Rattle.std.specs.Prelude.{◌==◌, if◌then◌else◌, filter, IfErr, IfSome, IsErrAnd, IsErrOf, IsOk, ◌↔◌}
 use Rattle.std.proofs.lemmas.Bool.{eqb-true}
 use Rattle.bstr.specs.declared.bstring.BString.{BString}
 use Rattle.bstr.specs.Owned.{bstring_bytes}
 use Rattle.gitconf_text.specs.HeaderErrors.{header_number, of_span as header_of_span}
 use Rattle.gitconf_text.specs.Names.{is_made_name, is_valid_or_none, is_value_name}
-use Rattle.gitconf_text.specs.Token.{Token}
 use Rattle.gitconf_text.specs.declared.parse.section.header.Error.{Error as HeaderError}
 use Rattle.gitconf_text.specs.declared.parse.section.header.Error.TheVariants.{InvalidName, InvalidSubSection}
 use Rattle.gitconf_text.specs.declared.parse.section.header.Error.TheVariants as headers
 use Rattle.gitconf_base.specs.Metadata.{Meta}
 use Rattle.gitconf_table.specs.Sections.{no_number}
 use Rattle.gitconf_body.specs.Places.{IsLastAt}
-use Rattle.gitconf_state.specs.Edit.{is_target, old_value, new_section_tokens, section_with, set_raw_value, set_raw_value_tokens, set_tokens, token_bytes, with_used}
+use Rattle.gitconf_state.specs.Edit.{is_target, old_value, new_section_bytes, section_with, set_bytes, set_raw_value, set_raw_value_bytes, with_used}
 use Rattle.gitconf_state.specs.LineEnds.{file_line_end}
 use Rattle.gitconf_state.specs.State.{SectionState, State}
 use Rattle.gitconf_state.proofs.EditLists.{any_at, filter_none, last_passing}
@@ -85,24 +84,24 @@ no_header e h = go (e == 27)
     go true is = absurd (cc)
     go false is = absurd (cc)
 
--- the tokens of a section that is made
-tokens_new : (name : List ℕ) (subsection : Option (List ℕ)) (key : List ℕ) (keeps : Meta → Bool) (value : List ℕ) (state : State)
+-- the bytes of a section that is made
+bytes_new : (name : List ℕ) (subsection : Option (List ℕ)) (key : List ℕ) (keeps : Meta → Bool) (value : List ℕ) (state : State)
     → list_any (is_target name subsection keeps) state.sections ≡ false
-    → set_raw_value_tokens name subsection key keeps value state ≡ new_section_tokens (file_line_end state) name subsection key value
-tokens_new name subsection key keeps value state none = rw (filter_none (is_target name subsection keeps) state.sections none, set_raw_value_tokens) refl
+    → set_raw_value_bytes name subsection key keeps value state ≡ new_section_bytes (file_line_end state) name subsection key value
+bytes_new name subsection key keeps value state none = rw (filter_none (is_target name subsection keeps) state.sections none, set_raw_value_bytes) refl
 
 -- those in one that stands
-tokens_at : (name : List ℕ) (subsection : Option (List ℕ)) (key : List ℕ) (keeps : Meta → Bool) (value : List ℕ) (state : State) (at : ℕ)
+bytes_at : (name : List ℕ) (subsection : Option (List ℕ)) (key : List ℕ) (keeps : Meta → Bool) (value : List ℕ) (state : State) (at : ℕ)
     (l : IsLastAt (is_target name subsection keeps) state.sections at)
-    → set_raw_value_tokens name subsection key keeps value state ≡ set_tokens (file_line_end state) key value l.found.items
-tokens_at name subsection key keeps value state at l =
+    → set_raw_value_bytes name subsection key keeps value state ≡ set_bytes (file_line_end state) key value l.found.items
+bytes_at name subsection key keeps value state at l =
     found (last_or None (filter (is_target name subsection keeps) state.sections))
     (ap (λ ss. last_or None (filter (is_target name subsection keeps) ss)) l.is ∙ last_passing (is_target name subsection keeps) None l.before l.found l.behind l.passes l.none)
   where
-    found : (o : Option SectionState) → o ≡ Some l.found → elim o as (λ _. List Token) [
-      | None ↦ new_section_tokens (file_line_end state) name subsection key value
-      | Some s ↦ set_tokens (file_line_end state) key value s.items
-    ] ≡ set_tokens (file_line_end state) key value l.found.items
+    found : (o : Option SectionState) → o ≡ Some l.found → elim o as (λ _. ℕ) [
+      | None ↦ new_section_bytes (file_line_end state) name subsection key value
+      | Some s ↦ set_bytes (file_line_end state) key value s.items
+    ] ≡ set_bytes (file_line_end state) key value l.found.items
     found o is = rw is refl
 
 -- A section was made.
@@ -110,14 +109,19 @@ pub made_ok : (name : List ℕ) (subsection : Option (List ℕ)) (key : List ℕ
     → r ≡ Ok tt → list_any (is_target name subsection keeps) old.sections ≡ false
     → (IsErrOf r InvalidName ↔ (is_made_name name ≡ false)) → (IsErrOf r InvalidSubSection ↔ ((is_made_name name ≡ true) × (is_valid_or_none subsection ≡ false)))
     → new ≡ with_used new.used (set_new name subsection key value old)
-    → EditGrows r header_number (token_bytes (new_section_tokens (file_line_end old) name subsection key value)) old new
+    → EditGrows r header_number (new_section_bytes (file_line_end old) name subsection key value) old new
+    → (is_made_name name ≡ true → is_valid_or_none subsection ≡ true → 2 ^ 32 ≤ old.used + new_section_bytes (file_line_end old) name subsection key value → IsErrAnd r (λ e. header_number e ≡ 3))
     → IsSet name subsection key keeps value (Ok None) old new
-made_ok name subsection key keeps value old new r done none named valid made grows = record {
+made_ok name subsection key keeps value old new r done none named valid made grows refused = record {
+  refused = λ keyed either big. elim either [
+    | inl some ↦ absurd (let no = sym none ∙ some in cc)
+    | inr fine ↦ absurd (subst (λ r. IsErrAnd r (λ e. header_number e ≡ 3)) done (refused fine.0 fine.1 (subst (λ n. 2 ^ 32 ≤ old.used + n) (bytes_new name subsection key keeps value old none) big)))
+  ];
   invalid_name = (λ fault. absurd (cc), λ all. absurd (let h = sym done ∙ named.1 all.2 in cc));
   invalid_subsection = (λ fault. absurd (cc), λ all. absurd (let h = sym done ∙ valid.1 (all.2, all.3) in cc));
   ok = made ∙ ap (with_used new.used) (sym (set_raw_value_new name subsection key keeps value old none));
   answer = sym (replaced_value_none name subsection key keeps old none);
-  grown = subst (λ ts. new.used ≤ old.used + token_bytes ts) (sym (tokens_new name subsection key keeps value old none)) grows.grown;
+  grown = subst (λ n. new.used ≤ old.used + n) (sym (bytes_new name subsection key keeps value old none)) grows.grown;
   too_large = tt;
   known = tt;
 }
@@ -126,9 +130,14 @@ made_ok name subsection key keeps value old new r done none named valid made gro
 pub made_err : (name : List ℕ) (subsection : Option (List ℕ)) (key : List ℕ) (keeps : Meta → Bool) (value : List ℕ) (old new : State) (r : Result (Unit {0}) HeaderError) (e : HeaderError) (result : Result (Option BString) Error)
     → r ≡ Err e → result ≡ Err (of_header e) → is_value_name key ≡ true → list_any (is_target name subsection keeps) old.sections ≡ false
     → (IsErrOf r InvalidName ↔ (is_made_name name ≡ false)) → (IsErrOf r InvalidSubSection ↔ ((is_made_name name ≡ true) × (is_valid_or_none subsection ≡ false)))
-    → EditGrows r header_number (token_bytes (new_section_tokens (file_line_end old) name subsection key value)) old new → IfErr r (λ e. Known (header_number e))
+    → EditGrows r header_number (new_section_bytes (file_line_end old) name subsection key value) old new → IfErr r (λ e. Known (header_number e))
+    → (is_made_name name ≡ true → is_valid_or_none subsection ≡ true → 2 ^ 32 ≤ old.used + new_section_bytes (file_line_end old) name subsection key value → IsErrAnd r (λ e. header_number e ≡ 3))
     → IsSet name subsection key keeps value result old new
-made_err name subsection key keeps value old new r e result fault is keyed none named valid grows is_known = subst (λ t. IsSet name subsection key keeps value t old new) (sym is) (record {
+made_err name subsection key keeps value old new r e result fault is keyed none named valid grows is_known refused = subst (λ t. IsSet name subsection key keeps value t old new) (sym is) (record {
+  refused = λ keyed either big. elim either [
+    | inl some ↦ absurd (let no = sym none ∙ some in cc)
+    | inr fine ↦ number_of_header e ∙ subst (λ r. IsErrAnd r (λ e. header_number e ≡ 3)) fault (refused fine.0 fine.1 (subst (λ n. 2 ^ 32 ≤ old.used + n) (bytes_new name subsection key keeps value old none) big))
+  ];
   invalid_name = (
     λ same. (keyed, none, named.0 (fault ∙ (let h : of_header e ≡ Header InvalidName = cc in ap Err (only_name e h)))),
     λ all. ap (λ e. Err (of_header e)) (let h = sym fault ∙ named.1 all.2 in let g : e ≡ InvalidName = cc in g),
@@ -139,9 +148,9 @@ made_err name subsection key keeps value old new r e result fault is keyed none 
   );
   ok = tt;
   answer = tt;
-  grown = subst (λ ts. new.used ≤ old.used + token_bytes ts) (sym (tokens_new name subsection key keeps value old none)) grows.grown;
-  too_large = λ number. elim (subst (λ ts. header_number e ≡ 3 → (2 ^ 32 ≤ old.used + token_bytes ts) ⊎ (old.next ≡ no_number)) (sym (tokens_new name subsection key keeps value old none))
-      (subst (λ r. IfErr r (λ e. header_number e ≡ 3 → (2 ^ 32 ≤ old.used + token_bytes (new_section_tokens (file_line_end old) name subsection key value)) ⊎ (old.next ≡ no_number))) fault grows.too_large)
+  grown = subst (λ n. new.used ≤ old.used + n) (sym (bytes_new name subsection key keeps value old none)) grows.grown;
+  too_large = λ number. elim (subst (λ n. header_number e ≡ 3 → (2 ^ 32 ≤ old.used + n) ⊎ (old.next ≡ no_number)) (sym (bytes_new name subsection key keeps value old none))
+      (subst (λ r. IfErr r (λ e. header_number e ≡ 3 → (2 ^ 32 ≤ old.used + new_section_bytes (file_line_end old) name subsection key value) ⊎ (old.next ≡ no_number))) fault grows.too_large)
       (sym (number_of_header e) ∙ number)) [ inl passes ↦ inl passes | inr used_up ↦ inr (none, used_up) ];
   known = subst Known (sym (number_of_header e)) (subst (λ r. IfErr r (λ e. Known (header_number e))) fault is_known);
 })
@@ -174,19 +183,20 @@ set_last name subsection key keeps value state at l =
 
 grown_at : {T : Type 0} (name : List ℕ) (subsection : Option (List ℕ)) (key : List ℕ) (keeps : Meta → Bool) (value : List ℕ) (old new : State) (at : ℕ) (r : Result T ℕ)
     (l : IsLastAt (is_target name subsection keeps) old.sections at)
-    → IfSome (slice_get old.sections at) (λ s. UsedGrows r (token_bytes (set_tokens (file_line_end old) key value s.items)) old.used new.used)
-    → UsedGrows r (token_bytes (set_raw_value_tokens name subsection key keeps value old)) old.used new.used
+    → IfSome (slice_get old.sections at) (λ s. UsedGrows r (set_bytes (file_line_end old) key value s.items) old.used new.used)
+    → UsedGrows r (set_raw_value_bytes name subsection key keeps value old) old.used new.used
 grown_at name subsection key keeps value old new at r l used =
-    subst (λ ts. UsedGrows r (token_bytes ts) old.used new.used) (sym (tokens_at name subsection key keeps value old at l))
-    (subst (λ o. IfSome o (λ s. UsedGrows r (token_bytes (set_tokens (file_line_end old) key value s.items)) old.used new.used)) (at_last name subsection keeps old at l) used)
+    subst (λ n. UsedGrows r n old.used new.used) (sym (bytes_at name subsection key keeps value old at l))
+    (subst (λ o. IfSome o (λ s. UsedGrows r (set_bytes (file_line_end old) key value s.items) old.used new.used)) (at_last name subsection keeps old at l) used)
 
 -- A section stood.
 pub found_ok : {T : Type 0} (name : List ℕ) (subsection : Option (List ℕ)) (key : List ℕ) (keeps : Meta → Bool) (value : List ℕ) (old new : State) (at : ℕ) (t : T) (o : Option BString) (bytes : Option (List ℕ))
     → IsLastAt (is_target name subsection keeps) old.sections at → new ≡ with_used new.used (set_at at key value old)
     → IfSome (slice_get old.sections at) (λ s. bytes ≡ old_value key s.items) → option_map bstring_bytes o ≡ bytes
-    → IfSome (slice_get old.sections at) (λ s. UsedGrows {T = T} (Ok t) (token_bytes (set_tokens (file_line_end old) key value s.items)) old.used new.used)
+    → IfSome (slice_get old.sections at) (λ s. UsedGrows {T = T} (Ok t) (set_bytes (file_line_end old) key value s.items) old.used new.used)
     → IsSet name subsection key keeps value (Ok o) old new
 found_ok {T} name subsection key keeps value old new at t o bytes l set was same used = record {
+  refused = λ keyed either big. absurd (let no = (grown_at name subsection key keeps value old new at (Ok t) l used).refused big in cc);
   invalid_name = (λ fault. absurd (cc), λ all. absurd (stands all.1));
   invalid_subsection = (λ fault. absurd (cc), λ all. absurd (stands all.1));
   ok = set ∙ ap (with_used new.used) (set_last name subsection key keeps value old at l);
@@ -203,9 +213,10 @@ found_ok {T} name subsection key keeps value old new at t o bytes l set was same
 -- It stays as it was.
 pub found_err : {T : Type 0} (name : List ℕ) (subsection : Option (List ℕ)) (key : List ℕ) (keeps : Meta → Bool) (value : List ℕ) (old new : State) (at : ℕ) (r : Result T ℕ) (e : ℕ) (result : Result (Option BString) Error)
     → IsLastAt (is_target name subsection keeps) old.sections at → r ≡ Err e → result ≡ Err (of_span e)
-    → IfSome (slice_get old.sections at) (λ s. UsedGrows {T = T} r (token_bytes (set_tokens (file_line_end old) key value s.items)) old.used new.used)
+    → IfSome (slice_get old.sections at) (λ s. UsedGrows {T = T} r (set_bytes (file_line_end old) key value s.items) old.used new.used)
     → IsSet name subsection key keeps value result old new
 found_err {T} name subsection key keeps value old new at r e result l fault is used = subst (λ t. IsSet name subsection key keeps value t old new) (sym is) (record {
+  refused = λ keyed either big. number_of_span e ∙ (let three = sym fault ∙ (grown_at name subsection key keeps value old new at r l used).refused big in cc);
   invalid_name = (λ same. absurd (no_header e InvalidName (cc)), λ all. absurd (stands all.1));
   invalid_subsection = (λ same. absurd (no_header e InvalidSubSection (cc)), λ all. absurd (stands all.1));
   ok = tt;

@@ -13,7 +13,7 @@ use Rattle.gitconf_state.proofs.Written.{items_written}
 use Rattle.gitconf_write.specs.Texts.{items_text}
 use Rattle.gitconf_write.proofs.Left.{IsLeft, left_all, left_first, left_fault}
 use Rattle.gitconf_write.proofs.Printed.{spelled-items, printed_section-is, held_items-text, ends_with_line-both}
-use Rattle.gitconf_store.specs.Texts.{line_end_unless, whole_text, sections_text, next_text, ended_behind, is_front_ended}
+use Rattle.gitconf_store.specs.Texts.{front_text, line_end_unless, whole_text, sections_text, next_text, ended_behind, is_front_ended}
 
 spelled-append : (ps qs : List Part) → spelled (ps ++ qs) ≡ spelled ps ++ spelled qs
 spelled-append ps qs = flat_map-append spelled_part ps qs
@@ -79,10 +79,6 @@ pub kept_fault : {T E : Type 0} (r : Result T E) (keeps : SectionState → Bool)
 kept_fault r keeps line_end ended s old mid new fault kept written begun =
     rw kept (Writes-fault r (line_end_unless ended line_end ++ whole_text line_end s) old new fault
     (begun_behind (line_end_unless ended line_end) (whole_text line_end s) old new (subst (λ m. is_begun (whole_text line_end s) m new ≡ true) written begun)))
-
--- the front, as it is printed
-abbrev pub front_text : State → List ℕ
-front_text state = flat_map spelled_item (printed_items false (file_line_end state) [] state.front)
 
 -- the front is printed as it is written
 pub front_written : (state : State) → items_text false (file_line_end state) Closed state.front ≡ front_text state

@@ -1,5 +1,5 @@
 -- What edits of a store change, by a section's place.
-use Rattle.std.specs.Prelude.{◌≡◌, ◌⊎◌, ◌↔◌, ◌==◌, ℕ, zero, suc, ◌+◌, ◌≤◌, ◌^◌, Bool, true, false, List, [], ◌∷◌, ◌++◌, Option, Result, IsErrOf, IsErrAnd, IfErr, IfOk, OnOk}
+use Rattle.std.specs.Prelude.{◌≡◌, ◌⊎◌, ◌↔◌, ◌==◌, ℕ, zero, suc, ◌+◌, ◌≤◌, ◌^◌, Bool, true, false, List, [], ◌∷◌, ◌++◌, Option, Some, Result, slice_get, IsErrOf, IsErrAnd, IfErr, IfOk, OnOk}
 use Rattle.std.specs.List.{list_any}
 use Rattle.std.specs.Option.{option_map}
 use Rattle.bstr.specs.declared.bstring.BString.{BString}
@@ -7,9 +7,10 @@ use Rattle.bstr.specs.Owned.{bstring_bytes}
 use Rattle.gitconf_text.specs.Names.{is_made_name, is_valid_or_none, is_value_name}
 use Rattle.gitconf_base.specs.Metadata.{Meta}
 use Rattle.gitconf_table.specs.Sections.{no_number}
-use Rattle.gitconf_state.specs.Edit.{is_target, new_section, replaced_value, section_with, with_used}
-use Rattle.gitconf_state.specs.Edits.{SetRawValue, apply, new_bytes}
+use Rattle.gitconf_state.specs.Edit.{is_target, new_section, replaced_value, section_with, set_raw_value_bytes, with_used}
+use Rattle.gitconf_state.specs.Edits.{SetRawValue, apply}
 use Rattle.gitconf_state.specs.LineEnds.{file_line_end}
+use Rattle.gitconf_state.specs.Lookup.{is_named, listing}
 use Rattle.gitconf_state.specs.State.{State}
 use Rattle.gitconf_text.specs.declared.parse.section.header.Error.TheVariants.{InvalidName, InvalidSubSection}
 use Rattle.gitconf_store.specs.declared.set_raw_value.Error.{Error}
@@ -32,10 +33,11 @@ set_at at key value state = record {
   sections = update_at at (section_with (file_line_end state) key value) state.sections;
 }
 
--- At most so many bytes more are used. A refusal is that they are too many, only where they would pass the limit, or want of memory.
+-- At most so many bytes more are used. A refusal is that they are too many, exactly where they would pass the limit, or want of memory.
 pub record UsedGrows {T : Type 0} (result : Result T ℕ) (count old new : ℕ) : Type 0 where
   pub grown : new ≤ old + count
   pub too_large : IsErrOf result 3 → 2 ^ 32 ≤ old + count
+  pub refused : 2 ^ 32 ≤ old + count → IsErrOf result 3
   pub known : IfErr result (λ e. (e ≡ 3) ⊎ (e ≡ 27))
 
 -- the state with a section more that has the value
@@ -62,7 +64,7 @@ abbrev pub set_numbers : List ℕ
 set_numbers = 3 ∷ 4 ∷ 5 ∷ 6 ∷ 27 ∷ []
 
 -- How a value is set: as the edit says, with the raw text that it replaced. Refusals 4 and 5 are of a section that has to be made. Refusal 3
--- comes only where the new bytes would pass the limit, or where a section has to be made and no number is left.
+-- comes where the bytes that are put would pass the limit, and else only where a section has to be made and no number is left.
 pub record IsSet (name : List ℕ) (subsection : Option (List ℕ)) (key : List ℕ) (keeps : Meta → Bool) (value : List ℕ) (result : Result (Option BString) Error) (old new : State) : Type 0 where
   pub invalid_name : IsErrOf result (Header InvalidName)
       ↔ ((is_value_name key ≡ true) × (list_any (is_target name subsection keeps) old.sections ≡ false) × (is_made_name name ≡ false))
@@ -70,7 +72,15 @@ pub record IsSet (name : List ℕ) (subsection : Option (List ℕ)) (key : List 
       ↔ ((is_value_name key ≡ true) × (list_any (is_target name subsection keeps) old.sections ≡ false) × (is_made_name name ≡ true) × (is_valid_or_none subsection ≡ false))
   pub ok : OnOk result (new ≡ with_used new.used (apply (SetRawValue name subsection key keeps value) old))
   pub answer : IfOk result (λ o. option_map bstring_bytes o ≡ replaced_value name subsection key keeps old)
-  pub grown : new.used ≤ old.used + new_bytes (SetRawValue name subsection key keeps value) old
-  pub too_large : IfErr result (λ e. set_number e ≡ 3 → (2 ^ 32 ≤ old.used + new_bytes (SetRawValue name subsection key keeps value) old)
+  pub grown : new.used ≤ old.used + set_raw_value_bytes name subsection key keeps value old
+  pub too_large : IfErr result (λ e. set_number e ≡ 3 → (2 ^ 32 ≤ old.used + set_raw_value_bytes name subsection key keeps value old)
       ⊎ ((list_any (is_target name subsection keeps) old.sections ≡ false) × (old.next ≡ no_number)))
+  pub refused : is_value_name key ≡ true → (list_any (is_target name subsection keeps) old.sections ≡ true) ⊎ ((is_made_name name ≡ true) × (is_valid_or_none subsection ≡ true))
+      → 2 ^ 32 ≤ old.used + set_raw_value_bytes name subsection key keeps value old → IsRefusal result 3
   pub known : IfErr result (λ e. list_any (λ number. number == set_number e) set_numbers ≡ true)
+
+-- Whatever a filter answers: the value is set in a section that has the name and subsection, or in a new one behind all others.
+abbrev pub IsSetSomewhere : (name : List ℕ) → (subsection : Option (List ℕ)) → (key value : List ℕ) → (old new : State) → Type 0
+IsSetSomewhere name subsection key value old new =
+    ((at : ℕ) × (option_map (λ s. is_named name subsection (listing s)) (slice_get old.sections at) ≡ Some true) × (new ≡ with_used new.used (set_at at key value old)))
+    ⊎ (new ≡ with_used new.used (set_new name subsection key value old))

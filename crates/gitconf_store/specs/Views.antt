@@ -1,10 +1,19 @@
 -- What the views of a store show.
-use Rattle.std.specs.Prelude.{ℕ, List, map}
+use Rattle.std.specs.Prelude.{ℕ, Bool, true, false, List, map}
+use Rattle.gitconf_text.specs.Document.{DocumentEntry}
+use Rattle.gitconf_text.specs.Header.{Header, PlainHeader, DottedHeader, QuotedHeader}
+use Rattle.gitconf_text.specs.Part as parts
+use Rattle.gitconf_parse.specs.Events.{header_of}
 use Rattle.gitconf_table.specs.SectionIters as table
-use Rattle.gitconf_state.specs.State.{SectionState}
+use Rattle.gitconf_state.specs.State.{SectionState, entries_of}
+use Rattle.gitconf_write.specs.Bodies.{items_of}
 use Rattle.gitconf_store.specs.declared.section.Section.{Section}
 use Rattle.gitconf_store.specs.declared.section.SectionRef.{SectionRef}
 use Rattle.gitconf_store.specs.declared.section.Sections.{Sections}
+use Rattle.gitconf_store.specs.declared.views.HeaderRef.{HeaderRef}
+use Rattle.gitconf_store.specs.declared.views.BodyRef.{BodyRef}
+use Rattle.gitconf_store.specs.declared.views.BodyRefIter.{BodyRefIter}
+use Rattle.gitconf_store.specs.declared.views.ValueNames.{ValueNames}
 use Rattle.gitconf_store.specs.Store.{section_under}
 
 -- the section that is viewed
@@ -14,3 +23,25 @@ shown r = section_under r.buffer.now r.id r.section.now
 -- the sections that are left
 abbrev pub sections_left : Sections → List SectionState
 sections_left it = map (λ (p : ℕ × Section). section_under it.buffer.now p.0 p.1) (table.sections_left it.sections)
+
+-- the header that is viewed
+abbrev pub shown_header : HeaderRef → Header
+shown_header r = header_of r.buffer.now r.section.now.header
+
+-- whether a header has its subsection behind a dot
+abbrev pub is_dotted : Header → Bool
+is_dotted (PlainHeader name) = false
+is_dotted (DottedHeader name subsection) = true
+is_dotted (QuotedHeader name blanks spelling) = false
+
+-- the items of the body that is viewed
+abbrev pub shown_body : BodyRef → List parts.Item
+shown_body r = items_of r.buffer.now r.section.now.items.items
+
+-- the entries that are left
+abbrev pub entries_left : BodyRefIter → List DocumentEntry
+entries_left it = entries_of (items_of it.buffer.now it.items.now)
+
+-- the names that are left, as they are spelled
+abbrev pub names_left : ValueNames → List (List ℕ)
+names_left it = map (λ e. e.name) (entries_of (items_of it.buffer.now it.items.now))

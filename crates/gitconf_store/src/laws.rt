@@ -1,9 +1,13 @@
-//! What holds of buffers and spans, for all of them: each law is a function that does nothing.
-ghost use Rattle.std.specs.Prelude.{◌≡◌, ℕ, List, ◌++◌, length};
+//! What holds of buffers, spans and edits, for all of them: each law is a function that does nothing.
+ghost use Rattle.std.specs.Prelude.{◌≡◌, ◌≤◌, ℕ, Bool, List, ◌++◌, Option, length};
+ghost use Rattle.gitconf_base.specs.Metadata.{Meta};
 ghost use Rattle.gitconf_parse.specs.declared.event.Header.{Header};
 ghost use Rattle.gitconf_parse.specs.declared.items.Item.{Item};
 ghost use Rattle.gitconf_parse.specs.Events.{header_of, HeaderFits};
 ghost use Rattle.gitconf_parse.specs.ItemsFit.{AreItemsWithin};
+ghost use Rattle.gitconf_state.specs.Edit.{set_raw_value_bytes};
+ghost use Rattle.gitconf_state.specs.Edits.{SetRawValue, new_bytes};
+ghost use Rattle.gitconf_state.specs.State.{State};
 ghost use Rattle.gitconf_write.specs.Bodies.{items_of};
 
 /// Bytes that are appended to a buffer change nothing of what spans within it stand for, and these stand within the longer one.
@@ -11,4 +15,10 @@ pub fn appending_leaves_every_view()
     ensures items { (buffer more : List ℕ) (items : List Item) → AreItemsWithin (length buffer) items → items_of (buffer ++ more) items ≡ items_of buffer items }
     ensures headers { (buffer more : List ℕ) (h : Header) → HeaderFits (length buffer) h → header_of (buffer ++ more) h ≡ header_of buffer h }
     ensures within { (buffer more : List ℕ) (items : List Item) → AreItemsWithin (length buffer) items → AreItemsWithin (length (buffer ++ more)) items }
+{}
+
+/// What an edit puts into the buffer is no longer than the tokens that it makes.
+pub fn edits_put_no_more_than_their_tokens()
+    ensures { (name : List ℕ) (subsection : Option (List ℕ)) (key : List ℕ) (keeps : Meta → Bool) (value : List ℕ) (state : State)
+        → set_raw_value_bytes name subsection key keeps value state ≤ new_bytes (SetRawValue name subsection key keeps value) state }
 {}

@@ -1,14 +1,19 @@
 //! The state of a git-config file behind one buffer with spans: how it is made, looked at and printed.
 #![tactic(auto)]
 
+pub mod detached;
 mod edit;
+mod equality;
 pub mod events;
 pub mod laws;
+pub mod lists;
 mod load;
-mod lookup;
+pub mod lookup;
 mod print;
 pub mod section;
 pub mod set_raw_value;
 pub mod store;
 mod tokens;
 mod values;
+pub mod views;
+pub mod walks;

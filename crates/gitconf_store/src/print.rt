@@ -1,12 +1,12 @@
 //! Printing a file: its front and its sections, all or those that a filter keeps.
 ghost use Rattle.std.specs.Fn.{ComputesKey};
 ghost use Rattle.std.specs.List.{list_any};
-ghost use Rattle.std.specs.Prelude.{◌≡◌, Bool, true, IfOk};
+ghost use Rattle.std.specs.Prelude.{◌≡◌, ℕ, Bool, List, true, IfOk};
 ghost use Rattle.gitconf_parse.specs.Sink.{Writes, Counts};
 ghost use Rattle.gitconf_state.specs.State.{SectionState};
 ghost use Rattle.gitconf_write.specs.Bodies.{items_of};
 ghost use Rattle.gitconf_write.specs.LineEnds.{bytes_of_line_end};
-ghost use Rattle.gitconf_store.specs.Texts.{is_front_ended, next_text, ended_behind, sections_text};
+ghost use Rattle.gitconf_store.specs.Texts.{is_front_ended, next_text, ended_behind, sections_text, IsTextOfSome};
 ghost use Rattle.gitconf_store.specs.Views.{shown, sections_left};
 
 use crate::section::{SectionRef, Sections};
@@ -31,6 +31,7 @@ fn is_any_kept<F: FnMut(&SectionRef<'_>) -> bool>(filter: &mut F, sections: Sect
     ensures callable { F.IsAlwaysCallable filter.new }
     ensures exact { (keeps : SectionState → Bool) → ComputesKey F.FnMut (λ r. keeps (shown r)) filter.old
         → ComputesKey F.FnMut (λ r. keeps (shown r)) filter.new × (result ≡ list_any keeps (sections_left sections.entry)) }
+    ensures some { result ≡ true → list_any (λ _. true) (sections_left sections.entry) ≡ true }
 {
     for section in sections {
         if is_kept(filter, &section) {
@@ -53,6 +54,7 @@ pub(crate) fn front_is_ended<F: FnMut(&SectionRef<'_>) -> bool>(
     ensures exact { (keeps : SectionState → Bool) → ComputesKey F.FnMut (λ r. keeps (shown r)) filter.old
         → ComputesKey F.FnMut (λ r. keeps (shown r)) filter.new
         × (result ≡ is_front_ended keeps (bytes_of_line_end line_end) (items_of buffer.now front.now) (sections_left sections.entry)) }
+    ensures some { is_front_ended (λ _. true) (bytes_of_line_end line_end) (items_of buffer.now front.now) (sections_left sections.entry) ≡ true → result ≡ true }
 {
     front.is_empty() || ends_line(buffer, front, line_end) || !is_any_kept(filter, sections)
 }
@@ -72,6 +74,8 @@ fn write_next<W: Sink, F: FnMut(&SectionRef<'_>) -> bool>(
         → ComputesKey F.FnMut (λ r. keeps (shown r)) filter.new
         × Writes result (next_text keeps (bytes_of_line_end line_end) ended (shown section.now)) (W.told out.old) (W.told out.new)
         × IfOk result (λ e. e ≡ ended_behind keeps (bytes_of_line_end line_end) ended (shown section.now)) }
+    ensures some { (kept : Bool) × Writes result (next_text (λ _. kept) (bytes_of_line_end line_end) ended (shown section.now)) (W.told out.old) (W.told out.new)
+        × IfOk result (λ e. e ≡ ended_behind (λ _. kept) (bytes_of_line_end line_end) ended (shown section.now)) }
     ensures counted { Counts result (W.faults out.old) (W.faults out.new) }
 {
     write_line_end_unless(out, ended, line_end)?;
@@ -92,6 +96,7 @@ pub(crate) fn write_sections<W: Sink, F: FnMut(&SectionRef<'_>) -> bool>(
     requires { F.IsAlwaysCallable filter.old }
     ensures exact { (keeps : SectionState → Bool) → ComputesKey F.FnMut (λ r. keeps (shown r)) filter.old
         → Writes result (sections_text keeps (bytes_of_line_end line_end) true (sections_left sections.entry)) (W.told out.old) (W.told out.new) }
+    ensures some { (text : List ℕ) × IsTextOfSome (bytes_of_line_end line_end) true (sections_left sections.entry) text × Writes result text (W.told out.old) (W.told out.new) }
     ensures counted { Counts result (W.faults out.old) (W.faults out.new) }
 {
     let mut ended = true;

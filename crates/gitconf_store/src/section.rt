@@ -1,5 +1,7 @@
 //! Sections as a store keeps them, and views of them.
 ghost use Rattle.std.specs.Prelude.{◌≡◌, IfOk};
+ghost use Rattle.gitconf_table.specs.SectionIters as table;
+ghost use Rattle.gitconf_store.specs.Viewed.{AreViewed, AreViewed-prop, IsViewed, IsViewed-prop};
 
 use crate::events::ItemEvents;
 use bstr::BString;
@@ -38,8 +40,11 @@ pub(crate) fn shared(meta: &Rc<Metadata>) -> Result<Rc<Metadata>, NoMemory>
 #[derive(Clone, Copy)]
 pub struct SectionRef<'a> {
     pub(crate) buffer: &'a [u8],
+    /// The decoded subsections of the headers that need one.
+    pub(crate) copies: &'a [u8],
     pub(crate) id: SectionId,
     pub(crate) section: &'a Section,
+    ghost viewed: { IsViewed buffer.now copies.now section.now } by { IsViewed-prop buffer.now copies.now section.now },
 }
 
 impl<'a> SectionRef<'a> {
@@ -50,7 +55,7 @@ impl<'a> SectionRef<'a> {
     ghost use Rattle.gitconf_parse.specs.Sink.{Writes, Counts};
     ghost use Rattle.gitconf_state.specs.Clean.{IsCleanSection};
     ghost use Rattle.gitconf_state.specs.Printing.{printed_section, ends_with_line};
-    ghost use Rattle.gitconf_state.specs.State.{HasSectionItems, SectionState, section_document};
+    ghost use Rattle.gitconf_state.specs.State.{SectionState, section_document};
     ghost use Rattle.gitconf_write.specs.Bodies.{tokens_in};
     ghost use Rattle.gitconf_write.specs.LineEnds.{bytes_of_line_end};
     ghost use Rattle.gitconf_store.specs.ItemEvents.{events_left};
@@ -107,8 +112,8 @@ impl<'a> SectionRef<'a> {
     #[tactic(auto, using(crate::proofs::ReadBack::section_text_reads))]
     pub fn to_bstring(&self) -> Result<BString, NoMemory>
         ensures text { IfOk result (λ text. bstring_bytes text ≡ printed_section (shown self.now)) }
-        // What is held behind it has no part in it. The items are as every file has them: `Store::sections` (`state`).
-        ensures reads { let alone : SectionState = record (shown self.now) { held = [] } in HasSectionItems alone → IsCleanSection alone
+        // What is held behind it has no part in it.
+        ensures reads { let alone : SectionState = record (shown self.now) { held = [] } in IsCleanSection alone
             → IfOk result (λ text. Reads (bstring_bytes text) (record { front = []; sections = section_document (shown self.now) ∷ [] })) }
     {
         let mut text = Vec::new(*self.section.items.allocator());
@@ -147,7 +152,9 @@ impl<'a> SectionRef<'a> {
 #[derive(Drop)]
 pub struct Sections<'a> {
     pub(crate) buffer: &'a [u8],
+    pub(crate) copies: &'a [u8],
     pub(crate) sections: SectionIter<'a, Section>,
+    ghost viewed: { AreViewed buffer.now copies.now (table.sections_left sections) } by { AreViewed-prop buffer.now copies.now (table.sections_left sections) },
 }
 
 impl<'a> Iterator for Sections<'a> {
@@ -164,6 +171,7 @@ impl<'a> Iterator for Sections<'a> {
         match self.sections.next() {
             Some((id, section)) => Some(SectionRef {
                 buffer: self.buffer,
+                copies: self.copies,
                 id,
                 section,
             }),

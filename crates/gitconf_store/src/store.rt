@@ -1,8 +1,10 @@
 //! The state of a file behind one buffer.
+mod look_ups;
+mod views;
+
 use crate::edit::last_place;
 use crate::events::ItemEvents;
 use crate::load::load_sections;
-use crate::lookup::last_meaning;
 use crate::print::{front_is_ended, write_sections};
 use crate::section::{Section, SectionRef, Sections, shared};
 use crate::{set_raw_value, tokens};
@@ -52,7 +54,7 @@ impl Store {
     ghost use Rattle.std.specs.Fn.{ComputesKey};
     ghost use Rattle.std.specs.List.{list_any};
     ghost use Rattle.std.specs.Option.{option_copied};
-    ghost use Rattle.std.specs.Prelude.{◌≡◌, ◌==◌, ◌<◌, ◌^◌, ◌↔◌, [], length, false, IfOk, IsErrOf, IfSome, OnOk, OnErr, option_map, slice_get, true, List, filter, IfErr, map, Bool, ℕ};
+    ghost use Rattle.std.specs.Prelude.{◌≡◌, ◌==◌, ◌+◌, ◌≤◌, ◌<◌, ◌^◌, ◌↔◌, [], length, false, IfOk, IsErrAnd, IsErrOf, IfSome, OnOk, OnErr, option_map, slice_get, true, List, filter, IfErr, map, Bool, ℕ};
     ghost use Rattle.bstr.specs.Owned.{bstring_bytes};
     ghost use Rattle.gitconf_text.specs.Document.{IsText, Reads, unmarked};
     ghost use Rattle.gitconf_text.specs.HeaderErrors.{header_number};
@@ -69,21 +71,21 @@ impl Store {
     ghost use Rattle.gitconf_body.specs.Places.{IsLastPlace};
     ghost use Rattle.gitconf_state.specs.Clean.{IsClean};
     ghost use Rattle.gitconf_state.specs.Comments.{comments, comments_of, comments_of_kept};
-    ghost use Rattle.gitconf_state.specs.Edit.{is_target, old_value, new_section_tokens, set_tokens, token_bytes, with_used};
+    ghost use Rattle.gitconf_state.specs.Edit.{is_target, new_section_bytes, old_value, set_bytes, with_used};
     ghost use Rattle.gitconf_state.specs.Inserted.{Inserted, IsByteForByte};
     ghost use Rattle.gitconf_state.specs.LineEnds.{file_line_end};
-    ghost use Rattle.gitconf_state.specs.Lookup.{last_value, listed};
+    ghost use Rattle.gitconf_state.specs.Lookup.{is_named, listing};
     ghost use Rattle.gitconf_state.specs.Printing.{printed, printed_kept};
     ghost use Rattle.gitconf_state.specs.State.{HasItems, IsState, State, document_of, document_of_kept, entries_of, SectionState};
     ghost use Rattle.gitconf_write.specs.Bodies.{tokens_in};
     ghost use Rattle.gitconf_write.specs.LineEnds.{bytes_of_line_end};
     ghost use Rattle.gitconf_store.specs.Counts.{are_void, section_entries};
     ghost use Rattle.gitconf_store.specs.Edits as edits;
-    ghost use Rattle.gitconf_store.specs.Edits.{EditGrows, IsRefusal, IsSet, UsedGrows, set_numbers};
+    ghost use Rattle.gitconf_store.specs.Edits.{EditGrows, IsRefusal, IsSet, IsSetSomewhere, UsedGrows, set_numbers};
     ghost use Rattle.gitconf_store.specs.ItemEvents.{events_left};
-    ghost use Rattle.gitconf_store.specs.Lookups.{IsFound};
     ghost use Rattle.gitconf_store.specs.Made.{IsMade};
     ghost use Rattle.gitconf_store.specs.Store.{loaded};
+    ghost use Rattle.gitconf_store.specs.Texts.{IsTextOfSomeSections};
     ghost use Rattle.gitconf_store.specs.Views.{sections_left, shown};
 
     /// A file without front and sections. Takes no memory.
@@ -291,6 +293,8 @@ impl Store {
         ensures reads { (keeps : SectionState → Bool) → IsClean self.now → Reads (printed_kept keeps self.now) (document_of_kept keeps self.now) }
         ensures comments { (keeps : SectionState → Bool) → IsClean self.now
             → (parts : List Part) → IsText (printed_kept keeps self.now) parts → comments_of parts ≡ comments_of_kept keeps self.now }
+        // For every filter, also one that changes its mind.
+        ensures some { (text : List ℕ) × IsTextOfSomeSections self.now text × Writes result text (W.told out.old) (W.told out.new) }
         ensures counted { Counts result (W.faults out.old) (W.faults out.new) }
     {
         let mut filter = filter;
@@ -342,49 +346,6 @@ impl Store {
         }
     }
 
-    /// The meaning of the last value of a key, or `None` where there is none: that of the last section that has the name,
-    /// without ASCII case, and exactly the subsection, whose metadata passes the filter, and whose last entry of the
-    /// key has a value. No entry of the front is found.
-    ///
-    /// It walks over the sections from the last one on, up to that one. A miss takes no memory.
-    ///
-    /// # Errors
-    ///
-    /// Want of memory for the answer.
-    pub fn string_filter_by<F: FnMut(&Metadata) -> bool>(
-        &self,
-        section_name: &str,
-        subsection_name: Option<&[u8]>,
-        value_name: &str,
-        filter: F,
-    ) -> Result<Option<BString>, NoMemory>
-        requires { F.IsAlwaysCallable filter }
-        // For a filter that answers by what it is shown.
-        ensures { (keeps : Meta → Bool) → ComputesKey F.FnMut keeps filter
-            → IsFound bstring_bytes result (last_value section_name.now (option_copied subsection_name.entry) value_name.now keeps (listed self.now)) }
-    {
-        let sections = self.sections.named(section_name, subsection_name);
-        let alloc = *self.buffer.allocator();
-        last_meaning(alloc, &self.buffer, sections, value_name.as_bytes(), filter)
-    }
-
-    /// [`Store::string_filter_by`] with a filter that all metadata passes.
-    ///
-    /// # Errors
-    ///
-    /// Those of [`Store::string_filter_by`].
-    #[tactic(auto, using(std::proofs::lemmas::Fn::always_returns_same))]
-    pub fn string_by(
-        &self,
-        section_name: &str,
-        subsection_name: Option<&[u8]>,
-        value_name: &str,
-    ) -> Result<Option<BString>, NoMemory>
-        ensures { IsFound bstring_bytes result (last_value section_name.now (option_copied subsection_name.entry) value_name.now (λ _. true) (listed self.now)) }
-    {
-        self.string_filter_by(section_name, subsection_name, value_name, |_| true)
-    }
-
     /// The events of what stands before the first section, in order.
     pub fn front(&self) -> ItemEvents<'_>
         ensures { events_left result ≡ map shown_token (tokens_in self.now.front) }
@@ -393,7 +354,7 @@ impl Store {
     }
 
     /// The sections in file order.
-    #[tactic(auto, using(crate::proofs::Views::sections_viewed))]
+    #[tactic(auto, using(crate::proofs::Viewing::sections_viewed))]
     pub fn sections(&self) -> Sections<'_>
         ensures left { sections_left result ≡ self.now.sections }
         // What holds of every file, whatever was done to it.
@@ -401,6 +362,7 @@ impl Store {
     {
         Sections {
             buffer: &self.buffer,
+            copies: &self.copies,
             sections: self.sections.iter(),
         }
     }
@@ -414,6 +376,7 @@ impl Store {
     ) -> Option<usize>
         requires { F.IsAlwaysCallable filter }
         ensures within { IfSome result (λ at. at < length self.now.sections) }
+        ensures named { IfSome result (λ at. option_map (λ s. is_named section_name.now (option_copied subsection_name.entry) (listing s)) (slice_get self.now.sections at) ≡ Some true) }
         ensures exact { (keeps : Meta → Bool) → ComputesKey F.FnMut keeps filter
             → IsLastPlace (is_target section_name.now (option_copied subsection_name.entry) keeps) self.now.sections result }
     {
@@ -432,7 +395,7 @@ impl Store {
         ensures ok { OnOk result (self.new ≡ with_used self.new.used (edits.set_at at key.now value.now self.old)) }
         ensures old { IfOk result (λ o. IfSome (slice_get self.old.sections at) (λ s. option_map (λ v. v.items) o ≡ old_value key.now s.items)) }
         ensures err { OnErr result (self.new ≡ with_used self.new.used self.old) }
-        ensures used { IfSome (slice_get self.old.sections at) (λ s. UsedGrows result (token_bytes (set_tokens (file_line_end self.old) key.now value.now s.items)) self.old.used self.new.used) }
+        ensures used { IfSome (slice_get self.old.sections at) (λ s. UsedGrows result (set_bytes (file_line_end self.old) key.now value.now s.items) self.old.used self.new.used) }
     {
         let line_end = self.line_end();
         let section = self.sections.at_mut(at);
@@ -454,7 +417,10 @@ impl Store {
         ensures ok { OnOk result (self.new ≡ with_used self.new.used (edits.set_new section_name.now (option_copied subsection_name.entry) key.now value.now self.old)) }
         ensures err { OnErr result (self.new ≡ with_used self.new.used self.old) }
         ensures used { EditGrows result header_number
-            (token_bytes (new_section_tokens (file_line_end self.old) section_name.now (option_copied subsection_name.entry) key.now value.now)) self.old self.new }
+            (new_section_bytes (file_line_end self.old) section_name.now (option_copied subsection_name.entry) key.now value.now) self.old self.new }
+        ensures refused { is_made_name section_name.now ≡ true → is_valid_or_none (option_copied subsection_name.entry) ≡ true
+            → 2 ^ 32 ≤ self.old.used + new_section_bytes (file_line_end self.old) section_name.now (option_copied subsection_name.entry) key.now value.now
+            → IsErrAnd result (λ e. header_number e ≡ 3) }
         ensures known { IfErr result (λ e. list_any (λ number. number == header_number e) set_numbers ≡ true) }
     {
         validate(section_name.as_bytes(), subsection_name)?;
@@ -487,13 +453,14 @@ impl Store {
     /// Answers the raw text of the value that was there: its pieces joined, not decoded; nothing for an entry without `=`; `None` where
     /// there was no entry. All other sections, entries and comments stay as they are.
     ///
-    /// Takes a walk over the sections, and one over the section's items. New bytes are put behind the buffer's.
+    /// The section is found by its names: it takes a walk over the sections of the name and subsection alone, from the last one on up to
+    /// that one, then one over its items and one over the file's up to the first line end. New bytes are put behind the buffer's.
     ///
     /// # Errors
     ///
     /// Refusal 6 for a name of a value that is none, before anything else; 4 and 5 where a section has to be made of a name or a
-    /// subsection that can't be; 3 where the buffer would be longer than 4294967295 bytes, or there is no number for a section; 27 for
-    /// want of memory. The file is then as it was, but that its buffer may have grown.
+    /// subsection that can't be; 3 where the buffer would be longer than 4294967295 bytes, which is asked before any growth, or there is no
+    /// number for a section; 27 for want of memory. The file is then as it was, but that its buffer may have grown.
     pub fn set_raw_value_filter_by<F: FnMut(&Metadata) -> bool>(
         &mut self,
         section_name: &str,
@@ -507,6 +474,8 @@ impl Store {
         // For a filter that answers by what it is shown.
         ensures exact { (keeps : Meta → Bool) → ComputesKey F.FnMut keeps filter
             → IsSet section_name.now (option_copied subsection_name.entry) value_name.now keeps new_value.now result self.old self.new }
+        // For every filter, also one that changes its mind.
+        ensures somewhere { OnOk result (IsSetSomewhere section_name.now (option_copied subsection_name.entry) value_name.now new_value.now self.old self.new) }
         ensures err { OnErr result (self.new ≡ with_used self.new.used self.old) }
     {
         let key = value_name.as_bytes();

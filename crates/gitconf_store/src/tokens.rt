@@ -43,7 +43,7 @@ pub(crate) fn are_void(sections: Sections<'_>) -> bool
 }
 
 /// How many of the items are entries.
-fn entry_count(items: &[Item]) -> usize
+pub(crate) fn entry_count(items: &[Item]) -> usize
     ensures { result ≡ count_by is_stored_entry items.now }
 {
     items

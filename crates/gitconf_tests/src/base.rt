@@ -1,9 +1,9 @@
 //! Sources, metadata, and home folders.
 
 use crate::users::homes;
-use gitconf_base::host::{FileFault, Stage};
 use gitconf_base::meta::Metadata;
 use gitconf_base::source::{Kind, Source, Trust};
+use gitconf_host::{FileFault, Stage};
 use gitconf_values::Homes;
 use std::alloc::{AllocError, Global};
 use std::cmp::Ordering;
@@ -78,7 +78,11 @@ const FILE: Parts<'static> = (Some("/a"), Source::Env, 0, Trust::Reduced);
 fn metadata_of_a_file(rt: HostRuntime) -> Result<(), Fail> {
     let alloc = rt.alloc();
     let path = String::from_str(alloc, "/a")?;
-    let made = Metadata::try_from_path(path, Source::Env, Ok(Trust::Reduced));
+    let made: Result<Metadata, FileFault> = Metadata::try_from_path(
+        path,
+        Source::Env,
+        Ok(Trust::Reduced),
+    );
     assert!(rt; made == Ok(of_parts(alloc, &FILE)?));
     let fault = FileFault {
         stage: Stage::Read,

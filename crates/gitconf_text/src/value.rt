@@ -5,5 +5,5 @@ mod escaping;
 mod refusal;
 
 pub use decoding::normalize;
-pub use escaping::{append_escaped, escape};
+pub use escaping::{append_escaped, escape, escaped_len};
 pub use refusal::Error;

@@ -1,6 +1,8 @@
 -- Integers of the code, told by the definitions.
-use Rattle.std.specs.Prelude.{Option, Some, None}
+use Rattle.std.specs.Prelude.{ℕ, ℤ, List, Option, Some, None, Result, Ok, Err, codes}
 use Rattle.gitconf_text.specs.Typed as typed
+use Rattle.gitconf_text.specs.Typed.{NotAnInteger, IntegerOverflow, integer_of}
+use Rattle.gitconf_text.specs.ValueErrors.{ValueError, refused}
 use Rattle.gitconf_values.specs.declared.integer.Integer.{Integer}
 use Rattle.gitconf_values.specs.declared.integer.Suffix.{Suffix}
 use Rattle.gitconf_values.specs.declared.integer.Suffix.TheVariants.{Kibi, Mebi, Gibi}
@@ -13,3 +15,11 @@ suffix_told (Some Gibi) = Some typed.Gibi
 
 abbrev pub integer_told : Integer → typed.Integer
 integer_told i = record { number = i.value; suffix = suffix_told i.suffix }
+
+-- the integer of a value, or how it is refused
+abbrev pub integer_or_refusal : (value : List ℕ) → Result ℤ ValueError
+integer_or_refusal value = elim (integer_of value) [
+  | Ok n ↦ Ok n
+  | Err NotAnInteger ↦ Err (refused (codes "not an integer") value)
+  | Err IntegerOverflow ↦ Err (refused (codes "Integer overflow") value)
+]

@@ -4,7 +4,7 @@ ghost use Rattle.std.specs.Option.{option_map};
 ghost use Rattle.bstr.specs.Owned.{bstring_bytes};
 ghost use Rattle.gitconf_text.specs.Typed.{decimal_of, factor_of, integer_written, suffix_of};
 ghost use Rattle.gitconf_text.specs.ValueErrors.{refused};
-ghost use Rattle.gitconf_values.specs.Integers.{integer_told, suffix_told};
+ghost use Rattle.gitconf_values.specs.Integers.{integer_told, integer_or_refusal, suffix_told};
 
 use crate::number::number;
 use bstr::BString;
@@ -56,6 +56,23 @@ impl TryFrom<BString> for Integer {
             Some(integer) => Ok(integer),
             None => Err(Error::not_an_integer(bytes)),
         }
+    }
+}
+
+/// The integer of a value: what it writes, times its suffix. One pass, which takes no memory.
+///
+/// # Errors
+///
+/// Refusal 11 with the bytes that were given: `not an integer`, or `Integer overflow` where 64 bits don't hold the product.
+pub fn decimal(bytes: BString) -> Result<i64, Error>
+    ensures { result ≡ integer_or_refusal (bstring_bytes bytes) }
+{
+    match parse(bytes.as_bytes()) {
+        Some(integer) => match integer.to_decimal() {
+            Some(number) => Ok(number),
+            None => Err(Error::overflow(bytes)),
+        },
+        None => Err(Error::not_an_integer(bytes)),
     }
 }
 

@@ -2,3 +2,5 @@ pub mod Keys
 pub mod Options
 pub mod Errors
 pub mod Made
+pub mod Typed
+pub mod Converted

@@ -1,8 +1,15 @@
 //! A file of git's configuration in memory.
 ghost use Rattle.std.specs.Prelude.{◌≡◌, IfOk};
 
+mod all_values;
+mod impls;
 pub mod includes;
 pub mod init;
+mod look_ups;
+pub mod section;
+pub mod sections;
+mod typed;
+mod values;
 
 use bstr::BString;
 use gitconf_base::key::AsKey;
@@ -10,6 +17,7 @@ pub use gitconf_base::meta::Metadata;
 use gitconf_parse::error::Error;
 use gitconf_parse::events::{Events, check_len};
 use gitconf_parse::sink::{Sink, SinkFault};
+pub use gitconf_store::detached::Section;
 pub use gitconf_store::events::ItemEvents;
 pub use gitconf_store::section::{SectionRef, Sections};
 pub use gitconf_store::set_raw_value;
@@ -44,7 +52,7 @@ impl Model for File {
 impl File {
     ghost use Rattle.std.specs.Fn.{ComputesKey};
     ghost use Rattle.std.specs.Option.{option_copied};
-    ghost use Rattle.std.specs.Prelude.{◌≡◌, ◌<◌, ◌^◌, ℕ, Bool, [], List, true, length, map, IfOk, IfErr, IfSome, ◌↔◌, false, IsNone, IsSome, OnErr};
+    ghost use Rattle.std.specs.Prelude.{◌≡◌, ◌<◌, ◌^◌, ℕ, Bool, [], List, true, length, map, IfOk, IfErr, IfSome, ◌↔◌, false, IsNone, IsSome, OnErr, OnOk};
     ghost use Rattle.bstr.specs.Owned.{bstring_bytes};
     ghost use Rattle.gitconf_text.specs.Document.{IsText, Reads, unmarked};
     ghost use Rattle.gitconf_text.specs.Part.{Part};
@@ -60,18 +68,17 @@ impl File {
     ghost use Rattle.gitconf_state.specs.Comments.{comments, comments_of, comments_of_kept};
     ghost use Rattle.gitconf_state.specs.Inserted.{Inserted, IsByteForByte};
     ghost use Rattle.gitconf_state.specs.LineEnds.{file_line_end};
-    ghost use Rattle.gitconf_state.specs.Lookup.{last_value, listed};
     ghost use Rattle.gitconf_state.specs.Printing.{printed, printed_kept};
     ghost use Rattle.gitconf_state.specs.State.{IsState, SectionState, document_of, document_of_kept, entries_of};
     ghost use Rattle.gitconf_state.specs.Edit.{with_used};
     ghost use Rattle.gitconf_store.specs.Counts.{are_void, section_entries};
-    ghost use Rattle.gitconf_store.specs.Edits.{IsRefusal, IsSet};
+    ghost use Rattle.gitconf_store.specs.Edits.{IsRefusal, IsSet, IsSetSomewhere};
     ghost use Rattle.gitconf_store.specs.ItemEvents.{events_left};
-    ghost use Rattle.gitconf_store.specs.Lookups.{IsFound};
     ghost use Rattle.gitconf_store.specs.Made.{IsMade};
+    ghost use Rattle.gitconf_store.specs.Texts.{IsTextOfSomeSections};
     ghost use Rattle.gitconf_store.specs.Views.{shown, sections_left};
     ghost use Rattle.gitconf_write.specs.Bodies.{tokens_in};
-    ghost use Rattle.gix_config.specs.Keys.{IsSetByKey, value_of_key};
+    ghost use Rattle.gix_config.specs.Keys.{IsSetByKey};
 
     /// A file without front and sections. Takes no memory.
     pub fn new(alloc: Global, meta: Rc<Metadata>) -> File
@@ -217,94 +224,15 @@ impl File {
         self.store.num_values()
     }
 
-    /// The meaning of the last value of a key such as `remote.origin.url`, or `None` where there is none or where
-    /// the key can't be parsed: that of the last section of the key's name and subsection whose last entry of the
-    /// name has a value. A miss takes no memory.
-    ///
-    /// # Errors
-    ///
-    /// Want of memory for the answer.
-    #[tactic(auto, using(std::proofs::lemmas::Fn::always_returns_same))]
-    pub fn string<K: AsKey>(&self, key: K) -> Result<Option<BString>, NoMemory>
-        ensures { IsFound bstring_bytes result (value_of_key (K.key key) (λ _. true) self.now) }
-    {
-        match key.try_as_key() {
-            Some(key) => { self.string_by(key.section_name, key.subsection_name, key.value_name) }
-            None => Ok(None),
-        }
-    }
-
-    /// As [`File::string`], by the names of the section, the subsection and the value.
-    ///
-    /// # Errors
-    ///
-    /// Those of [`File::string`].
-    pub fn string_by(
-        &self,
-        section_name: &str,
-        subsection_name: Option<&[u8]>,
-        value_name: &str,
-    ) -> Result<Option<BString>, NoMemory>
-        ensures { IsFound bstring_bytes result (last_value section_name.now (option_copied subsection_name.entry) value_name.now (λ _. true) (listed self.now)) }
-    {
-        self.store
-            .string_by(section_name, subsection_name, value_name)
-    }
-
-    /// As [`File::string`], of the sections whose metadata passes the filter.
-    ///
-    /// # Errors
-    ///
-    /// Those of [`File::string`].
-    pub fn string_filter<K: AsKey, F: FnMut(&Metadata) -> bool>(
-        &self,
-        key: K,
-        filter: F,
-    ) -> Result<Option<BString>, NoMemory>
-        requires { F.IsAlwaysCallable filter }
-        // For a filter that answers by what it is shown.
-        ensures { (keeps : Meta → Bool) → ComputesKey F.FnMut keeps filter
-            → IsFound bstring_bytes result (value_of_key (K.key key) keeps self.now) }
-    {
-        match key.try_as_key() {
-            Some(key) => self.string_filter_by(
-                key.section_name,
-                key.subsection_name,
-                key.value_name,
-                filter,
-            ),
-            None => Ok(None),
-        }
-    }
-
-    /// As [`File::string_filter`], by the names of the section, the subsection and the value.
-    ///
-    /// # Errors
-    ///
-    /// Those of [`File::string`].
-    pub fn string_filter_by<F: FnMut(&Metadata) -> bool>(
-        &self,
-        section_name: &str,
-        subsection_name: Option<&[u8]>,
-        value_name: &str,
-        filter: F,
-    ) -> Result<Option<BString>, NoMemory>
-        requires { F.IsAlwaysCallable filter }
-        // For a filter that answers by what it is shown.
-        ensures { (keeps : Meta → Bool) → ComputesKey F.FnMut keeps filter
-            → IsFound bstring_bytes result (last_value section_name.now (option_copied subsection_name.entry) value_name.now keeps (listed self.now)) }
-    {
-        self.store
-            .string_filter_by(section_name, subsection_name, value_name, filter)
-    }
-
     /// Gives a key such as `remote.origin.url` a value: in the last section of the key's name and subsection, whose last entry of the
     /// name gets it, spelled as a file has it; `=` is put in where the entry has none. A section without such an entry gets one behind
     /// all others, with the blanks that it uses; where there is no section, one is made behind all others, with the file's line end and
     /// metadata.
     ///
     /// Answers the raw text of the value that was there: its pieces joined, not decoded; nothing for an entry without `=`; `None` where
-    /// there was no entry. All else stays as it is. Takes a walk over the sections, and one over the section's items.
+    /// there was no entry. All else stays as it is. The section is found by its names: it takes a walk over the sections of the key's name
+    /// and subsection alone, from the last one on up to that one, then one over its items and one over the file's up to the first line
+    /// end.
     ///
     /// # Errors
     ///
@@ -367,6 +295,8 @@ impl File {
         // For a filter that answers by what it is shown.
         ensures exact { (keeps : Meta → Bool) → ComputesKey F.FnMut keeps filter
             → IsSetByKey (the_key (K.key key)) keeps new_value.now result self.old self.new }
+        // For every filter, also one that changes its mind.
+        ensures somewhere { OnOk result (let k = the_key (K.key key) in IsSetSomewhere k.section k.subsection k.name new_value.now self.old self.new) }
         ensures err { OnErr result (self.new ≡ with_used self.new.used self.old) }
     {
         let key = key.as_key();
@@ -397,6 +327,8 @@ impl File {
         // For a filter that answers by what it is shown.
         ensures exact { (keeps : Meta → Bool) → ComputesKey F.FnMut keeps filter
             → IsSet section_name.now (option_copied subsection_name.entry) value_name.now keeps new_value.now result self.old self.new }
+        // For every filter, also one that changes its mind.
+        ensures somewhere { OnOk result (IsSetSomewhere section_name.now (option_copied subsection_name.entry) value_name.now new_value.now self.old self.new) }
         ensures err { OnErr result (self.new ≡ with_used self.new.used self.old) }
     {
         self.store.set_raw_value_filter_by(
@@ -426,6 +358,8 @@ impl File {
         ensures reads { (keeps : SectionState → Bool) → IsClean self.now → Reads (printed_kept keeps self.now) (document_of_kept keeps self.now) }
         ensures comments { (keeps : SectionState → Bool) → IsClean self.now
             → (parts : List Part) → IsText (printed_kept keeps self.now) parts → comments_of parts ≡ comments_of_kept keeps self.now }
+        // For every filter, also one that changes its mind.
+        ensures some { (text : List ℕ) × IsTextOfSomeSections self.now text × Writes result text (W.told out.old) (W.told out.new) }
         ensures counted { Counts result (W.faults out.old) (W.faults out.new) }
     {
         self.store.write_to_filter(out, filter)

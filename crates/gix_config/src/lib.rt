@@ -4,6 +4,8 @@
 pub mod file;
 pub mod format;
 pub mod glob;
+pub mod host;
+pub mod lookup;
 pub mod parse;
 pub mod refusals;
 pub mod value;

@@ -2,6 +2,7 @@
 ghost use Rattle.std.specs.Prelude.{◌≡◌};
 
 use crate::file::{includes, init, set_raw_value};
+use crate::lookup::existing;
 use gitconf_parse::error as parse;
 use gitconf_parse::sink::SinkFault;
 use gitconf_text::parse::section::{NameError, ValueNameError, header};
@@ -87,6 +88,22 @@ impl Refusal for header::Error {
             header::Error::InvalidName => 4,
             header::Error::InvalidSubSection => 5,
             header::Error::Memory => 27,
+        }
+    }
+}
+
+impl Refusal for existing::Error {
+    ghost use Rattle.gitconf_store.specs.Misses.{existing_number};
+
+    ghost number_of = { existing_number };
+
+    fn number(&self) -> u8 {
+        match self {
+            existing::Error::SectionMissing => 7,
+            existing::Error::SubSectionMissing => 8,
+            existing::Error::KeyMissing => 9,
+            existing::Error::ValueName(e) => e.number(),
+            existing::Error::Memory => 27,
         }
     }
 }

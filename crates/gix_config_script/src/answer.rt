@@ -2,9 +2,9 @@
 
 use crate::refusal::Refusal;
 use bstr::BString;
-use gix_config::File;
-use gix_config::file::SectionRef;
+use gix_config::file::{SectionId, SectionRef};
 use gix_config::parse::{Error, Events};
+use gix_config::{File, Path};
 use std::borrow::CowSlice;
 
 /// What a command answers, or why it was not done.
@@ -27,6 +27,12 @@ pub enum Answer<'a> {
     Integer(i64),
     /// Bytes, of their own or lent.
     Bytes(CowSlice<'a, u8>),
+    /// A path, as it is written.
+    Path(Path),
+    /// Texts, one word each.
+    Texts(Vec<BString>),
+    /// Numbers with a sign, one word each.
+    Integers(Vec<i64>),
     /// Bytes, or none.
     Optional(Option<BString>),
     /// The text of a refusal.
@@ -41,6 +47,14 @@ pub enum Answer<'a> {
     Body(SectionRef<'a>),
     /// The events of what is held behind a section.
     Held(SectionRef<'a>),
+    /// The number of a section.
+    Id(SectionId),
+    /// Numbers of sections.
+    Ids(Vec<SectionId>),
+    /// The names of a section's entries.
+    Names(SectionRef<'a>),
+    /// What a section's header says, and how it is spelled.
+    Header(SectionRef<'a>, BString),
     /// All sections of a file, with their entries.
     Dump(&'a File),
 }

@@ -9,12 +9,14 @@ mod paths;
 mod printing;
 mod sections;
 mod values;
+mod views;
 
 use crate::answer::{Answer, Outcome};
 use crate::session::Session;
 use crate::writers::Failure;
 use gitconf_script::commands::{
-    Command, EditCommand, PrintCommand, StateCommand, TextCommand, ValueCommand, ViewCommand,
+    Command, EditCommand, LookUpCommand, PartCommand, PrintCommand, SectionCommand, StateCommand,
+    TextCommand, ValueCommand, ViewCommand,
 };
 use gitconf_script::words::Word;
 use gix_config::File;
@@ -33,7 +35,10 @@ pub fn outcome_of<'a>(
     match command {
         Command::Text(command) => text_outcome(alloc, command, words),
         Command::Value(command) => value_outcome(alloc, command, words),
+        Command::LookUp(command) => look_up_outcome(session.file(), command, words),
         Command::View(command) => view_outcome(session.file(), command, words),
+        Command::Section(command) => section_outcome(alloc, session, command, words),
+        Command::Part(command) => part_outcome(alloc, session.file(), command, words),
         Command::Print(command) => print_outcome(alloc, session.file(), command, words),
         Command::Edit(command) => edit_outcome(session.file_mut(), command, words),
         Command::State(command) => state_outcome(alloc, session, command, words),
@@ -62,10 +67,22 @@ fn value_outcome<'a>(alloc: Global, command: ValueCommand, words: &'a [Word<'_>]
     }
 }
 
+fn look_up_outcome<'a>(file: &File, command: LookUpCommand, words: &[Word<'_>]) -> Outcome<'a> {
+    match command {
+        LookUpCommand::Text => lookups::string(file, words),
+        LookUpCommand::TextOfKey => lookups::stringkey(file, words),
+        LookUpCommand::Texts => lookups::strings(file, words),
+        LookUpCommand::Raw => lookups::raw(file, words),
+        LookUpCommand::RawAll => lookups::raws(file, words),
+        LookUpCommand::Path => lookups::path(file, words),
+        LookUpCommand::Boolean => lookups::boolean(file, words),
+        LookUpCommand::Integer => lookups::integer(file, words),
+        LookUpCommand::Integers => lookups::integers(file, words),
+    }
+}
+
 fn view_outcome<'a>(file: &'a File, command: ViewCommand, words: &[Word<'_>]) -> Outcome<'a> {
     match command {
-        ViewCommand::Value => lookups::string(file, words),
-        ViewCommand::ValueOfKey => lookups::stringkey(file, words),
         ViewCommand::Dump => sections::dump(file, words),
         ViewCommand::PrintSection => sections::printsec(file, words),
         ViewCommand::Front => sections::front(file, words),
@@ -74,6 +91,43 @@ fn view_outcome<'a>(file: &'a File, command: ViewCommand, words: &[Word<'_>]) ->
         ViewCommand::Count => sections::count(file, words),
         ViewCommand::Void => sections::void(file, words),
         ViewCommand::LineEnd => sections::newline(file, words),
+    }
+}
+
+fn section_outcome<'a>(
+    alloc: Global,
+    session: &'a Session,
+    command: SectionCommand,
+    words: &[Word<'_>],
+) -> Outcome<'a> {
+    let file = session.file();
+    match command {
+        SectionCommand::Last => views::section(file, words),
+        SectionCommand::LastOfKey => views::sectionkey(file, words),
+        SectionCommand::LastPassing => views::sectionif(file, words),
+        SectionCommand::Numbers => views::ids(alloc, file, words),
+        SectionCommand::ByName => views::byname(alloc, file, words),
+        SectionCommand::ByNamePassing => views::bynameif(alloc, file, words),
+        SectionCommand::Equal => views::equal(session, words),
+        SectionCommand::Display => views::display(alloc, file, words),
+    }
+}
+
+fn part_outcome<'a>(
+    alloc: Global,
+    file: &'a File,
+    command: PartCommand,
+    words: &[Word<'_>],
+) -> Outcome<'a> {
+    match command {
+        PartCommand::Header => views::headerof(file, words),
+        PartCommand::Value => views::valueof(file, words),
+        PartCommand::Implicit => views::implicitof(file, words),
+        PartCommand::Values => views::valuesof(file, words),
+        PartCommand::Names => views::namesof(file, words),
+        PartCommand::HasName => views::hasname(file, words),
+        PartCommand::Entries => views::entriesof(alloc, file, words),
+        PartCommand::Count => views::countof(file, words),
     }
 }
 

@@ -5,7 +5,6 @@
 mod answer;
 mod commands;
 mod kinds;
-mod names;
 mod program;
 mod refusal;
 mod rendering;

@@ -2,6 +2,7 @@
 
 use gitconf_script::words::NotUnderstood;
 use gix_config::file::{init, set_raw_value};
+use gix_config::lookup::existing;
 use gix_config::parse::section::{NameError, ValueNameError};
 use gix_config::parse::{Error, SinkFault};
 use gix_config::path::interpolate;
@@ -54,6 +55,12 @@ impl From<set_raw_value::Error> for Refusal {
     }
 }
 
+impl From<existing::Error> for Refusal {
+    fn from(refusal: existing::Error) -> Refusal {
+        Refusal::Numbered(refusal.number())
+    }
+}
+
 impl From<interpolate::Error> for Refusal {
     fn from(refusal: interpolate::Error) -> Refusal {
         Refusal::Numbered(refusal.number())
@@ -65,6 +72,7 @@ impl From<value::Error> for Refusal {
         match refusal.message() {
             "not a boolean" => Refusal::Mistyped("bool"),
             "not an integer" => Refusal::Mistyped("int"),
+            "Integer overflow" => Refusal::Mistyped("overflow"),
             _ => Refusal::Numbered(refusal.number()),
         }
     }

@@ -3,8 +3,8 @@ ghost use Rattle.std.specs.Iterator.{IsFinite};
 
 use crate::answer::{Answer, Outcome};
 use crate::kinds::letter_of;
-use crate::names::names_of;
 use crate::refusal::Refusal;
+use bstr::BString;
 use gitconf_script::answers::{
     put_bytes, put_dashed, put_digits, put_digits_of, put_error, put_flag, put_integer, put_letter,
     put_number, put_optional, put_refused,
@@ -50,6 +50,9 @@ fn put_answer(alloc: Global, line: &mut String, answer: &Answer<'_>) -> Result<(
         Answer::Number(number) => put_number(line, *number),
         Answer::Integer(number) => put_integer(line, *number),
         Answer::Bytes(bytes) => put_bytes(alloc, line, bytes.as_slice()),
+        Answer::Path(path) => put_bytes(alloc, line, path.as_bytes()),
+        Answer::Texts(texts) => put_texts(alloc, line, texts),
+        Answer::Integers(numbers) => put_integers(line, numbers),
         Answer::Optional(Some(bytes)) => put_bytes(alloc, line, bytes),
         Answer::Optional(None) => put_optional(alloc, line, None),
         Answer::Message(refusal) => put_message(alloc, line, refusal),
@@ -64,8 +67,30 @@ fn put_answer(alloc: Global, line: &mut String, answer: &Answer<'_>) -> Result<(
         },
         Answer::Body(section) => put_events(alloc, line, section.events()),
         Answer::Held(section) => put_events(alloc, line, section.held_events()),
+        Answer::Id(id) => put_id_word(alloc, line, *id),
+        Answer::Ids(ids) => put_ids(alloc, line, ids),
+        Answer::Names(section) => put_value_names(alloc, line, section),
+        Answer::Header(section, text) => {
+            put_names(alloc, line, section)?;
+            put_flag(line, section.header().is_legacy())?;
+            put_bytes(alloc, line, text)
+        }
         Answer::Dump(file) => put_sections(alloc, line, file),
     }
+}
+
+fn put_texts(alloc: Global, line: &mut String, texts: &[BString]) -> Result<(), AllocError> {
+    for text in texts {
+        put_bytes(alloc, line, text)?;
+    }
+    Ok(())
+}
+
+fn put_integers(line: &mut String, numbers: &[i64]) -> Result<(), AllocError> {
+    for number in numbers {
+        put_integer(line, *number)?;
+    }
+    Ok(())
 }
 
 fn put_refusal(alloc: Global, line: &mut String, refusal: &Refusal) -> Result<(), AllocError> {
@@ -140,13 +165,33 @@ fn put_sections(alloc: Global, line: &mut String, file: &File) -> Result<(), All
 
 /// The name and the subsection of a section.
 fn put_names(alloc: Global, line: &mut String, section: &SectionRef<'_>) -> Result<(), AllocError> {
-    match names_of(alloc, section) {
-        Ok(names) => {
-            put_bytes(alloc, line, &names.name)?;
-            put_optional(alloc, line, names.subsection.as_deref())
-        }
-        Err(_) => Err(AllocError),
+    let header = section.header();
+    put_bytes(alloc, line, header.name())?;
+    put_optional(alloc, line, header.subsection_name())
+}
+
+/// The number of a section as a word.
+fn put_id_word(alloc: Global, line: &mut String, id: SectionId) -> Result<(), AllocError> {
+    line.push(' ')?;
+    put_id(alloc, line, id)
+}
+
+fn put_ids(alloc: Global, line: &mut String, ids: &[SectionId]) -> Result<(), AllocError> {
+    for id in ids {
+        put_id_word(alloc, line, *id)?;
     }
+    Ok(())
+}
+
+fn put_value_names(
+    alloc: Global,
+    line: &mut String,
+    section: &SectionRef<'_>,
+) -> Result<(), AllocError> {
+    for name in section.value_names() {
+        put_bytes(alloc, line, name.as_bytes())?;
+    }
+    Ok(())
 }
 
 /// The number of a section. The library shows it by `Debug` alone.

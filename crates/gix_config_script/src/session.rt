@@ -42,7 +42,12 @@ impl Session {
 
     /// The current file.
     pub fn file(&self) -> &File {
-        match self.current {
+        self.file_at(self.current)
+    }
+
+    /// The file at that place.
+    pub fn file_at(&self, slot: Slot) -> &File {
+        match slot {
             Slot::F => &self.f,
             Slot::G => &self.g,
             Slot::H => &self.h,

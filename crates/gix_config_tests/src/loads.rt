@@ -18,7 +18,11 @@ pub fn sections(file: &File) -> Sections<'_> {
 
 /// How many sections the file has.
 pub fn section_count(file: &File) -> usize {
-    sections(file).count()
+    let mut count = 0usize;
+    for _section in sections(file) {
+        count = count.saturating_add(1);
+    }
+    count
 }
 
 /// The section at this place.

@@ -1,6 +1,7 @@
 //! The program `gixcfg`: words and standard input in, an answer and an exit status out.
 #![tactic(auto)]
 
+mod output;
 mod program;
 
 use gix_config::NoMemory;

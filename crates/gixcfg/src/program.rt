@@ -2,10 +2,11 @@
 ghost use Rattle.std.specs.Prelude.{◌≡◌, ◌≤◌};
 ghost use Rattle.gixcfg.specs.Status.{status_of};
 
+use crate::output::Output;
 use bstr::BString;
 use gix_config::file::set_raw_value;
 use gix_config::format::{Options, normalize};
-use gix_config::parse::Error;
+use gix_config::parse::{Error, SinkFault};
 use gix_config::refusals::Refusal;
 use gix_config::{File, KeyRef, NoMemory};
 use std::alloc::{AllocError, AllocFailed, Global};
@@ -84,6 +85,12 @@ where
     }
 }
 
+impl From<SinkFault> for Fault {
+    fn from(_: SinkFault) -> Fault {
+        Fault::Output
+    }
+}
+
 impl From<Error> for Fault {
     fn from(refusal: Error) -> Fault {
         if refusal.is_memory() {
@@ -135,10 +142,11 @@ fn execute<R: Read, W: Write>(
 ) -> Result<(), Fault> {
     let command = command_of(args)?;
     let text = read_all(alloc, input)?;
-    let answer = answer_of(alloc, command, &text)?;
-    match out.write_all(&answer) {
-        Ok(()) => Ok(()),
-        Err(_) => Err(Fault::Output),
+    match command {
+        Command::Get(key) => put(&get(&load(alloc, &text)?, key)?, out),
+        Command::Set(key, value) => put_edited(alloc, &text, key, value, out),
+        Command::Print => put_file(alloc, &load(alloc, &text)?, out),
+        Command::Fmt => put(&laid_out(alloc, &text)?, out),
     }
 }
 
@@ -176,11 +184,6 @@ fn load(alloc: Global, text: &[u8]) -> Result<File, Fault> {
     Ok(File::try_from_bytes(alloc, text)?)
 }
 
-/// The text of a file.
-fn print(file: &File) -> Result<BString, Fault> {
-    Ok(file.to_bstring()?)
-}
-
 /// The value of a key, on a line.
 fn get(file: &File, key: KeyRef<'_>) -> Result<BString, Fault> {
     match file.string(key)? {
@@ -198,18 +201,53 @@ fn set(file: &mut File, key: KeyRef<'_>, value: &str) -> Result<(), Fault> {
     Ok(())
 }
 
-/// What is printed of a text. It is refused before a value is missing.
-fn answer_of(alloc: Global, command: Command<'_>, text: &[u8]) -> Result<BString, Fault> {
-    match command {
-        Command::Get(key) => get(&load(alloc, text)?, key),
-        Command::Set(key, value) => {
-            let mut file = load(alloc, text)?;
-            set(&mut file, key, value)?;
-            print(&file)
-        }
-        Command::Print => print(&load(alloc, text)?),
-        Command::Fmt => Ok(normalize(alloc, text, Options::default())?),
+/// The text, laid out by the default options.
+fn laid_out(alloc: Global, text: &[u8]) -> Result<BString, Fault> {
+    Ok(normalize(alloc, text, Options::default())?)
+}
+
+/// Writes an answer that stands in memory.
+fn put<W: Write>(answer: &[u8], out: &mut W) -> Result<(), Fault> {
+    match out.write_all(answer) {
+        Ok(()) => Ok(()),
+        Err(_) => Err(Fault::Output),
     }
+}
+
+/// Writes the text as a file in which a key has the value.
+fn put_edited<W: Write>(
+    alloc: Global,
+    text: &[u8],
+    key: KeyRef<'_>,
+    value: &str,
+    out: &mut W,
+) -> Result<(), Fault> {
+    let mut file = load(alloc, text)?;
+    set(&mut file, key, value)?;
+    put_file(alloc, &file, out)
+}
+
+/// Writes a file, without a copy of its text in memory. Where a write failed no other is tried.
+fn put_file<W: Write>(alloc: Global, file: &File, out: &mut W) -> Result<(), Fault> {
+    let mut output = output_to(alloc, out)?;
+    let written = put_all(file, &mut output);
+    output.end();
+    written
+}
+
+/// The stream, with room for what is gathered for it.
+fn output_to<W: Write>(alloc: Global, out: &mut W) -> Result<Output<&mut W>, Fault> {
+    match Output::new(alloc, out) {
+        Ok(output) => Ok(output),
+        Err(_) => Err(Fault::Memory),
+    }
+}
+
+/// Writes a file, and what is gathered of it.
+fn put_all<W: Write + Drop>(file: &File, output: &mut Output<W>) -> Result<(), Fault> {
+    file.write_to(output)?;
+    output.flush()?;
+    Ok(())
 }
 
 /// Tells a fault on standard error: how the program is called, or which refusal it was. Nothing is told of what is

@@ -1,14 +1,16 @@
 //! Subsections that aren't what is spelled, decoded.
-ghost use Rattle.std.specs.Prelude.{◌≡◌, ◌++◌, Some, length, map, OnOk, IfOk};
+ghost use Rattle.std.specs.Prelude.{◌≡◌, ◌++◌, ◌<◌, Some, get_or, length, map, OnOk, IfOk};
 ghost use Rattle.std.specs.List.{AllByRecursion, list_any};
 ghost use Rattle.std.specs.Char.{is_ascii_uppercase};
 ghost use Rattle.gitconf_text.specs.Bytes.{fold};
 ghost use Rattle.gitconf_text.specs.Header.{unquoted};
 ghost use Rattle.gitconf_text.specs.Token.{HeaderToken};
+ghost use Rattle.gitconf_parse.specs.Compact.{no_header, event_at, events_in, IsDecoded, IsDecodedAt, StandsAmong};
 ghost use Rattle.gitconf_parse.specs.Events.{token_of, header_of, EventFits, HeaderFits};
 ghost use Rattle.gitconf_parse.specs.ShownEvents.{decoded_or, shown_header, shown_token, CopyFits, IsShown, IsExtended};
 
-use crate::event::{Copied, Event, Header};
+use crate::compact::Compact;
+use crate::event::{Copied, Header};
 use gitconf_text::NoMemory;
 
 /// Adds the bytes with their letters in lower case.
@@ -122,45 +124,54 @@ pub fn decoded_header(
     Ok(Header { decoded, ..header })
 }
 
-/// An event, whose subsection has a copy where it isn't what is spelled.
-fn decoded_event(buffer: &[u8], event: Event, copies: &mut Vec<u8>) -> Result<Event, NoMemory>
-    requires { EventFits (length buffer.now) event }
-    ensures same { IfOk result (λ e. token_of buffer.now e ≡ token_of buffer.now event) }
-    ensures shown { IfOk result (IsShown buffer.now copies.new.items) }
-    ensures extended { OnOk result (IsExtended copies.old.items copies.new.items) }
+/// Gives the header at a place the copy of its subsection, where that isn't what is spelled.
+fn decode_at(
+    buffer: &[u8],
+    headers: &mut Vec<Header>,
+    place: usize,
+    copies: &mut Vec<u8>,
+) -> Result<(), NoMemory>
+    requires within { place < length headers.old.items }
+    requires fits { HeaderFits (length buffer.now) (get_or headers.old.items place no_header) }
+    ensures { OnOk result (IsDecodedAt buffer.now copies.old.items copies.new.items place headers.old.items headers.new.items) }
 {
-    match event {
-        Event::SectionHeader(header) => {
-            let header = decoded_header(buffer, header, copies)?;
-            Ok(Event::SectionHeader(header))
-        }
-        _ => Ok(event),
-    }
-}
-
-/// Gives each header the copy of its subsection, where that isn't what is spelled.
-fn decode_headers(buffer: &[u8], events: &mut [Event], copies: &mut Vec<u8>) -> Result<(), NoMemory>
-    requires { AllByRecursion (EventFits (length buffer.now)) events.old }
-    ensures tokens { map (token_of buffer.now) events.new ≡ map (token_of buffer.now) events.old }
-    ensures shown { OnOk result (AllByRecursion (IsShown buffer.now copies.new.items) events.new) }
-{
-    for event in events.iter_mut() {
-        *event = decoded_event(buffer, *event, copies)?;
-    }
+    let header = decoded_header(buffer, headers[place], copies)?;
+    headers[place] = header;
     Ok(())
 }
 
-/// The events, each header with the place of its subsection's copy where that isn't what is spelled.
-pub fn decoded_events(
+/// Gives what is kept so the copy of its subsection, where it is a header with a subsection that isn't what is spelled.
+fn decode_kept(
     buffer: &[u8],
-    events: Vec<Event>,
+    kept: Compact,
+    headers: &mut Vec<Header>,
     copies: &mut Vec<u8>,
-) -> Result<Vec<Event>, NoMemory>
-    requires { AllByRecursion (EventFits (length buffer.now)) events.items }
-    ensures tokens { IfOk result (λ r. map (token_of buffer.now) r.items ≡ map (token_of buffer.now) events.items) }
-    ensures shown { IfOk result (λ r. AllByRecursion (IsShown buffer.now copies.new.items) r.items) }
+) -> Result<(), NoMemory>
+    requires stands { StandsAmong (length headers.old.items) kept }
+    requires fits { EventFits (length buffer.now) (event_at headers.old.items kept) }
+    ensures { OnOk result (IsDecoded buffer.now kept copies.old.items copies.new.items headers.old.items headers.new.items) }
 {
-    let mut events = events;
-    decode_headers(buffer, &mut events, copies)?;
-    Ok(events)
+    match kept {
+        Compact::SectionHeader(place) => decode_at(buffer, headers, place as usize, copies),
+        _ => Ok(()),
+    }
+}
+
+/// Gives each header of a list of events the copy of its subsection, where that isn't what is spelled.
+pub fn decode_headers(
+    buffer: &[u8],
+    list: &[Compact],
+    headers: &mut Vec<Header>,
+    copies: &mut Vec<u8>,
+) -> Result<(), NoMemory>
+    requires fits { AllByRecursion (EventFits (length buffer.now)) (events_in headers.old.items list.now) }
+    requires stand { AllByRecursion (StandsAmong (length headers.old.items)) list.now }
+    ensures tokens { OnOk result (map (token_of buffer.now) (events_in headers.new.items list.now) ≡ map (token_of buffer.now) (events_in headers.old.items list.now)) }
+    ensures shown { OnOk result (AllByRecursion (IsShown buffer.now copies.new.items) (events_in headers.new.items list.now)) }
+    ensures len { OnOk result (length headers.new.items ≡ length headers.old.items) }
+{
+    for kept in list {
+        decode_kept(buffer, *kept, headers, copies)?;
+    }
+    Ok(())
 }

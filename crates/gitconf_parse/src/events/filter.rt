@@ -1,6 +1,7 @@
 //! Events that a filter keeps.
 ghost use Rattle.std.specs.Prelude.{◌≡◌, ◌++◌, ◌∷◌, [], ℕ, Bool, true, List, map, if◌then◌else◌, IfOk, OnOk};
 ghost use Rattle.std.specs.List.{AllByRecursion};
+ghost use Rattle.gitconf_parse.specs.Compact.{events_of};
 ghost use Rattle.gitconf_parse.specs.EventRef.{Shown, shown};
 ghost use Rattle.gitconf_parse.specs.Events.{token_of};
 ghost use Rattle.gitconf_parse.specs.ShownEvents.{IsShown};
@@ -8,6 +9,7 @@ ghost use Rattle.gitconf_parse.specs.TokenDocument as spec;
 ghost use Rattle.gitconf_parse.specs.EventList.{is_entry_token, is_header_token, keeps_token, IsKept, IsSelection};
 
 use super::lend::event_ref;
+use crate::compact::{EventSlice, EventVec};
 use crate::event::Event;
 use crate::event_ref::EventRef;
 use gitconf_text::NoMemory;
@@ -28,30 +30,32 @@ pub fn kept_events(
     alloc: Global,
     buffer: &[u8],
     copies: &[u8],
-    events: &[Event],
+    events: EventSlice<'_>,
     filter: fn(&EventRef<'_>) -> bool,
-) -> Result<(Vec<Event>, bool), NoMemory>
-    requires shown { AllByRecursion (IsShown buffer.now copies.now) events.now }
+) -> Result<(EventVec, bool), NoMemory>
+    requires shown { AllByRecursion (IsShown buffer.now copies.now) (events_of events) }
     requires callable { IsAlwaysCallable filter }
     // With a filter that answers by what it is shown.
     ensures kept { IfOk result (λ kept. (p : Shown → Bool) → ((e : _) (b : Bool) → post filter e b → b ≡ p (shown e.now))
-        → IsKept p buffer.now events.now kept.0.items kept.1) }
+        → IsKept p buffer.now (events_of events.entry) kept.0 kept.1) }
     // With any filter.
-    ensures selected { IfOk result (λ kept. IsSelection kept.1 (map (token_of buffer.now) events.now) (map (token_of buffer.now) kept.0.items)) }
-    ensures fits { IfOk result (λ kept. AllByRecursion (IsShown buffer.now copies.now) kept.0.items) }
+    ensures selected { IfOk result (λ kept. IsSelection kept.1 (map (token_of buffer.now) (events_of events.entry)) (map (token_of buffer.now) kept.0)) }
+    ensures fits { IfOk result (λ kept. AllByRecursion (IsShown buffer.now copies.now) kept.0) }
 {
-    let mut kept = Vec::new(alloc);
+    let mut kept = EventVec::new(alloc);
     let mut entries = true;
-    for event in events {
-        let keep = keeps(buffer, copies, event, filter);
-        push_if(&mut kept, *event, keep)?;
-        entries &= !is_entry(event) | keep;
+    let mut left = events;
+    while let Some((event, behind)) = left.split_first() {
+        let keep = keeps(buffer, copies, &event, filter);
+        push_if(&mut kept, event, keep)?;
+        entries &= !is_entry(&event) | keep;
+        left = behind;
     }
     Ok((kept, entries))
 }
 
-fn push_if(events: &mut Vec<Event>, event: Event, keep: bool) -> Result<(), NoMemory>
-    ensures { OnOk result (events.new.items ≡ events.old.items ++ (if keep then event ∷ [] else [])) }
+fn push_if(events: &mut EventVec, event: Event, keep: bool) -> Result<(), NoMemory>
+    ensures { OnOk result (events.new ≡ events.old ++ (if keep then event ∷ [] else [])) }
 {
     if keep {
         events.push(event)?;

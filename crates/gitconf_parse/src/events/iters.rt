@@ -1,10 +1,11 @@
 //! Iterators over events and sections.
-ghost use Rattle.std.specs.Prelude.{◌≡◌, ◌≤◌, ◌<◌, true, length, take, drop};
+ghost use Rattle.std.specs.Prelude.{◌≡◌, ◌<◌, true, length};
+ghost use Rattle.gitconf_parse.specs.Compact.{events_of};
 ghost use Rattle.gitconf_parse.specs.EventProps.{AreWithin, AreWithin-prop};
-ghost use Rattle.gitconf_parse.specs.Sections.{is_header_event, front_of, sections_of, is_cut};
+ghost use Rattle.gitconf_parse.specs.Sections.{is_header_event, is_cut};
 
 use super::lend::event_ref;
-use crate::event::{Event, is_header};
+use crate::compact::EventSlice;
 use crate::event_ref::EventRef;
 
 /// Events in the order of their text.
@@ -12,20 +13,21 @@ use crate::event_ref::EventRef;
 pub struct EventIter<'a> {
     buffer: &'a [u8],
     copies: &'a [u8],
-    events: &'a [Event],
-    ghost within: { AreWithin buffer.now copies.now events.now } by { AreWithin-prop buffer.now copies.now events.now },
+    events: EventSlice<'a>,
+    ghost within: { AreWithin buffer.now copies.now (events_of events) } by { AreWithin-prop buffer.now copies.now (events_of events) },
 }
 
 impl<'a> EventIter<'a> {
     ghost use Rattle.std.specs.Prelude.{◌≡◌, map};
+    ghost use Rattle.gitconf_parse.specs.Compact.{events_of};
     ghost use Rattle.gitconf_parse.specs.EventProps.{AreWithin};
     ghost use Rattle.gitconf_parse.specs.ShownEvents.{shown_event};
     ghost use Rattle.gitconf_parse.specs.EventIters.{events_left};
 
     /// The events of a slice, whose spans are offsets of these buffers.
-    pub fn over(buffer: &'a [u8], copies: &'a [u8], events: &'a [Event]) -> EventIter<'a>
-        requires { AreWithin buffer.now copies.now events.now }
-        ensures { events_left result ≡ map (shown_event buffer.now copies.now) events.now }
+    pub fn over(buffer: &'a [u8], copies: &'a [u8], events: EventSlice<'a>) -> EventIter<'a>
+        requires { AreWithin buffer.now copies.now (events_of events) }
+        ensures { events_left result ≡ map (shown_event buffer.now copies.now) (events_of events.entry) }
     {
         EventIter {
             buffer,
@@ -49,22 +51,8 @@ impl<'a> Iterator for EventIter<'a> {
     fn next(&mut self) -> Option<EventRef<'a>> {
         let (first, others) = self.events.split_first()?;
         self.events = others;
-        Some(event_ref(self.buffer, self.copies, first))
+        Some(event_ref(self.buffer, self.copies, &first))
     }
-}
-
-/// How many events stand before the first header.
-pub fn front_len(events: &[Event]) -> usize
-    ensures within { result ≤ length events.now }
-    ensures front { take result events.now ≡ front_of is_header_event events.now }
-    ensures rest { sections_of is_header_event (drop result events.now) ≡ sections_of is_header_event events.now }
-    ensures cut { is_cut is_header_event (drop result events.now) ≡ true }
-{
-    let mut len = 0;
-    while len < events.len() && !is_header(&events[len]) {
-        len += 1;
-    }
-    len
 }
 
 /// A section: its header, and what stands behind it up to the next.
@@ -72,9 +60,9 @@ pub fn front_len(events: &[Event]) -> usize
 pub struct SectionRef<'a> {
     buffer: &'a [u8],
     copies: &'a [u8],
-    events: &'a [Event],
-    ghost within: { AreWithin buffer.now copies.now events.now } by { AreWithin-prop buffer.now copies.now events.now },
-    ghost filled: { 0 < length events.now },
+    events: EventSlice<'a>,
+    ghost within: { AreWithin buffer.now copies.now (events_of events) } by { AreWithin-prop buffer.now copies.now (events_of events) },
+    ghost filled: { 0 < length (events_of events) },
 }
 
 impl<'a> SectionRef<'a> {
@@ -86,7 +74,10 @@ impl<'a> SectionRef<'a> {
     pub fn header(&self) -> EventRef<'a>
         ensures { shown_section self.now ≡ shown result ∷ drop 1 (shown_section self.now) }
     {
-        event_ref(self.buffer, self.copies, &self.events[0])
+        match self.events.split_first() {
+            Some((header, _)) => event_ref(self.buffer, self.copies, &header),
+            None => unreachable!(),
+        }
     }
 
     /// What stands behind the header.
@@ -117,27 +108,28 @@ impl<'a> SectionRef<'a> {
 pub struct SectionIter<'a> {
     buffer: &'a [u8],
     copies: &'a [u8],
-    events: &'a [Event],
-    ghost within: { AreWithin buffer.now copies.now events.now } by { AreWithin-prop buffer.now copies.now events.now },
-    ghost cut: { is_cut is_header_event events.now ≡ true },
+    events: EventSlice<'a>,
+    ghost within: { AreWithin buffer.now copies.now (events_of events) } by { AreWithin-prop buffer.now copies.now (events_of events) },
+    ghost cut: { is_cut is_header_event (events_of events) ≡ true },
 }
 
 impl<'a> SectionIter<'a> {
     ghost use Rattle.std.specs.Prelude.{◌≡◌, map};
+    ghost use Rattle.gitconf_parse.specs.Compact.{events_of};
     ghost use Rattle.gitconf_parse.specs.EventProps.{AreWithin};
     ghost use Rattle.gitconf_parse.specs.ShownEvents.{shown_event};
     ghost use Rattle.gitconf_parse.specs.Sections.{is_header_event, sections_of};
     ghost use Rattle.gitconf_parse.specs.EventIters.{sections_left};
 
     /// The sections of a slice of events, whose spans are offsets of these buffers.
-    pub fn over(buffer: &'a [u8], copies: &'a [u8], events: &'a [Event]) -> SectionIter<'a>
-        requires { AreWithin buffer.now copies.now events.now }
-        ensures { sections_left result ≡ map (λ events. map (shown_event buffer.now copies.now) events) (sections_of is_header_event events.now) }
+    pub fn over(buffer: &'a [u8], copies: &'a [u8], events: EventSlice<'a>) -> SectionIter<'a>
+        requires { AreWithin buffer.now copies.now (events_of events) }
+        ensures { sections_left result ≡ map (λ events. map (shown_event buffer.now copies.now) events) (sections_of is_header_event (events_of events.entry)) }
     {
         SectionIter {
             buffer,
             copies,
-            events: events.split_at(front_len(events)).1,
+            events: events.split_front().1,
         }
     }
 }
@@ -154,8 +146,7 @@ impl<'a> Iterator for SectionIter<'a> {
 
     #[tactic(auto, using(crate::proofs::Cuts::cuts))]
     fn next(&mut self) -> Option<SectionRef<'a>> {
-        let (_, behind) = self.events.split_first()?;
-        let (section, others) = self.events.split_at(front_len(behind) + 1);
+        let (section, others) = self.events.split_section()?;
         self.events = others;
         Some(SectionRef {
             buffer: self.buffer,

@@ -7,13 +7,14 @@ ghost use Rattle.gitconf_parse.specs.Reading.{Gives, with_blanks, run_end_at, as
 use super::ReadError;
 use super::run::{Run, run_end};
 use super::value::value_events;
+use crate::compact::EventVec;
 use crate::event::{Event, Span};
 
 /// The blanks at an offset, if there are any.
-fn blanks(input: &[u8], at: usize, events: &mut Vec<Event>) -> Result<usize, ReadError>
+fn blanks(input: &[u8], at: usize, events: &mut EventVec) -> Result<usize, ReadError>
     requires within { at ≤ length input.now }
     requires fits { length input.now < 2 ^ 32 }
-    ensures events { IfOk result (λ end. events.new.items ≡ with_blanks events.old.items at end) }
+    ensures events { IfOk result (λ end. events.new ≡ with_blanks events.old at end) }
     ensures end { IfOk result (λ end. end ≡ run_end_at input.now Blanks at) }
     ensures behind { IfOk result (λ end. at ≤ end) }
     ensures inside { IfOk result (λ end. end ≤ length input.now) }
@@ -28,10 +29,10 @@ fn blanks(input: &[u8], at: usize, events: &mut Vec<Event>) -> Result<usize, Rea
 
 /// What is assigned behind a name and its blanks: `=`, blanks and a value, or nothing.
 #[tactic(auto, unfolding(crate::specs::Reading::assigned_at))]
-fn assigned(input: &[u8], at: usize, events: &mut Vec<Event>) -> Result<usize, ReadError>
+fn assigned(input: &[u8], at: usize, events: &mut EventVec) -> Result<usize, ReadError>
     requires within { at ≤ length input.now }
     requires fits { length input.now < 2 ^ 32 }
-    ensures gives { Gives result events.new.items (assigned_at input.now at events.old.items) }
+    ensures gives { Gives result events.new (assigned_at input.now at events.old) }
     ensures behind { IfOk result (λ end. at ≤ end) }
     ensures inside { IfOk result (λ end. end ≤ length input.now) }
 {
@@ -47,10 +48,10 @@ fn assigned(input: &[u8], at: usize, events: &mut Vec<Event>) -> Result<usize, R
 
 /// The entry whose name begins, with a letter, at an offset.
 #[tactic(auto, unfolding(crate::specs::Reading::entry_at))]
-pub fn entry(input: &[u8], at: usize, events: &mut Vec<Event>) -> Result<usize, ReadError>
+pub fn entry(input: &[u8], at: usize, events: &mut EventVec) -> Result<usize, ReadError>
     requires within { at < length input.now }
     requires fits { length input.now < 2 ^ 32 }
-    ensures gives { Gives result events.new.items (entry_at input.now at events.old.items) }
+    ensures gives { Gives result events.new (entry_at input.now at events.old) }
     ensures behind { IfOk result (λ end. at < end) }
     ensures inside { IfOk result (λ end. end ≤ length input.now) }
 {

@@ -7,6 +7,7 @@ use super::entry::entry;
 use super::header::header;
 use super::run::{Run, is_line_end, run_end};
 use super::{Expected, Fault, ReadError};
+use crate::compact::EventVec;
 use crate::event::{Event, Span};
 
 /// One part, and the offset behind it; `wanted` is told as looked for where none stands.
@@ -15,11 +16,11 @@ fn part(
     input: &[u8],
     at: usize,
     wanted: Expected,
-    events: &mut Vec<Event>,
+    events: &mut EventVec,
 ) -> Result<usize, ReadError>
     requires within { at < length input.now }
     requires fits { length input.now < 2 ^ 32 }
-    ensures gives { Gives result events.new.items (part_at input.now at wanted events.old.items) }
+    ensures gives { Gives result events.new (part_at input.now at wanted events.old) }
     ensures behind { IfOk result (λ end. at < end) }
     ensures inside { IfOk result (λ end. end ≤ length input.now) }
 {
@@ -59,10 +60,10 @@ fn part(
 
 /// All parts from an offset on.
 #[tactic(auto, unfolding(crate::specs::Reading::text_from))]
-pub fn parts(input: &[u8], start: usize, events: &mut Vec<Event>) -> Result<(), ReadError>
+pub fn parts(input: &[u8], start: usize, events: &mut EventVec) -> Result<(), ReadError>
     requires within { start ≤ length input.now }
     requires fits { length input.now < 2 ^ 32 }
-    ensures { GivesAll result events.new.items (text_from input.now SectionHeader events.old.items start 0 (drop start input.now)) }
+    ensures { GivesAll result events.new (text_from input.now SectionHeader events.old start 0 (drop start input.now)) }
 {
     let mut wanted = Expected::SectionHeader;
     let mut at = start;

@@ -1,8 +1,9 @@
 //! Runs: blanks, line ends, and the bytes of comments and names.
 ghost use Rattle.std.specs.Prelude.{◌≡◌, ◌≤◌, ◌<◌, length, drop};
 ghost use Rattle.gitconf_text.specs.Text.{begins_line_end};
-ghost use Rattle.gitconf_text.specs.Bytes as text_bytes;
 ghost use Rattle.gitconf_parse.specs.Reading.{run_test, run_end_at};
+
+use super::class::{is_header_byte, is_name_byte, is_plain};
 
 /// What a run consists of.
 #[derive(Clone, Copy)]
@@ -17,6 +18,8 @@ pub enum Run {
     NameBytes,
     /// The same, and dots.
     HeaderBytes,
+    /// Bytes that stand for themselves in a value, quotes or not.
+    PlainBytes,
 }
 
 /// Whether LF, or CR and LF, stand at an offset.
@@ -27,13 +30,6 @@ pub fn is_line_end(input: &[u8], at: usize) -> bool
 {
     let byte = input[at];
     byte == b'\n' || byte == b'\r' && input.get(at + 1).copied() == Some(b'\n')
-}
-
-#[inline(always)]
-fn is_name_byte(byte: u8) -> bool
-    ensures { result ≡ text_bytes.is_name_byte byte }
-{
-    byte.is_ascii_alphanumeric() || byte == b'-'
 }
 
 impl Run {
@@ -49,7 +45,8 @@ impl Run {
             Run::LineEnds => is_line_end(input, at),
             Run::CommentText => !is_line_end(input, at),
             Run::NameBytes => is_name_byte(byte),
-            Run::HeaderBytes => is_name_byte(byte) || byte == b'.',
+            Run::HeaderBytes => is_header_byte(byte),
+            Run::PlainBytes => is_plain(byte),
         }
     }
 }

@@ -1,5 +1,5 @@
 //! From a meaning to a value as a file spells it.
-ghost use Rattle.std.specs.Prelude.{◌≡◌, ◌+◌, ◌*◌, ◌≤◌, ◌<◌, [], ◌∷◌, ◌++◌, length, vec_len, vec_capacity, flat_map, IfOk, OnOk, OnErr};
+ghost use Rattle.std.specs.Prelude.{◌≡◌, ◌+◌, ◌-◌, ◌*◌, ◌^◌, ◌≤◌, ◌<◌, min, [], ◌∷◌, ◌++◌, length, vec_len, vec_capacity, flat_map, IfOk, OnOk, OnErr};
 ghost use Rattle.gitconf_text.specs.Bytes.{is_whitespace};
 ghost use Rattle.gitconf_text.specs.Text as text;
 ghost use Rattle.gitconf_text.specs.Unit as unit;
@@ -37,7 +37,7 @@ fn is_mark(b: u8) -> bool
 }
 
 /// How many bytes the byte is written with.
-fn escaped_len(b: u8) -> usize
+fn escaped_byte_len(b: u8) -> usize
     ensures exact { result ≡ length (spec.escaped_byte b) }
     ensures few { result ≤ 2 }
 {
@@ -63,7 +63,7 @@ fn spelling_of(bytes: &[u8]) -> Spelling
     let mut length = 0;
     for b in bytes {
         marked = marked || is_mark(*b);
-        length += escaped_len(*b);
+        length += escaped_byte_len(*b);
     }
     let quoted = begins_white(bytes) || ends_white(bytes) || marked;
     Spelling { quoted, length }
@@ -105,6 +105,19 @@ fn put_bytes(out: &mut Vec<u8>, bytes: &[u8])
 {
     for b in bytes {
         put_byte(out, *b);
+    }
+}
+
+/// How many bytes [`escape`] writes; the greatest number where they are more. It reads `bytes` once, and takes no memory.
+#[tactic(auto, using(crate::proofs::ValuesEscaped::escaping))]
+pub fn escaped_len(bytes: &[u8]) -> usize
+    ensures { result ≡ min (length (spec.escaped bytes.now)) (2 ^ 64 - 1) }
+{
+    let spelling = spelling_of(bytes);
+    if spelling.quoted {
+        spelling.length.saturating_add(2)
+    } else {
+        spelling.length
     }
 }
 

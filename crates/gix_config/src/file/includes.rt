@@ -4,7 +4,7 @@ ghost use Rattle.gix_config.specs.Options.{no_conditions, no_follow, follow, str
 
 pub mod conditional;
 
-use gitconf_base::host::FileFault;
+use gitconf_host::FileFault;
 use gitconf_parse::error as parse;
 use gitconf_text::NoMemory;
 use gitconf_text::parse::span;

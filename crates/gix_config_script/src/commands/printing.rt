@@ -1,7 +1,6 @@
 //! Commands that write a file.
 
 use crate::answer::{Answer, Outcome};
-use crate::names::names_of;
 use crate::refusal::Refusal;
 use crate::writers::{FailingOnce, Failure};
 use gitconf_script::arguments::{all_bytes, count_before, no_words};
@@ -36,7 +35,7 @@ fn sections_named(
     all_bytes(names)?;
     let mut found = Vec::new(alloc);
     for section in file.sections() {
-        if is_one_of(names, &names_of(alloc, &section)?.name) {
+        if is_one_of(names, section.header().name()) {
             found.push(section.id())?;
         }
     }

@@ -15,7 +15,10 @@ pub fn dump<'a>(file: &'a File, words: &[Word<'_>]) -> Outcome<'a> {
 }
 
 /// The section at the place that the words tell.
-fn section_at<'a>(file: &'a File, words: &[Word<'_>]) -> Result<Option<SectionRef<'a>>, Refusal> {
+pub(super) fn section_at<'a>(
+    file: &'a File,
+    words: &[Word<'_>],
+) -> Result<Option<SectionRef<'a>>, Refusal> {
     let place = number(words)?;
     Ok(file.sections().nth(place))
 }

@@ -2,8 +2,8 @@ use Rattle.std.proofs.Common.{rules, ◌≡◌, true, false, sym, subst}
 use Rattle.std.specs.List.{list_any}
 use Rattle.std.specs.Prelude.{IfOk}
 use Rattle.gitconf_body.specs.Buffers.{Grows}
-use Rattle.gitconf_body.specs.Spacings.{SpacingStands, is_stored_entry, spacing_bytes}
-use Rattle.gitconf_body.proofs.Spacings.{found_spacing, default_spacing}
+use Rattle.gitconf_body.specs.Spacings.{SpacingStands, is_stored_entry}
+use Rattle.gitconf_body.proofs.Spacings.{found_spacing, default_spacing, default_put}
 use Rattle.gitconf_body.proofs.spacing.spacing_of.Goals as goal
 
 pub returns-then-not-has_entry-clause-stands : goal.returns-then-not-has_entry-clause-stands
@@ -15,8 +15,8 @@ returns-then-not-has_entry-clause-stands c =
 pub returns-then-not-has_entry-clause-grows : goal.returns-then-not-has_entry-clause-grows
 returns-then-not-has_entry-clause-grows c =
     let none : list_any is_stored_entry c.args.items.now ≡ false = search rules in
-    subst (λ b. Grows c.default_spacing.result (spacing_bytes b) c.args.buffer.now.items c.default_spacing.new.buffer.items)
-    (sym (default_spacing c.args.buffer.now.items c.args.items.now none)) c.default_spacing.ensures.grows
+    subst (λ n. Grows c.default_spacing.result n c.args.buffer.now.items c.default_spacing.new.buffer.items)
+    (sym (default_put c.args.buffer.now.items c.args.items.now none)) c.default_spacing.ensures.grows
 
 pub returns-clause-stands : goal.returns-clause-stands
 returns-clause-stands c =

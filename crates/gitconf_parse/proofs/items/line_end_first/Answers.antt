@@ -1,8 +1,10 @@
 use Rattle.std.proofs.Common.{◌≡◌, ◌∷◌, true, map}
 use Rattle.gitconf_text.specs.Token.{NewlineToken, filled}
+use Rattle.gitconf_parse.specs.Compact.{events_of}
 use Rattle.gitconf_parse.specs.Events.{bytes_of, token_of}
 use Rattle.gitconf_parse.specs.Items as spec
-use Rattle.gitconf_parse.specs.Items.{item_of, assigned_of, Place, Between, BehindName, BehindNameBlanks, BehindSeparator, BehindSeparatorBlanks, BehindPiece, BehindPieceEnd, are_items}
+use Rattle.gitconf_parse.specs.Items.{item_of, assigned_of}
+use Rattle.gitconf_parse.specs.Grouping.{Place, Between, BehindName, BehindNameBlanks, BehindSeparator, BehindSeparatorBlanks, BehindPiece, BehindPieceEnd, are_items, AreBehind}
 use Rattle.std.proofs.Common.{subst, sym, ap, ◌∙◌}
 use Rattle.gitconf_parse.specs.declared.event.Event.TheVariants as kinds
 use Rattle.gitconf_parse.proofs.Grouping.{filled_first}
@@ -13,7 +15,7 @@ pub returns-in-Some-Newline-default-clause-tokens : goal.returns-in-Some-Newline
 returns-in-Some-Newline-default-clause-tokens c =
     let b = c.args.buffer.now in
     let run = c.in-Some-Newline-default.run' in
-    let behind = c.in-Some-Newline-default.behind.now in
-    let is : c.args.events.now ≡ kinds.Newline run ∷ behind = c.in-Some-Newline-default.ensures.cases.0 ∙ ap (λ e. e ∷ behind) c.in-Some-Newline-default.field-0-0-is in
-    subst (λ es. spec.AreBehind BehindPieceEnd (filled NewlineToken (bytes_of b run)) (map (token_of b) behind) (map (token_of b) es)) (sym is)
+    let behind = (events_of c.in-Some-Newline-default.behind) in
+    let is : events_of c.args.events ≡ kinds.Newline run ∷ behind = c.in-Some-Newline-default.ensures.cases ∙ ap (λ e. e ∷ behind) c.in-Some-Newline-default.field-0-0-is in
+    subst (λ es. AreBehind BehindPieceEnd (filled NewlineToken (bytes_of b run)) (map (token_of b) behind) (map (token_of b) es)) (sym is)
     (filled_first BehindPieceEnd NewlineToken (bytes_of b run) (map (token_of b) behind) (subst (λ es. are_items BehindPiece (map (token_of b) es) ≡ true) is c.requires.items))

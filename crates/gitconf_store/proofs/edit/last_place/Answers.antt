@@ -1,30 +1,36 @@
-use Rattle.std.proofs.Common.{rules, ◌≡◌, ◌-◌, suc, Some, true, false}
-use Rattle.std.specs.List.{slice_get}
-use Rattle.std.specs.Option.{option_copied, option_map}
+use Rattle.std.proofs.Common.{rules, ◌≡◌, None, subst, sym, ◌∙◌, arith}
+use Rattle.std.specs.Option.{option_copied}
 use Rattle.std.specs.Prelude.{◌&&◌}
+use Rattle.std.proofs.lemmas.Bool.Decides.{nat_tests}
 use Rattle.gitconf_table.specs.Sections.{is_named}
-use Rattle.gitconf_store.proofs.Targets.{target_found, target_passed}
+use Rattle.gitconf_body.specs.Places.{IsLastPlace}
+use Rattle.gitconf_store.proofs.Targets.{named_there, target_missing, target_placed, walked_below}
 use Rattle.gitconf_store.proofs.edit.last_place.Goals as goal
 
-pub returns-then-is_target-clause-exact : goal.returns-then-is_target-clause-exact
-returns-then-is_target-clause-exact g c = λ keeps h.
-    let told = c.loop-end.invariant.told keeps h in
+pub returns-in_err-id-clause-exact : goal.returns-in_err-id-clause-exact
+returns-in_err-id-clause-exact g c = λ keeps h.
+    let none : c.last_id.result ≡ None = search rules in
+    let result : None ≡ c.from_residual.result = search rules in
+    let named = is_named c.args.name.now (option_copied c.args.subsection) in
     let entries = c.args.table.now.entries in
-    let asked = (c.is_target.ensures.exact keeps told.0).1 in
-    let here : option_map (λ e. is_named c.args.name.now (option_copied c.args.subsection) e && keeps e.section.meta.value) (slice_get entries (c.loop-end.end - 1)) ≡ Some true = search rules in
-    let next : suc (c.loop-end.end - 1) ≡ c.loop-end.end = search rules in
-    target_found (λ e. is_named c.args.name.now (option_copied c.args.subsection) e && keeps e.section.meta.value) entries c.loop-end.end (c.loop-end.end - 1) told.1 next here
+    let missing = target_missing named keeps entries (sym none ∙ c.last_id.ensures.exact keeps h) in
+    subst (IsLastPlace (λ e. named e && keeps e.section.meta.value) entries) result missing
 
-pub loop-end-preserved : goal.loop-end-preserved
-loop-end-preserved g c = record {
-  callable = c.is_target.ensures.callable;
-  within = search rules;
-  told = λ keeps h.
-      let told = c.loop-end.invariant.told keeps h in
-      let entries = c.args.table.now.entries in
-      let asked = c.is_target.ensures.exact keeps told.0 in
-      let same = asked.1 in
-      let here : option_map (λ e. is_named c.args.name.now (option_copied c.args.subsection) e && keeps e.section.meta.value) (slice_get entries (c.loop-end.end - 1)) ≡ Some false = search rules in
-      let next : suc (c.loop-end.end - 1) ≡ c.loop-end.end = search rules in
-      (asked.0, target_passed (λ e. is_named c.args.name.now (option_copied c.args.subsection) e && keeps e.section.meta.value) entries c.loop-end.end (c.loop-end.end - 1) told.1 next here);
-}
+pub prove-unreachable-requires : goal.prove-unreachable-requires
+prove-unreachable-requires g c =
+    let named = is_named c.args.name.now (option_copied c.args.subsection) in
+    let below = walked_below named c.args.table.now.next c.in_ok-id.id c.args.table.now.entries c.next_id.ensures.numbered.once c.in_ok-id.ensures.known in
+    let value = c.next_id.ensures.value in
+    let not_less = c.if-prove.ensures in
+    grind (arith, nat_tests)
+
+pub returns-clause-exact : goal.returns-clause-exact
+returns-clause-exact g c = λ keeps h.
+    let named = is_named c.args.name.now (option_copied c.args.subsection) in
+    target_placed named keeps c.args.table.now.next c.in_ok-id.id c.args.table.now.entries c.position.result c.next_id.ensures.numbered.once
+    (c.in_ok-id.ensures.exact keeps h) c.position.ensures.place
+
+pub returns-clause-named : goal.returns-clause-named
+returns-clause-named g c =
+    named_there (is_named c.args.name.now (option_copied c.args.subsection)) c.args.table.now.next c.in_ok-id.id c.args.table.now.entries c.position.result
+    c.next_id.ensures.numbered.once c.in_ok-id.ensures.known c.position.ensures.place

@@ -1,4 +1,4 @@
-use Rattle.std.proofs.Common.{◌≡◌, Bool}
+use Rattle.std.proofs.Common.{◌≡◌, Bool, true}
 use Rattle.std.specs.List.{list_any}
 use Rattle.std.specs.Fn.{ComputesKey}
 use Rattle.gitconf_state.specs.State.{SectionState}
@@ -13,4 +13,5 @@ invariant-loop-section g l = record {
   callable : goal.F-IsAlwaysCallable g l.filter;
   told : (keeps : SectionState → Bool) → ComputesKey g.F.FnMut (λ r. keeps (shown r)) l.fn.filter
       → ComputesKey g.F.FnMut (λ r. keeps (shown r)) l.filter × (list_any keeps (sections_left l.fn.sections) ≡ list_any keeps (sections_left l.section-iterator));
+  some : list_any (λ _. true) (sections_left l.section-iterator) ≡ true → list_any (λ _. true) (sections_left l.fn.sections) ≡ true;
 }

@@ -4,6 +4,7 @@ use Rattle.gitconf_write.proofs.Left.{left_behind, left_fault, left_last}
 use Rattle.gitconf_store.specs.Texts.{sections_text, next_text, line_end_unless}
 use Rattle.gitconf_store.specs.Views.{shown, sections_left}
 use Rattle.gitconf_store.proofs.Texts.{next_section, last_section}
+use Rattle.gitconf_store.proofs.SomeTexts.{some_fault, some_last, some_next}
 use Rattle.gitconf_store.proofs.print.write_sections.Goals as goal
 
 pub returns-in_err-ended-clause-exact : goal.returns-in_err-ended-clause-exact
@@ -37,8 +38,34 @@ loop-section-preserved g c = record {
         left_behind (sections_text keeps le true (sections_left c.args.sections)) (sections_text keeps le ended (sections_left it)) (next_text keeps le ended s)
             (sections_text keeps le c.in_ok-ended.ended (sections_left c.next.new.self)) _ _ _ told.1 next written.1,
       );
+  some =
+      let le = bytes_of_line_end c.args.line_end in
+      let s = shown c.in-Some.section in
+      let it = c.loop-section.section-iterator in
+      let is : sections_left it ≡ s ∷ sections_left c.next.new.self = search rules in
+      let written = c.in_ok-ended.ensures.some in
+      some_next le c.loop-section.ended c.in_ok-ended.ended (sections_left c.args.sections) (sections_left it) s (sections_left c.next.new.self) written.0 _ _ _
+      c.loop-section.invariant.some is written.1 written.2;
   quiet = c.in_ok-ended.ensures.counted ∙ c.loop-section.invariant.quiet;
 }
+
+pub returns-in_err-ended-clause-some : goal.returns-in_err-ended-clause-some
+returns-in_err-ended-clause-some g c =
+    let le = bytes_of_line_end c.args.line_end in
+    let s = shown c.in-Some.section in
+    let it = c.loop-section.section-iterator in
+    let is : sections_left it ≡ s ∷ sections_left c.next.new.self = search rules in
+    let written = c.in_err-ended.ensures.some in
+    some_fault c.from_residual.result le c.loop-section.ended (sections_left c.args.sections) (sections_left it) s (sections_left c.next.new.self) written.0 _ _ _
+    c.from_residual.ensures.0 c.loop-section.invariant.some is written.1
+
+pub returns-clause-some : goal.returns-clause-some
+returns-clause-some g c =
+    let le = bytes_of_line_end c.args.line_end in
+    let it = c.loop-section.section-iterator in
+    let is : sections_left it ≡ [] = search rules in
+    some_last c.write_line_end_unless.result le c.loop-section.ended (sections_left c.args.sections) (sections_left it) _ _ _
+    c.loop-section.invariant.some is c.write_line_end_unless.ensures.written
 
 pub returns-clause-exact : goal.returns-clause-exact
 returns-clause-exact g c = λ keeps h.

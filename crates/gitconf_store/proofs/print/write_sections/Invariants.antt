@@ -5,6 +5,7 @@ use Rattle.gitconf_write.specs.LineEnds.{bytes_of_line_end}
 use Rattle.gitconf_write.proofs.Left.{IsLeft}
 use Rattle.gitconf_store.specs.Texts.{sections_text}
 use Rattle.gitconf_store.specs.Views.{shown, sections_left}
+use Rattle.gitconf_store.proofs.SomeTexts.{IsSomeLeft}
 use Rattle.gitconf_store.proofs.print.write_sections.Given as goal
 
 -- the sections before were written, where the filter answers by what it is shown, and no failure was counted
@@ -18,5 +19,6 @@ invariant-loop-section g l = record {
       × IsLeft (sections_text keeps (bytes_of_line_end l.line_end) true (sections_left l.fn.sections))
       (sections_text keeps (bytes_of_line_end l.line_end) l.ended (sections_left l.section-iterator))
       (g.W.Sink.told l.fn.out) (g.W.Sink.told l.out);
+  some : IsSomeLeft (bytes_of_line_end l.line_end) l.ended (sections_left l.fn.sections) (sections_left l.section-iterator) (g.W.Sink.told l.fn.out) (g.W.Sink.told l.out);
   quiet : g.W.Sink.faults l.out ≡ g.W.Sink.faults l.fn.out;
 }

@@ -8,9 +8,6 @@ use Rattle.gitconf_parse.proofs.events.Events.frontmatter.Goals as goal
 pub returns : goal.returns
 returns c =
     let i = c.self.inside in
-    let front : c.split_at.result.0.now ≡ front_of is_header_event i.events.items
-    = c.split_at.ensures.front ∙ ap (take c.front_len.result) (c.deref.ensures.value ∙ sym c.deref-2.ensures.value)
-    ∙ c.front_len.ensures.front ∙ ap (front_of is_header_event) c.deref-2.ensures.value in
-    rw (c.deref-3.ensures.value, c.deref-4.ensures.value, front) at c.over.ensures
-    ∙ front_of-map is_header_event is_shown_header (shown_event i.buffer.items i.copies.items) (header_told i.buffer.items i.copies.items) i.events.items
+    rw (c.deref.ensures.value, c.deref-2.ensures.value, c.split_front.ensures.front, c.as_slice.ensures) at c.over.ensures
+    ∙ front_of-map is_header_event is_shown_header (shown_event i.buffer.items i.copies.items) (header_told i.buffer.items i.copies.items) i.events
     ∙ ap (front_of is_shown_header) (shown_list _ _ _ c.self.invariant.shown ∙ ap (λ (l : EventList). map shown_token l.tokens) c.self.view_is)

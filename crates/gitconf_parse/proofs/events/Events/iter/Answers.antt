@@ -6,6 +6,6 @@ use Rattle.gitconf_parse.proofs.events.Events.iter.Goals as goal
 
 pub returns : goal.returns
 returns c =
-    rw (c.deref.ensures.value, c.deref-2.ensures.value, c.deref-3.ensures.value) at c.over.ensures
+    rw (c.deref.ensures.value, c.deref-2.ensures.value, c.as_slice.ensures) at c.over.ensures
     ∙ shown_list _ _ _ c.self.invariant.shown
     ∙ ap (λ (l : EventList). map shown_token l.tokens) c.self.view_is

@@ -8,6 +8,6 @@ use Rattle.gitconf_parse.proofs.events.Events.sections.Goals as goal
 pub returns : goal.returns
 returns c =
     let i = c.self.inside in
-    rw (c.deref.ensures.value, c.deref-2.ensures.value, c.deref-3.ensures.value) at c.over.ensures
-    ∙ sections_of-map is_header_event is_shown_header (shown_event i.buffer.items i.copies.items) (header_told i.buffer.items i.copies.items) i.events.items
+    rw (c.deref.ensures.value, c.deref-2.ensures.value, c.as_slice.ensures) at c.over.ensures
+    ∙ sections_of-map is_header_event is_shown_header (shown_event i.buffer.items i.copies.items) (header_told i.buffer.items i.copies.items) i.events
     ∙ ap (sections_of is_shown_header) (shown_list _ _ _ c.self.invariant.shown ∙ ap (λ (l : EventList). map shown_token l.tokens) c.self.view_is)

@@ -1,29 +1,24 @@
-use Rattle.std.proofs.Common.{map, subst}
-use Rattle.std.proofs.lemmas.List.{take_more}
-use Rattle.gitconf_parse.specs.declared.event.Event.TheVariants.{Comment}
+use Rattle.std.proofs.Common.{◌≡◌, ◌++◌, ◌∷◌, [], ◌∙◌, map, sym, subst, append_assoc, append-nil}
+use Rattle.gitconf_parse.specs.Compact.{events_of}
 use Rattle.gitconf_parse.specs.Events.{token_of}
 use Rattle.gitconf_parse.specs.EventList.{IsKept, IsSelection}
-use Rattle.gitconf_parse.proofs.Kept.{kept_step, take_whole}
+use Rattle.gitconf_parse.proofs.Kept.{kept_step}
 use Rattle.gitconf_parse.proofs.Selections.{selected_step}
-use Rattle.gitconf_parse.proofs.Shown.{all_push_if, all_at}
+use Rattle.gitconf_parse.proofs.Shown.{all_push_if}
 use Rattle.gitconf_parse.proofs.events.filter.kept_events.Goals as goal
 
 pub loop-event-preserved : goal.loop-event-preserved
 loop-event-preserved g c =
-    let none = Comment 0 (record { start = 0; len = 0 }) in
-    record {
-      kept = λ p tells. rw (take_more c.args.events.now c.loop-event.event-index none c.loop-event-test.true, c.in_ok-push_if.ensures, c.is_entry.ensures c.args.buffer.now)
-          (kept_step p _ _ _ _ _ _ (c.keeps-keep.ensures.exact p tells) (c.loop-event.invariant.kept p tells));
-      selected = rw (take_more c.args.events.now c.loop-event.event-index none c.loop-event-test.true, c.in_ok-push_if.ensures, c.is_entry.ensures c.args.buffer.now)
-          (selected_step _ _ _ _ _ _ c.keeps-keep.ensures.header c.loop-event.invariant.selected);
-      fits = rw c.in_ok-push_if.ensures (all_push_if _ _ _ _ c.loop-event.invariant.fits (all_at _ _ _ none c.requires.shown c.loop-event-test.true));
-    }
-
-pub returns-clause-kept : goal.returns-clause-kept
-returns-clause-kept g c = λ p tells.
-    subst (λ all. IsKept p c.args.buffer.now all c.loop-event.kept.items c.loop-event.entries) (take_whole _ _ c.loop-event-test.false) (c.loop-event.invariant.kept p tells)
-
-pub returns-clause-selected : goal.returns-clause-selected
-returns-clause-selected g c =
-    subst (λ all. IsSelection c.loop-event.entries (map (token_of c.args.buffer.now) all) (map (token_of c.args.buffer.now) c.loop-event.kept.items))
-    (take_whole _ _ c.loop-event-test.false) c.loop-event.invariant.selected
+    let so = c.loop-event.invariant in
+    let e = c.in-Some.event in
+    let fit = rw c.in-Some.ensures.cases at so.1.left_fit in (
+      so.0 ++ e ∷ [],
+      record {
+        all = append_assoc so.0 (e ∷ []) (events_of c.in-Some.behind) ∙ rw c.in-Some.ensures.cases at so.1.all;
+        kept = λ p tells. rw (c.in_ok-push_if.ensures, c.is_entry.ensures c.args.buffer.now)
+            (kept_step p _ _ _ _ _ _ (c.keeps-keep.ensures.exact p tells) (so.1.kept p tells));
+        selected = rw (c.in_ok-push_if.ensures, c.is_entry.ensures c.args.buffer.now) (selected_step _ _ _ _ _ _ c.keeps-keep.ensures.header so.1.selected);
+        fits = rw c.in_ok-push_if.ensures (all_push_if _ _ _ _ so.1.fits fit.0);
+        left_fit = fit.1;
+      },
+    )

@@ -1,4 +1,4 @@
-use Rattle.std.proofs.Common.{rules, ◌≡◌}
+use Rattle.std.proofs.Common.{rules, ◌≡◌, refl}
 use Rattle.bstr.specs.Owned.{bstring_bytes}
 use Rattle.gitconf_state.specs.Printing.{printed_section}
 use Rattle.gitconf_store.specs.Views.{shown}
@@ -6,6 +6,7 @@ use Rattle.gitconf_store.proofs.ReadBack.{section_text_reads}
 use Rattle.gitconf_store.proofs.section.SectionRef.to_bstring.Goals as goal
 
 pub returns-in-Ok-clause-reads : goal.returns-in-Ok-clause-reads
-returns-in-Ok-clause-reads c = λ has clean.
+returns-in-Ok-clause-reads c = λ clean.
     let text : bstring_bytes c.new.result ≡ printed_section (shown c.args.self.now) = search rules in
-    section_text_reads (bstring_bytes c.new.result) (shown c.args.self.now) text has clean
+    let viewed = c.args.self.now.viewed in
+    section_text_reads (bstring_bytes c.new.result) (shown c.args.self.now) text (record { header = viewed.spelled; items = viewed.items; held = refl }) clean

@@ -1,6 +1,6 @@
 use Rattle.std.proofs.Common.{◌≡◌, refl, sym, ap, subst, ◌∙◌, length}
 use Rattle.std.specs.Prelude.{option_map}
-use Rattle.gitconf_state.specs.Edit.{old_value, set_tokens, token_bytes}
+use Rattle.gitconf_state.specs.Edit.{old_value, set_bytes}
 use Rattle.gitconf_state.specs.LineEnds.{file_line_end}
 use Rattle.gitconf_write.specs.Bodies.{items_of}
 use Rattle.gitconf_write.specs.LineEnds.{bytes_of_line_end}
@@ -61,7 +61,7 @@ returns-clause-used c =
     let state = state_of b c.self.inside.front.items c.self.inside.meta.value c.self.inside.sections in
     let line_end : bytes_of_line_end c.line_end-line_end.result ≡ file_line_end (state_of b c.self.inside.front.items c.self.inside.meta.value c.self.inside.sections) =
     c.line_end-line_end.ensures ∙ ap file_line_end (sym c.self.view_is) in
-    rw (← c.self.view_is) (asked_at (λ items. UsedGrows c.set_value.result (token_bytes (set_tokens (file_line_end state) c.args.key.now c.args.value.now items)) (length b) (length new))
+    rw (← c.self.view_is) (asked_at (λ items. UsedGrows c.set_value.result (set_bytes (file_line_end state) c.args.key.now c.args.value.now items) (length b) (length new))
     b c.self.inside.front.items c.self.inside.meta.value c.self.inside.sections c.args.at s c.at_mut-section.ensures.value
-    (subst (λ l. UsedGrows c.set_value.result (token_bytes (set_tokens l c.args.key.now c.args.value.now (items_of b s.items.items))) (length b) (length new)) line_end
-    (record { grown = c.set_value.ensures.grows.grown; too_large = c.set_value.ensures.grows.too_large; known = c.set_value.ensures.grows.known })))
+    (subst (λ l. UsedGrows c.set_value.result (set_bytes l c.args.key.now c.args.value.now (items_of b s.items.items)) (length b) (length new)) line_end
+    (record { grown = c.set_value.ensures.grows.grown; too_large = c.set_value.ensures.grows.too_large; refused = c.set_value.ensures.refused; known = c.set_value.ensures.grows.known })))

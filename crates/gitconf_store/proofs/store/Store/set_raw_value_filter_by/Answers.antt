@@ -18,7 +18,7 @@ returns-in_err-set_in_new-clause-exact g c = λ keeps h.
     let fault : c.from_residual.result ≡ Err (of_header c.in_err-set_in_new.field-0.0) = search rules in
     subst (λ k. IsSet c.args.section_name.now (option_copied c.args.subsection_name) k keeps c.args.new_value.now c.from_residual.result c.args.self.now c.set_in_new.new.self) c.as_bytes-key.ensures.value
     (made_err c.args.section_name.now (option_copied c.args.subsection_name) key keeps c.args.new_value.now c.args.self.now c.set_in_new.new.self c.set_in_new.result
-    c.in_err-set_in_new.field-0.0 c.from_residual.result (search rules) fault keyed none c.set_in_new.ensures.name c.set_in_new.ensures.subsection c.set_in_new.ensures.used c.set_in_new.ensures.known)
+    c.in_err-set_in_new.field-0.0 c.from_residual.result (search rules) fault keyed none c.set_in_new.ensures.name c.set_in_new.ensures.subsection c.set_in_new.ensures.used c.set_in_new.ensures.known c.set_in_new.ensures.refused)
 
 pub returns-in_default-clause-exact : goal.returns-in_default-clause-exact
 returns-in_default-clause-exact g c = λ keeps h.
@@ -27,7 +27,7 @@ returns-in_default-clause-exact g c = λ keeps h.
     let none : list_any (is_target c.args.section_name.now (option_copied c.args.subsection_name) keeps) c.args.self.now.sections ≡ false = search rules in
     subst (λ k. IsSet c.args.section_name.now (option_copied c.args.subsection_name) k keeps c.args.new_value.now (Ok None) c.args.self.now c.set_in_new.new.self) c.as_bytes-key.ensures.value
     (made_ok c.args.section_name.now (option_copied c.args.subsection_name) key keeps c.args.new_value.now c.args.self.now c.set_in_new.new.self c.set_in_new.result
-    (search rules) none c.set_in_new.ensures.name c.set_in_new.ensures.subsection c.in_ok-set_in_new.ensures.ok c.set_in_new.ensures.used)
+    (search rules) none c.set_in_new.ensures.name c.set_in_new.ensures.subsection c.in_ok-set_in_new.ensures.ok c.set_in_new.ensures.used c.set_in_new.ensures.refused)
 
 pub returns-in_err-old-clause-exact : goal.returns-in_err-old-clause-exact
 returns-in_err-old-clause-exact g c = λ keeps h.

@@ -1,0 +1,6 @@
+//! What lies outside: the faults of files.
+#![tactic(auto)]
+
+mod fault;
+
+pub use fault::{FileFault, Stage};

@@ -1,0 +1,81 @@
+-- The sections of a name, from the last one on and from the first.
+use Rattle.std.proofs.Common.{◌≡◌, ℕ, Bool, true, false, List, [], ◌∷◌, ◌++◌, map, Option, Some, None, Result, Ok, Err, refl, ap, ◌∙◌}
+use Rattle.std.specs.Prelude.{◌≢◌, filter, IsErr}
+use Rattle.std.specs.List.{last_or, filter_map}
+use Rattle.std.specs.Option.{option_map}
+use Rattle.std.specs.declared.vec.Vec.{Vec}
+use Rattle.gitconf_text.specs.Document.{DocumentEntry}
+use Rattle.gitconf_base.specs.Metadata.{Meta}
+use Rattle.gitconf_state.specs.State.{SectionState}
+use Rattle.gitconf_store.specs.declared.lookup.found.Deciding.{Deciding}
+use Rattle.gitconf_store.specs.declared.lookup.found.Found.{Found}
+use Rattle.gitconf_store.specs.Finding.{AreFound, Place, all_places, deciding_entry, deciding_place, last_place, places_in}
+
+-- the last element that passes and gives something
+pub last_given : {A B : Type 0} (test : A → Bool) (f : A → Option B) (o : Option B) (xs : List A) (x : A) (y : B) → test x ≡ true → f x ≡ Some y
+    → last_or o (filter_map f (filter test (xs ++ x ∷ []))) ≡ Some y
+last_given {A} {B} test f o [] x y passes gives = rw (passes, gives) refl
+last_given {A} {B} test f o (z ∷ xs) x y passes gives = go (test z) refl (f z) refl (λ p. last_given test f p xs x y passes gives)
+  where
+    go : (b : Bool) → test z ≡ b → (m : Option B) → f z ≡ m → ((p : Option B) → last_or p (filter_map f (filter test (xs ++ x ∷ []))) ≡ Some y)
+        → last_or o (filter_map f (filter test (z ∷ (xs ++ x ∷ [])))) ≡ Some y
+    go true is None none later = rw (is, none) (later o)
+    go true is (Some w) some later = rw (is, some) (later (Some w))
+    go false is m given later = rw is (later o)
+
+-- one that doesn't pass, or gives nothing, doesn't count
+pub last_passed : {A B : Type 0} (test : A → Bool) (f : A → Option B) (o : Option B) (xs : List A) (x : A) → filter_map f (filter test (x ∷ [])) ≡ []
+    → last_or o (filter_map f (filter test (xs ++ x ∷ []))) ≡ last_or o (filter_map f (filter test xs))
+last_passed {A} {B} test f o [] x nothing = ap (last_or o) nothing
+last_passed {A} {B} test f o (z ∷ xs) x nothing = go (test z) refl (f z) refl (λ p. last_passed test f p xs x nothing)
+  where
+    go : (b : Bool) → test z ≡ b → (m : Option B) → f z ≡ m → ((p : Option B) → last_or p (filter_map f (filter test (xs ++ x ∷ []))) ≡ last_or p (filter_map f (filter test xs)))
+        → last_or o (filter_map f (filter test (z ∷ (xs ++ x ∷ [])))) ≡ last_or o (filter_map f (filter test (z ∷ xs)))
+    go true is None none later = rw (is, none) (later o)
+    go true is (Some w) some later = rw (is, some) (later (Some w))
+    go false is m given later = rw is (later o)
+
+-- the last section decides
+pub decides : (what : Deciding) (key : List ℕ) (keeps : Meta → Bool) (all before : List SectionState) (s : SectionState) (e : DocumentEntry)
+    → all ≡ before ++ s ∷ [] → keeps s.meta ≡ true → deciding_entry what key s ≡ Some e → last_place what key keeps all ≡ Some (s, e)
+decides what key keeps all before s e is kept gives =
+    ap (last_place what key keeps) is
+    ∙ last_given (λ (s : SectionState). keeps s.meta) (deciding_place what key) None before s (s, e) kept (ap (option_map (λ (e : DocumentEntry). (s, e))) gives)
+
+-- it doesn't pass
+pub skipped : (what : Deciding) (key : List ℕ) (keeps : Meta → Bool) (all before : List SectionState) (s : SectionState)
+    → all ≡ before ++ s ∷ [] → keeps s.meta ≡ false → last_place what key keeps all ≡ last_place what key keeps before
+skipped what key keeps all before s is kept =
+    ap (last_place what key keeps) is ∙ last_passed (λ (s : SectionState). keeps s.meta) (deciding_place what key) None before s (rw kept refl)
+
+-- no entry of the key decides in it
+pub undecided : (what : Deciding) (key : List ℕ) (keeps : Meta → Bool) (all before : List SectionState) (s : SectionState)
+    → all ≡ before ++ s ∷ [] → keeps s.meta ≡ true → deciding_entry what key s ≡ None → last_place what key keeps all ≡ last_place what key keeps before
+undecided what key keeps all before s is kept gives =
+    ap (last_place what key keeps) is
+    ∙ last_passed (λ (s : SectionState). keeps s.meta) (deciding_place what key) None before s
+    (let given : deciding_place what key s ≡ None = ap (option_map (λ (e : DocumentEntry). (s, e))) gives in rw (kept, given) refl)
+
+-- the first section passes
+pub first_kept : (key : List ℕ) (keeps : Meta → Bool) (all behind : List SectionState) (s : SectionState)
+    → all ≡ s ∷ behind → keeps s.meta ≡ true → all_places key keeps all ≡ places_in key s ++ all_places key keeps behind
+first_kept key keeps all behind s is kept = ap (all_places key keeps) is ∙ rw kept refl
+
+-- it doesn't
+pub first_skipped : (key : List ℕ) (keeps : Meta → Bool) (all behind : List SectionState) (s : SectionState)
+    → all ≡ s ∷ behind → keeps s.meta ≡ false → all_places key keeps all ≡ all_places key keeps behind
+first_skipped key keeps all behind s is kept = ap (all_places key keeps) is ∙ rw kept refl
+
+-- places are left in the first section
+pub some_left : (found here behind all : List Place) → (found ++ here) ++ behind ≡ all → here ≢ [] → all ≢ []
+some_left found here behind all is some none = go found here some (is ∙ none)
+  where
+    go : (xs ys : List Place) → ys ≢ [] → (xs ++ ys) ++ behind ≡ [] → ⊥
+    go [] [] some' e = some' refl
+    go [] (y ∷ ys) some' e = absurd (cc)
+    go (x ∷ xs) ys some' e = absurd (cc)
+
+-- a refusal where there are some
+pub refused_found : {Z E : Type 0} (result : Result (Vec Found Z) E) (places : List Place) → IsErr result → places ≢ [] → AreFound result places
+refused_found (Ok found) places fault some = absurd (cc)
+refused_found (Err refusal) places fault some = some

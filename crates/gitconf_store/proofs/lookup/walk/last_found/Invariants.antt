@@ -1,0 +1,18 @@
+use Rattle.std.proofs.Common.{◌≡◌, Bool, length}
+use Rattle.std.specs.Fn.{ComputesKey}
+use Rattle.gitconf_base.specs.Metadata.{Meta}
+use Rattle.gitconf_store.specs.Finding.{last_place}
+use Rattle.gitconf_store.specs.Walks.{named_left}
+use Rattle.gitconf_store.proofs.lookup.walk.last_found.Given as goal
+
+-- no passing section behind those that are left decides
+abbrev pub invariant-loop-section : goal.invariant-loop-section
+invariant-loop-section g l = record {
+  callable : goal.F-IsAlwaysCallable g l.filter;
+  told : (keeps : Meta → Bool) → ComputesKey g.F.FnMut keeps l.fn.filter
+      → ComputesKey g.F.FnMut keeps l.filter
+      × (last_place l.deciding l.key keeps (named_left l.fn.sections) ≡ last_place l.deciding l.key keeps (named_left l.left));
+}
+
+abbrev pub decreases-loop-section : goal.decreases-loop-section
+decreases-loop-section g l = length (named_left l.left)

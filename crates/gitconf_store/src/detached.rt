@@ -1,0 +1,161 @@
+//! Sections that stand in no file.
+ghost use Rattle.std.specs.Prelude.{◌≡◌, ◌<◌, ◌^◌, ℕ, true, length, IfOk, OnOk};
+ghost use Rattle.std.specs.List.{list_all};
+ghost use Rattle.gitconf_parse.specs.Events.{header_of};
+ghost use Rattle.gitconf_parse.specs.declared.event.Event.TheVariants as kinds;
+ghost use Rattle.gitconf_parse.specs.ItemsFit.{AreItemsWithin};
+ghost use Rattle.gitconf_parse.specs.ShownEvents.{IsShown};
+ghost use Rattle.gitconf_state.specs.State.{is_header, is_item};
+ghost use Rattle.gitconf_write.specs.Bodies.{items_of};
+ghost use Rattle.gitconf_body.specs.Copies.{IsCopy, IsLonger};
+ghost use Rattle.gitconf_store.specs.Store.{section_under};
+ghost use Rattle.gitconf_store.specs.Alone.{alone, StandsAlone};
+
+use crate::section;
+use crate::section::{SectionRef, shared};
+use gitconf_body::copying::{copied_header, copied_items};
+use gitconf_parse::event::Header;
+use gitconf_parse::events::decoded_header;
+use gitconf_parse::items::Item;
+use gitconf_table::table::SectionId;
+use gitconf_text::NoMemory;
+use std::marker::Model;
+
+/// Items with their bytes copied behind those of another buffer. Bytes that are too many for it are want of memory.
+fn owned_items(from: &[u8], to: &mut Vec<u8>, items: &[Item]) -> Result<Vec<Item>, NoMemory>
+    requires room { length to.old.items < 2 ^ 32 }
+    ensures copies { IfOk result (λ is. IsCopy items_of AreItemsWithin from.now to.new.items items.now is.items) }
+    ensures longer { OnOk result (IsLonger to.old.items to.new.items) }
+{
+    match copied_items(from, to, items) {
+        Ok(items) => Ok(items),
+        Err(_) => Err(NoMemory),
+    }
+}
+
+/// A header with its bytes copied behind those of another buffer, and with a decoded copy of its subsection where it needs one.
+#[tactic(auto, using(crate::proofs::Detaching::header_owned))]
+fn owned_header(
+    from: &[u8],
+    to: &mut Vec<u8>,
+    copies: &mut Vec<u8>,
+    header: Header,
+) -> Result<Header, NoMemory>
+    requires room { length to.old.items < 2 ^ 32 }
+    ensures same { IfOk result (λ h. header_of to.new.items h ≡ header_of from.now header) }
+    ensures shown { IfOk result (λ h. IsShown to.new.items copies.new.items (kinds.SectionHeader h)) }
+    ensures longer { OnOk result (IsLonger to.old.items to.new.items) }
+{
+    match copied_header(from, to, header) {
+        Ok(header) => decoded_header(to, header, copies),
+        Err(_) => Err(NoMemory),
+    }
+}
+
+/// A section with its bytes copied behind those of another buffer, and with nothing held behind it.
+fn owned_section(
+    from: &[u8],
+    to: &mut Vec<u8>,
+    copies: &mut Vec<u8>,
+    source: &section::Section,
+) -> Result<section::Section, NoMemory>
+    requires room { length to.old.items < 2 ^ 32 }
+    requires header { is_header (header_of from.now source.now.header) ≡ true }
+    requires items { list_all is_item (items_of from.now source.now.items.items) ≡ true }
+    ensures same { IfOk result (λ s. (number : ℕ) → section_under to.new.items number s ≡ alone (section_under from.now number source.now)) }
+    ensures stands { IfOk result (λ s. StandsAlone to.new.items copies.new.items s) }
+{
+    let meta = shared(&source.meta)?;
+    let items = owned_items(from, to, &source.items)?;
+    let header = owned_header(from, to, copies, source.header)?;
+    Ok(section::Section {
+        header,
+        meta,
+        items,
+        held: Vec::new(*to.allocator()),
+    })
+}
+
+/// A section that stands in no file: its header and its body, in a buffer of its own, and the number under which it stood in one.
+#[derive(Drop)]
+pub struct Section {
+    buffer: Vec<u8>,
+    /// The decoded subsection of its header, where it needs one.
+    copies: Vec<u8>,
+    id: SectionId,
+    section: section::Section,
+}
+
+impl Model for Section {
+    ghost use Rattle.gitconf_state.specs.Edits.{Detached};
+    ghost use Rattle.gitconf_store.specs.Alone.{detached_of, StandsAlone};
+
+    ghost Value = { Detached };
+
+    ghost view = { λ s. detached_of s.buffer.items s.id s.section };
+
+    ghost invariant = { λ s. StandsAlone s.buffer.items s.copies.items s.section };
+}
+
+impl SectionRef<'_> {
+    ghost use Rattle.std.specs.Prelude.{◌≡◌, IfOk};
+    ghost use Rattle.gitconf_store.specs.Alone.{alone};
+    ghost use Rattle.gitconf_store.specs.Views.{shown};
+
+    /// The section alone, under the same number, with a buffer of its own: its header and its body are copied, and what is held behind
+    /// it isn't. Metadata is shared. One pass, which takes memory for what it copies alone.
+    ///
+    /// # Errors
+    ///
+    /// Want of memory; also where its bytes are more than 4294967295.
+    pub fn to_owned(&self) -> Result<Section, NoMemory>
+        ensures { IfOk result (λ s. s.section ≡ alone (shown self.now)) }
+    {
+        let alloc = *self.section.items.allocator();
+        let mut buffer = Vec::new(alloc);
+        let mut copies = Vec::new(alloc);
+        let section = owned_section(self.buffer, &mut buffer, &mut copies, self.section)?;
+        Ok(Section {
+            buffer,
+            copies,
+            id: self.id,
+            section,
+        })
+    }
+}
+
+impl Section {
+    ghost use Rattle.std.specs.Prelude.{◌≡◌, IfOk};
+    ghost use Rattle.gitconf_store.specs.Views.{shown};
+
+    /// A view of it, as of a section of a file. Takes no memory.
+    pub fn to_ref(&self) -> SectionRef<'_>
+        ensures { shown result ≡ self.now.section }
+    {
+        SectionRef {
+            buffer: &self.buffer,
+            copies: &self.copies,
+            id: self.id,
+            section: &self.section,
+        }
+    }
+
+    /// The same section again, with a buffer of its own; metadata is shared. Each byte and each item is copied once.
+    ///
+    /// # Errors
+    ///
+    /// Want of memory.
+    pub fn try_clone(&self) -> Result<Section, NoMemory>
+        ensures { IfOk result (λ s. s ≡ self.now) }
+    {
+        let buffer = self.buffer.clone()?;
+        let copies = self.copies.clone()?;
+        let section = self.section.clone()?;
+        Ok(Section {
+            buffer,
+            copies,
+            id: self.id,
+            section,
+        })
+    }
+}

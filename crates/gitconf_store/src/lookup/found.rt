@@ -1,0 +1,73 @@
+//! A place that a look-up found, and what stands there.
+ghost use Rattle.std.specs.Prelude.{◌≡◌, IfOk};
+
+use crate::section::SectionRef;
+use crate::values::meaning;
+use bstr::BString;
+use gitconf_parse::items::Entry;
+use gitconf_text::NoMemory;
+use std::alloc::Global;
+
+/// Which entries decide in their section, where they are the last one of the key.
+#[derive(Clone, Copy)]
+pub(crate) enum Deciding {
+    /// Each.
+    Entry,
+    /// One with a value. Behind one without, a look-up goes on to an earlier section.
+    Value,
+}
+
+/// The same view again.
+pub(crate) fn same_view<'a>(section: &SectionRef<'a>) -> SectionRef<'a>
+    ensures { result ≡ section.now }
+{
+    SectionRef {
+        buffer: section.buffer,
+        copies: section.copies,
+        id: section.id,
+        section: section.section,
+    }
+}
+
+/// An entry that a look-up found, and the section in which it stands.
+#[derive(Clone, Copy)]
+pub(crate) struct Found<'a> {
+    pub(crate) section: SectionRef<'a>,
+    pub(crate) entry: &'a Entry,
+}
+
+impl<'a> Found<'a> {
+    ghost use Rattle.std.specs.Option.{option_map};
+    ghost use Rattle.bstr.specs.Owned.{bstring_bytes};
+    ghost use Rattle.gitconf_text.specs.Value.{plain};
+    ghost use Rattle.gitconf_state.specs.Lookup.{meaning as meant};
+    ghost use Rattle.gitconf_store.specs.Finding.{place_of};
+    ghost use Rattle.gitconf_store.specs.Views.{shown};
+
+    /// The section in which the entry stands.
+    pub(crate) fn section(&self) -> SectionRef<'a>
+        ensures { shown result ≡ (place_of self.now).0 }
+    {
+        same_view(&self.section)
+    }
+
+    /// What the entry means; without a value it is empty. Memory is taken for the answer, where there is a value.
+    pub(crate) fn meaning(&self, alloc: Global) -> Result<BString, NoMemory>
+        ensures { IfOk result (λ text. bstring_bytes text ≡ meant (place_of self.now).1) }
+    {
+        match &self.entry.assigned {
+            Some(assigned) => meaning(alloc, self.section.buffer, &assigned.value),
+            None => Ok(BString::new(Vec::new(alloc))),
+        }
+    }
+
+    /// What the entry's value means, if it has one.
+    pub(crate) fn value(&self, alloc: Global) -> Result<Option<BString>, NoMemory>
+        ensures { IfOk result (λ value. option_map bstring_bytes value ≡ option_map plain (place_of self.now).1.raw) }
+    {
+        match &self.entry.assigned {
+            Some(assigned) => Ok(Some(meaning(alloc, self.section.buffer, &assigned.value)?)),
+            None => Ok(None),
+        }
+    }
+}

@@ -1,0 +1,11 @@
+use Rattle.std.proofs.Common.{subst}
+use Rattle.std.specs.Option.{option_copied}
+use Rattle.gitconf_store.specs.Lookups.{key_at}
+use Rattle.gix_config.specs.Typed.{IsPath}
+use Rattle.gix_config.proofs.file.File.path_filter_by.Goals as goal
+
+pub returns : goal.returns
+returns g c = λ keeps h.
+    let key = key_at c.args.section_name.now (option_copied c.args.subsection_name) c.args.value_name.now in
+    subst (λ s. IsPath key keeps s c.found_path.result) c.self.view_is
+    (c.found_path.ensures _ (c.string_filter_by-found.ensures keeps h))

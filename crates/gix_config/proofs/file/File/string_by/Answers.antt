@@ -1,0 +1,6 @@
+use Rattle.std.proofs.Common.{rules, true}
+use Rattle.std.proofs.lemmas.Fn.{always_returns_same}
+use Rattle.gix_config.proofs.file.File.string_by.Goals as goal
+
+pub returns : goal.returns
+returns c = c.string_filter_by.ensures (λ _. true) (always_returns_same _ _ _ (λ a r f' k. search rules))

@@ -1,0 +1,80 @@
+-- What look-ups of values in a type of the caller's answer.
+use Rattle.std.specs.Prelude.{◌≡◌, ◌≢◌, ◌⊎◌, ℕ, true, List, [], ◌∷◌, Option, Some, None, Result, Ok, Err}
+use Rattle.std.specs.Option.{option_map}
+use Rattle.std.specs.declared.vec.Vec.{Vec}
+use Rattle.bstr.specs.declared.bstring.BString.{BString}
+use Rattle.bstr.specs.Owned.{bstring_bytes}
+use Rattle.gitconf_base.specs.Key.{Key}
+use Rattle.gitconf_state.specs.Lookup.{Miss}
+use Rattle.gitconf_state.specs.State.{SectionState, State}
+use Rattle.gitconf_store.specs.declared.section.SectionRef.{SectionRef}
+use Rattle.gitconf_store.specs.Lookups.{miss_at, value_at, value_in, values_at}
+use Rattle.gitconf_store.specs.Misses.{missing}
+use Rattle.gitconf_store.specs.Views.{shown}
+use Rattle.gix_config.specs.declared.lookup.Error.{Error}
+use Rattle.gix_config.specs.declared.lookup.Error.TheVariants.{ValueMissing, FailedConversion, Memory}
+
+-- The type's own conversion gives this for the value, if there is one.
+abbrev pub IsGiven : {R : Type 0} → (gives : BString → R → Type 0) → Option (List ℕ) → R → Type 0
+IsGiven gives value result = (text : BString) × (value ≡ Some (bstring_bytes text)) × gives text result
+
+-- The value is converted, if there is one, or the type refuses it. Where there is none, the refusal tells what is missing; want of memory
+-- comes only where there is one.
+abbrev pub IsConverted : {T E : Type 0} → (gives : BString → Result T E → Type 0) → Option (List ℕ) → Miss → Result T (Error E) → Type 0
+IsConverted gives value miss (Ok t) = IsGiven gives value (Ok t)
+IsConverted gives value miss (Err (FailedConversion e)) = IsGiven gives value (Err e)
+IsConverted gives value miss (Err (ValueMissing refusal)) = (value ≡ None) × (refusal ≡ missing miss)
+IsConverted gives value miss (Err Memory) = value ≢ None
+
+-- the same, with the section in which the value stands
+abbrev pub IsConvertedWith : {T E : Type 0} → (gives : BString → Result T E → Type 0) → Option (List ℕ × SectionState) → Miss → Result (T × SectionRef) (Error E) → Type 0
+IsConvertedWith gives value miss (Ok found) = IsGiven gives (option_map (λ v. v.0) value) (Ok found.0) × (option_map (λ v. v.1) value ≡ Some (shown found.1))
+IsConvertedWith gives value miss (Err (FailedConversion e)) = IsGiven gives (option_map (λ v. v.0) value) (Err e)
+IsConvertedWith gives value miss (Err (ValueMissing refusal)) = (value ≡ None) × (refusal ≡ missing miss)
+IsConvertedWith gives value miss (Err Memory) = value ≢ None
+
+-- the values are converted, each to the one at its place
+abbrev pub AreGiven : {T E : Type 0} → (gives : BString → Result T E → Type 0) → List (List ℕ) → List T → Type 0
+AreGiven gives [] [] = Unit {0}
+AreGiven gives (value ∷ values) (t ∷ ts) = IsGiven gives (Some value) (Ok t) × AreGiven gives values ts
+AreGiven gives _ _ = ⊥
+
+-- the first value that the type refuses is refused so
+abbrev pub FirstRefused : {T E : Type 0} → (gives : BString → Result T E → Type 0) → List (List ℕ) → E → Type 0
+FirstRefused gives [] e = ⊥
+FirstRefused {T} gives (value ∷ values) e = IsGiven gives (Some value) (Err e) ⊎ (((t : T) × IsGiven gives (Some value) (Ok t)) × FirstRefused gives values e)
+
+-- A list of values is converted, or the type refuses one; or memory was wanting.
+abbrev pub IsListed : {T E Z : Type 0} → (gives : BString → Result T E → Type 0) → List (List ℕ) → Result (Vec T Z) (Error E) → Type 0
+IsListed gives values (Ok ts) = AreGiven gives values ts.items
+IsListed gives values (Err (FailedConversion e)) = FirstRefused gives values e
+IsListed gives values (Err (ValueMissing refusal)) = ⊥
+IsListed gives values (Err Memory) = Unit {0}
+
+-- All values are converted, one or more, or the type refuses one. Where there is none, the refusal tells what is missing; want of memory
+-- comes only where there are some.
+abbrev pub AreConverted : {T E Z : Type 0} → (gives : BString → Result T E → Type 0) → List (List ℕ) → Miss → Result (Vec T Z) (Error E) → Type 0
+AreConverted gives values miss (Ok ts) = (values ≢ []) × AreGiven gives values ts.items
+AreConverted gives values miss (Err (FailedConversion e)) = FirstRefused gives values e
+AreConverted gives values miss (Err (ValueMissing refusal)) = (values ≡ []) × (refusal ≡ missing miss)
+AreConverted gives values miss (Err Memory) = values ≢ []
+
+-- the same, where it is no refusal that there is no value
+abbrev pub IsTried : {T E : Type 0} → (gives : BString → Result T E → Type 0) → Option (List ℕ) → Result (Option T) (Error E) → Type 0
+IsTried gives value (Ok (Some t)) = IsGiven gives value (Ok t)
+IsTried gives value (Ok None) = value ≡ None
+IsTried gives value (Err (FailedConversion e)) = IsGiven gives value (Err e)
+IsTried gives value (Err (ValueMissing refusal)) = ⊥
+IsTried gives value (Err Memory) = value ≢ None
+
+abbrev pub IsValue : {T E : Type 0} → (gives : BString → Result T E → Type 0) → Key → State → Result T (Error E) → Type 0
+IsValue gives key state result = IsConverted gives (value_at key (λ _. true) state) (miss_at key state) result
+
+abbrev pub IsTriedValue : {T E : Type 0} → (gives : BString → Result T E → Type 0) → Key → State → Result (Option T) (Error E) → Type 0
+IsTriedValue gives key state result = IsTried gives (value_at key (λ _. true) state) result
+
+abbrev pub IsValueWithSection : {T E : Type 0} → (gives : BString → Result T E → Type 0) → Key → State → Result (T × SectionRef) (Error E) → Type 0
+IsValueWithSection gives key state result = IsConvertedWith gives (value_in key (λ _. true) state) (miss_at key state) result
+
+abbrev pub AreValues : {T E Z : Type 0} → (gives : BString → Result T E → Type 0) → Key → State → Result (Vec T Z) (Error E) → Type 0
+AreValues gives key state result = AreConverted gives (values_at key (λ _. true) state) (miss_at key state) result

@@ -1,0 +1,481 @@
+//! Look-ups of values as they are: texts, alone or with their sections.
+ghost use Rattle.std.specs.Fn.{ComputesKey};
+ghost use Rattle.std.specs.Option.{option_copied};
+ghost use Rattle.std.specs.Prelude.{◌≡◌, Bool, true, IsSome};
+ghost use Rattle.gitconf_base.specs.Key.{the_key};
+ghost use Rattle.gitconf_base.specs.Metadata.{Meta};
+ghost use Rattle.gitconf_store.specs.Lookups.{AreRawValues, AreRawValuesWithSections, AreStrings, IsRawValue, IsRawValueWithSection, IsString, key_at};
+ghost use Rattle.gix_config.specs.Keys.{OfKey};
+
+use crate::file::{File, Metadata, SectionRef};
+use crate::lookup::existing;
+use bstr::BString;
+use gitconf_base::key::AsKey;
+use gitconf_text::NoMemory;
+
+impl File {
+    /// The meaning of the last value of a key such as `remote.origin.url`, or `None` where there is none or where
+    /// the key can't be parsed: that of the last section of the key's name and subsection whose last entry of the
+    /// name has a value. It walks over the sections of the name from the last one on, up to that one. A miss takes no memory.
+    ///
+    /// # Errors
+    ///
+    /// Want of memory for the answer.
+    pub fn string<K: AsKey>(&self, key: K) -> Result<Option<BString>, NoMemory>
+        ensures { OfKey (K.key key) (λ key. IsString key (λ _. true) self.now result) result }
+    {
+        match key.try_as_key() {
+            Some(key) => self.string_by(key.section_name, key.subsection_name, key.value_name),
+            None => Ok(None),
+        }
+    }
+
+    /// As [`File::string`], by the names of the section, the subsection and the value.
+    ///
+    /// # Errors
+    ///
+    /// Those of [`File::string`].
+    #[tactic(auto, using(std::proofs::lemmas::Fn::always_returns_same))]
+    pub fn string_by(
+        &self,
+        section_name: &str,
+        subsection_name: Option<&[u8]>,
+        value_name: &str,
+    ) -> Result<Option<BString>, NoMemory>
+        ensures { IsString (key_at section_name.now (option_copied subsection_name.entry) value_name.now) (λ _. true) self.now result }
+    {
+        self.string_filter_by(section_name, subsection_name, value_name, |_| true)
+    }
+
+    /// As [`File::string`], of the sections whose metadata passes the filter.
+    ///
+    /// # Errors
+    ///
+    /// Those of [`File::string`].
+    pub fn string_filter<K: AsKey, F: FnMut(&Metadata) -> bool>(
+        &self,
+        key: K,
+        filter: F,
+    ) -> Result<Option<BString>, NoMemory>
+        requires { F.IsAlwaysCallable filter }
+        // For a filter that answers by what it is shown.
+        ensures { (keeps : Meta → Bool) → ComputesKey F.FnMut keeps filter → OfKey (K.key key) (λ key. IsString key keeps self.now result) result }
+    {
+        match key.try_as_key() {
+            Some(key) => self.string_filter_by(
+                key.section_name,
+                key.subsection_name,
+                key.value_name,
+                filter,
+            ),
+            None => Ok(None),
+        }
+    }
+
+    /// As [`File::string_filter`], by the names of the section, the subsection and the value.
+    ///
+    /// # Errors
+    ///
+    /// Those of [`File::string`].
+    pub fn string_filter_by<F: FnMut(&Metadata) -> bool>(
+        &self,
+        section_name: &str,
+        subsection_name: Option<&[u8]>,
+        value_name: &str,
+        filter: F,
+    ) -> Result<Option<BString>, NoMemory>
+        requires { F.IsAlwaysCallable filter }
+        // For a filter that answers by what it is shown.
+        ensures { (keeps : Meta → Bool) → ComputesKey F.FnMut keeps filter → IsString (key_at section_name.now (option_copied subsection_name.entry) value_name.now) keeps self.now result }
+    {
+        self.store
+            .string_filter_by(section_name, subsection_name, value_name, filter)
+    }
+
+    /// The meanings of all values of a key, in file order, or `None` where there are none or where the key can't be parsed. An entry
+    /// without `=` counts as empty. It walks over the sections of the name. A miss takes no memory.
+    ///
+    /// # Errors
+    ///
+    /// Want of memory for the answer.
+    pub fn strings<K: AsKey>(&self, key: K) -> Result<Option<Vec<BString>>, NoMemory>
+        ensures { OfKey (K.key key) (λ key. AreStrings key (λ _. true) self.now result) result }
+    {
+        match key.try_as_key() {
+            Some(key) => self.strings_by(key.section_name, key.subsection_name, key.value_name),
+            None => Ok(None),
+        }
+    }
+
+    /// As [`File::strings`], by the names of the section, the subsection and the value.
+    ///
+    /// # Errors
+    ///
+    /// Those of [`File::strings`].
+    #[tactic(auto, using(std::proofs::lemmas::Fn::always_returns_same))]
+    pub fn strings_by(
+        &self,
+        section_name: &str,
+        subsection_name: Option<&[u8]>,
+        value_name: &str,
+    ) -> Result<Option<Vec<BString>>, NoMemory>
+        ensures { AreStrings (key_at section_name.now (option_copied subsection_name.entry) value_name.now) (λ _. true) self.now result }
+    {
+        self.strings_filter_by(section_name, subsection_name, value_name, |_| true)
+    }
+
+    /// As [`File::strings`], of the sections whose metadata passes the filter.
+    ///
+    /// # Errors
+    ///
+    /// Those of [`File::strings`].
+    pub fn strings_filter<K: AsKey, F: FnMut(&Metadata) -> bool>(
+        &self,
+        key: K,
+        filter: F,
+    ) -> Result<Option<Vec<BString>>, NoMemory>
+        requires { F.IsAlwaysCallable filter }
+        // For a filter that answers by what it is shown.
+        ensures { (keeps : Meta → Bool) → ComputesKey F.FnMut keeps filter → OfKey (K.key key) (λ key. AreStrings key keeps self.now result) result }
+    {
+        match key.try_as_key() {
+            Some(key) => self.strings_filter_by(
+                key.section_name,
+                key.subsection_name,
+                key.value_name,
+                filter,
+            ),
+            None => Ok(None),
+        }
+    }
+
+    /// As [`File::strings_filter`], by the names of the section, the subsection and the value.
+    ///
+    /// # Errors
+    ///
+    /// Those of [`File::strings`].
+    pub fn strings_filter_by<F: FnMut(&Metadata) -> bool>(
+        &self,
+        section_name: &str,
+        subsection_name: Option<&[u8]>,
+        value_name: &str,
+        filter: F,
+    ) -> Result<Option<Vec<BString>>, NoMemory>
+        requires { F.IsAlwaysCallable filter }
+        // For a filter that answers by what it is shown.
+        ensures { (keeps : Meta → Bool) → ComputesKey F.FnMut keeps filter → AreStrings (key_at section_name.now (option_copied subsection_name.entry) value_name.now) keeps self.now result }
+    {
+        self.store
+            .strings_filter_by(section_name, subsection_name, value_name, filter)
+    }
+
+    /// The meaning of the last value of a key, found as by [`File::string`]. The key has to be one, which
+    /// [`AsKey::try_as_key`] tells.
+    ///
+    /// # Errors
+    ///
+    /// Refusals 7, 8 and 9 where there is none: no section has the name, none of these has the subsection, or none of these that
+    /// pass has such a value. Refusal 27 for want of memory for the answer.
+    pub fn raw_value<K: AsKey>(&self, key: K) -> Result<BString, existing::Error>
+        requires { IsSome (K.key key) }
+        ensures { IsRawValue (the_key (K.key key)) (λ _. true) self.now result }
+    {
+        let key = key.as_key();
+        self.raw_value_by(key.section_name, key.subsection_name, key.value_name)
+    }
+
+    /// As [`File::raw_value`], by the names of the section, the subsection and the value.
+    ///
+    /// # Errors
+    ///
+    /// Those of [`File::raw_value`].
+    #[tactic(auto, using(std::proofs::lemmas::Fn::always_returns_same))]
+    pub fn raw_value_by(
+        &self,
+        section_name: &str,
+        subsection_name: Option<&[u8]>,
+        value_name: &str,
+    ) -> Result<BString, existing::Error>
+        ensures { IsRawValue (key_at section_name.now (option_copied subsection_name.entry) value_name.now) (λ _. true) self.now result }
+    {
+        self.raw_value_filter_by(section_name, subsection_name, value_name, |_| true)
+    }
+
+    /// As [`File::raw_value`], of the sections whose metadata passes the filter.
+    ///
+    /// # Errors
+    ///
+    /// Those of [`File::raw_value`].
+    pub fn raw_value_filter<K: AsKey, F: FnMut(&Metadata) -> bool>(
+        &self,
+        key: K,
+        filter: F,
+    ) -> Result<BString, existing::Error>
+        requires known { IsSome (K.key key) }
+        requires callable { F.IsAlwaysCallable filter }
+        // For a filter that answers by what it is shown.
+        ensures { (keeps : Meta → Bool) → ComputesKey F.FnMut keeps filter → IsRawValue (the_key (K.key key)) keeps self.now result }
+    {
+        let key = key.as_key();
+        self.raw_value_filter_by(
+            key.section_name,
+            key.subsection_name,
+            key.value_name,
+            filter,
+        )
+    }
+
+    /// As [`File::raw_value_filter`], by the names of the section, the subsection and the value.
+    ///
+    /// # Errors
+    ///
+    /// Those of [`File::raw_value`].
+    pub fn raw_value_filter_by<F: FnMut(&Metadata) -> bool>(
+        &self,
+        section_name: &str,
+        subsection_name: Option<&[u8]>,
+        value_name: &str,
+        filter: F,
+    ) -> Result<BString, existing::Error>
+        requires { F.IsAlwaysCallable filter }
+        // For a filter that answers by what it is shown.
+        ensures { (keeps : Meta → Bool) → ComputesKey F.FnMut keeps filter → IsRawValue (key_at section_name.now (option_copied subsection_name.entry) value_name.now) keeps self.now result }
+    {
+        self.store
+            .raw_value_filter_by(section_name, subsection_name, value_name, filter)
+    }
+
+    /// The meaning of the last value of a key, and the section in which it stands, found as by [`File::string`]. The key has to be
+    /// one, which [`AsKey::try_as_key`] tells.
+    ///
+    /// # Errors
+    ///
+    /// Refusals 7, 8 and 9 where there is none: no section has the name, none of these has the subsection, or none of these that
+    /// pass has such a value. Refusal 27 for want of memory for the answer.
+    pub fn raw_value_with_section<K: AsKey>(
+        &self,
+        key: K,
+    ) -> Result<(BString, SectionRef<'_>), existing::Error>
+        requires { IsSome (K.key key) }
+        ensures { IsRawValueWithSection (the_key (K.key key)) (λ _. true) self.now result }
+    {
+        let key = key.as_key();
+        self.raw_value_with_section_by(key.section_name, key.subsection_name, key.value_name)
+    }
+
+    /// As [`File::raw_value_with_section`], by the names of the section, the subsection and the value.
+    ///
+    /// # Errors
+    ///
+    /// Those of [`File::raw_value_with_section`].
+    #[tactic(auto, using(std::proofs::lemmas::Fn::always_returns_same))]
+    pub fn raw_value_with_section_by(
+        &self,
+        section_name: &str,
+        subsection_name: Option<&[u8]>,
+        value_name: &str,
+    ) -> Result<(BString, SectionRef<'_>), existing::Error>
+        ensures { IsRawValueWithSection (key_at section_name.now (option_copied subsection_name.entry) value_name.now) (λ _. true) self.now result }
+    {
+        self.raw_value_with_section_filter_by(section_name, subsection_name, value_name, |_| true)
+    }
+
+    /// As [`File::raw_value_with_section`], of the sections whose metadata passes the filter.
+    ///
+    /// # Errors
+    ///
+    /// Those of [`File::raw_value_with_section`].
+    pub fn raw_value_with_section_filter<K: AsKey, F: FnMut(&Metadata) -> bool>(
+        &self,
+        key: K,
+        filter: F,
+    ) -> Result<(BString, SectionRef<'_>), existing::Error>
+        requires known { IsSome (K.key key) }
+        requires callable { F.IsAlwaysCallable filter }
+        // For a filter that answers by what it is shown.
+        ensures { (keeps : Meta → Bool) → ComputesKey F.FnMut keeps filter → IsRawValueWithSection (the_key (K.key key)) keeps self.now result }
+    {
+        let key = key.as_key();
+        self.raw_value_with_section_filter_by(
+            key.section_name,
+            key.subsection_name,
+            key.value_name,
+            filter,
+        )
+    }
+
+    /// As [`File::raw_value_with_section_filter`], by the names of the section, the subsection and the value.
+    ///
+    /// # Errors
+    ///
+    /// Those of [`File::raw_value_with_section`].
+    pub fn raw_value_with_section_filter_by<F: FnMut(&Metadata) -> bool>(
+        &self,
+        section_name: &str,
+        subsection_name: Option<&[u8]>,
+        value_name: &str,
+        filter: F,
+    ) -> Result<(BString, SectionRef<'_>), existing::Error>
+        requires { F.IsAlwaysCallable filter }
+        // For a filter that answers by what it is shown.
+        ensures { (keeps : Meta → Bool) → ComputesKey F.FnMut keeps filter → IsRawValueWithSection (key_at section_name.now (option_copied subsection_name.entry) value_name.now) keeps self.now result }
+    {
+        self.store
+            .raw_value_with_section_filter_by(section_name, subsection_name, value_name, filter)
+    }
+
+    /// The meanings of all values of a key, found as by [`File::strings`]: one or more. The key has to be one, which
+    /// [`AsKey::try_as_key`] tells.
+    ///
+    /// # Errors
+    ///
+    /// Refusals 7, 8 and 9 where there is none: no section has the name, none of these has the subsection, or none of these that
+    /// pass has such a value. Refusal 27 for want of memory for the answer.
+    pub fn raw_values<K: AsKey>(&self, key: K) -> Result<Vec<BString>, existing::Error>
+        requires { IsSome (K.key key) }
+        ensures { AreRawValues (the_key (K.key key)) (λ _. true) self.now result }
+    {
+        let key = key.as_key();
+        self.raw_values_by(key.section_name, key.subsection_name, key.value_name)
+    }
+
+    /// As [`File::raw_values`], by the names of the section, the subsection and the value.
+    ///
+    /// # Errors
+    ///
+    /// Those of [`File::raw_values`].
+    #[tactic(auto, using(std::proofs::lemmas::Fn::always_returns_same))]
+    pub fn raw_values_by(
+        &self,
+        section_name: &str,
+        subsection_name: Option<&[u8]>,
+        value_name: &str,
+    ) -> Result<Vec<BString>, existing::Error>
+        ensures { AreRawValues (key_at section_name.now (option_copied subsection_name.entry) value_name.now) (λ _. true) self.now result }
+    {
+        self.raw_values_filter_by(section_name, subsection_name, value_name, |_| true)
+    }
+
+    /// As [`File::raw_values`], of the sections whose metadata passes the filter.
+    ///
+    /// # Errors
+    ///
+    /// Those of [`File::raw_values`].
+    pub fn raw_values_filter<K: AsKey, F: FnMut(&Metadata) -> bool>(
+        &self,
+        key: K,
+        filter: F,
+    ) -> Result<Vec<BString>, existing::Error>
+        requires known { IsSome (K.key key) }
+        requires callable { F.IsAlwaysCallable filter }
+        // For a filter that answers by what it is shown.
+        ensures { (keeps : Meta → Bool) → ComputesKey F.FnMut keeps filter → AreRawValues (the_key (K.key key)) keeps self.now result }
+    {
+        let key = key.as_key();
+        self.raw_values_filter_by(
+            key.section_name,
+            key.subsection_name,
+            key.value_name,
+            filter,
+        )
+    }
+
+    /// As [`File::raw_values_filter`], by the names of the section, the subsection and the value.
+    ///
+    /// # Errors
+    ///
+    /// Those of [`File::raw_values`].
+    pub fn raw_values_filter_by<F: FnMut(&Metadata) -> bool>(
+        &self,
+        section_name: &str,
+        subsection_name: Option<&[u8]>,
+        value_name: &str,
+        filter: F,
+    ) -> Result<Vec<BString>, existing::Error>
+        requires { F.IsAlwaysCallable filter }
+        // For a filter that answers by what it is shown.
+        ensures { (keeps : Meta → Bool) → ComputesKey F.FnMut keeps filter → AreRawValues (key_at section_name.now (option_copied subsection_name.entry) value_name.now) keeps self.now result }
+    {
+        self.store
+            .raw_values_filter_by(section_name, subsection_name, value_name, filter)
+    }
+
+    /// The meanings of all values of a key, each with the section in which it stands, found as by [`File::strings`]: one or more. The
+    /// key has to be one, which [`AsKey::try_as_key`] tells.
+    ///
+    /// # Errors
+    ///
+    /// Refusals 7, 8 and 9 where there is none: no section has the name, none of these has the subsection, or none of these that
+    /// pass has such a value. Refusal 27 for want of memory for the answer.
+    pub fn raw_values_with_sections<K: AsKey>(
+        &self,
+        key: K,
+    ) -> Result<Vec<(BString, SectionRef<'_>)>, existing::Error>
+        requires { IsSome (K.key key) }
+        ensures { AreRawValuesWithSections (the_key (K.key key)) (λ _. true) self.now result }
+    {
+        let key = key.as_key();
+        self.raw_values_with_sections_by(key.section_name, key.subsection_name, key.value_name)
+    }
+
+    /// As [`File::raw_values_with_sections`], by the names of the section, the subsection and the value.
+    ///
+    /// # Errors
+    ///
+    /// Those of [`File::raw_values_with_sections`].
+    #[tactic(auto, using(std::proofs::lemmas::Fn::always_returns_same))]
+    pub fn raw_values_with_sections_by(
+        &self,
+        section_name: &str,
+        subsection_name: Option<&[u8]>,
+        value_name: &str,
+    ) -> Result<Vec<(BString, SectionRef<'_>)>, existing::Error>
+        ensures { AreRawValuesWithSections (key_at section_name.now (option_copied subsection_name.entry) value_name.now) (λ _. true) self.now result }
+    {
+        self.raw_values_with_sections_filter_by(section_name, subsection_name, value_name, |_| true)
+    }
+
+    /// As [`File::raw_values_with_sections`], of the sections whose metadata passes the filter.
+    ///
+    /// # Errors
+    ///
+    /// Those of [`File::raw_values_with_sections`].
+    pub fn raw_values_with_sections_filter<K: AsKey, F: FnMut(&Metadata) -> bool>(
+        &self,
+        key: K,
+        filter: F,
+    ) -> Result<Vec<(BString, SectionRef<'_>)>, existing::Error>
+        requires known { IsSome (K.key key) }
+        requires callable { F.IsAlwaysCallable filter }
+        // For a filter that answers by what it is shown.
+        ensures { (keeps : Meta → Bool) → ComputesKey F.FnMut keeps filter → AreRawValuesWithSections (the_key (K.key key)) keeps self.now result }
+    {
+        let key = key.as_key();
+        self.raw_values_with_sections_filter_by(
+            key.section_name,
+            key.subsection_name,
+            key.value_name,
+            filter,
+        )
+    }
+
+    /// As [`File::raw_values_with_sections_filter`], by the names of the section, the subsection and the value.
+    ///
+    /// # Errors
+    ///
+    /// Those of [`File::raw_values_with_sections`].
+    pub fn raw_values_with_sections_filter_by<F: FnMut(&Metadata) -> bool>(
+        &self,
+        section_name: &str,
+        subsection_name: Option<&[u8]>,
+        value_name: &str,
+        filter: F,
+    ) -> Result<Vec<(BString, SectionRef<'_>)>, existing::Error>
+        requires { F.IsAlwaysCallable filter }
+        // For a filter that answers by what it is shown.
+        ensures { (keeps : Meta → Bool) → ComputesKey F.FnMut keeps filter → AreRawValuesWithSections (key_at section_name.now (option_copied subsection_name.entry) value_name.now) keeps self.now result }
+    {
+        self.store
+            .raw_values_with_sections_filter_by(section_name, subsection_name, value_name, filter)
+    }
+}

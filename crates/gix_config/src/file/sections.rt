@@ -1,0 +1,146 @@
+//! The sections of a file, walked over and looked up by name.
+use crate::file::{File, Metadata, SectionRef};
+pub use gitconf_store::walks::{
+    SectionIds, SectionsAndIds, SectionsAndIdsByName, SectionsAndPostmatter, SectionsByName,
+    SectionsByNameAndFilter,
+};
+use gitconf_text::parse::section::unvalidated::KeyRef;
+use crate::lookup::existing::Error;
+
+impl File {
+    ghost use Rattle.std.specs.Fn.{ComputesKey};
+    ghost use Rattle.std.specs.Option.{option_copied};
+    ghost use Rattle.std.specs.Prelude.{◌≡◌, ◌↔◌, [], map, Bool, IfErr, IfSome, IsNone};
+    ghost use Rattle.gitconf_text.specs.SectionKeys.{parsed_section_key};
+    ghost use Rattle.gitconf_base.specs.Metadata.{Meta};
+    ghost use Rattle.gitconf_store.specs.Picks.{IsMissing, IsPassingSection, IsPassingSectionOfKey, IsSection, IsSectionOfKey};
+    ghost use Rattle.gitconf_store.specs.Walks.{and_held_left, and_ids_by_name_left, and_ids_left, by_name_left, section_ids_left, with_held, with_id, with_name};
+
+    /// The sections that have the name, without ASCII case, and any subsection, in file order; `None` where there is none.
+    /// They are found by an index: constant time but for the bytes of the names, and no memory.
+    pub fn sections_by_name<'a, 'n>(&'a self, name: &'n str) -> Option<SectionsByName<'a, 'n>>
+        ensures none { IsNone result ↔ (with_name name.now self.now.sections ≡ []) }
+        ensures left { IfSome result (λ it. by_name_left it ≡ with_name name.now self.now.sections) }
+    {
+        self.store.sections_by_name(name)
+    }
+
+    /// As [`File::sections_by_name`], each section with its number.
+    pub fn sections_and_ids_by_name<'a, 'n>(
+        &'a self,
+        name: &'n str,
+    ) -> Option<SectionsAndIdsByName<'a, 'n>>
+        ensures none { IsNone result ↔ (with_name name.now self.now.sections ≡ []) }
+        ensures left { IfSome result (λ it. and_ids_by_name_left it ≡ map with_id (with_name name.now self.now.sections)) }
+    {
+        self.store.sections_and_ids_by_name(name)
+    }
+
+    /// As [`File::sections_by_name`], those alone whose metadata passes the filter. Where sections have the name and none
+    /// passes, the walk is empty. The filter is asked about each section when its turn comes.
+    pub fn sections_by_name_and_filter<'a, 'n, F: FnMut(&Metadata) -> bool + Drop>(
+        &'a self,
+        name: &'n str,
+        filter: F,
+    ) -> Option<SectionsByNameAndFilter<'a, 'n, F>>
+        ensures none { IsNone result ↔ (with_name name.now self.now.sections ≡ []) }
+        ensures left { IfSome result (λ it. by_name_left it.sections ≡ with_name name.now self.now.sections) }
+        ensures filter { IfSome result (λ it. it.filter ≡ filter) }
+    {
+        self.store.sections_by_name_and_filter(name, filter)
+    }
+
+    /// The sections in file order, each with its number.
+    pub fn sections_and_ids(&self) -> SectionsAndIds<'_>
+        ensures { and_ids_left result ≡ map with_id self.now.sections }
+    {
+        self.store.sections_and_ids()
+    }
+
+    /// The numbers of the sections, in file order.
+    pub fn section_ids(&self) -> SectionIds<'_>
+        ensures { section_ids_left result ≡ map (λ s. s.number) self.now.sections }
+    {
+        self.store.section_ids()
+    }
+
+    /// The sections in file order, each with the events of what is held behind it, which stood before the first section of a
+    /// file that was appended or included.
+    pub fn sections_and_postmatter(&self) -> SectionsAndPostmatter<'_>
+        ensures { and_held_left result ≡ map with_held self.now.sections }
+    {
+        self.store.sections_and_postmatter()
+    }
+
+    /// The last section that has the name, without ASCII case, and exactly the subsection. It is found by an index. Takes no memory.
+    ///
+    /// # Errors
+    ///
+    /// Refusal 7 where no section has the name, 8 where none of these has the subsection.
+    pub fn section(
+        &self,
+        name: &str,
+        subsection_name: Option<&[u8]>,
+    ) -> Result<SectionRef<'_>, Error>
+        ensures { IsSection name.now (option_copied subsection_name.entry) self.now result }
+    {
+        self.store.section(name, subsection_name)
+    }
+
+    /// As [`File::section`], by a key such as `remote.origin`: the name stands before its first dot, and all behind it is the
+    /// subsection; without a dot there is none.
+    ///
+    /// # Errors
+    ///
+    /// Refusal 9 where the name isn't UTF-8, and those of [`File::section`].
+    pub fn section_by_key(&self, section_key: &[u8]) -> Result<SectionRef<'_>, Error>
+        ensures { IsSectionOfKey (parsed_section_key section_key.now) self.now result }
+    {
+        match KeyRef::parse(section_key) {
+            Some(key) => self.section(key.section_name, key.subsection_name),
+            None => Err(Error::KeyMissing),
+        }
+    }
+
+    /// As [`File::section`], the last one whose metadata passes the filter; `None` where there are such sections and none passes.
+    /// The filter is asked of them from the last one on, up to that one.
+    ///
+    /// # Errors
+    ///
+    /// Those of [`File::section`], whatever the filter answers.
+    pub fn section_filter<F: FnMut(&Metadata) -> bool>(
+        &self,
+        name: &str,
+        subsection_name: Option<&[u8]>,
+        filter: F,
+    ) -> Result<Option<SectionRef<'_>>, Error>
+        requires { F.IsAlwaysCallable filter }
+        ensures refused { IfErr result (IsMissing name.now (option_copied subsection_name.entry) self.now) }
+        // For a filter that answers by what it is shown.
+        ensures exact { (keeps : Meta → Bool) → ComputesKey F.FnMut keeps filter
+            → IsPassingSection name.now (option_copied subsection_name.entry) keeps self.now result }
+    {
+        self.store.section_filter(name, subsection_name, filter)
+    }
+
+    /// As [`File::section_filter`], by a key as in [`File::section_by_key`].
+    ///
+    /// # Errors
+    ///
+    /// Those of [`File::section_by_key`].
+    pub fn section_filter_by_key<F: FnMut(&Metadata) -> bool>(
+        &self,
+        section_key: &[u8],
+        filter: F,
+    ) -> Result<Option<SectionRef<'_>>, Error>
+        requires { F.IsAlwaysCallable filter }
+        // For a filter that answers by what it is shown.
+        ensures { (keeps : Meta → Bool) → ComputesKey F.FnMut keeps filter
+            → IsPassingSectionOfKey (parsed_section_key section_key.now) keeps self.now result }
+    {
+        match KeyRef::parse(section_key) {
+            Some(key) => self.section_filter(key.section_name, key.subsection_name, filter),
+            None => Err(Error::KeyMissing),
+        }
+    }
+}

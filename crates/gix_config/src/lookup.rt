@@ -1,0 +1,31 @@
+//! How look-ups are refused.
+pub use gitconf_store::lookup::existing;
+use gitconf_text::NoMemory;
+use std::fmt::Display;
+use thiserror::Error;
+
+/// How a look-up of a value in a type of the caller's is refused.
+#[derive(Debug, Drop, Error)]
+#[error_bound(E: Display)]
+pub enum Error<E> {
+    /// There is no such value: refusal 7, 8 or 9.
+    #[error(transparent)]
+    ValueMissing(existing::Error),
+    /// The type refused the value: refusal 10.
+    #[error("{0}")]
+    FailedConversion(E),
+    /// A growth was refused: refusal 27.
+    #[error("out of memory")]
+    Memory,
+}
+
+impl<E> From<NoMemory> for Error<E> {
+    ghost use Rattle.std.specs.Prelude.{◌≡◌};
+    ghost use Rattle.gix_config.specs.declared.lookup.Error.TheVariants.{Memory};
+
+    ghost from_gives = { λ _ e. e ≡ Memory };
+
+    fn from(_e: NoMemory) -> Error<E> {
+        Error::Memory
+    }
+}

@@ -1,0 +1,59 @@
+//! Times what the Rust crate does with a file, as often as asked: `bench WHAT ROUNDS KEY FILE`.
+//!
+//! WHAT is a word of `crates/file_bench`, or `events`; each round prints its nanoseconds.
+use std::{hint::black_box, mem, time::Instant};
+
+use gix_config::{
+    File,
+    file::{Metadata, init},
+    format, parse, value,
+};
+
+const LOOKUPS: u32 = 256;
+
+fn load(text: &[u8]) -> File {
+    File::from_bytes_no_includes(black_box(text), Metadata::api(), init::Options::default())
+        .ok()
+        .expect("a text that is read")
+}
+
+fn nanos(work: impl FnOnce()) -> u128 {
+    let start = Instant::now();
+    work();
+    start.elapsed().as_nanos()
+}
+
+fn events(text: &[u8]) -> u128 {
+    nanos(|| drop(black_box(parse::Events::from_bytes(black_box(text), None)).ok().expect("a text that is read")))
+}
+
+fn set(text: &[u8], key: &str) -> u128 {
+    let mut file = load(text);
+    nanos(|| drop(black_box(file.set_raw_value(key, "a new value"))))
+}
+
+fn look_up(file: &File, key: &str) -> u128 {
+    let all = nanos(|| (0..LOOKUPS).for_each(|_| drop(black_box(file.string(black_box(key))))));
+    all / u128::from(LOOKUPS)
+}
+
+fn main() {
+    let words: Vec<String> = std::env::args().collect();
+    let (what, key) = (words[1].as_str(), words[3].as_str());
+    let text = std::fs::read(&words[4]).expect("a file");
+    let mut file = if what == "decode" { File::default() } else { load(&text) };
+    for _ in 0..words[2].parse::<u32>().expect("a number of rounds") {
+        let taken = match what {
+            // An earlier file is let go.
+            "load" => nanos(|| drop(mem::replace(&mut file, load(&text)))),
+            "events" => events(&text),
+            "look-up" => look_up(&file, key),
+            "print" => nanos(|| drop(black_box(file.to_bstring()))),
+            "set" => set(&text, key),
+            "lay-out" => nanos(|| drop(black_box(format::normalize(black_box(&text), Default::default())).ok())),
+            "decode" => nanos(|| drop(black_box(value::normalize(black_box(text.as_slice()))))),
+            _ => panic!("{what} is no measure"),
+        };
+        println!("{taken}");
+    }
+}

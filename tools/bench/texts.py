@@ -1,0 +1,75 @@
+"""The texts that are measured, always the same for the same numbers."""
+
+
+def _remote(n):
+    lines = ['[remote "name-%d"]' % n]
+    if n % 4 == 0:
+        lines.append("\t# remote number %d" % n)
+    lines.append("\turl = https://a.test/%d.git" % n)
+    if n % 3 == 0:
+        lines.append('\tfetch = "+refs/*:refs/r/%d/*" ; all' % n)
+    else:
+        lines.append("\tfetch = +refs/*:refs/r/%d/*" % n)
+    if n % 5 == 0:
+        lines += ["\tpushurl = https://a.test/\\", "\t\tother/%d.git" % n]
+    lines.append("\ttags = no")
+    if n % 2 == 0:
+        lines.append("\tprune")
+    else:
+        lines.append("\tprune = on")
+    lines.append("\tdepth=%d" % (n % 100))
+    return "\n".join(lines) + "\n"
+
+
+def remotes(sections):
+    """A file as users have them, but for its size: remotes with plain, quoted and continued values and comments."""
+    return "".join(map(_remote, range(sections))).encode()
+
+
+# Texts that grow: what grows, the text of so many, how many there are in the larger of two texts, and a key of both.
+GROWING = [
+    ("sections", remotes, 100000, "remote.name-7.url"),
+    ("entries of one section", lambda n: b"[a]\n" + b"".join(b"\tk%d = v\n" % i for i in range(n)), 500000, "a.k7"),
+    ("bytes of one value", lambda n: b"[a]\n\tk = " + b"x" * n + b"\n", 20000000, "a.k"),
+    ("pieces of one value", lambda n: b"[a]\n\tk = " + b"x\\\n" * n + b"\n", 1000000, "a.k"),
+    ("comments", lambda n: b"[a]\n\tk = v\n" + b"# c\n" * n, 1000000, "a.k"),
+    ("blank lines", lambda n: b"[a]\n\tk = v\n" + b"  \n" * n, 1000000, "a.k"),
+    ("entries of one key", lambda n: b"[a]\n" + b"\tk = v\n" * n, 100000, "a.k"),
+    ("sections of one name", lambda n: b"[a]\n\tk = v\n" * n, 100000, "a.k"),
+]
+
+# Short items, of which a text may be made whole, by what stands before them.
+SHORT_ITEMS = [
+    (b"", b" \n"),
+    (b"", b"#\n"),
+    (b"", b"[a]"),
+    (b"", b"[a]\n"),
+    (b"", b"[a]b"),
+    (b"", b'[a ""]'),
+    (b"", b'[a "\\b"]'),
+    (b"", b"[.B]"),
+    (b"", b"[a]#\n"),
+    (b"[a]\n", b"b\n"),
+    (b"[a]\n", b"b=\n"),
+    (b"[a]\n", b"b=c\n"),
+    (b"[a]\n", b" b = c #\n"),
+    (b"[a]b=", b"\\\n"),
+    (b"[a]\n", b"b=\\\n\n"),
+]
+
+
+def repeated(item, size):
+    """A text of that many bytes, or up to an item fewer."""
+    before, again = item
+    return before + again * ((size - len(before)) // len(again))
+
+
+def spelled(item):
+    """Such a text as the tables name it."""
+    before, again = (part.decode().encode("unicode_escape").decode() for part in item)
+    return f"`{before}`, then `{again}` again and again" if before else f"`{again}` again and again"
+
+
+def quotes(pairs):
+    """A raw value of so many empty quotes behind a letter, so that they don't enclose the whole."""
+    return b"a" + b'""' * pairs
