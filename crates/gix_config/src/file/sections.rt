@@ -1,11 +1,11 @@
 //! The sections of a file, walked over and looked up by name.
 use crate::file::{File, Metadata, SectionRef};
+use crate::lookup::existing::Error;
 pub use gitconf_store::walks::{
     SectionIds, SectionsAndIds, SectionsAndIdsByName, SectionsAndPostmatter, SectionsByName,
     SectionsByNameAndFilter,
 };
 use gitconf_text::parse::section::unvalidated::KeyRef;
-use crate::lookup::existing::Error;
 
 impl File {
     ghost use Rattle.std.specs.Fn.{ComputesKey};
