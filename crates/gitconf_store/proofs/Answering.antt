@@ -1,10 +1,13 @@
 -- What the places that were found tell, by the sections of the state.
-use Rattle.std.proofs.Common.{◌≡◌, ℕ, Bool, true, false, List, [], ◌∷◌, ◌++◌, map, Option, Some, None, Result, Ok, Err, refl, ap, sym, ◌∙◌}
+use Rattle.std.proofs.Common.{◌≡◌, ℕ, Bool, true, false, List, [], ◌∷◌, ◌++◌, map, Option, Some, None, Result, Ok, Err, refl, ap, sym, subst, ◌∙◌}
 use Rattle.std.specs.Prelude.{◌≢◌, ◌==◌, filter, flat_map, if◌then◌else◌, length, IsErr}
 use Rattle.std.specs.List.{cons_option, last_or, filter_map}
 use Rattle.std.specs.Option.{option_map}
+use Rattle.std.specs.declared.vec.Vec.{Vec}
 use Rattle.std.proofs.lemmas.List.{map-append}
 use Rattle.std.proofs.lemmas.List.Folds.{flat_map-map}
+use Rattle.bstr.specs.declared.bstring.BString.{BString}
+use Rattle.bstr.specs.Owned.{bstring_bytes}
 use Rattle.gitconf_text.specs.Document.{DocumentEntry}
 use Rattle.gitconf_text.specs.Value.{plain}
 use Rattle.gitconf_base.specs.Key.{Key}
@@ -13,9 +16,11 @@ use Rattle.gitconf_state.specs.Lookup.{Listed, Miss, SectionMissing, SubSectionM
 use Rattle.gitconf_state.specs.State.{SectionState, State}
 use Rattle.gitconf_state.proofs.Listings.{last_value_is}
 use Rattle.gitconf_store.specs.declared.lookup.found.Deciding.TheVariants as what
-use Rattle.gitconf_store.specs.Finding.{Place, all_places, decides, deciding_place, last_place, places_in}
+use Rattle.gitconf_store.specs.declared.lookup.found.Found.{Found}
+use Rattle.gitconf_store.specs.declared.section.SectionRef.{SectionRef}
+use Rattle.gitconf_store.specs.Finding.{AreFound, Place, all_places, decides, deciding_place, last_place, places_in}
 use Rattle.gitconf_store.specs.Misses.{IsExisting, existing_or, missing}
-use Rattle.gitconf_store.specs.Lookups.{IsFound, implicit_at, sections_named, sections_passing, unless_empty, value_at, value_in, values_at, values_in}
+use Rattle.gitconf_store.specs.Lookups.{AreStrings, IsFound, IsImplicit, IsString, implicit_at, sections_named, sections_passing, shown_with, texts_of, unless_empty, value_at, value_in, values_at, values_in}
 
 -- what is told of the last one is what is told of each
 map_last : {A B C : Type 0} (g : B → C) (f : A → Option B) (h : A → Option C) → ((x : A) → option_map g (f x) ≡ h x) → (o : Option B) (xs : List A)
@@ -197,6 +202,43 @@ values_found key keeps state =
     ∙ ap (map meaning) (sym (flat_map-map (entries_of_key key.name) listing sections)
     ∙ ap (flat_map (entries_of_key key.name)) (sym (listed_passing key.section key.subsection keeps state.sections))
     ∙ sym (said_all key.name keeps (named key.section key.subsection (listed state))))
+
+-- the last value of a key, told as it was found
+pub text_told : {E : Type 0} (key : Key) (keeps : Meta → Bool) (state : State) (found : Option Place) (result : Result (Option BString) E)
+    → IsFound bstring_bytes result (option_map (λ (p : Place). meaning p.1) found)
+    → found ≡ last_place what.Value key.name keeps (sections_named key.section key.subsection state) → IsString key keeps state result
+text_told key keeps state found result told is =
+    subst (IsFound bstring_bytes result) (ap (option_map (λ (p : Place). meaning p.1)) is ∙ value_found key keeps state) told
+
+-- with its section
+pub text_with_section_told : {E : Type 0} (key : Key) (keeps : Meta → Bool) (state : State) (found : Option Place) (result : Result (Option (BString × SectionRef)) E)
+    → IsFound shown_with result (option_map (λ (p : Place). (meaning p.1, p.0)) found)
+    → found ≡ last_place what.Value key.name keeps (sections_named key.section key.subsection state) → IsFound shown_with result (value_in key keeps state)
+text_with_section_told key keeps state found result told is =
+    subst (IsFound shown_with result) (ap (option_map (λ (p : Place). (meaning p.1, p.0))) is ∙ value_in_found key keeps state) told
+
+-- the last entry of a key, told as it was found
+pub implicit_told : {E : Type 0} (key : Key) (keeps : Meta → Bool) (state : State) (found : Option Place) (result : Result (Option (Option BString)) E)
+    → IsFound (option_map bstring_bytes) result (option_map (λ (p : Place). option_map plain p.1.raw) found)
+    → found ≡ last_place what.Entry key.name keeps (sections_named key.section key.subsection state) → IsImplicit key keeps state result
+implicit_told key keeps state found result told is =
+    subst (IsFound (option_map bstring_bytes) result) (ap (option_map (λ (p : Place). option_map plain p.1.raw)) is ∙ implicit_found key keeps state) told
+
+-- all values of a key, told as they were found
+pub texts_told : {Z Y E F : Type 0} (key : Key) (keeps : Meta → Bool) (state : State) (found : Result (Vec Found Z) F) (result : Result (Option (Vec BString Y)) E)
+    → ((places : List Place) → AreFound found places → IsFound texts_of result (unless_empty (map (λ (p : Place). meaning p.1) places)))
+    → AreFound found (all_places key.name keeps (sections_named key.section key.subsection state)) → AreStrings key keeps state result
+texts_told key keeps state found result told are =
+    subst (IsFound texts_of result) (ap unless_empty (values_found key keeps state)) (told (all_places key.name keeps (sections_named key.section key.subsection state)) are)
+
+-- each with its section
+pub texts_with_sections_told : {Z Y E F : Type 0} (key : Key) (keeps : Meta → Bool) (state : State) (found : Result (Vec Found Z) F) (result : Result (Option (Vec (BString × SectionRef) Y)) E)
+    → ((places : List Place) → AreFound found places → IsFound (λ (texts : Vec (BString × SectionRef) Y). map shown_with texts.items) result (unless_empty (map (λ (p : Place). (meaning p.1, p.0)) places)))
+    → AreFound found (all_places key.name keeps (sections_named key.section key.subsection state))
+    → IsFound (λ (texts : Vec (BString × SectionRef) Y). map shown_with texts.items) result (unless_empty (values_in key keeps state))
+texts_with_sections_told {Y = Y} key keeps state found result told are =
+    subst (IsFound (λ (texts : Vec (BString × SectionRef) Y). map shown_with texts.items) result) (ap unless_empty (values_in_found key keeps state))
+    (told (all_places key.name keeps (sections_named key.section key.subsection state)) are)
 
 -- what was found, as it is told by the look-ups that refuse what is missing
 pub existing_told : {T A E : Type 0} (shown : T → A) (found : Result (Option T) E) (value : Option A) (miss : Miss) → IsFound shown found value → IsExisting shown (existing_or (missing miss) found) value miss

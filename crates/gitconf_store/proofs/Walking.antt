@@ -1,5 +1,5 @@
 -- The sections of a name, from the last one on and from the first.
-use Rattle.std.proofs.Common.{◌≡◌, ℕ, Bool, true, false, List, [], ◌∷◌, ◌++◌, map, Option, Some, None, Result, Ok, Err, refl, ap, ◌∙◌}
+use Rattle.std.proofs.Common.{◌≡◌, ℕ, Bool, true, false, List, [], ◌∷◌, ◌++◌, Option, Some, None, Result, Ok, Err, refl, ap, sym, subst, ◌∙◌, append_assoc, append-nil, inr}
 use Rattle.std.specs.Prelude.{◌≢◌, filter, IsErr}
 use Rattle.std.specs.List.{last_or, filter_map}
 use Rattle.std.specs.Option.{option_map}
@@ -10,6 +10,8 @@ use Rattle.gitconf_state.specs.State.{SectionState}
 use Rattle.gitconf_store.specs.declared.lookup.found.Deciding.{Deciding}
 use Rattle.gitconf_store.specs.declared.lookup.found.Found.{Found}
 use Rattle.gitconf_store.specs.Finding.{AreFound, Place, all_places, deciding_entry, deciding_place, last_place, places_in}
+use Rattle.gitconf_store.specs.SomeSections.{AreSome}
+use Rattle.gitconf_store.proofs.SomeSections.{next_of, none_of, one_of}
 
 -- the last element that passes and gives something
 pub last_given : {A B : Type 0} (test : A → Bool) (f : A → Option B) (o : Option B) (xs : List A) (x : A) (y : B) → test x ≡ true → f x ≡ Some y
@@ -79,3 +81,63 @@ some_left found here behind all is some none = go found here some (is ∙ none)
 pub refused_found : {Z E : Type 0} (result : Result (Vec Found Z) E) (places : List Place) → IsErr result → places ≢ [] → AreFound result places
 refused_found (Ok found) places fault some = absurd (cc)
 refused_found (Err refusal) places fault some = some
+
+-- sections behind those that are left: one more, where the last of these was taken
+pub behind_last : {A : Type 0} (all left next : List A) (x : A) → left ≡ next ++ x ∷ [] → (behind : List A) × (all ≡ left ++ behind) → (behind : List A) × (all ≡ next ++ behind)
+behind_last all left next x is h = (x ∷ h.0, h.1 ∙ ap (λ xs. xs ++ h.0) is ∙ append_assoc next (x ∷ []) h.0)
+
+-- the last of those that are left is one of all
+pub last_of : {A : Type 0} (all left next : List A) (x : A) → left ≡ next ++ x ∷ [] → (behind : List A) × (all ≡ left ++ behind) → AreSome all (x ∷ [])
+last_of all left next x is h =
+    subst (λ xs. AreSome xs (x ∷ [])) (sym (h.1 ∙ ap (λ xs. xs ++ h.0) is ∙ append_assoc next (x ∷ []) h.0)) (one_of next h.0 x)
+
+-- the places in one section more
+places_more : (key : List ℕ) (kept : List SectionState) (s : SectionState) → all_places key (λ _. true) (kept ++ s ∷ []) ≡ all_places key (λ _. true) kept ++ places_in key s
+places_more key [] s = append-nil (places_in key s)
+places_more key (k ∷ kept) s =
+    ap (λ ps. places_in key k ++ ps) (places_more key kept s) ∙ sym (append_assoc (places_in key k) (all_places key (λ _. true) kept) (places_in key s))
+
+-- the places that were found are all in some of the sections that are passed
+pub record AreSomeFound (key : List ℕ) (all left : List SectionState) (places : List Place) : Type 0 where
+  pub kept : List SectionState
+  pub rest : (some : List SectionState) → AreSome left some → AreSome all (kept ++ some)
+  pub told : places ≡ all_places key (λ _. true) kept
+
+pub some_begun : (key : List ℕ) (all : List SectionState) → AreSomeFound key all all []
+some_begun key all = record { kept = []; rest = λ some h. h; told = refl }
+
+-- behind a section that was kept
+pub some_added : (key : List ℕ) (all left next : List SectionState) (s : SectionState) (places more : List Place)
+    → left ≡ s ∷ next → more ≡ places ++ places_in key s → AreSomeFound key all left places → AreSomeFound key all next more
+some_added key all left next s places more is added h = record {
+  kept = h.kept ++ s ∷ [];
+  rest = λ some are.
+      subst (AreSome all) (sym (append_assoc h.kept (s ∷ []) some)) (h.rest (s ∷ some) (subst (λ ss. AreSome ss (s ∷ some)) (sym is) (next_of s next some are)));
+  told = added ∙ ap (λ ps. ps ++ places_in key s) h.told ∙ sym (places_more key h.kept s);
+}
+
+-- behind one that was not
+pub some_skipped : (key : List ℕ) (all left next : List SectionState) (s : SectionState) (places : List Place)
+    → left ≡ s ∷ next → AreSomeFound key all left places → AreSomeFound key all next places
+some_skipped key all left next s places is h = record {
+  kept = h.kept;
+  rest = λ some are. h.rest some (subst (λ ss. AreSome ss some) (sym is) (inr are));
+  told = h.told;
+}
+
+-- behind the last one
+pub some_found : (key : List ℕ) (all left : List SectionState) (places : List Place)
+    → AreSomeFound key all left places → (some : List SectionState) × AreSome all some × (places ≡ all_places key (λ _. true) some)
+some_found key all left places h = (h.kept, subst (AreSome all) (append-nil h.kept) (h.rest [] (none_of left)), h.told)
+
+-- where a growth was refused for places in one that was kept
+pub some_refused : {Z E : Type 0} (result : Result (Vec Found Z) E) (key : List ℕ) (all left next : List SectionState) (s : SectionState) (places : List Place)
+    → IsErr result → places_in key s ≢ [] → left ≡ s ∷ next → AreSomeFound key all left places
+    → (some : List SectionState) × AreSome all some × AreFound result (all_places key (λ _. true) some)
+some_refused result key all left next s places fault some is h =
+    let more = some_found key all next (places ++ places_in key s) (some_added key all left next s places (places ++ places_in key s) is refl h) in (
+      more.0,
+      more.1,
+      refused_found result (all_places key (λ _. true) more.0) fault
+          (some_left places (places_in key s) [] (all_places key (λ _. true) more.0) (append-nil (places ++ places_in key s) ∙ more.2) some),
+    )

@@ -5,6 +5,7 @@ pub mod Bodies
 pub mod Views
 pub mod Walks
 pub mod Picks
+pub mod SomeSections
 pub mod Same
 pub mod SameLaws
 pub mod RawBytes

@@ -1,10 +1,10 @@
 -- Which section a look-up by name and subsection takes, and what it answers.
-use Rattle.std.specs.Prelude.{◌≡◌, ℕ, Bool, true, false, List, Option, Some, None, Result, Ok, Err, filter}
+use Rattle.std.specs.Prelude.{◌≡◌, ℕ, Bool, true, false, List, Option, Some, None, Result, Ok, Err}
 use Rattle.std.specs.List.{last_or, list_any}
 use Rattle.std.specs.Option.{option_map}
 use Rattle.gitconf_text.specs.SectionKeys.{SectionKey}
 use Rattle.gitconf_base.specs.Metadata.{Meta}
-use Rattle.gitconf_state.specs.Lookup.{is_named, listed, listing, miss_of}
+use Rattle.gitconf_state.specs.Lookup.{is_named, listed, miss_of}
 use Rattle.gitconf_state.specs.State.{SectionState, State}
 use Rattle.gitconf_store.specs.declared.lookup.existing.Error.{Error}
 use Rattle.gitconf_store.specs.declared.lookup.existing.Error.TheVariants.{KeyMissing}

@@ -1,9 +1,11 @@
 //! The walks of all look-ups of a key: over the sections of a name and subsection, from the last one on, or from the first.
 ghost use Rattle.std.specs.Fn.{ComputesKey};
 ghost use Rattle.std.specs.Option.{option_map};
-ghost use Rattle.std.specs.Prelude.{◌≡◌, Bool};
+ghost use Rattle.std.specs.Prelude.{◌≡◌, Bool, List, true};
 ghost use Rattle.gitconf_base.specs.Metadata.{Meta};
+ghost use Rattle.gitconf_state.specs.State.{SectionState};
 ghost use Rattle.gitconf_store.specs.Finding.{AreFound, all_places, last_place, place_of};
+ghost use Rattle.gitconf_store.specs.SomeSections.{AreSome};
 ghost use Rattle.gitconf_store.specs.Walks.{named_left};
 
 use crate::lookup::entries::{deciding_entry, push_entries};
@@ -22,8 +24,11 @@ pub(crate) fn last_found<'a, F: FnMut(&Metadata) -> bool>(
     filter: F,
 ) -> Option<Found<'a>>
     requires { F.IsAlwaysCallable filter }
-    ensures { (keeps : Meta → Bool) → ComputesKey F.FnMut keeps filter
+    ensures exact { (keeps : Meta → Bool) → ComputesKey F.FnMut keeps filter
         → option_map place_of result ≡ last_place deciding key.now keeps (named_left sections.entry) }
+    // Whatever the filter answers.
+    ensures some { (some : List SectionState) × AreSome (named_left sections.entry) some
+        × (option_map place_of result ≡ last_place deciding key.now (λ _. true) some) }
 {
     let mut filter = filter;
     let mut left = sections;
@@ -45,8 +50,11 @@ pub(crate) fn all_found<'a, F: FnMut(&Metadata) -> bool>(
     filter: F,
 ) -> Result<Vec<Found<'a>>, NoMemory>
     requires { F.IsAlwaysCallable filter }
-    ensures { (keeps : Meta → Bool) → ComputesKey F.FnMut keeps filter
+    ensures exact { (keeps : Meta → Bool) → ComputesKey F.FnMut keeps filter
         → AreFound result (all_places key.now keeps (named_left sections.entry)) }
+    // Whatever the filter answers.
+    ensures some { (some : List SectionState) × AreSome (named_left sections.entry) some
+        × AreFound result (all_places key.now (λ _. true) some) }
 {
     let mut filter = filter;
     let mut left = sections;

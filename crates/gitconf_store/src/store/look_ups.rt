@@ -2,12 +2,13 @@
 ghost use Rattle.std.specs.Fn.{ComputesKey};
 ghost use Rattle.std.specs.List.{list_any};
 ghost use Rattle.std.specs.Option.{option_copied, option_map};
-ghost use Rattle.std.specs.Prelude.{◌≡◌, Bool};
+ghost use Rattle.std.specs.Prelude.{◌≡◌, Bool, true};
 ghost use Rattle.gitconf_base.specs.Metadata.{Meta};
 ghost use Rattle.gitconf_state.specs.Lookup.{has_name, is_named, listed, miss_of};
 ghost use Rattle.gitconf_store.specs.Finding.{AreFound, all_places, last_place, place_of};
 ghost use Rattle.gitconf_store.specs.Lookups.{AreRawValues, AreRawValuesWithSections, AreStrings, IsImplicit, IsRawValue, IsRawValueWithSection, IsString, key_at, sections_named};
 ghost use Rattle.gitconf_store.specs.Misses.{existing_or, missing};
+ghost use Rattle.gitconf_store.specs.SomeSections.{AreSomeRawValues, AreSomeRawValuesWithSections, IsSomeRawValue, IsSomeRawValueWithSection, WithSome};
 
 use crate::lookup::existing;
 use crate::lookup::found::{Deciding, Found};
@@ -30,8 +31,11 @@ impl Store {
         filter: F,
     ) -> Option<Found<'_>>
         requires { F.IsAlwaysCallable filter }
-        ensures { (keeps : Meta → Bool) → ComputesKey F.FnMut keeps filter
+        ensures exact { (keeps : Meta → Bool) → ComputesKey F.FnMut keeps filter
             → option_map place_of result ≡ last_place deciding value_name.now keeps (sections_named section_name.now (option_copied subsection_name.entry) self.now) }
+        // Whatever the filter answers.
+        ensures some { WithSome (λ s. option_map place_of result
+            ≡ last_place deciding value_name.now (λ _. true) (sections_named section_name.now (option_copied subsection_name.entry) s)) self.now }
     {
         let sections = self.sections_named(section_name, subsection_name);
         last_found(sections, value_name.as_bytes(), deciding, filter)
@@ -46,8 +50,11 @@ impl Store {
         filter: F,
     ) -> Result<Vec<Found<'_>>, NoMemory>
         requires { F.IsAlwaysCallable filter }
-        ensures { (keeps : Meta → Bool) → ComputesKey F.FnMut keeps filter
+        ensures exact { (keeps : Meta → Bool) → ComputesKey F.FnMut keeps filter
             → AreFound result (all_places value_name.now keeps (sections_named section_name.now (option_copied subsection_name.entry) self.now)) }
+        // Whatever the filter answers.
+        ensures some { WithSome (λ s. AreFound result
+            (all_places value_name.now (λ _. true) (sections_named section_name.now (option_copied subsection_name.entry) s))) self.now }
     {
         let sections = self.sections_named(section_name, subsection_name);
         let alloc = *self.buffer.allocator();
@@ -116,8 +123,10 @@ impl Store {
     ) -> Result<Option<BString>, NoMemory>
         requires { F.IsAlwaysCallable filter }
         // For a filter that answers by what it is shown.
-        ensures { (keeps : Meta → Bool) → ComputesKey F.FnMut keeps filter
+        ensures exact { (keeps : Meta → Bool) → ComputesKey F.FnMut keeps filter
             → IsString (key_at section_name.now (option_copied subsection_name.entry) value_name.now) keeps self.now result }
+        // Whatever the filter answers.
+        ensures some { WithSome (λ s. IsString (key_at section_name.now (option_copied subsection_name.entry) value_name.now) (λ _. true) s result) self.now }
     {
         let found = self.find(
             section_name,
@@ -146,8 +155,10 @@ impl Store {
     ) -> Result<Option<Option<BString>>, NoMemory>
         requires { F.IsAlwaysCallable filter }
         // For a filter that answers by what it is shown.
-        ensures { (keeps : Meta → Bool) → ComputesKey F.FnMut keeps filter
+        ensures exact { (keeps : Meta → Bool) → ComputesKey F.FnMut keeps filter
             → IsImplicit (key_at section_name.now (option_copied subsection_name.entry) value_name.now) keeps self.now result }
+        // Whatever the filter answers.
+        ensures some { WithSome (λ s. IsImplicit (key_at section_name.now (option_copied subsection_name.entry) value_name.now) (λ _. true) s result) self.now }
     {
         let found = self.find(
             section_name,
@@ -176,8 +187,10 @@ impl Store {
     ) -> Result<Option<Vec<BString>>, NoMemory>
         requires { F.IsAlwaysCallable filter }
         // For a filter that answers by what it is shown.
-        ensures { (keeps : Meta → Bool) → ComputesKey F.FnMut keeps filter
+        ensures exact { (keeps : Meta → Bool) → ComputesKey F.FnMut keeps filter
             → AreStrings (key_at section_name.now (option_copied subsection_name.entry) value_name.now) keeps self.now result }
+        // Whatever the filter answers.
+        ensures some { WithSome (λ s. AreStrings (key_at section_name.now (option_copied subsection_name.entry) value_name.now) (λ _. true) s result) self.now }
     {
         let found = self.find_all(section_name, subsection_name, value_name, filter);
         texts(*self.buffer.allocator(), found)
@@ -198,8 +211,10 @@ impl Store {
     ) -> Result<BString, existing::Error>
         requires { F.IsAlwaysCallable filter }
         // For a filter that answers by what it is shown.
-        ensures { (keeps : Meta → Bool) → ComputesKey F.FnMut keeps filter
+        ensures exact { (keeps : Meta → Bool) → ComputesKey F.FnMut keeps filter
             → IsRawValue (key_at section_name.now (option_copied subsection_name.entry) value_name.now) keeps self.now result }
+        // Whatever the filter answers.
+        ensures some { IsSomeRawValue (key_at section_name.now (option_copied subsection_name.entry) value_name.now) self.now result }
     {
         let found = self.string_filter_by(section_name, subsection_name, value_name, filter);
         self.existing(section_name, subsection_name, found)
@@ -220,8 +235,10 @@ impl Store {
     ) -> Result<(BString, SectionRef<'_>), existing::Error>
         requires { F.IsAlwaysCallable filter }
         // For a filter that answers by what it is shown.
-        ensures { (keeps : Meta → Bool) → ComputesKey F.FnMut keeps filter
+        ensures exact { (keeps : Meta → Bool) → ComputesKey F.FnMut keeps filter
             → IsRawValueWithSection (key_at section_name.now (option_copied subsection_name.entry) value_name.now) keeps self.now result }
+        // Whatever the filter answers.
+        ensures some { IsSomeRawValueWithSection (key_at section_name.now (option_copied subsection_name.entry) value_name.now) self.now result }
     {
         let found = self.find(
             section_name,
@@ -249,8 +266,10 @@ impl Store {
     ) -> Result<Vec<BString>, existing::Error>
         requires { F.IsAlwaysCallable filter }
         // For a filter that answers by what it is shown.
-        ensures { (keeps : Meta → Bool) → ComputesKey F.FnMut keeps filter
+        ensures exact { (keeps : Meta → Bool) → ComputesKey F.FnMut keeps filter
             → AreRawValues (key_at section_name.now (option_copied subsection_name.entry) value_name.now) keeps self.now result }
+        // Whatever the filter answers.
+        ensures some { AreSomeRawValues (key_at section_name.now (option_copied subsection_name.entry) value_name.now) self.now result }
     {
         let found = self.strings_filter_by(section_name, subsection_name, value_name, filter);
         self.existing(section_name, subsection_name, found)
@@ -272,8 +291,10 @@ impl Store {
     ) -> Result<Vec<(BString, SectionRef<'_>)>, existing::Error>
         requires { F.IsAlwaysCallable filter }
         // For a filter that answers by what it is shown.
-        ensures { (keeps : Meta → Bool) → ComputesKey F.FnMut keeps filter
+        ensures exact { (keeps : Meta → Bool) → ComputesKey F.FnMut keeps filter
             → AreRawValuesWithSections (key_at section_name.now (option_copied subsection_name.entry) value_name.now) keeps self.now result }
+        // Whatever the filter answers.
+        ensures some { AreSomeRawValuesWithSections (key_at section_name.now (option_copied subsection_name.entry) value_name.now) self.now result }
     {
         let found = self.find_all(section_name, subsection_name, value_name, filter);
         let found = texts_with_sections(*self.buffer.allocator(), found);

@@ -2,8 +2,10 @@
 ghost use Rattle.std.specs.Fn.{ComputesKey};
 ghost use Rattle.std.specs.List.{last_or};
 ghost use Rattle.std.specs.Option.{option_map};
-ghost use Rattle.std.specs.Prelude.{◌≡◌, Bool, None};
+ghost use Rattle.std.specs.Prelude.{◌≡◌, Bool, List, None, true};
 ghost use Rattle.gitconf_base.specs.Metadata.{Meta};
+ghost use Rattle.gitconf_state.specs.State.{SectionState};
+ghost use Rattle.gitconf_store.specs.SomeSections.{AreSome};
 ghost use Rattle.gitconf_store.specs.Views.{shown};
 ghost use Rattle.gitconf_store.specs.Walks.{named_left, passing};
 
@@ -23,8 +25,11 @@ pub(crate) fn last_passing<'a, F: FnMut(&Metadata) -> bool>(
     filter: F,
 ) -> Option<SectionRef<'a>>
     requires { F.IsAlwaysCallable filter }
-    ensures { (keeps : Meta → Bool) → ComputesKey F.FnMut keeps filter
+    ensures exact { (keeps : Meta → Bool) → ComputesKey F.FnMut keeps filter
         → option_map shown result ≡ last_or None (passing keeps (named_left sections.entry)) }
+    // Whatever the filter answers.
+    ensures some { (some : List SectionState) × AreSome (named_left sections.entry) some
+        × (option_map shown result ≡ last_or None (passing (λ _. true) some)) }
 {
     let mut filter = filter;
     let mut left = sections;
@@ -43,6 +48,7 @@ impl Store {
     ghost use Rattle.gitconf_base.specs.Metadata.{Meta};
     ghost use Rattle.gitconf_store.specs.Lookups.{sections_named};
     ghost use Rattle.gitconf_store.specs.Picks.{HasSection, IsMissing, IsPassingSection, IsSection};
+    ghost use Rattle.gitconf_store.specs.SomeSections.{IsSomeSection};
     ghost use Rattle.gitconf_store.specs.Walks.{named_left, and_held_left, and_ids_by_name_left, and_ids_left, by_name_left, section_ids_left, with_held, with_id, with_name};
 
     /// The sections that have the name, without ASCII case, and any subsection, in file order; `None` where there is none.
@@ -170,6 +176,8 @@ impl Store {
         // For a filter that answers by what it is shown.
         ensures exact { (keeps : Meta → Bool) → ComputesKey F.FnMut keeps filter
             → IsPassingSection name.now (option_copied subsection_name.entry) keeps self.now result }
+        // Whatever the filter answers.
+        ensures some { IsSomeSection name.now (option_copied subsection_name.entry) self.now result }
     {
         self.check_named(name, subsection_name)?;
         let sections = self.sections_named(name, subsection_name);

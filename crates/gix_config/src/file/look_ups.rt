@@ -5,6 +5,7 @@ ghost use Rattle.std.specs.Prelude.{◌≡◌, Bool, true, IsSome};
 ghost use Rattle.gitconf_base.specs.Key.{the_key};
 ghost use Rattle.gitconf_base.specs.Metadata.{Meta};
 ghost use Rattle.gitconf_store.specs.Lookups.{AreRawValues, AreRawValuesWithSections, AreStrings, IsRawValue, IsRawValueWithSection, IsString, key_at};
+ghost use Rattle.gitconf_store.specs.SomeSections.{AreSomeRawValues, AreSomeRawValuesWithSections, IsSomeRawValue, IsSomeRawValueWithSection, WithSome};
 ghost use Rattle.gix_config.specs.Keys.{OfKey};
 
 use crate::file::{File, Metadata, SectionRef};
@@ -59,7 +60,9 @@ impl File {
     ) -> Result<Option<BString>, NoMemory>
         requires { F.IsAlwaysCallable filter }
         // For a filter that answers by what it is shown.
-        ensures { (keeps : Meta → Bool) → ComputesKey F.FnMut keeps filter → OfKey (K.key key) (λ key. IsString key keeps self.now result) result }
+        ensures exact { (keeps : Meta → Bool) → ComputesKey F.FnMut keeps filter → OfKey (K.key key) (λ key. IsString key keeps self.now result) result }
+        // Whatever the filter answers.
+        ensures some { OfKey (K.key key) (λ key. WithSome (λ s. IsString key (λ _. true) s result) self.now) result }
     {
         match key.try_as_key() {
             Some(key) => self.string_filter_by(
@@ -86,7 +89,9 @@ impl File {
     ) -> Result<Option<BString>, NoMemory>
         requires { F.IsAlwaysCallable filter }
         // For a filter that answers by what it is shown.
-        ensures { (keeps : Meta → Bool) → ComputesKey F.FnMut keeps filter → IsString (key_at section_name.now (option_copied subsection_name.entry) value_name.now) keeps self.now result }
+        ensures exact { (keeps : Meta → Bool) → ComputesKey F.FnMut keeps filter → IsString (key_at section_name.now (option_copied subsection_name.entry) value_name.now) keeps self.now result }
+        // Whatever the filter answers.
+        ensures some { WithSome (λ s. IsString (key_at section_name.now (option_copied subsection_name.entry) value_name.now) (λ _. true) s result) self.now }
     {
         self.store
             .string_filter_by(section_name, subsection_name, value_name, filter)
@@ -136,7 +141,9 @@ impl File {
     ) -> Result<Option<Vec<BString>>, NoMemory>
         requires { F.IsAlwaysCallable filter }
         // For a filter that answers by what it is shown.
-        ensures { (keeps : Meta → Bool) → ComputesKey F.FnMut keeps filter → OfKey (K.key key) (λ key. AreStrings key keeps self.now result) result }
+        ensures exact { (keeps : Meta → Bool) → ComputesKey F.FnMut keeps filter → OfKey (K.key key) (λ key. AreStrings key keeps self.now result) result }
+        // Whatever the filter answers.
+        ensures some { OfKey (K.key key) (λ key. WithSome (λ s. AreStrings key (λ _. true) s result) self.now) result }
     {
         match key.try_as_key() {
             Some(key) => self.strings_filter_by(
@@ -163,7 +170,9 @@ impl File {
     ) -> Result<Option<Vec<BString>>, NoMemory>
         requires { F.IsAlwaysCallable filter }
         // For a filter that answers by what it is shown.
-        ensures { (keeps : Meta → Bool) → ComputesKey F.FnMut keeps filter → AreStrings (key_at section_name.now (option_copied subsection_name.entry) value_name.now) keeps self.now result }
+        ensures exact { (keeps : Meta → Bool) → ComputesKey F.FnMut keeps filter → AreStrings (key_at section_name.now (option_copied subsection_name.entry) value_name.now) keeps self.now result }
+        // Whatever the filter answers.
+        ensures some { WithSome (λ s. AreStrings (key_at section_name.now (option_copied subsection_name.entry) value_name.now) (λ _. true) s result) self.now }
     {
         self.store
             .strings_filter_by(section_name, subsection_name, value_name, filter)
@@ -214,7 +223,9 @@ impl File {
         requires known { IsSome (K.key key) }
         requires callable { F.IsAlwaysCallable filter }
         // For a filter that answers by what it is shown.
-        ensures { (keeps : Meta → Bool) → ComputesKey F.FnMut keeps filter → IsRawValue (the_key (K.key key)) keeps self.now result }
+        ensures exact { (keeps : Meta → Bool) → ComputesKey F.FnMut keeps filter → IsRawValue (the_key (K.key key)) keeps self.now result }
+        // Whatever the filter answers.
+        ensures some { IsSomeRawValue (the_key (K.key key)) self.now result }
     {
         let key = key.as_key();
         self.raw_value_filter_by(
@@ -239,7 +250,9 @@ impl File {
     ) -> Result<BString, existing::Error>
         requires { F.IsAlwaysCallable filter }
         // For a filter that answers by what it is shown.
-        ensures { (keeps : Meta → Bool) → ComputesKey F.FnMut keeps filter → IsRawValue (key_at section_name.now (option_copied subsection_name.entry) value_name.now) keeps self.now result }
+        ensures exact { (keeps : Meta → Bool) → ComputesKey F.FnMut keeps filter → IsRawValue (key_at section_name.now (option_copied subsection_name.entry) value_name.now) keeps self.now result }
+        // Whatever the filter answers.
+        ensures some { IsSomeRawValue (key_at section_name.now (option_copied subsection_name.entry) value_name.now) self.now result }
     {
         self.store
             .raw_value_filter_by(section_name, subsection_name, value_name, filter)
@@ -293,7 +306,9 @@ impl File {
         requires known { IsSome (K.key key) }
         requires callable { F.IsAlwaysCallable filter }
         // For a filter that answers by what it is shown.
-        ensures { (keeps : Meta → Bool) → ComputesKey F.FnMut keeps filter → IsRawValueWithSection (the_key (K.key key)) keeps self.now result }
+        ensures exact { (keeps : Meta → Bool) → ComputesKey F.FnMut keeps filter → IsRawValueWithSection (the_key (K.key key)) keeps self.now result }
+        // Whatever the filter answers.
+        ensures some { IsSomeRawValueWithSection (the_key (K.key key)) self.now result }
     {
         let key = key.as_key();
         self.raw_value_with_section_filter_by(
@@ -318,7 +333,9 @@ impl File {
     ) -> Result<(BString, SectionRef<'_>), existing::Error>
         requires { F.IsAlwaysCallable filter }
         // For a filter that answers by what it is shown.
-        ensures { (keeps : Meta → Bool) → ComputesKey F.FnMut keeps filter → IsRawValueWithSection (key_at section_name.now (option_copied subsection_name.entry) value_name.now) keeps self.now result }
+        ensures exact { (keeps : Meta → Bool) → ComputesKey F.FnMut keeps filter → IsRawValueWithSection (key_at section_name.now (option_copied subsection_name.entry) value_name.now) keeps self.now result }
+        // Whatever the filter answers.
+        ensures some { IsSomeRawValueWithSection (key_at section_name.now (option_copied subsection_name.entry) value_name.now) self.now result }
     {
         self.store
             .raw_value_with_section_filter_by(section_name, subsection_name, value_name, filter)
@@ -369,7 +386,9 @@ impl File {
         requires known { IsSome (K.key key) }
         requires callable { F.IsAlwaysCallable filter }
         // For a filter that answers by what it is shown.
-        ensures { (keeps : Meta → Bool) → ComputesKey F.FnMut keeps filter → AreRawValues (the_key (K.key key)) keeps self.now result }
+        ensures exact { (keeps : Meta → Bool) → ComputesKey F.FnMut keeps filter → AreRawValues (the_key (K.key key)) keeps self.now result }
+        // Whatever the filter answers.
+        ensures some { AreSomeRawValues (the_key (K.key key)) self.now result }
     {
         let key = key.as_key();
         self.raw_values_filter_by(
@@ -394,7 +413,9 @@ impl File {
     ) -> Result<Vec<BString>, existing::Error>
         requires { F.IsAlwaysCallable filter }
         // For a filter that answers by what it is shown.
-        ensures { (keeps : Meta → Bool) → ComputesKey F.FnMut keeps filter → AreRawValues (key_at section_name.now (option_copied subsection_name.entry) value_name.now) keeps self.now result }
+        ensures exact { (keeps : Meta → Bool) → ComputesKey F.FnMut keeps filter → AreRawValues (key_at section_name.now (option_copied subsection_name.entry) value_name.now) keeps self.now result }
+        // Whatever the filter answers.
+        ensures some { AreSomeRawValues (key_at section_name.now (option_copied subsection_name.entry) value_name.now) self.now result }
     {
         self.store
             .raw_values_filter_by(section_name, subsection_name, value_name, filter)
@@ -448,7 +469,9 @@ impl File {
         requires known { IsSome (K.key key) }
         requires callable { F.IsAlwaysCallable filter }
         // For a filter that answers by what it is shown.
-        ensures { (keeps : Meta → Bool) → ComputesKey F.FnMut keeps filter → AreRawValuesWithSections (the_key (K.key key)) keeps self.now result }
+        ensures exact { (keeps : Meta → Bool) → ComputesKey F.FnMut keeps filter → AreRawValuesWithSections (the_key (K.key key)) keeps self.now result }
+        // Whatever the filter answers.
+        ensures some { AreSomeRawValuesWithSections (the_key (K.key key)) self.now result }
     {
         let key = key.as_key();
         self.raw_values_with_sections_filter_by(
@@ -473,7 +496,9 @@ impl File {
     ) -> Result<Vec<(BString, SectionRef<'_>)>, existing::Error>
         requires { F.IsAlwaysCallable filter }
         // For a filter that answers by what it is shown.
-        ensures { (keeps : Meta → Bool) → ComputesKey F.FnMut keeps filter → AreRawValuesWithSections (key_at section_name.now (option_copied subsection_name.entry) value_name.now) keeps self.now result }
+        ensures exact { (keeps : Meta → Bool) → ComputesKey F.FnMut keeps filter → AreRawValuesWithSections (key_at section_name.now (option_copied subsection_name.entry) value_name.now) keeps self.now result }
+        // Whatever the filter answers.
+        ensures some { AreSomeRawValuesWithSections (key_at section_name.now (option_copied subsection_name.entry) value_name.now) self.now result }
     {
         self.store
             .raw_values_with_sections_filter_by(section_name, subsection_name, value_name, filter)

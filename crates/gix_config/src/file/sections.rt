@@ -14,6 +14,7 @@ impl File {
     ghost use Rattle.gitconf_text.specs.SectionKeys.{parsed_section_key};
     ghost use Rattle.gitconf_base.specs.Metadata.{Meta};
     ghost use Rattle.gitconf_store.specs.Picks.{IsMissing, IsPassingSection, IsPassingSectionOfKey, IsSection, IsSectionOfKey};
+    ghost use Rattle.gitconf_store.specs.SomeSections.{IsSomeSection, IsSomeSectionOfKey};
     ghost use Rattle.gitconf_store.specs.Walks.{and_held_left, and_ids_by_name_left, and_ids_left, by_name_left, section_ids_left, with_held, with_id, with_name};
 
     /// The sections that have the name, without ASCII case, and any subsection, in file order; `None` where there is none.
@@ -119,6 +120,8 @@ impl File {
         // For a filter that answers by what it is shown.
         ensures exact { (keeps : Meta → Bool) → ComputesKey F.FnMut keeps filter
             → IsPassingSection name.now (option_copied subsection_name.entry) keeps self.now result }
+        // Whatever the filter answers.
+        ensures some { IsSomeSection name.now (option_copied subsection_name.entry) self.now result }
     {
         self.store.section_filter(name, subsection_name, filter)
     }
@@ -135,8 +138,10 @@ impl File {
     ) -> Result<Option<SectionRef<'_>>, Error>
         requires { F.IsAlwaysCallable filter }
         // For a filter that answers by what it is shown.
-        ensures { (keeps : Meta → Bool) → ComputesKey F.FnMut keeps filter
+        ensures exact { (keeps : Meta → Bool) → ComputesKey F.FnMut keeps filter
             → IsPassingSectionOfKey (parsed_section_key section_key.now) keeps self.now result }
+        // Whatever the filter answers.
+        ensures some { IsSomeSectionOfKey (parsed_section_key section_key.now) self.now result }
     {
         match KeyRef::parse(section_key) {
             Some(key) => self.section_filter(key.section_name, key.subsection_name, filter),

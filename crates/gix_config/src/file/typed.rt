@@ -10,6 +10,7 @@ ghost use Rattle.bstr.specs.Owned.{bstring_bytes};
 ghost use Rattle.gitconf_text.specs.ValueErrors.{wanting};
 ghost use Rattle.gitconf_values.specs.Integers.{integer_or_refusal};
 ghost use Rattle.gitconf_store.specs.Lookups.{IsFound, key_at, texts_of, unless_empty};
+ghost use Rattle.gitconf_store.specs.SomeSections.{WithSome};
 ghost use Rattle.gix_config.specs.Keys.{OfKey};
 ghost use Rattle.gix_config.specs.Typed.{AreIntegers, IsBoolean, IsInteger, IsPath, IsTyped, boolean_or_refusal, integers_or_refusal};
 
@@ -131,7 +132,9 @@ impl File {
     ) -> Result<Option<Path>, NoMemory>
         requires { F.IsAlwaysCallable filter }
         // For a filter that answers by what it is shown.
-        ensures { (keeps : Meta → Bool) → ComputesKey F.FnMut keeps filter → OfKey (K.key key) (λ key. IsPath key keeps self.now result) result }
+        ensures exact { (keeps : Meta → Bool) → ComputesKey F.FnMut keeps filter → OfKey (K.key key) (λ key. IsPath key keeps self.now result) result }
+        // Whatever the filter answers.
+        ensures some { OfKey (K.key key) (λ key. WithSome (λ s. IsPath key (λ _. true) s result) self.now) result }
     {
         match key.try_as_key() {
             Some(key) => self.path_filter_by(
@@ -158,7 +161,9 @@ impl File {
     ) -> Result<Option<Path>, NoMemory>
         requires { F.IsAlwaysCallable filter }
         // For a filter that answers by what it is shown.
-        ensures { (keeps : Meta → Bool) → ComputesKey F.FnMut keeps filter → IsPath (key_at section_name.now (option_copied subsection_name.entry) value_name.now) keeps self.now result }
+        ensures exact { (keeps : Meta → Bool) → ComputesKey F.FnMut keeps filter → IsPath (key_at section_name.now (option_copied subsection_name.entry) value_name.now) keeps self.now result }
+        // Whatever the filter answers.
+        ensures some { WithSome (λ s. IsPath (key_at section_name.now (option_copied subsection_name.entry) value_name.now) (λ _. true) s result) self.now }
     {
         let found = self
             .store
@@ -210,7 +215,9 @@ impl File {
     ) -> Result<Option<bool>, value::Error>
         requires { F.IsAlwaysCallable filter }
         // For a filter that answers by what it is shown.
-        ensures { (keeps : Meta → Bool) → ComputesKey F.FnMut keeps filter → OfKey (K.key key) (λ key. IsBoolean key keeps self.now result) result }
+        ensures exact { (keeps : Meta → Bool) → ComputesKey F.FnMut keeps filter → OfKey (K.key key) (λ key. IsBoolean key keeps self.now result) result }
+        // Whatever the filter answers.
+        ensures some { OfKey (K.key key) (λ key. WithSome (λ s. IsBoolean key (λ _. true) s result) self.now) result }
     {
         match key.try_as_key() {
             Some(key) => self.boolean_filter_by(
@@ -237,7 +244,9 @@ impl File {
     ) -> Result<Option<bool>, value::Error>
         requires { F.IsAlwaysCallable filter }
         // For a filter that answers by what it is shown.
-        ensures { (keeps : Meta → Bool) → ComputesKey F.FnMut keeps filter → IsBoolean (key_at section_name.now (option_copied subsection_name.entry) value_name.now) keeps self.now result }
+        ensures exact { (keeps : Meta → Bool) → ComputesKey F.FnMut keeps filter → IsBoolean (key_at section_name.now (option_copied subsection_name.entry) value_name.now) keeps self.now result }
+        // Whatever the filter answers.
+        ensures some { WithSome (λ s. IsBoolean (key_at section_name.now (option_copied subsection_name.entry) value_name.now) (λ _. true) s result) self.now }
     {
         let found = self
             .store
@@ -289,7 +298,9 @@ impl File {
     ) -> Result<Option<i64>, value::Error>
         requires { F.IsAlwaysCallable filter }
         // For a filter that answers by what it is shown.
-        ensures { (keeps : Meta → Bool) → ComputesKey F.FnMut keeps filter → OfKey (K.key key) (λ key. IsInteger key keeps self.now result) result }
+        ensures exact { (keeps : Meta → Bool) → ComputesKey F.FnMut keeps filter → OfKey (K.key key) (λ key. IsInteger key keeps self.now result) result }
+        // Whatever the filter answers.
+        ensures some { OfKey (K.key key) (λ key. WithSome (λ s. IsInteger key (λ _. true) s result) self.now) result }
     {
         match key.try_as_key() {
             Some(key) => self.integer_filter_by(
@@ -316,7 +327,9 @@ impl File {
     ) -> Result<Option<i64>, value::Error>
         requires { F.IsAlwaysCallable filter }
         // For a filter that answers by what it is shown.
-        ensures { (keeps : Meta → Bool) → ComputesKey F.FnMut keeps filter → IsInteger (key_at section_name.now (option_copied subsection_name.entry) value_name.now) keeps self.now result }
+        ensures exact { (keeps : Meta → Bool) → ComputesKey F.FnMut keeps filter → IsInteger (key_at section_name.now (option_copied subsection_name.entry) value_name.now) keeps self.now result }
+        // Whatever the filter answers.
+        ensures some { WithSome (λ s. IsInteger (key_at section_name.now (option_copied subsection_name.entry) value_name.now) (λ _. true) s result) self.now }
     {
         let found = self
             .store
@@ -369,7 +382,9 @@ impl File {
     ) -> Result<Option<Vec<i64>>, value::Error>
         requires { F.IsAlwaysCallable filter }
         // For a filter that answers by what it is shown.
-        ensures { (keeps : Meta → Bool) → ComputesKey F.FnMut keeps filter → OfKey (K.key key) (λ key. AreIntegers key keeps self.now result) result }
+        ensures exact { (keeps : Meta → Bool) → ComputesKey F.FnMut keeps filter → OfKey (K.key key) (λ key. AreIntegers key keeps self.now result) result }
+        // Whatever the filter answers.
+        ensures some { OfKey (K.key key) (λ key. WithSome (λ s. AreIntegers key (λ _. true) s result) self.now) result }
     {
         match key.try_as_key() {
             Some(key) => self.integers_filter_by(
@@ -396,7 +411,9 @@ impl File {
     ) -> Result<Option<Vec<i64>>, value::Error>
         requires { F.IsAlwaysCallable filter }
         // For a filter that answers by what it is shown.
-        ensures { (keeps : Meta → Bool) → ComputesKey F.FnMut keeps filter → AreIntegers (key_at section_name.now (option_copied subsection_name.entry) value_name.now) keeps self.now result }
+        ensures exact { (keeps : Meta → Bool) → ComputesKey F.FnMut keeps filter → AreIntegers (key_at section_name.now (option_copied subsection_name.entry) value_name.now) keeps self.now result }
+        // Whatever the filter answers.
+        ensures some { WithSome (λ s. AreIntegers (key_at section_name.now (option_copied subsection_name.entry) value_name.now) (λ _. true) s result) self.now }
     {
         let found = self
             .store

@@ -1,10 +1,23 @@
-use Rattle.std.proofs.Common.{ap, subst, ◌∙◌}
+use Rattle.std.proofs.Common.{true, ap, subst, ◌∙◌}
+use Rattle.std.specs.Option.{option_copied}
 use Rattle.gitconf_store.specs.Finding.{AreFound, all_places}
+use Rattle.gitconf_store.specs.SomeSections.{AreSome}
 use Rattle.gitconf_store.specs.Walks.{named_left}
+use Rattle.gitconf_store.proofs.SomeSections.{with_some_named}
 use Rattle.gitconf_store.proofs.store.Store.find_all.Goals as goal
 
-pub returns : goal.returns
-returns g c = λ keeps h.
+pub returns-clause-exact : goal.returns-clause-exact
+returns-clause-exact g c = λ keeps h.
     subst (AreFound c.all_found.result)
     (ap (λ k. all_places k keeps (named_left c.sections_named-sections.result)) c.as_bytes.ensures.value ∙ ap (all_places c.args.value_name.now keeps) c.sections_named-sections.ensures)
-    (c.all_found.ensures keeps h)
+    (c.all_found.ensures.exact keeps h)
+
+pub returns-clause-some : goal.returns-clause-some
+returns-clause-some g c =
+    let found = c.all_found.ensures.some in
+    with_some_named c.args.section_name.now (option_copied c.args.subsection_name) c.args.self.now
+    (λ sections. AreFound c.all_found.result (all_places c.args.value_name.now (λ _. true) sections)) (
+      found.0,
+      subst (λ sections. AreSome sections found.0) c.sections_named-sections.ensures found.1,
+      subst (λ k. AreFound c.all_found.result (all_places k (λ _. true) found.0)) c.as_bytes.ensures.value found.2,
+    )

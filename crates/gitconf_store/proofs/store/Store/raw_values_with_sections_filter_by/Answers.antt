@@ -1,18 +1,30 @@
-use Rattle.std.proofs.Common.{ap, map, subst, sym}
+use Rattle.std.proofs.Common.{true, subst, sym}
 use Rattle.std.specs.Option.{option_copied}
-use Rattle.gitconf_store.specs.Finding.{all_places}
-use Rattle.gitconf_store.specs.Lookups.{IsFound, key_at, miss_at, sections_named, shown_with, unless_empty, values_in}
+use Rattle.std.specs.Prelude.{map}
+use Rattle.gitconf_store.specs.Lookups.{key_at, miss_at, shown_with, unless_empty, values_in}
+use Rattle.gitconf_state.specs.Edits.{with_sections}
 use Rattle.gitconf_store.specs.Misses.{IsExisting}
-use Rattle.gitconf_store.proofs.Answering.{existing_told, values_in_found}
+use Rattle.gitconf_store.proofs.Answering.{existing_told, texts_with_sections_told}
 use Rattle.gitconf_store.proofs.store.Store.raw_values_with_sections_filter_by.Goals as goal
 
-pub returns : goal.returns
-returns g c = λ keeps h.
+pub returns-clause-exact : goal.returns-clause-exact
+returns-clause-exact g c = λ keeps h.
     let key = key_at c.args.section_name.now (option_copied c.args.subsection_name) c.args.value_name.now in
     let state = c.args.self.now in
-    let found = c.texts_with_sections-found.result in
-    let given : IsFound (λ texts. map shown_with texts.items) found (unless_empty (values_in key keeps state)) =
-    subst (IsFound (λ texts. map shown_with texts.items) found) (ap unless_empty (values_in_found key keeps state))
-    (c.texts_with_sections-found.ensures (all_places key.name keeps (sections_named key.section key.subsection state)) (c.find_all-found.ensures keeps h)) in
-    subst (λ r. IsExisting (λ texts. map shown_with texts.items) r (unless_empty (values_in key keeps state)) (miss_at key state)) (sym c.existing.ensures)
-    (existing_told (λ texts. map shown_with texts.items) found (unless_empty (values_in key keeps state)) (miss_at key state) given)
+    let value = unless_empty (values_in key keeps state) in
+    subst (λ r. IsExisting (λ texts. map shown_with texts.items) r value (miss_at key state)) (sym c.existing.ensures)
+    (existing_told (λ texts. map shown_with texts.items) c.texts_with_sections-found.result value (miss_at key state)
+    (texts_with_sections_told key keeps state c.find_all-found.result c.texts_with_sections-found.result c.texts_with_sections-found.ensures (c.find_all-found.ensures.exact keeps h)))
+
+pub returns-clause-some : goal.returns-clause-some
+returns-clause-some g c =
+    let key = key_at c.args.section_name.now (option_copied c.args.subsection_name) c.args.value_name.now in
+    let state = c.args.self.now in
+    let found = c.find_all-found.ensures.some in
+    let value = unless_empty (values_in key (λ _. true) (with_sections found.0 state)) in (
+      found.0,
+      found.1,
+      subst (λ r. IsExisting (λ texts. map shown_with texts.items) r value (miss_at key state)) (sym c.existing.ensures)
+          (existing_told (λ texts. map shown_with texts.items) c.texts_with_sections-found.result value (miss_at key state)
+          (texts_with_sections_told key (λ _. true) (with_sections found.0 state) c.find_all-found.result c.texts_with_sections-found.result c.texts_with_sections-found.ensures found.2)),
+    )

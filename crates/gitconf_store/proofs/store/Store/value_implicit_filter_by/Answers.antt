@@ -1,15 +1,21 @@
-use Rattle.std.proofs.Common.{ap, subst, ◌∙◌}
+use Rattle.std.proofs.Common.{true}
 use Rattle.std.specs.Option.{option_copied, option_map}
-use Rattle.bstr.specs.Owned.{bstring_bytes}
-use Rattle.gitconf_text.specs.Value.{plain}
-use Rattle.gitconf_store.specs.Finding.{Place}
-use Rattle.gitconf_store.specs.Lookups.{IsFound, key_at}
-use Rattle.gitconf_store.proofs.Answering.{implicit_found}
+use Rattle.gitconf_state.specs.Edits.{with_sections}
+use Rattle.gitconf_store.specs.Finding.{place_of}
+use Rattle.gitconf_store.specs.Lookups.{key_at}
+use Rattle.gitconf_store.proofs.Answering.{implicit_told}
 use Rattle.gitconf_store.proofs.store.Store.value_implicit_filter_by.Goals as goal
 
-pub returns : goal.returns
-returns g c = λ keeps h.
-    subst (IsFound (option_map bstring_bytes) c.implicit_text.result)
-    (ap (option_map (λ (p : Place). option_map plain p.1.raw)) (c.find-found.ensures keeps h)
-    ∙ implicit_found (key_at c.args.section_name.now (option_copied c.args.subsection_name) c.args.value_name.now) keeps c.args.self.now)
-    c.implicit_text.ensures
+pub returns-clause-exact : goal.returns-clause-exact
+returns-clause-exact g c = λ keeps h.
+    implicit_told (key_at c.args.section_name.now (option_copied c.args.subsection_name) c.args.value_name.now) keeps c.args.self.now (option_map place_of c.find-found.result) c.implicit_text.result
+    c.implicit_text.ensures (c.find-found.ensures.exact keeps h)
+
+pub returns-clause-some : goal.returns-clause-some
+returns-clause-some g c =
+    let found = c.find-found.ensures.some in (
+      found.0,
+      found.1,
+      implicit_told (key_at c.args.section_name.now (option_copied c.args.subsection_name) c.args.value_name.now) (λ _. true) (with_sections found.0 c.args.self.now) (option_map place_of c.find-found.result) c.implicit_text.result
+          c.implicit_text.ensures found.2,
+    )

@@ -1,7 +1,8 @@
-use Rattle.std.proofs.Common.{◌≡◌, Bool, None, length}
+use Rattle.std.proofs.Common.{◌≡◌, ◌++◌, Bool, List, None, length}
 use Rattle.std.specs.Fn.{ComputesKey}
 use Rattle.std.specs.List.{last_or}
 use Rattle.gitconf_base.specs.Metadata.{Meta}
+use Rattle.gitconf_state.specs.State.{SectionState}
 use Rattle.gitconf_store.specs.Walks.{named_left, passing}
 use Rattle.gitconf_store.proofs.store.views.last_passing.Given as goal
 
@@ -9,6 +10,7 @@ use Rattle.gitconf_store.proofs.store.views.last_passing.Given as goal
 abbrev pub invariant-loop-section : goal.invariant-loop-section
 invariant-loop-section g l = record {
   callable : goal.F-IsAlwaysCallable g l.filter;
+  behind : (behind : List SectionState) × (named_left l.fn.sections ≡ named_left l.left ++ behind);
   told : (keeps : Meta → Bool) → ComputesKey g.F.FnMut keeps l.fn.filter
       → ComputesKey g.F.FnMut keeps l.filter
       × (last_or None (passing keeps (named_left l.fn.sections)) ≡ last_or None (passing keeps (named_left l.left)));

@@ -1,11 +1,19 @@
-use Rattle.std.proofs.Common.{subst}
+use Rattle.std.proofs.Common.{true, subst}
 use Rattle.std.specs.Option.{option_copied}
 use Rattle.gitconf_store.specs.Lookups.{key_at}
+use Rattle.gitconf_store.specs.SomeSections.{WithSome}
 use Rattle.gix_config.specs.Typed.{IsPath}
 use Rattle.gix_config.proofs.file.File.path_filter_by.Goals as goal
 
-pub returns : goal.returns
-returns g c = λ keeps h.
+pub returns-clause-exact : goal.returns-clause-exact
+returns-clause-exact g c = λ keeps h.
     let key = key_at c.args.section_name.now (option_copied c.args.subsection_name) c.args.value_name.now in
     subst (λ s. IsPath key keeps s c.found_path.result) c.self.view_is
-    (c.found_path.ensures _ (c.string_filter_by-found.ensures keeps h))
+    (c.found_path.ensures _ (c.string_filter_by-found.ensures.exact keeps h))
+
+pub returns-clause-some : goal.returns-clause-some
+returns-clause-some g c =
+    let key = key_at c.args.section_name.now (option_copied c.args.subsection_name) c.args.value_name.now in
+    let found = c.string_filter_by-found.ensures.some in
+    subst (WithSome (λ s. IsPath key (λ _. true) s c.found_path.result)) c.self.view_is
+    (found.0, found.1, c.found_path.ensures _ found.2)

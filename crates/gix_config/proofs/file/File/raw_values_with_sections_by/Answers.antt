@@ -3,4 +3,4 @@ use Rattle.std.proofs.lemmas.Fn.{always_returns_same}
 use Rattle.gix_config.proofs.file.File.raw_values_with_sections_by.Goals as goal
 
 pub returns : goal.returns
-returns c = c.raw_values_with_sections_filter_by.ensures (λ _. true) (always_returns_same _ _ _ (λ a r f' k. search rules))
+returns c = c.raw_values_with_sections_filter_by.ensures.exact (λ _. true) (always_returns_same _ _ _ (λ a r f' k. search rules))
