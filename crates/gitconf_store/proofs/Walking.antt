@@ -11,6 +11,7 @@ use Rattle.gitconf_store.specs.declared.lookup.found.Deciding.{Deciding}
 use Rattle.gitconf_store.specs.declared.lookup.found.Found.{Found}
 use Rattle.gitconf_store.specs.Finding.{AreFound, Place, all_places, deciding_entry, deciding_place, last_place, places_in}
 use Rattle.gitconf_store.specs.SomeSections.{AreSome}
+use Rattle.gitconf_store.specs.Walks.{passing}
 use Rattle.gitconf_store.proofs.SomeSections.{next_of, none_of, one_of}
 
 -- the last element that passes and gives something
@@ -141,3 +142,11 @@ some_refused result key all left next s places fault some is h =
       refused_found result (all_places key (λ _. true) more.0) fault
           (some_left places (places_in key s) [] (all_places key (λ _. true) more.0) (append-nil (places ++ places_in key s) ∙ more.2) some),
     )
+
+-- one more is skipped
+pub skipped_more : {A : Type 0} (all left next : List A) (x : A) → left ≡ x ∷ next → (skipped : List A) × (all ≡ skipped ++ left) → (skipped : List A) × (all ≡ skipped ++ next)
+skipped_more all left next x is h = (h.0 ++ x ∷ [], h.1 ∙ ap (λ xs. h.0 ++ xs) is ∙ sym (append_assoc h.0 (x ∷ []) next))
+
+-- and none of those that pass
+pub passing_skipped : (keeps : Meta → Bool) (left next : List SectionState) (s : SectionState) → left ≡ s ∷ next → keeps s.meta ≡ false → passing keeps left ≡ passing keeps next
+passing_skipped keeps left next s is skipped = ap (passing keeps) is ∙ rw skipped refl

@@ -1,5 +1,5 @@
 -- Look-ups with a filter that may answer otherwise each time it is asked: they answer as if the state had some of its sections alone.
-use Rattle.std.specs.Prelude.{◌≡◌, ◌⊎◌, ℕ, true, List, [], ◌∷◌, map, Option, Some, None, Result, Ok, Err}
+use Rattle.std.specs.Prelude.{◌≡◌, ◌⊎◌, ℕ, true, List, [], ◌∷◌, ◌++◌, map, Option, Some, None, Result, Ok, Err}
 use Rattle.std.specs.Option.{option_map}
 use Rattle.std.specs.declared.vec.Vec.{Vec}
 use Rattle.bstr.specs.declared.bstring.BString.{BString}
@@ -20,6 +20,11 @@ use Rattle.gitconf_store.specs.Views.{shown}
 abbrev pub AreSome : {A : Type 0} → (all some : List A) → Type 0
 AreSome [] some = some ≡ []
 AreSome {A} (x ∷ all) some = ((rest : List A) × (some ≡ x ∷ rest) × AreSome all rest) ⊎ AreSome all some
+
+-- The first of what is left behind some that are skipped, and what is left behind it; or nothing is left.
+abbrev pub IsBehindSome : {A : Type 0} → (before : List A) → (first : Option A) → (behind : List A) → Type 0
+IsBehindSome {A} before (Some x) behind = (skipped : List A) × (before ≡ skipped ++ x ∷ behind)
+IsBehindSome before None behind = behind ≡ []
 
 -- It holds of the state with some of its sections.
 abbrev pub WithSome : (holds : State → Type 0) → State → Type 0

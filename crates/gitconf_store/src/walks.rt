@@ -110,14 +110,18 @@ impl<'a, F: FnMut(&Metadata) -> bool + Drop> Iterator for SectionsByNameAndFilte
     ghost use Rattle.std.specs.Fn.{ComputesKey};
     ghost use Rattle.std.specs.Iterator.{YieldsFirstBy, item_count};
     ghost use Rattle.std.specs.Prelude.{Bool};
+    ghost use Rattle.std.specs.Option.{option_map};
     ghost use Rattle.gitconf_base.specs.Metadata.{Meta};
+    ghost use Rattle.gitconf_store.specs.SomeSections.{IsBehindSome};
     ghost use Rattle.gitconf_store.specs.Views.{shown};
     ghost use Rattle.gitconf_store.specs.Walks.{by_name_left, passing};
 
     ghost can_next = { λ s. F.IsAlwaysCallable s.filter };
 
-    ghost next_gives = { λ before item behind. (keeps : Meta → Bool) → ComputesKey F.FnMut keeps before.filter
-        → ComputesKey F.FnMut keeps behind.filter × YieldsFirstBy shown (λ it. passing keeps (by_name_left it.sections)) before item behind };
+    // For a filter that answers by what it is shown; and whatever it answers.
+    ghost next_gives = { λ before item behind. ((keeps : Meta → Bool) → ComputesKey F.FnMut keeps before.filter
+        → ComputesKey F.FnMut keeps behind.filter × YieldsFirstBy shown (λ it. passing keeps (by_name_left it.sections)) before item behind)
+        × IsBehindSome (by_name_left before.sections) (option_map shown item) (by_name_left behind.sections) };
 
     ghost remaining = { λ s. item_count by_name_left s.sections };
 

@@ -1,6 +1,7 @@
-use Rattle.std.proofs.Common.{◌≡◌, ◌≤◌, Bool, length}
+use Rattle.std.proofs.Common.{◌≡◌, ◌≤◌, ◌++◌, Bool, List, length}
 use Rattle.std.specs.Fn.{ComputesKey}
 use Rattle.gitconf_base.specs.Metadata.{Meta}
+use Rattle.gitconf_state.specs.State.{SectionState}
 use Rattle.gitconf_store.specs.Walks.{by_name_left, passing}
 use Rattle.gitconf_store.proofs.walks.SectionsByNameAndFilterIterator.next.Given as goal
 
@@ -11,6 +12,7 @@ invariant-loop-section g l = record {
   told : (keeps : Meta → Bool) → ComputesKey g.F.FnMut keeps l.initial.self.filter
       → ComputesKey g.F.FnMut keeps l.self.filter
       × (passing keeps (by_name_left l.initial.self.sections) ≡ passing keeps (by_name_left l.self.sections));
+  skipped : (skipped : List SectionState) × (by_name_left l.initial.self.sections ≡ skipped ++ by_name_left l.self.sections);
   fewer : length (by_name_left l.self.sections) ≤ length (by_name_left l.initial.self.sections);
 }
 
