@@ -20,7 +20,7 @@ use Rattle.gitconf_base.specs.Metadata.{Meta}
 use Rattle.gitconf_state.specs.State.{SectionState, State, is_value, is_assigned, is_item, is_header, HasSectionItems, is_entry}
 use Rattle.gitconf_state.specs.LineEnds.{file_line_end}
 use Rattle.gitconf_state.specs.Clean.{has_blanks, IsCleanSection}
-use Rattle.gitconf_state.specs.Edit.{is_entry_of, Spacing, blanks_of, before_entry, leading_blanks, separator_blanks, spacing_of, assigned_value, with_value, new_entry, set_value, made_header, new_section, is_target, section_with}
+use Rattle.gitconf_state.specs.Edit.{is_entry_of, Spacing, blanks_of, before_entry, separator_blanks, spacing_of, assigned_value, with_value, new_entry, set_value, made_header, new_section, is_target, section_with}
 use Rattle.gitconf_state.specs.Edits.{finds_or_makes}
 use Rattle.gitconf_state.proofs.LoadingFilters.{both_hold}
 use Rattle.gitconf_state.proofs.InsertingLineEnds.{is_told_line_end}

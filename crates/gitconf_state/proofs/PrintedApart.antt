@@ -1,12 +1,12 @@
 -- No printed item runs into the next, and where they end with a line end nothing is left open.
 use Rattle.std.proofs.Common.{◌≡◌, ℕ, Bool, true, false, List, [], ◌∷◌, map, refl, ap, sym, subst, ◌∙◌}
-use Rattle.std.specs.Prelude.{◌&&◌, ◌||◌}
+use Rattle.std.specs.Prelude.{◌&&◌}
 use Rattle.std.specs.List.{list_all, fold}
 use Rattle.gitconf_text.specs.Text.{is_line_end}
 use Rattle.gitconf_text.specs.Part.{Item, BlanksItem, LineEndsItem, CommentItem, EntryItem, ItemPart}
 use Rattle.gitconf_parse.proofs.ValueAgain.{both_true}
 use Rattle.gitconf_state.specs.State.{is_item}
-use Rattle.gitconf_state.specs.LineEnds.{holds, ends_line}
+use Rattle.gitconf_state.specs.LineEnds.{ends_line}
 use Rattle.gitconf_state.specs.Clean.{has_blanks}
 use Rattle.gitconf_state.specs.Printing.{closed_item, printed_items}
 use Rattle.gitconf_state.specs.Writing.{may_stand_behind, stand_apart_behind, Open, Closed, OpenKeyAndBlanks, OpenComment, after_blanks, after, breaks_behind, written_items}

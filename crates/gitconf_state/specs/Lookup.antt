@@ -1,13 +1,12 @@
 -- What look-ups find: filters of the plain list of sections, each with its number, where it comes from, and its document.
 -- Source: the git-config manual; gix-config.
-use Rattle.std.specs.Prelude.{ℕ, ℤ, Bool, true, not, List, [], ◌∷◌, ◌&&◌, map, filter, flat_map, Option, Some, None, is_some, Result, if◌then◌else◌}
+use Rattle.std.specs.Prelude.{ℕ, Bool, not, List, [], ◌∷◌, ◌&&◌, map, filter, flat_map, Option, Some, None, if◌then◌else◌}
 use Rattle.std.specs.Option.{option_eq, option_map}
 use Rattle.std.specs.List.{last_or, filter_map, list_any}
 use Rattle.std.specs.Str.{bytes_eq}
 use Rattle.gitconf_text.specs.Names.{is_same_name}
 use Rattle.gitconf_text.specs.Value.{plain}
 use Rattle.gitconf_text.specs.Document.{DocumentEntry, DocumentSection}
-use Rattle.gitconf_text.specs.Typed.{boolean_of, IntegerFault, integer_of}
 use Rattle.gitconf_base.specs.Metadata.{Meta}
 use Rattle.gitconf_state.specs.State.{SectionState, State, section_document}
 
@@ -82,11 +81,6 @@ deciding entries = elim (last_or None entries) [ None ↦ None | Some e ↦ e.ra
 abbrev pub last_value : (name : List ℕ) → (subsection : Option (List ℕ)) → (key : List ℕ) → (keeps : Meta → Bool) → List Listed → Option (List ℕ)
 last_value name subsection key keeps sections = option_map plain (last_or None (filter_map (λ s. deciding s.entries) (said_passing name subsection key keeps sections)))
 
--- the number of the section in which it stands
-abbrev pub last_value_section : (name : List ℕ) → (subsection : Option (List ℕ)) → (key : List ℕ) → (keeps : Meta → Bool) → List Listed → Option ℕ
-last_value_section name subsection key keeps sections =
-    option_map (λ s. s.number) (last_or None (filter (λ s. is_some (deciding s.entries)) (said_passing name subsection key keeps sections)))
-
 -- what an entry means: no value counts as an empty one
 abbrev pub meaning : DocumentEntry → List ℕ
 meaning e = elim e.raw [ None ↦ [] | Some raw ↦ plain raw ]
@@ -94,17 +88,6 @@ meaning e = elim e.raw [ None ↦ [] | Some raw ↦ plain raw ]
 -- the meanings of all entries of the key in the passing sections, in order
 abbrev pub all_values : (name : List ℕ) → (subsection : Option (List ℕ)) → (key : List ℕ) → (keeps : Meta → Bool) → List Listed → List (List ℕ)
 all_values name subsection key keeps sections = map meaning (flat_map (λ s. s.entries) (said_passing name subsection key keeps sections))
-
--- the boolean of the key's last entry in the last passing section that has the key: true where it has no value, none where its value is
--- no boolean
-abbrev pub boolean_value : (name : List ℕ) → (subsection : Option (List ℕ)) → (key : List ℕ) → (keeps : Meta → Bool) → List Listed → Option (Option Bool)
-boolean_value name subsection key keeps sections =
-    option_map (λ e. elim e.raw [ None ↦ Some true | Some raw ↦ boolean_of (plain raw) ])
-    (last_or None (filter_map (λ s. last_or None s.entries) (said_passing name subsection key keeps sections)))
-
--- the integer of the last value, or why it has none
-abbrev pub integer_value : (name : List ℕ) → (subsection : Option (List ℕ)) → (key : List ℕ) → (keeps : Meta → Bool) → List Listed → Option (Result ℤ IntegerFault)
-integer_value name subsection key keeps sections = option_map integer_of (last_value name subsection key keeps sections)
 
 -- what a look-up misses: no section has the name, or none of these has the subsection, or these have no value of the key
 pub data Miss : Type 0 where
