@@ -19,6 +19,7 @@ pub mod NamedSections
 pub mod Placing
 pub mod Telling
 pub mod Walking
+pub mod Numbering
 pub mod Answering
 pub mod Targets
 pub mod Setting

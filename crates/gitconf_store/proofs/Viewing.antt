@@ -42,7 +42,7 @@ pub header_viewed : (buffer copies : List ℕ) (h : Header) → IsShown buffer c
 header_viewed buffer copies h shown = record { copy_fits = shown.copy_fits; subsection = let same = shown.shown in cc }
 
 -- one section
-viewed : (buffer copies : List ℕ) (e : SectionEntry Section) → SectionFits buffer copies e → HasSectionItems (section_state buffer e) → IsViewed buffer copies e.section
+pub viewed : (buffer copies : List ℕ) (e : SectionEntry Section) → SectionFits buffer copies e → HasSectionItems (section_state buffer e) → IsViewed buffer copies e.section
 viewed buffer copies e fits has = record { header = header_viewed buffer copies e.section.header fits.header; spelled = has.header; items = has.items }
 
 -- those that a test keeps

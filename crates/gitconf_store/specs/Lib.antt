@@ -6,6 +6,7 @@ pub mod Views
 pub mod Walks
 pub mod Picks
 pub mod SomeSections
+pub mod Removals
 pub mod Same
 pub mod SameLaws
 pub mod RawBytes

@@ -1,5 +1,6 @@
 //! The state of a file behind one buffer.
 mod look_ups;
+mod removing;
 mod views;
 
 use crate::edit::last_place;

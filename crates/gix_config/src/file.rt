@@ -6,6 +6,7 @@ mod impls;
 pub mod includes;
 pub mod init;
 mod look_ups;
+mod removing;
 pub mod section;
 pub mod sections;
 mod typed;

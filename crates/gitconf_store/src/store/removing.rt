@@ -1,0 +1,102 @@
+//! Sections of a store that are found by their numbers, and taken out.
+ghost use Rattle.std.specs.Fn.{ComputesKey};
+ghost use Rattle.std.specs.Option.{option_copied, option_map};
+ghost use Rattle.std.specs.Prelude.{◌≡◌, Bool, OnErr, OnOk, true};
+ghost use Rattle.gitconf_base.specs.Metadata.{Meta};
+ghost use Rattle.gitconf_state.specs.Edits.{RemoveNumbered, RemoveSection, apply, numbered};
+ghost use Rattle.gitconf_store.specs.Picks.{picked};
+ghost use Rattle.gitconf_store.specs.Removals.{IsTakenOut};
+ghost use Rattle.gitconf_store.specs.SomeSections.{WithSome};
+ghost use Rattle.gitconf_store.specs.Views.{shown};
+
+use crate::detached;
+use crate::section::SectionRef;
+use crate::store::Store;
+use crate::store::views::last_passing;
+use gitconf_base::meta::Metadata;
+use gitconf_table::table::SectionId;
+use gitconf_text::NoMemory;
+
+impl Store {
+    /// The section of a number, if there is one. Constant time, and no memory.
+    pub fn section_by_id(&self, id: SectionId) -> Option<SectionRef<'_>>
+        ensures { option_map shown result ≡ numbered id self.now }
+    {
+        // No number was given twice.
+        prove!(self.sections.next_id() == self.sections.next_id());
+        match self.sections.get(id) {
+            Some(section) => Some(SectionRef {
+                buffer: &self.buffer,
+                copies: &self.copies,
+                id,
+                section,
+            }),
+            None => None,
+        }
+    }
+
+    /// Takes out the section of a number, if there is one. Takes no memory.
+    fn take_out(&mut self, id: SectionId)
+        ensures { self.new ≡ apply (RemoveNumbered id) self.old }
+    {
+        drop(self.sections.remove(id));
+    }
+
+    /// Takes out the section of a number, and hands it out with a buffer of its own; `None` where there is none. What is held behind it is
+    /// dropped. Its bytes and items are copied once, and all places behind it are told anew.
+    ///
+    /// # Errors
+    ///
+    /// Want of memory for the copy. The file is then as it was.
+    pub fn remove_section_by_id(
+        &mut self,
+        id: SectionId,
+    ) -> Result<Option<detached::Section>, NoMemory>
+        ensures ok { OnOk result (self.new ≡ apply (RemoveNumbered id) self.old) }
+        ensures taken { IsTakenOut (numbered id self.old) result self.old self.new }
+        ensures err { OnErr result (self.new ≡ self.old) }
+    {
+        match self.section_by_id(id) {
+            Some(section) => {
+                let section = section.to_owned()?;
+                self.take_out(id);
+                Ok(Some(section))
+            }
+            None => Ok(None),
+        }
+    }
+
+    /// Takes out the last section of the name, without ASCII case, and exactly the subsection, whose metadata passes the filter, and hands
+    /// it out as [`Store::remove_section_by_id`] does; `None` where none passes. The filter is asked of the sections of these names
+    /// from the last one on, up to that one.
+    ///
+    /// # Errors
+    ///
+    /// Those of [`Store::remove_section_by_id`].
+    pub fn remove_section_filter<F: FnMut(&Metadata) -> bool>(
+        &mut self,
+        name: &str,
+        subsection_name: Option<&[u8]>,
+        filter: F,
+    ) -> Result<Option<detached::Section>, NoMemory>
+        requires { F.IsAlwaysCallable filter }
+        // For a filter that answers by what it is shown.
+        ensures ok { (keeps : Meta → Bool) → ComputesKey F.FnMut keeps filter
+            → OnOk result (self.new ≡ apply (RemoveSection name.now (option_copied subsection_name.entry) keeps) self.old) }
+        ensures taken { (keeps : Meta → Bool) → ComputesKey F.FnMut keeps filter
+            → IsTakenOut (picked name.now (option_copied subsection_name.entry) keeps self.old) result self.old self.new }
+        // Whatever the filter answers.
+        ensures some { WithSome (λ s. IsTakenOut (picked name.now (option_copied subsection_name.entry) (λ _. true) s) result self.old self.new) self.old }
+        ensures err { OnErr result (self.new ≡ self.old) }
+    {
+        match last_passing(self.sections_named(name, subsection_name), filter) {
+            Some(section) => {
+                let id = section.id();
+                let section = section.to_owned()?;
+                self.take_out(id);
+                Ok(Some(section))
+            }
+            None => Ok(None),
+        }
+    }
+}

@@ -1,0 +1,72 @@
+//! Sections taken out of a file.
+ghost use Rattle.std.specs.Fn.{ComputesKey};
+ghost use Rattle.std.specs.Option.{option_copied};
+ghost use Rattle.std.specs.Prelude.{◌≡◌, Bool, OnErr, OnOk, true};
+ghost use Rattle.gitconf_base.specs.Metadata.{Meta};
+ghost use Rattle.gitconf_state.specs.Edits.{RemoveNumbered, RemoveSection, apply, numbered};
+ghost use Rattle.gitconf_store.specs.Picks.{picked};
+ghost use Rattle.gitconf_store.specs.Removals.{IsTakenOut};
+ghost use Rattle.gitconf_store.specs.SomeSections.{WithSome};
+
+use crate::file::{File, Metadata, Section, SectionId};
+use gitconf_text::NoMemory;
+
+impl File {
+    /// Takes out the last section that has the name, without ASCII case, and exactly the subsection, and hands it out, under its number
+    /// and with a buffer of its own; `None` where there is none. What is held behind it is dropped. Its bytes and items are copied
+    /// once, and the places of the sections behind it are told anew.
+    ///
+    /// # Errors
+    ///
+    /// Want of memory for the copy. The file is then as it was.
+    #[tactic(auto, using(std::proofs::lemmas::Fn::always_returns_same))]
+    pub fn remove_section(
+        &mut self,
+        name: &str,
+        subsection_name: Option<&[u8]>,
+    ) -> Result<Option<Section>, NoMemory>
+        ensures ok { OnOk result (self.new ≡ apply (RemoveSection name.now (option_copied subsection_name.entry) (λ _. true)) self.old) }
+        ensures taken { IsTakenOut (picked name.now (option_copied subsection_name.entry) (λ _. true) self.old) result self.old self.new }
+        ensures err { OnErr result (self.new ≡ self.old) }
+    {
+        self.remove_section_filter(name, subsection_name, |_| true)
+    }
+
+    /// As [`File::remove_section`], the section of a number.
+    ///
+    /// # Errors
+    ///
+    /// Those of [`File::remove_section`].
+    pub fn remove_section_by_id(&mut self, id: SectionId) -> Result<Option<Section>, NoMemory>
+        ensures ok { OnOk result (self.new ≡ apply (RemoveNumbered id) self.old) }
+        ensures taken { IsTakenOut (numbered id self.old) result self.old self.new }
+        ensures err { OnErr result (self.new ≡ self.old) }
+    {
+        self.store.remove_section_by_id(id)
+    }
+
+    /// As [`File::remove_section`], the last section whose metadata passes the filter; `None` where none passes. The filter is asked of
+    /// the sections of these names from the last one on, up to that one.
+    ///
+    /// # Errors
+    ///
+    /// Those of [`File::remove_section`].
+    pub fn remove_section_filter<F: FnMut(&Metadata) -> bool>(
+        &mut self,
+        name: &str,
+        subsection_name: Option<&[u8]>,
+        filter: F,
+    ) -> Result<Option<Section>, NoMemory>
+        requires { F.IsAlwaysCallable filter }
+        // For a filter that answers by what it is shown.
+        ensures ok { (keeps : Meta → Bool) → ComputesKey F.FnMut keeps filter
+            → OnOk result (self.new ≡ apply (RemoveSection name.now (option_copied subsection_name.entry) keeps) self.old) }
+        ensures taken { (keeps : Meta → Bool) → ComputesKey F.FnMut keeps filter
+            → IsTakenOut (picked name.now (option_copied subsection_name.entry) keeps self.old) result self.old self.new }
+        // Whatever the filter answers.
+        ensures some { WithSome (λ s. IsTakenOut (picked name.now (option_copied subsection_name.entry) (λ _. true) s) result self.old self.new) self.old }
+        ensures err { OnErr result (self.new ≡ self.old) }
+    {
+        self.store.remove_section_filter(name, subsection_name, filter)
+    }
+}
