@@ -67,6 +67,7 @@ impl File {
         ensures some { WithSome (λ s. IsTakenOut (picked name.now (option_copied subsection_name.entry) (λ _. true) s) result self.old self.new) self.old }
         ensures err { OnErr result (self.new ≡ self.old) }
     {
-        self.store.remove_section_filter(name, subsection_name, filter)
+        self.store
+            .remove_section_filter(name, subsection_name, filter)
     }
 }
