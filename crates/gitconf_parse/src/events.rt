@@ -89,6 +89,18 @@ fn copied(alloc: Global, input: &[u8]) -> Result<Vec<u8>, NoMemory>
     Ok(Vec::from_slice(alloc, input)?)
 }
 
+/// How many bytes more a copy with room takes before it grows: some edits of a text.
+const ROOM: usize = 4096;
+
+/// A copy of a text with room behind it, so that a first edit copies nothing.
+fn copied_with_room(alloc: Global, input: &[u8]) -> Result<Vec<u8>, NoMemory>
+    ensures items { IfOk result (λ copy. copy.items ≡ input.now) }
+{
+    let mut copy = Vec::with_capacity(alloc, input.len().saturating_add(ROOM))?;
+    copy.extend_from_slice(input)?;
+    Ok(copy)
+}
+
 /// The events of a text that has a document.
 fn events_of(alloc: Global, input: &[u8]) -> Result<EventVec, Error>
     ensures found { IfOk result (λ events. IsRead input.now events) }
@@ -127,7 +139,7 @@ impl Events {
         ensures refused { IfErr result (IsRefused input.now) }
     {
         let events = events_of(alloc, input)?;
-        let buffer = copied(alloc, input)?;
+        let buffer = copied_with_room(alloc, input)?;
         let mut copies = Vec::new(alloc);
         let events = events.decoded(&buffer, &mut copies)?;
         Ok(Events {
@@ -286,7 +298,7 @@ impl Events {
         ensures { IfOk result (λ events. events ≡ self.now) }
     {
         let alloc = *self.buffer.allocator();
-        let buffer = copied(alloc, &self.buffer)?;
+        let buffer = copied_with_room(alloc, &self.buffer)?;
         let copies = copied(alloc, &self.copies)?;
         let events = self.events.try_clone()?;
         Ok(Events {

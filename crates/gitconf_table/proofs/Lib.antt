@@ -4,3 +4,4 @@ pub mod Chains
 pub mod LinkLemmas
 pub mod Walks
 pub mod TableLemmas
+pub mod RowLemmas

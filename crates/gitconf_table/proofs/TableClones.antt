@@ -1,18 +1,27 @@
 -- Clones of the rows of a table are clones of its sections.
-use Rattle.std.proofs.Common.{◌≡◌, ℕ, ◌<◌, ◌==◌, false, List, [], ◌∷◌, subst, sym}
+use Rattle.std.proofs.Common.{◌≡◌, ℕ, ◌<◌, ◌==◌, false, List, [], ◌∷◌, ap, subst, sym}
 use Rattle.std.specs.List.{AllByRecursion, AllZip}
+use Rattle.std.specs.Option.{option_map}
+use Rattle.gitconf_table.specs.declared.letters.Names.{Names}
 use Rattle.gitconf_table.specs.declared.table.Row.{Row}
+use Rattle.gitconf_table.specs.Letters.{part_of}
 use Rattle.gitconf_table.specs.Sections.{SectionEntry, AreNumbered, IsEntryClone}
-use Rattle.gitconf_table.specs.Rows.{entry_of_row, entries_of}
+use Rattle.gitconf_table.specs.Rows.{entries_of, IsRowClone}
 
 -- rows that are clones, one by one, are sections that are
-pub cloned_rows : {T : Type 0} (C : T → T → Type 0) (R : Row T → Row T → Type 0)
-    → ((row copy : Row T) → R row copy → IsEntryClone C (entry_of_row row) (entry_of_row copy))
-    → (rows copies : List (Row T)) → AllZip R rows copies → AllZip (IsEntryClone C) (entries_of rows) (entries_of copies)
-cloned_rows C R each [] [] all = tt
-cloned_rows C R each [] (s ∷ copies) all = elim all [ ]
-cloned_rows C R each (r ∷ rows) [] all = elim all [ ]
-cloned_rows C R each (r ∷ rows) (s ∷ copies) all = (each r s all.0, cloned_rows C R each rows copies all.1)
+pub cloned_rows : {T : Type 0} (C : T → T → Type 0) (letters : List ℕ) (rows copies : List (Row T)) → AllZip (IsRowClone C) rows copies → AllZip (IsEntryClone C) (entries_of letters rows) (entries_of letters copies)
+cloned_rows C letters [] [] all = tt
+cloned_rows C letters [] (s ∷ copies) all = elim all [ ]
+cloned_rows C letters (r ∷ rows) [] all = elim all [ ]
+cloned_rows C letters (r ∷ rows) (s ∷ copies) all = (
+  record {
+    number = all.0.number;
+    name = ap (λ (n : Names). part_of letters n.name) all.0.names;
+    subsection = ap (λ (n : Names). option_map (part_of letters) n.subsection) all.0.names;
+    section = all.0.section;
+  },
+  cloned_rows C letters rows copies all.1,
+)
 
 -- a number that no section has, no clone has
 differs_clone : {T : Type 0} (C : T → T → Type 0) (n m : ℕ) (entries copies : List (SectionEntry T))

@@ -1,5 +1,5 @@
 -- The places and words of a table under its edits, and what its walks find.
-use Rattle.std.proofs.Common.{◌≡◌, ◌≢◌, ℕ, zero, suc, ◌+◌, ◌≤◌, ◌<◌, ◌==◌, ◌⊎◌, inl, inr, Bool, true, false, not, List, [], ◌∷◌, ◌++◌, length, take, drop, get_or, set, map, filter, insert, remove, position, slice_index, Option, Some, None, refl, ap, sym, subst, ◌∙◌, arith, add-zero, eqb-true}
+use Rattle.std.proofs.Common.{◌≡◌, ◌≢◌, ℕ, zero, suc, ◌+◌, ◌≤◌, ◌<◌, ◌==◌, ◌⊎◌, inl, inr, Bool, true, false, not, List, [], ◌∷◌, ◌++◌, length, take, drop, set, map, filter, insert, remove, position, slice_index, Option, Some, None, refl, ap, sym, subst, ◌∙◌, arith, add-zero, eqb-true}
 use Rattle.std.specs.Prelude.{◌&&◌, slice_get}
 use Rattle.std.specs.Option.{option_eq, option_map}
 use Rattle.std.specs.List.{filter_map, list_any, AllByRecursion, AllZip}
@@ -86,11 +86,11 @@ module _ {T : Type 0} where
 
   -- among the rows
   pub found : (p : SectionEntry T → Bool) (word_of : SectionEntry T → ℕ) (w : ℕ) → ((e : SectionEntry T) → p e ≡ true → word_of e ≡ w)
-      → (rows : List (Row T)) (ws : List ℕ) → ws ≡ map word_of (entries_of rows) → filter p (entries_at rows (places_of w ws)) ≡ filter p (entries_of rows)
-  found p word_of w words rows ws same =
-      let count : length ws ≡ length (entries_of rows) = ap length same ∙ length-map (entries_of rows) word_of in
-      rw count (found_in p word_of w words (λ at. option_map entry_of_row (slice_get rows at)) ws (entries_of rows) 0
-      (λ k. let sum : 0 + k ≡ k = omega arith in rw sum (sym (slice_get-map entry_of_row rows k)))
+      → (letters : List ℕ) (rows : List (Row T)) (ws : List ℕ) → ws ≡ map word_of (entries_of letters rows) → filter p (entries_at letters rows (places_of w ws)) ≡ filter p (entries_of letters rows)
+  found p word_of w words letters rows ws same =
+      let count : length ws ≡ length (entries_of letters rows) = ap length same ∙ length-map (entries_of letters rows) word_of in
+      rw count (found_in p word_of w words (λ at. option_map (entry_of_row letters) (slice_get rows at)) ws (entries_of letters rows) 0
+      (λ k. let sum : 0 + k ≡ k = omega arith in rw sum (sym (slice_get-map (entry_of_row letters) rows k)))
       (λ k. let sum : 0 + k ≡ k = omega arith in rw sum (ap (λ l. slice_index l k) same)))
 
 -- lists under f
@@ -284,9 +284,9 @@ module _ {T : Type 0} where
             e ∙ ap (λ (n : ℕ). Some n) same
 
   -- what a walk shows is no longer than the table
-  pub fits_shown : {B : Type 0} (f : SectionEntry T → B) (p : SectionEntry T → Bool) (rows : List (Row T)) (xs : List (SectionEntry T)) (n : ℕ) → xs ≡ filter p (entries_of rows) → length rows < n → length (map f xs) < n
-  fits_shown f p rows xs n same below =
-      rw (length-map xs f, same) (omega (arith, below, length-map rows entry_of_row, length-filter_both p (λ e. not (p e)) (λ e. refl) (entries_of rows)))
+  pub fits_shown : {B : Type 0} (f : SectionEntry T → B) (p : SectionEntry T → Bool) (letters : List ℕ) (rows : List (Row T)) (xs : List (SectionEntry T)) (n : ℕ) → xs ≡ filter p (entries_of letters rows) → length rows < n → length (map f xs) < n
+  fits_shown f p letters rows xs n same below =
+      rw (length-map xs f, same) (omega (arith, below, length-map rows (entry_of_row letters), length-filter_both p (λ e. not (p e)) (λ e. refl) (entries_of letters rows)))
 
   -- whether something passes, by the first that a walk shows
   pub any_shown : {B : Type 0} (f : SectionEntry T → B) (p : SectionEntry T → Bool) (es : List (SectionEntry T)) (x : B) (r : List B) → map f (filter p es) ≡ x ∷ r → list_any p es ≡ true
@@ -334,16 +334,6 @@ module _ {T : Type 0} where
   pub numbers_within : (next : ℕ) (es : List (SectionEntry T)) (places : List ℕ) → AreNumbered next es → length places ≡ next → (k : ℕ) → k < length (numbers_of es) → slice_index (numbers_of es) k < length places
   numbers_within next es places h count k within = let b = below_next next es h k within in omega (arith, b, count)
 
-  -- the number of the row at a place
-  pub row_number : (rows : List (Row T)) (at : ℕ) (r : Row T) → at < length rows → r ≡ get_or rows at r → r.id ≡ slice_index (numbers_of (entries_of rows)) at
-  row_number rows at r within is =
-      let count : length (numbers_of (entries_of rows)) ≡ length rows = length-map (entries_of rows) (λ e. e.number) ∙ length-map rows entry_of_row in
-      ap (λ (x : Row T). x.id) is ∙ sym (get_or-map (λ (e : SectionEntry T). e.number) (entries_of rows) at (entry_of_row r) ∙ ap (λ (e : SectionEntry T). e.number) (get_or-map entry_of_row rows at r))
-      ∙ get_or_default (numbers_of (entries_of rows)) at r.id 0 (omega (arith, count, within))
-
-  pub length-numbers : (rows : List (Row T)) → length (numbers_of (entries_of rows)) ≡ length rows
-  length-numbers rows = length-map (entries_of rows) (λ e. e.number) ∙ length-map rows entry_of_row
-
   pub inserted_numbered : (next at : ℕ) (es es2 : List (SectionEntry T)) (name : List ℕ) (s : Option (List ℕ)) (section : T) → es2 ≡ insert es at (entry_of next name s section) → AreNumbered next es → AreNumbered (next + 1) es2
   inserted_numbered next at es es2 name s section e h = rw e (insert_numbered next es at (entry_of next name s section) refl h)
 
@@ -369,25 +359,25 @@ module _ {T : Type 0} where
   table_joined next other at count es fs es2 places places2 more names full names2 full2 names3 full3 e0 e1 e2 e3 room h h2 counted placed =
       rw (e0, e1, e2, e3) (table_all next other at es fs places places2 more names full names2 full2 (rw e0 at room) h h2 (rw e0 at counted) (rw e1 at placed))
 
-module _ {T : Type 0} {B : Type 0} (f : SectionEntry T → B) (p : SectionEntry T → Bool) (rows : List (Row T)) (left : List ℕ) (at : ℕ) where
-  last_apart : map f (filter p (entries_at rows (left ++ at ∷ []))) ≡ map f (filter p (entries_at rows left)) ++ map f (filter p (entries_at rows (at ∷ [])))
+module _ {T : Type 0} {B : Type 0} (f : SectionEntry T → B) (p : SectionEntry T → Bool) (letters : List ℕ) (rows : List (Row T)) (left : List ℕ) (at : ℕ) where
+  last_apart : map f (filter p (entries_at letters rows (left ++ at ∷ []))) ≡ map f (filter p (entries_at letters rows left)) ++ map f (filter p (entries_at letters rows (at ∷ [])))
   last_apart =
-      ap (λ es. map f (filter p es)) (filter_map-append (λ k. option_map entry_of_row (slice_get rows k)) left (at ∷ []))
-      ∙ ap (map f) (filter-append p (entries_at rows left) (entries_at rows (at ∷ [])))
-      ∙ map-append f (filter p (entries_at rows left)) (filter p (entries_at rows (at ∷ [])))
+      ap (λ es. map f (filter p es)) (filter_map-append (λ k. option_map (entry_of_row letters) (slice_get rows k)) left (at ∷ []))
+      ∙ ap (map f) (filter-append p (entries_at letters rows left) (entries_at letters rows (at ∷ [])))
+      ∙ map-append f (filter p (entries_at letters rows left)) (filter p (entries_at letters rows (at ∷ [])))
 
   -- the last place, with a section that passes, one that does not, or none
-  pub last_found : (places : List ℕ) (r : Row T) → places ≡ left ++ at ∷ [] → slice_get rows at ≡ Some r → p (entry_of_row r) ≡ true
-      → map f (filter p (entries_at rows places)) ≡ map f (filter p (entries_at rows left)) ++ f (entry_of_row r) ∷ []
-  last_found places r e stands passes = ap (λ ps. map f (filter p (entries_at rows ps))) e ∙ last_apart ∙ rw (stands, passes) refl
+  pub last_found : (places : List ℕ) (r : Row T) → places ≡ left ++ at ∷ [] → slice_get rows at ≡ Some r → p (entry_of_row letters r) ≡ true
+      → map f (filter p (entries_at letters rows places)) ≡ map f (filter p (entries_at letters rows left)) ++ f (entry_of_row letters r) ∷ []
+  last_found places r e stands passes = ap (λ ps. map f (filter p (entries_at letters rows ps))) e ∙ last_apart ∙ rw (stands, passes) refl
 
-  pub last_other : (places : List ℕ) (r : Row T) → places ≡ left ++ at ∷ [] → slice_get rows at ≡ Some r → p (entry_of_row r) ≡ false
-      → map f (filter p (entries_at rows left)) ≡ map f (filter p (entries_at rows places))
-  last_other places r e stands passes = sym (ap (λ ps. map f (filter p (entries_at rows ps))) e ∙ last_apart ∙ rw (stands, passes) (append-nil (map f (filter p (entries_at rows left)))))
+  pub last_other : (places : List ℕ) (r : Row T) → places ≡ left ++ at ∷ [] → slice_get rows at ≡ Some r → p (entry_of_row letters r) ≡ false
+      → map f (filter p (entries_at letters rows left)) ≡ map f (filter p (entries_at letters rows places))
+  last_other places r e stands passes = sym (ap (λ ps. map f (filter p (entries_at letters rows ps))) e ∙ last_apart ∙ rw (stands, passes) (append-nil (map f (filter p (entries_at letters rows left)))))
 
   pub last_none : (places : List ℕ) → places ≡ left ++ at ∷ [] → slice_get rows at ≡ None
-      → map f (filter p (entries_at rows left)) ≡ map f (filter p (entries_at rows places))
-  last_none places e none = sym (ap (λ ps. map f (filter p (entries_at rows ps))) e ∙ last_apart ∙ rw none (append-nil (map f (filter p (entries_at rows left)))))
+      → map f (filter p (entries_at letters rows left)) ≡ map f (filter p (entries_at letters rows places))
+  last_none places e none = sym (ap (λ ps. map f (filter p (entries_at letters rows ps))) e ∙ last_apart ∙ rw none (append-nil (map f (filter p (entries_at letters rows left)))))
 
 -- one more item
 pub more_shown : {B : Type 0} (xs : List B) (x : B) → length xs < length (xs ++ x ∷ [])

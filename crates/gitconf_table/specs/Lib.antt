@@ -1,4 +1,5 @@
 pub mod Sections
+pub mod Letters
 pub mod Rows
 pub mod SectionIters
 pub mod SectionLoan

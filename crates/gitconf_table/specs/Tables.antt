@@ -1,6 +1,8 @@
 -- When the places and words that a table keeps beside its sections are theirs.
 use Rattle.std.specs.Prelude.{◌≡◌, ◌≢◌, ℕ, ◌<◌, List, map, length, slice_index}
 use Rattle.gitconf_table.specs.Sections.{SectionEntry, IsNumbered}
+use Rattle.gitconf_table.specs.declared.table.Row.{Row}
+use Rattle.gitconf_table.specs.Rows.{entries_of, RowsFit}
 use Rattle.gitconf_table.specs.Word.{full_word, name_word}
 
 -- the numbers in file order
@@ -33,3 +35,8 @@ pub record IsTable {T : Type 0} (next : ℕ) (entries : List (SectionEntry T)) (
   pub placed : ArePlaced (numbers_of entries) places
   pub names : words ≡ map word_of_name entries
   pub full : full_words ≡ map word_of_names entries
+
+-- what a table keeps beside its rows is theirs, and their names stand among its letters
+pub record IsKept {T : Type 0} (next : ℕ) (letters : List ℕ) (rows : List (Row T)) (places words full_words : List ℕ) : Type 0 where
+  pub table : IsTable next (entries_of letters rows) places words full_words
+  pub fit : RowsFit (length letters) rows

@@ -2,6 +2,7 @@
 #![tactic(auto)]
 
 mod index;
+mod letters;
 mod lists;
 pub mod table;
 mod word;

@@ -1,6 +1,6 @@
 //! The table of a file's sections and their numbers. Its contracts speak of the plain list in file order. Behind it
 //! stand the place of each number, and indexes by name and by name and subsection, so that no look-up walks over all.
-ghost use Rattle.std.specs.Prelude.{◌≡◌, ℕ, ◌+◌, ◌^◌, ◌<◌, ◌≤◌, ◌==◌, ◌↔◌, [], ◌++◌, drop, length, map, slice_get, slice_index, take, vec_capacity, vec_len, IfErr, IfOk, IfSome, OnOk, OnErr, IsErrOf};
+ghost use Rattle.std.specs.Prelude.{◌≡◌, ℕ, ◌+◌, ◌-◌, ◌^◌, ◌<◌, ◌≤◌, ◌==◌, ◌↔◌, [], ◌++◌, drop, length, map, slice_get, slice_index, take, vec_capacity, vec_len, IfErr, IfOk, IfSome, OnOk, OnErr, IsErrOf};
 ghost use Rattle.std.specs.Iterator.{item_count, YieldsFirst, YieldsFirstBy, YieldsLast, YieldsLastBy};
 ghost use Rattle.std.specs.List.{list_any};
 ghost use Rattle.std.specs.Option.{option_copied, option_eq, option_map};
@@ -8,13 +8,14 @@ ghost use Rattle.std.specs.Str.{bytes_eq};
 ghost use Rattle.std.specs.Borrow.{sem};
 ghost use Rattle.gitconf_text.specs.Bytes.{fold};
 ghost use Rattle.gitconf_table.specs.Sections.{all_named, entry_of, has_name, ids, is_named, named, no_number, number_at, numbered_from, place_of, section_at, section_of, sections_of, with_all, with_behind, with_last, with_names, without, IsNumbered, IsTableClone};
-ghost use Rattle.gitconf_table.specs.Rows.{entries_of, entry_of_row};
-ghost use Rattle.gitconf_table.specs.Tables.{numbers_of, AreApart, ArePlaced};
+ghost use Rattle.gitconf_table.specs.Rows.{entry_of_row, moved_rows, numbers_in, RowsFit};
+ghost use Rattle.gitconf_table.specs.Tables.{AreApart, ArePlaced};
 ghost use Rattle.gitconf_table.specs.Word.{full_word};
 ghost use Rattle.gitconf_table.specs.Words.{places_of};
 ghost use Rattle.gitconf_table.specs.SectionIters.{ids_left, named_left, sections_left, shown_section, with_name_left};
 
 use crate::index::{Places, WordIndex};
+use crate::letters::{Names, bytes_at, make_room, put, put_names, subsection_at};
 use crate::lists::put_at;
 use crate::word::{full_word, name_word};
 use gitconf_text::NoMemory;
@@ -53,27 +54,23 @@ impl Default for SectionId {
     }
 }
 
-// A section of the table.
+// A section of the table, with the places of its names.
 #[derive(Drop)]
 struct Row<T> {
     id: SectionId,
-    // In ASCII lower case.
-    name: Vec<u8>,
-    subsection: Option<Vec<u8>>,
+    names: Names,
     section: T,
 }
 
 impl<T: Clone> Clone for Row<T> {
-    ghost use Rattle.gitconf_table.specs.Sections.{IsEntryClone};
-    ghost use Rattle.gitconf_table.specs.Rows.{entry_of_row};
+    ghost use Rattle.gitconf_table.specs.Rows.{IsRowClone};
 
-    ghost is_clone = { λ row copy. IsEntryClone T.is_clone (entry_of_row row) (entry_of_row copy) };
+    ghost is_clone = { IsRowClone T.is_clone };
 
     fn clone(&self) -> Result<Row<T>, AllocError> {
         Ok(Row {
             id: self.id,
-            name: self.name.clone()?,
-            subsection: self.subsection.clone()?,
+            names: self.names,
             section: self.section.clone()?,
         })
     }
@@ -83,6 +80,8 @@ impl<T: Clone> Clone for Row<T> {
 #[derive(Drop)]
 pub struct SectionTable<T> {
     rows: Vec<Row<T>>,
+    // The names and subsections of all rows, also those that no row has any more.
+    letters: Vec<u8>,
     // The place of each number that stands; of another one some place.
     places: Vec<usize>,
     // The rows by the words of their names, and by those of their names and subsections.
@@ -94,13 +93,13 @@ pub struct SectionTable<T> {
 impl<T> Model for SectionTable<T> {
     ghost use Rattle.gitconf_table.specs.Sections.{Sections};
     ghost use Rattle.gitconf_table.specs.Rows.{entries_of};
-    ghost use Rattle.gitconf_table.specs.Tables.{IsTable};
+    ghost use Rattle.gitconf_table.specs.Tables.{IsKept};
 
     ghost Value = { Sections T };
 
-    ghost view = { λ t. record { entries = entries_of t.rows.items; next = t.next } };
+    ghost view = { λ t. record { entries = entries_of t.letters.items t.rows.items; next = t.next } };
 
-    ghost invariant = { λ t. IsTable t.next (entries_of t.rows.items) t.places.items t.names.words t.full.words };
+    ghost invariant = { λ t. IsKept t.next t.letters.items t.rows.items t.places.items t.names.words t.full.words };
 }
 
 impl<T> SectionTable<T> {
@@ -113,6 +112,7 @@ impl<T> SectionTable<T> {
     {
         SectionTable {
             rows: Vec::new(alloc),
+            letters: Vec::new(alloc),
             places: Vec::new(alloc),
             names: WordIndex::new(alloc),
             full: WordIndex::new(alloc),
@@ -133,6 +133,7 @@ impl<T> SectionTable<T> {
     {
         Ok(SectionTable {
             rows: self.rows.clone()?,
+            letters: Vec::from_slice(*self.rows.allocator(), &self.letters)?,
             places: Vec::from_slice(*self.rows.allocator(), &self.places)?,
             names: self.names.try_clone()?,
             full: self.full.try_clone()?,
@@ -215,6 +216,7 @@ impl<T> SectionTable<T> {
     {
         Ids {
             rows: &self.rows,
+            letters: &self.letters,
             places: self.places_named(name, subsection),
             name,
             subsection,
@@ -233,6 +235,7 @@ impl<T> SectionTable<T> {
     {
         Named {
             rows: &self.rows,
+            letters: &self.letters,
             places: self.places_named(name, subsection),
             name,
             subsection,
@@ -247,6 +250,7 @@ impl<T> SectionTable<T> {
     {
         WithName {
             rows: &self.rows,
+            letters: &self.letters,
             places: self.names.places(name_word(name.as_bytes())),
             name,
         }
@@ -278,7 +282,7 @@ impl<T> SectionTable<T> {
         ensures { option_map (is_named name.now (option_copied subsection.entry)) (slice_get self.now.entries position) ≡ Some result }
     {
         let row = &self.rows[position];
-        is_named(row, name, subsection)
+        is_named(&self.letters, row, name, subsection)
     }
 
     /// What the section at a place holds.
@@ -323,11 +327,12 @@ impl<T> SectionTable<T> {
             return Err(span::Error::too_large());
         }
         let id = SectionId { number: self.next };
-        let row = row_of(*self.rows.allocator(), id, name, subsection, section)?;
         self.rows.reserve(1)?;
         self.places.reserve(1)?;
         self.names.reserve(1)?;
         self.full.reserve(1)?;
+        let names = put_names(&mut self.letters, name, subsection)?;
+        let row = Row { id, names, section };
         let at = self.rows.len();
         let word = name_word(name);
         self.rows.push(row).unwrap();
@@ -364,11 +369,12 @@ impl<T> SectionTable<T> {
             return Err(span::Error::too_large());
         }
         let id = SectionId { number: self.next };
-        let row = row_of(*self.rows.allocator(), id, name, subsection, section)?;
         self.rows.reserve(1)?;
         self.places.reserve(1)?;
         self.names.reserve(1)?;
         self.full.reserve(1)?;
+        let names = put_names(&mut self.letters, name, subsection)?;
+        let row = Row { id, names, section };
         let at = position + 1;
         let word = name_word(name);
         self.rows.insert(at, row).unwrap();
@@ -401,6 +407,7 @@ impl<T> SectionTable<T> {
         }
         let SectionTable {
             rows: mut added,
+            letters,
             places: _,
             names,
             full,
@@ -409,8 +416,10 @@ impl<T> SectionTable<T> {
         self.rows.reserve(count)?;
         self.names.reserve(count)?;
         self.full.reserve(count)?;
+        make_room(&mut self.letters, letters.len())?;
         add_places(&mut self.places, self.next, count)?;
-        renumber(&mut added, self.next);
+        let behind = put(&mut self.letters, &letters).start;
+        renumber(&mut added, self.next, behind);
         put_at(&mut self.rows, position, &mut added);
         relocate(&self.rows, &mut self.places);
         self.names.insert_all(position, names);
@@ -428,8 +437,7 @@ impl<T> SectionTable<T> {
         let at = self.position(id)?;
         let Row {
             id: _,
-            name: _,
-            subsection: _,
+            names: _,
             section,
         } = self.rows.remove(at);
         relocate(&self.rows, &mut self.places);
@@ -450,15 +458,12 @@ impl<T> SectionTable<T> {
         ensures ok { OnOk result (self.new ≡ with_names self.old position name.now (option_copied subsection.entry)) }
         ensures err { OnErr result (self.new ≡ self.old) }
     {
-        let alloc = *self.rows.allocator();
-        let new_name = folded(alloc, name)?;
-        let new_subsection = copied(alloc, subsection)?;
+        let names = put_names(&mut self.letters, name, subsection)?;
         let word = name_word(name);
         self.names.set(position, word);
         self.full.set(position, full_word(name, word, subsection));
         let row = &mut self.rows[position];
-        row.name = new_name;
-        row.subsection = new_subsection;
+        row.names = names;
         Ok(())
     }
 
@@ -472,48 +477,11 @@ impl<T> SectionTable<T> {
     }
 }
 
-// The bytes in ASCII lower case.
-fn folded(alloc: Global, name: &[u8]) -> Result<Vec<u8>, AllocError>
-    ensures { IfOk result (λ v. v.items ≡ fold name.now) }
-{
-    let mut folded = Vec::from_slice(alloc, name)?;
-    folded.make_ascii_lowercase();
-    Ok(folded)
-}
-
-// The bytes, if there are any to copy.
-fn copied(alloc: Global, subsection: Option<&[u8]>) -> Result<Option<Vec<u8>>, AllocError>
-    ensures { IfOk result (λ copy. option_map (λ v. v.items) copy ≡ option_copied subsection.entry) }
-{
-    match subsection {
-        Some(bytes) => Ok(Some(Vec::from_slice(alloc, bytes)?)),
-        None => Ok(None),
-    }
-}
-
-// A row with those names.
-fn row_of<T: Drop>(
-    alloc: Global,
-    id: SectionId,
-    name: &[u8],
-    subsection: Option<&[u8]>,
-    section: T,
-) -> Result<Row<T>, AllocError>
-    ensures { IfOk result (λ row. entry_of_row row ≡ entry_of id name.now (option_copied subsection.entry) section) }
-{
-    Ok(Row {
-        id,
-        name: folded(alloc, name)?,
-        subsection: copied(alloc, subsection)?,
-        section,
-    })
-}
-
 // Writes down the place of each row under its number.
 fn relocate<T>(rows: &Vec<Row<T>>, places: &mut Vec<usize>)
-    requires within { (k : ℕ) → k < length (numbers_of (entries_of rows.now.items)) → slice_index (numbers_of (entries_of rows.now.items)) k < length places.old.items }
-    requires once { AreApart (numbers_of (entries_of rows.now.items)) }
-    ensures placed { ArePlaced (numbers_of (entries_of rows.now.items)) places.new.items }
+    requires within { (k : ℕ) → k < length (numbers_in rows.now.items) → slice_index (numbers_in rows.now.items) k < length places.old.items }
+    requires once { AreApart (numbers_in rows.now.items) }
+    ensures placed { ArePlaced (numbers_in rows.now.items) places.new.items }
     ensures len { length places.new.items ≡ length places.old.items }
 {
     for at in 0..rows.len() {
@@ -532,15 +500,17 @@ fn add_places(places: &mut Vec<usize>, next: usize, count: usize) -> Result<(), 
     places.resize(next + count, 0)
 }
 
-// Gives the rows the numbers from `next` on.
-fn renumber<T>(rows: &mut Vec<Row<T>>, next: usize)
-    requires { next + vec_len rows.old ≤ no_number }
-    ensures entries { entries_of rows.new.items ≡ numbered_from next (entries_of rows.old.items) }
+// Gives the rows the numbers from `next` on, and moves the places of their names behind so many other bytes.
+fn renumber<T>(rows: &mut Vec<Row<T>>, next: usize, behind: u32)
+    requires numbers { next + vec_len rows.old ≤ no_number }
+    requires places { RowsFit (2 ^ 32 - 1 - behind) rows.old.items }
+    ensures moved { rows.new.items ≡ moved_rows next behind rows.old.items }
     ensures len { vec_len rows.new ≡ vec_len rows.old }
 {
     for at in 0..rows.len() {
         let row = &mut rows[at];
         row.id = SectionId { number: next + at };
+        row.names = row.names.moved(behind);
     }
 }
 
@@ -552,19 +522,26 @@ fn row_at<T>(rows: &[Row<T>], at: usize) -> Option<&Row<T>>
 }
 
 // Whether a row has the name, without ASCII case, and exactly the subsection.
-fn is_named<T>(row: &Row<T>, name: &str, subsection: Option<&[u8]>) -> bool
-    ensures { result ≡ is_named name.now (option_copied subsection.entry) (entry_of_row row.now) }
+fn is_named<T>(letters: &[u8], row: &Row<T>, name: &str, subsection: Option<&[u8]>) -> bool
+    ensures { result ≡ is_named name.now (option_copied subsection.entry) (entry_of_row letters.now row.now) }
 {
-    is_same_name(name.as_bytes(), &row.name) && same_subsection(&row.subsection, subsection)
+    has_name(letters, row, name) && same_subsection(subsection_at(letters, row.names), subsection)
+}
+
+// Whether a row has the name, without ASCII case.
+fn has_name<T>(letters: &[u8], row: &Row<T>, name: &str) -> bool
+    ensures { result ≡ has_name name.now (entry_of_row letters.now row.now) }
+{
+    is_same_name(name.as_bytes(), bytes_at(letters, row.names.name))
 }
 
 // Whether both are none, or the same bytes.
-fn same_subsection(ours: &Option<Vec<u8>>, asked: Option<&[u8]>) -> bool
-    ensures { result ≡ option_eq bytes_eq (option_map (λ s. s.items) ours.now) (option_copied asked.entry) }
+fn same_subsection(ours: Option<&[u8]>, asked: Option<&[u8]>) -> bool
+    ensures { result ≡ option_eq bytes_eq (option_copied ours.entry) (option_copied asked.entry) }
 {
     match (ours, asked) {
         (None, None) => true,
-        (Some(ours), Some(asked)) => ours.as_slice() == asked,
+        (Some(ours), Some(asked)) => ours == asked,
         _ => false,
     }
 }
@@ -603,6 +580,7 @@ impl<'a, T> DoubleEndedIterator for SectionIter<'a, T> {
 #[derive(Drop)]
 pub struct Ids<'a, 'n, 's, T> {
     rows: &'a [Row<T>],
+    letters: &'a [u8],
     places: Places<'a>,
     name: &'n str,
     subsection: Option<&'s [u8]>,
@@ -618,7 +596,7 @@ impl<T> Iterator for Ids<'_, '_, '_, T> {
     fn next(&mut self) -> Option<SectionId> {
         while let Some(at) = self.places.next() {
             if let Some(row) = row_at(self.rows, at) {
-                if is_named(row, self.name, self.subsection) {
+                if is_named(self.letters, row, self.name, self.subsection) {
                     return Some(row.id);
                 }
             }
@@ -633,7 +611,7 @@ impl<T> DoubleEndedIterator for Ids<'_, '_, '_, T> {
     fn next_back(&mut self) -> Option<SectionId> {
         while let Some(at) = self.places.next_back() {
             if let Some(row) = row_at(self.rows, at) {
-                if is_named(row, self.name, self.subsection) {
+                if is_named(self.letters, row, self.name, self.subsection) {
                     return Some(row.id);
                 }
             }

@@ -7,12 +7,7 @@ use Rattle.gitconf_text.specs.Header.{DottedHeader, QuotedHeader, spelled_header
 use Rattle.gitconf_parse.specs.declared.event.Span.{Span}
 use Rattle.gitconf_parse.specs.declared.event.Header.{Header}
 use Rattle.gitconf_parse.specs.Events.{bytes_of, header_form, header_of}
-use Rattle.gitconf_write.specs.Texts.{subsection_text}
-
--- what stands behind a header's name
-abbrev pub behind_name : (buffer : List ℕ) → (separator subsection : Option Span) → List ℕ
-behind_name buffer (Some separator) (Some subsection) = subsection_text (bytes_of buffer separator) (bytes_of buffer subsection)
-behind_name buffer _ _ = []
+use Rattle.gitconf_write.specs.Runs.{behind_name}
 
 spelled_is : (name separator subsection : List ℕ) (dot : Bool) → Decides dot (separator ≡ 46 ∷ [])
     → spelled_header (if dot then DottedHeader name subsection else QuotedHeader name separator subsection)

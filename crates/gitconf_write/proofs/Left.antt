@@ -3,13 +3,8 @@ use Rattle.std.proofs.Common.{◌≡◌, ℕ, true, List, [], ◌++◌, Option, 
 use Rattle.std.proofs.lemmas.List.{append-nil}
 use Rattle.std.specs.Prelude.{IsErr}
 use Rattle.gitconf_parse.specs.Sink.{with_text, is_begun, Writes}
+pub use Rattle.gitconf_write.specs.Runs.{IsLeft}
 use Rattle.gitconf_parse.proofs.SinkLaws.{with_text-with_text, with_text-empty, begun_behind, begun_before, Writes-fault}
-
--- of the text a beginning was written, and the rest is left
-pub record IsLeft (text rest : List ℕ) (old mid : Option (List ℕ)) : Type 0 where
-  pub done : List ℕ
-  pub whole : text ≡ done ++ rest
-  pub told : mid ≡ with_text done old
 
 -- at first all of it
 pub left_all : (text : List ℕ) (old : Option (List ℕ)) → IsLeft text text old old

@@ -7,3 +7,4 @@ pub mod Texts
 pub mod Headers
 pub mod SectionTexts
 pub mod Printed
+pub mod RunLemmas

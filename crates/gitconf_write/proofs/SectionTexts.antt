@@ -1,5 +1,6 @@
 -- The text of a section and of what is held behind it, part by part.
-use Rattle.std.proofs.Common.{◌≡◌, ℕ, Bool, true, false, List, [], ◌∷◌, ◌++◌, length, ap, sym, ◌∙◌}
+use Rattle.std.proofs.Common.{◌≡◌, ℕ, Bool, true, false, List, [], ◌∷◌, ◌++◌, length, ap, sym, ◌∙◌, append_assoc}
+use Rattle.std.proofs.lemmas.List.{append-nil}
 use Rattle.std.specs.Prelude.{◌==◌, flat_map}
 use Rattle.gitconf_text.specs.Header.{Header, spelled_header}
 use Rattle.gitconf_text.specs.Part.{spelled_item}
@@ -32,3 +33,21 @@ pub held_is : (line_end buffer : List ℕ) (items held : List Item) (ended : Boo
 held_is line_end buffer items [] ended filled is = absurd (cc)
 held_is line_end buffer items (i ∷ held) ended filled is =
     ap (λ b. flat_map spelled_item (unless b line_end) ++ items_text false line_end Closed (items_of buffer (i ∷ held))) (sym is)
+
+-- with no line end behind the header
+pub section_begun : (line_end buffer : List ℕ) (header : Header) (items : List Item) (ended : Bool)
+    → line_end ≡ line_end_of (tokens_in (items_of buffer items)) → behind_header line_end (items_of buffer items) ≡ unless ended line_end → ended ≡ true
+    → section_text header (items_of buffer items) ≡ spelled_header header ++ items_text true line_end Closed (items_of buffer items)
+section_begun line_end buffer header items ended is behind on_line =
+    section_is line_end buffer header items ended is behind
+    ∙ ap (λ b. spelled_header header ++ (flat_map spelled_item (unless b line_end) ++ items_text true line_end Closed (items_of buffer items))) on_line
+
+-- with one
+pub section_ended : (line_end buffer : List ℕ) (header : Header) (items : List Item) (ended : Bool)
+    → line_end ≡ line_end_of (tokens_in (items_of buffer items)) → behind_header line_end (items_of buffer items) ≡ unless ended line_end → ended ≡ false
+    → section_text header (items_of buffer items) ≡ (spelled_header header ++ line_end) ++ items_text true line_end Closed (items_of buffer items)
+section_ended line_end buffer header items ended is behind no_end =
+    section_is line_end buffer header items ended is behind
+    ∙ ap (λ b. spelled_header header ++ (flat_map spelled_item (unless b line_end) ++ items_text true line_end Closed (items_of buffer items))) no_end
+    ∙ ap (λ l. spelled_header header ++ (l ++ items_text true line_end Closed (items_of buffer items))) (append-nil line_end)
+    ∙ sym (append_assoc (spelled_header header) line_end (items_text true line_end Closed (items_of buffer items)))

@@ -41,3 +41,16 @@ next_item in_body line_end buffer before behind items i x within is next =
 pub no_item : (in_body : Bool) (line_end buffer : List ℕ) (before : Open) (items : List Item) (i : ℕ) → length items ≤ i
     → items_text in_body line_end before (items_of buffer (drop i items)) ≡ []
 no_item in_body line_end buffer before items i past = at_drop_all (λ xs. items_text in_body line_end before (items_of buffer xs)) items i past
+
+-- the same behind bytes that are left to write
+pub next_behind : (run : List ℕ) (in_body : Bool) (line_end buffer : List ℕ) (before behind : Open) (items : List Item) (i : ℕ) (x : Item)
+    → i < length items → x ≡ get_or items i x → behind ≡ behind_next in_body before (item_of buffer x)
+    → run ++ items_text in_body line_end before (items_of buffer (drop i items))
+    ≡ (run ++ next_text in_body line_end before (item_of buffer x)) ++ items_text in_body line_end behind (items_of buffer (drop (i + 1) items))
+next_behind run in_body line_end buffer before behind items i x within is next =
+    ap (λ t. run ++ t) (next_item in_body line_end buffer before behind items i x within is next)
+    ∙ sym (append_assoc run (next_text in_body line_end before (item_of buffer x)) (items_text in_body line_end behind (items_of buffer (drop (i + 1) items))))
+
+pub none_behind : (run : List ℕ) (in_body : Bool) (line_end buffer : List ℕ) (before : Open) (items : List Item) (i : ℕ) → length items ≤ i
+    → run ++ items_text in_body line_end before (items_of buffer (drop i items)) ≡ run
+none_behind run in_body line_end buffer before items i past = ap (λ t. run ++ t) (no_item in_body line_end buffer before items i past) ∙ append-nil run

@@ -24,6 +24,13 @@ items_text in_body line_end before items = flat_map spelled_item (written_items 
 abbrev pub next_text : (in_body : Bool) → (line_end : List ℕ) → Open → Item → List ℕ
 next_text in_body line_end before i = items_text in_body line_end before (i ∷ [])
 
+-- the line end before it, if there is one, and what stands before it then
+abbrev pub line_end_before : (in_body : Bool) → (line_end : List ℕ) → Open → Item → List ℕ
+line_end_before in_body line_end before i = elim (breaks_behind in_body before i) [ true ↦ line_end | false ↦ [] ]
+
+abbrev pub open_before : (in_body : Bool) → Open → Item → Open
+open_before in_body before i = elim (breaks_behind in_body before i) [ true ↦ Closed | false ↦ before ]
+
 -- what stands behind it
 abbrev pub behind_next : (in_body : Bool) → Open → Item → Open
 behind_next in_body before i = elim (breaks_behind in_body before i) [ true ↦ after Closed i | false ↦ after before i ]

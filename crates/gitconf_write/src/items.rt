@@ -1,5 +1,5 @@
 //! Items, written as they are printed.
-ghost use Rattle.std.specs.Prelude.{◌≡◌, IfOk};
+ghost use Rattle.std.specs.Prelude.{◌≡◌, ◌≤◌, ◌++◌, IfOk};
 ghost use Rattle.gitconf_text.specs.Part.{EntryItem, spelled_item};
 ghost use Rattle.gitconf_text.specs.Value.{spelled_value};
 ghost use Rattle.gitconf_parse.specs.Sink.{Writes, Counts};
@@ -8,11 +8,13 @@ ghost use Rattle.gitconf_state.specs.Printing.{closed_piece, closed_item};
 ghost use Rattle.gitconf_state.specs.Writing.{Closed};
 ghost use Rattle.gitconf_write.specs.Bodies.{items_of};
 ghost use Rattle.gitconf_write.specs.LineEnds.{bytes_of_line_end};
-ghost use Rattle.gitconf_write.specs.Texts.{spelled_piece, closed_value, items_text, next_text, behind_next};
+ghost use Rattle.gitconf_write.specs.Texts.{spelled_piece, closed_value, items_text, line_end_before, open_before, next_text, behind_next};
+ghost use Rattle.gitconf_write.specs.Runs.{run_of, WritesBut};
 ghost use Rattle.gitconf_write.specs.Open.{open_of};
 
 use crate::line_end::LineEnd;
 use crate::open::Open;
+use crate::runs::{Run, item_run};
 use gitconf_parse::items::{Entry, Item, Piece, Value};
 use gitconf_parse::sink::{Sink, SinkFault, write_all};
 
@@ -98,39 +100,158 @@ fn write_item<W: Sink>(
     }
 }
 
-/// Writes an item, behind a line end where it would else run together with what stands before it, and answers what
-/// stands behind it.
+/// Writes a run.
+fn write_run<W: Sink>(out: &mut W, buffer: &[u8], run: Run) -> Result<(), SinkFault>
+    ensures written { Writes result (run_of buffer.now run) (W.told out.old) (W.told out.new) }
+    ensures counted { Counts result (W.faults out.old) (W.faults out.new) }
+{
+    write_all(out, run.bytes_in(buffer))
+}
+
+/// Writes a run, and a line end behind it.
 #[tactic(auto, using(gitconf_parse::proofs::SinkLaws::in_turn))]
-fn write_next<W: Sink>(
+pub(crate) fn end_run<W: Sink>(
     out: &mut W,
     buffer: &[u8],
-    before: Open,
+    run: Run,
+    line_end: LineEnd,
+) -> Result<(), SinkFault>
+    ensures written { Writes result (run_of buffer.now run ++ bytes_of_line_end line_end) (W.told out.old) (W.told out.new) }
+    ensures counted { Counts result (W.faults out.old) (W.faults out.new) }
+{
+    write_run(out, buffer, run)?;
+    write_all(out, line_end.as_bytes())
+}
+
+/// Writes a run where the next one doesn't stand directly behind it, and answers what is left to write of both.
+fn go_on<W: Sink>(out: &mut W, buffer: &[u8], run: Run, next: Run) -> Result<Run, SinkFault>
+    requires ordered { run.start ≤ run.end }
+    requires next { next.start ≤ next.end }
+    ensures written { WritesBut result (run_of buffer.now) (run_of buffer.now run ++ run_of buffer.now next) (W.told out.old) (W.told out.new) }
+    ensures counted { Counts result (W.faults out.old) (W.faults out.new) }
+    ensures ordered { IfOk result (λ r. r.start ≤ r.end) }
+{
+    match run.joined(next) {
+        Some(both) => Ok(both),
+        None => {
+            write_run(out, buffer, run)?;
+            Ok(next)
+        }
+    }
+}
+
+/// Writes a run and an item, and answers what is left to write of them.
+fn gather<W: Sink>(
+    out: &mut W,
+    buffer: &[u8],
+    run: Run,
+    item: &Item,
+    line_end: LineEnd,
+) -> Result<Run, SinkFault>
+    requires ordered { run.start ≤ run.end }
+    ensures written { WritesBut result (run_of buffer.now) (run_of buffer.now run ++ spelled_item (closed_item (bytes_of_line_end line_end) (item_of buffer.now item.now))) (W.told out.old) (W.told out.new) }
+    ensures counted { Counts result (W.faults out.old) (W.faults out.new) }
+    ensures ordered { IfOk result (λ r. r.start ≤ r.end) }
+{
+    match item_run(buffer, item) {
+        Some(next) => go_on(out, buffer, run, next),
+        None => {
+            write_run(out, buffer, run)?;
+            write_item(out, buffer, item, line_end)?;
+            Ok(Run::none())
+        }
+    }
+}
+
+/// What stands before an item, and the run that is left to write of it.
+#[derive(Clone, Copy)]
+struct Before {
+    open: Open,
+    run: Run,
+}
+
+/// Writes a line end behind what stands before, where the item would else run together with it.
+fn end_before<W: Sink>(
+    out: &mut W,
+    buffer: &[u8],
+    before: Before,
     item: &Item,
     in_body: bool,
     line_end: LineEnd,
-) -> Result<Open, SinkFault>
-    ensures written { Writes result (next_text in_body (bytes_of_line_end line_end) (open_of before) (item_of buffer.now item.now)) (W.told out.old) (W.told out.new) }
+) -> Result<Before, SinkFault>
+    requires ordered { before.run.start ≤ before.run.end }
+    ensures written { WritesBut result (λ b. run_of buffer.now b.run) (run_of buffer.now before.run ++ line_end_before in_body (bytes_of_line_end line_end) (open_of before.open) (item_of buffer.now item.now)) (W.told out.old) (W.told out.new) }
     ensures counted { Counts result (W.faults out.old) (W.faults out.new) }
-    ensures behind { IfOk result (λ next. open_of next ≡ behind_next in_body (open_of before) (item_of buffer.now item.now)) }
+    ensures open { IfOk result (λ b. open_of b.open ≡ open_before in_body (open_of before.open) (item_of buffer.now item.now)) }
+    ensures ordered { IfOk result (λ b. b.run.start ≤ b.run.end) }
 {
-    let mut open = before;
-    if open.breaks(in_body, item) {
-        write_all(out, line_end.as_bytes())?;
-        open = Open::Closed;
+    if !before.open.breaks(in_body, item) {
+        return Ok(before);
     }
-    write_item(out, buffer, item, line_end)?;
-    Ok(open.after(buffer, item))
+    end_run(out, buffer, before.run, line_end)?;
+    Ok(Before {
+        open: Open::Closed,
+        run: Run::none(),
+    })
+}
+
+/// Writes what stands before and an item, behind a line end where they would else run together, and answers what
+/// stands behind it, with the run that is left to write.
+fn write_next<W: Sink>(
+    out: &mut W,
+    buffer: &[u8],
+    before: Before,
+    item: &Item,
+    in_body: bool,
+    line_end: LineEnd,
+) -> Result<Before, SinkFault>
+    requires ordered { before.run.start ≤ before.run.end }
+    ensures written { WritesBut result (λ b. run_of buffer.now b.run) (run_of buffer.now before.run ++ next_text in_body (bytes_of_line_end line_end) (open_of before.open) (item_of buffer.now item.now)) (W.told out.old) (W.told out.new) }
+    ensures counted { Counts result (W.faults out.old) (W.faults out.new) }
+    ensures behind { IfOk result (λ b. open_of b.open ≡ behind_next in_body (open_of before.open) (item_of buffer.now item.now)) }
+    ensures ordered { IfOk result (λ b. b.run.start ≤ b.run.end) }
+{
+    let before = end_before(out, buffer, before, item, in_body, line_end)?;
+    let run = gather(out, buffer, before.run, item, line_end)?;
+    Ok(Before {
+        open: before.open.after(buffer, item),
+        run,
+    })
+}
+
+/// Writes a run and items behind it, as [`write_items`] does.
+///
+/// What stands side by side in the buffer, from the run on, is gathered and written at once.
+pub(crate) fn write_behind<W: Sink>(
+    out: &mut W,
+    buffer: &[u8],
+    run: Run,
+    items: &[Item],
+    in_body: bool,
+    line_end: LineEnd,
+) -> Result<(), SinkFault>
+    requires ordered { run.start ≤ run.end }
+    ensures written { Writes result (run_of buffer.now run ++ items_text in_body (bytes_of_line_end line_end) Closed (items_of buffer.now items.now)) (W.told out.old) (W.told out.new) }
+    ensures counted { Counts result (W.faults out.old) (W.faults out.new) }
+{
+    let mut before = Before {
+        open: Open::Closed,
+        run,
+    };
+    for item in items {
+        before = write_next(out, buffer, before, item, in_body, line_end)?;
+    }
+    write_run(out, buffer, before.run)
 }
 
 /// Writes items as they are printed: a line end stands before a comment behind a comment, in a body also before a
 /// name behind an entry or a comment, and behind each piece of a value that goes on.
 ///
-/// One pass, which takes no memory of its own.
+/// One pass, which takes no memory of its own. What stands side by side in the buffer is written at once.
 ///
 /// # Errors
 ///
 /// A write failed, or took nothing. It is not tried again, and a beginning of the text was written.
-#[tactic(auto, using(crate::proofs::Left::in_rest, crate::proofs::Texts::no_item))]
 pub fn write_items<W: Sink>(
     out: &mut W,
     buffer: &[u8],
@@ -141,9 +262,5 @@ pub fn write_items<W: Sink>(
     ensures written { Writes result (items_text in_body (bytes_of_line_end line_end) Closed (items_of buffer.now items.now)) (W.told out.old) (W.told out.new) }
     ensures counted { Counts result (W.faults out.old) (W.faults out.new) }
 {
-    let mut open = Open::Closed;
-    for item in items {
-        open = write_next(out, buffer, open, item, in_body, line_end)?;
-    }
-    Ok(())
+    write_behind(out, buffer, Run::none(), items, in_body, line_end)
 }

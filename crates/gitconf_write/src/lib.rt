@@ -5,4 +5,5 @@ pub mod items;
 pub mod laws;
 pub mod line_end;
 mod open;
+mod runs;
 pub mod sections;

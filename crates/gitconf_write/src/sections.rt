@@ -1,5 +1,5 @@
 //! Headers and sections, written as they are printed.
-ghost use Rattle.std.specs.Prelude.{◌≡◌, ℕ, List, true, false, flat_map};
+ghost use Rattle.std.specs.Prelude.{◌≡◌, ◌≤◌, ℕ, List, true, false, flat_map, IfOk};
 ghost use Rattle.gitconf_text.specs.Header.{spelled_header};
 ghost use Rattle.gitconf_text.specs.Part.{spelled_item};
 ghost use Rattle.gitconf_parse.specs.Sink.{Writes, Counts};
@@ -9,10 +9,12 @@ ghost use Rattle.gitconf_state.specs.Printing.{unless};
 ghost use Rattle.gitconf_state.specs.Writing.{Closed};
 ghost use Rattle.gitconf_write.specs.Bodies.{items_of};
 ghost use Rattle.gitconf_write.specs.LineEnds.{bytes_of_line_end};
+ghost use Rattle.gitconf_write.specs.Runs.{run_of, WritesBut};
 ghost use Rattle.gitconf_write.specs.Texts.{items_text, subsection_text, section_text, held_text};
 
-use crate::items::write_items;
+use crate::items::{end_run, write_behind, write_items};
 use crate::line_end::{LineEnd, body_line_end, ends_line};
+use crate::runs::{Run, header_run};
 use gitconf_parse::event::Header;
 use gitconf_parse::items::Item;
 use gitconf_parse::sink::{Sink, SinkFault, write_all};
@@ -99,6 +101,21 @@ fn stand_behind_header(items: &[Item]) -> bool
     items.is_empty() || begins_on_a_line(items)
 }
 
+/// Writes a header, unless its parts stand side by side in the buffer, and answers what is left to write of it.
+fn begin_header<W: Sink>(out: &mut W, buffer: &[u8], header: &Header) -> Result<Run, SinkFault>
+    ensures written { WritesBut result (run_of buffer.now) (spelled_header (header_of buffer.now header.now)) (W.told out.old) (W.told out.new) }
+    ensures counted { Counts result (W.faults out.old) (W.faults out.new) }
+    ensures ordered { IfOk result (λ r. r.start ≤ r.end) }
+{
+    match header_run(buffer, header) {
+        Some(run) => Ok(run),
+        None => {
+            write_header(out, buffer, header)?;
+            Ok(Run::none())
+        }
+    }
+}
+
 /// Writes a section: its header, and its body as it is printed, with the line end that the body tells.
 ///
 /// A line end stands behind the header where the body's first entry stands on no line of its own. The body is looked
@@ -118,8 +135,11 @@ pub fn write_section<W: Sink>(
     ensures counted { Counts result (W.faults out.old) (W.faults out.new) }
 {
     let line_end = body_line_end(buffer, items);
-    write_header(out, buffer, header)?;
-    write_line_end_unless(out, stand_behind_header(items), line_end)?;
+    let run = begin_header(out, buffer, header)?;
+    if stand_behind_header(items) {
+        return write_behind(out, buffer, run, items, true, line_end);
+    }
+    end_run(out, buffer, run, line_end)?;
     write_items(out, buffer, items, true, line_end)
 }
 

@@ -3,13 +3,13 @@ ghost use Rattle.std.specs.Iterator.{item_count, YieldsFirstBy, YieldsLastBy};
 ghost use Rattle.gitconf_table.specs.SectionIters.{named_left, shown_section, with_name_left};
 
 use crate::index::Places;
-use crate::table::{Row, SectionId, is_named, row_at};
-use gitconf_text::parse::section::bytes::is_same_name;
+use crate::table::{Row, SectionId, has_name, is_named, row_at};
 
 /// The sections of a name and subsection in file order, from either end: [`SectionTable::named`].
 #[derive(Drop)]
 pub struct Named<'a, 'n, 's, T> {
     pub(super) rows: &'a [Row<T>],
+    pub(super) letters: &'a [u8],
     pub(super) places: Places<'a>,
     pub(super) name: &'n str,
     pub(super) subsection: Option<&'s [u8]>,
@@ -25,7 +25,7 @@ impl<'a, T> Iterator for Named<'a, '_, '_, T> {
     fn next(&mut self) -> Option<(SectionId, &'a T)> {
         while let Some(at) = self.places.next() {
             if let Some(row) = row_at(self.rows, at) {
-                if is_named(row, self.name, self.subsection) {
+                if is_named(self.letters, row, self.name, self.subsection) {
                     return Some((row.id, &row.section));
                 }
             }
@@ -40,7 +40,7 @@ impl<'a, T> DoubleEndedIterator for Named<'a, '_, '_, T> {
     fn next_back(&mut self) -> Option<(SectionId, &'a T)> {
         while let Some(at) = self.places.next_back() {
             if let Some(row) = row_at(self.rows, at) {
-                if is_named(row, self.name, self.subsection) {
+                if is_named(self.letters, row, self.name, self.subsection) {
                     return Some((row.id, &row.section));
                 }
             }
@@ -53,6 +53,7 @@ impl<'a, T> DoubleEndedIterator for Named<'a, '_, '_, T> {
 #[derive(Drop)]
 pub struct WithName<'a, 'n, T> {
     pub(super) rows: &'a [Row<T>],
+    pub(super) letters: &'a [u8],
     pub(super) places: Places<'a>,
     pub(super) name: &'n str,
 }
@@ -67,7 +68,7 @@ impl<'a, T> Iterator for WithName<'a, '_, T> {
     fn next(&mut self) -> Option<(SectionId, &'a T)> {
         while let Some(at) = self.places.next() {
             if let Some(row) = row_at(self.rows, at) {
-                if is_same_name(self.name.as_bytes(), &row.name) {
+                if has_name(self.letters, row, self.name) {
                     return Some((row.id, &row.section));
                 }
             }
@@ -82,7 +83,7 @@ impl<'a, T> DoubleEndedIterator for WithName<'a, '_, T> {
     fn next_back(&mut self) -> Option<(SectionId, &'a T)> {
         while let Some(at) = self.places.next_back() {
             if let Some(row) = row_at(self.rows, at) {
-                if is_same_name(self.name.as_bytes(), &row.name) {
+                if has_name(self.letters, row, self.name) {
                     return Some((row.id, &row.section));
                 }
             }

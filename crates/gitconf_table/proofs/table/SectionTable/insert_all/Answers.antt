@@ -1,52 +1,73 @@
-use Rattle.std.proofs.Common.{◌≡◌, ◌+◌, ◌++◌, take, drop, length, ◌∙◌, arith}
+use Rattle.std.proofs.Common.{◌≡◌, ◌+◌, ◌++◌, take, drop, length, ap, ◌∙◌, arith}
 use Rattle.std.proofs.lemmas.List.{length-map}
 use Rattle.gitconf_table.specs.Rows.{entries_of, entry_of_row}
-use Rattle.gitconf_table.proofs.SectionLemmas.{put_all, all_put_numbered}
-use Rattle.gitconf_table.proofs.TableLemmas.{numbered_apart, numbers_within, table_joined}
+use Rattle.gitconf_table.proofs.SectionLemmas.{all_put_numbered}
+use Rattle.gitconf_table.proofs.RowLemmas.{entries_joined, fit_joined, rows_apart, rows_fit, rows_placed, rows_within}
+use Rattle.gitconf_table.proofs.TableLemmas.{table_joined}
 use Rattle.gitconf_table.proofs.table.SectionTable.insert_all.Goals as goal
 
 pub relocate-requires-clause-within : goal.relocate-requires-clause-within
 relocate-requires-clause-within g c =
     let old = c.self.inside in
     let other = c.other.inside in
-    let count : c.len-count.result ≡ length (entries_of other.rows.items) = omega (arith, c.len-count.ensures, other.rows.ok, length-map other.rows.items entry_of_row) in
-    let entries = put_all c.args.position old.next old.rows.items other.rows.items c.renumber.new.rows.items c.put_at.new.list.items (c.put_at.ensures ∙ (λ j. take c.args.position (c.reserve.ensures.items j) ++ c.renumber.new.rows.items ++ drop c.args.position (c.reserve.ensures.items j))) c.renumber.ensures.entries in
-    let once = rw (← entries) at (all_put_numbered old.next c.args.position (entries_of old.rows.items) (entries_of other.rows.items) c.self.invariant.numbered.once) in
-    let places : length c.add_places.new.places.items ≡ old.next + length (entries_of other.rows.items) = omega (arith, c.in_ok-add_places.ensures.ok, c.add_places.new.places.ok, count) in
-    numbers_within _ (entries_of c.put_at.new.list.items) c.add_places.new.places.items once places
+    let count : c.len-count.result ≡ length (entries_of other.letters.items other.rows.items) = omega (arith, c.len-count.ensures, other.rows.ok, length-map other.rows.items (entry_of_row other.letters.items)) in
+    let start : c.put-behind.result.start ≡ length old.letters.items = c.put-behind.ensures.put.start_is ∙ ap length c.make_room.ensures.items in
+    let letters : c.put-behind.new.letters.items ≡ old.letters.items ++ other.letters.items = c.put-behind.ensures.put.new_is ∙ (λ j. c.make_room.ensures.items j ++ c.deref.ensures.value j) in
+    let rows = c.put_at.ensures ∙ (λ j. take c.args.position (c.reserve.ensures.items j) ++ c.renumber.new.rows.items ++ drop c.args.position (c.reserve.ensures.items j)) in
+    let entries = entries_joined old.letters.items other.letters.items c.put-behind.new.letters.items c.put-behind.result.start letters start c.args.position old.next old.rows.items other.rows.items c.renumber.new.rows.items c.put_at.new.list.items c.renumber.ensures.moved rows c.self.invariant.fit in
+    let once = rw (← entries) at (all_put_numbered old.next c.args.position (entries_of old.letters.items old.rows.items) (entries_of other.letters.items other.rows.items) c.self.invariant.table.numbered.once) in
+    let places : length c.add_places.new.places.items ≡ old.next + length (entries_of other.letters.items other.rows.items) = omega (arith, c.in_ok-add_places.ensures.ok, c.add_places.new.places.ok, count) in
+    rows_within c.put-behind.new.letters.items _ c.put_at.new.list.items c.add_places.new.places.items once places
 
 pub relocate-requires-clause-once : goal.relocate-requires-clause-once
 relocate-requires-clause-once g c =
     let old = c.self.inside in
     let other = c.other.inside in
-    let count : c.len-count.result ≡ length (entries_of other.rows.items) = omega (arith, c.len-count.ensures, other.rows.ok, length-map other.rows.items entry_of_row) in
-    let entries = put_all c.args.position old.next old.rows.items other.rows.items c.renumber.new.rows.items c.put_at.new.list.items (c.put_at.ensures ∙ (λ j. take c.args.position (c.reserve.ensures.items j) ++ c.renumber.new.rows.items ++ drop c.args.position (c.reserve.ensures.items j))) c.renumber.ensures.entries in
-    let once = rw (← entries) at (all_put_numbered old.next c.args.position (entries_of old.rows.items) (entries_of other.rows.items) c.self.invariant.numbered.once) in
-    numbered_apart _ (entries_of c.put_at.new.list.items) once
+    let count : c.len-count.result ≡ length (entries_of other.letters.items other.rows.items) = omega (arith, c.len-count.ensures, other.rows.ok, length-map other.rows.items (entry_of_row other.letters.items)) in
+    let start : c.put-behind.result.start ≡ length old.letters.items = c.put-behind.ensures.put.start_is ∙ ap length c.make_room.ensures.items in
+    let letters : c.put-behind.new.letters.items ≡ old.letters.items ++ other.letters.items = c.put-behind.ensures.put.new_is ∙ (λ j. c.make_room.ensures.items j ++ c.deref.ensures.value j) in
+    let rows = c.put_at.ensures ∙ (λ j. take c.args.position (c.reserve.ensures.items j) ++ c.renumber.new.rows.items ++ drop c.args.position (c.reserve.ensures.items j)) in
+    let entries = entries_joined old.letters.items other.letters.items c.put-behind.new.letters.items c.put-behind.result.start letters start c.args.position old.next old.rows.items other.rows.items c.renumber.new.rows.items c.put_at.new.list.items c.renumber.ensures.moved rows c.self.invariant.fit in
+    let once = rw (← entries) at (all_put_numbered old.next c.args.position (entries_of old.letters.items old.rows.items) (entries_of other.letters.items other.rows.items) c.self.invariant.table.numbered.once) in
+    rows_apart c.put-behind.new.letters.items _ c.put_at.new.list.items once
 
 pub invariant_of-self-2 : goal.invariant_of-self-2
 invariant_of-self-2 g c =
     let old = c.self.inside in
     let other = c.other.inside in
-    let count : c.len-count.result ≡ length (entries_of other.rows.items) = omega (arith, c.len-count.ensures, other.rows.ok, length-map other.rows.items entry_of_row) in
-    let entries = put_all c.args.position old.next old.rows.items other.rows.items c.renumber.new.rows.items c.put_at.new.list.items (c.put_at.ensures ∙ (λ j. take c.args.position (c.reserve.ensures.items j) ++ c.renumber.new.rows.items ++ drop c.args.position (c.reserve.ensures.items j))) c.renumber.ensures.entries in
-    let once = rw (← entries) at (all_put_numbered old.next c.args.position (entries_of old.rows.items) (entries_of other.rows.items) c.self.invariant.numbered.once) in
+    let count : c.len-count.result ≡ length (entries_of other.letters.items other.rows.items) = omega (arith, c.len-count.ensures, other.rows.ok, length-map other.rows.items (entry_of_row other.letters.items)) in
+    let start : c.put-behind.result.start ≡ length old.letters.items = c.put-behind.ensures.put.start_is ∙ ap length c.make_room.ensures.items in
+    let letters : c.put-behind.new.letters.items ≡ old.letters.items ++ other.letters.items = c.put-behind.ensures.put.new_is ∙ (λ j. c.make_room.ensures.items j ++ c.deref.ensures.value j) in
+    let rows = c.put_at.ensures ∙ (λ j. take c.args.position (c.reserve.ensures.items j) ++ c.renumber.new.rows.items ++ drop c.args.position (c.reserve.ensures.items j)) in
+    let entries = entries_joined old.letters.items other.letters.items c.put-behind.new.letters.items c.put-behind.result.start letters start c.args.position old.next old.rows.items other.rows.items c.renumber.new.rows.items c.put_at.new.list.items c.renumber.ensures.moved rows c.self.invariant.fit in
     let at = c.args.position in
     let places : length c.add_places.new.places.items ≡ old.next + c.len-count.result = omega (arith, c.in_ok-add_places.ensures.ok, c.add_places.new.places.ok) in
-    table_joined old.next other.next at c.len-count.result (entries_of old.rows.items) (entries_of other.rows.items) _ old.places.items other.places.items c.relocate.new.places.items
-    old.names.words old.full.words other.names.words other.full.words _ _ count entries
-    (c.insert_all.ensures ∙ (λ j. take at (c.reserve-2.ensures.words j) ++ other.names.words ++ drop at (c.reserve-2.ensures.words j)))
-    (c.insert_all-2.ensures ∙ (λ j. take at (c.reserve-3.ensures.words j) ++ other.full.words ++ drop at (c.reserve-3.ensures.words j)))
-    (omega (arith, c.if-self-count.false, c.self.invariant.numbered.within)) c.self.invariant c.other.invariant (c.relocate.ensures.len ∙ places) c.relocate.ensures.placed
+    record {
+      table = table_joined old.next other.next at c.len-count.result (entries_of old.letters.items old.rows.items) (entries_of other.letters.items other.rows.items) _ old.places.items other.places.items c.relocate.new.places.items
+          old.names.words old.full.words other.names.words other.full.words _ _ count entries
+          (c.insert_all.ensures ∙ (λ j. take at (c.reserve-2.ensures.words j) ++ other.names.words ++ drop at (c.reserve-2.ensures.words j)))
+          (c.insert_all-2.ensures ∙ (λ j. take at (c.reserve-3.ensures.words j) ++ other.full.words ++ drop at (c.reserve-3.ensures.words j)))
+          (omega (arith, c.if-self-count.false, c.self.invariant.table.numbered.within)) c.self.invariant.table c.other.invariant.table (c.relocate.ensures.len ∙ places)
+          (rows_placed c.put-behind.new.letters.items _ _ c.relocate.ensures.placed);
+      fit = fit_joined old.letters.items other.letters.items c.put-behind.new.letters.items c.put-behind.result.start letters start at old.next old.rows.items other.rows.items c.renumber.new.rows.items c.put_at.new.list.items c.renumber.ensures.moved rows c.self.invariant.fit c.other.invariant.fit;
+    }
 
 pub returns-clause-ok : goal.returns-clause-ok
 returns-clause-ok g c =
     let old = c.self.inside in
     let other = c.other.inside in
-    let count : c.len-count.result ≡ length (entries_of other.rows.items) = omega (arith, c.len-count.ensures, other.rows.ok, length-map other.rows.items entry_of_row) in
-    let entries = put_all c.args.position old.next old.rows.items other.rows.items c.renumber.new.rows.items c.put_at.new.list.items (c.put_at.ensures ∙ (λ j. take c.args.position (c.reserve.ensures.items j) ++ c.renumber.new.rows.items ++ drop c.args.position (c.reserve.ensures.items j))) c.renumber.ensures.entries in
-    let once = rw (← entries) at (all_put_numbered old.next c.args.position (entries_of old.rows.items) (entries_of other.rows.items) c.self.invariant.numbered.once) in
+    let count : c.len-count.result ≡ length (entries_of other.letters.items other.rows.items) = omega (arith, c.len-count.ensures, other.rows.ok, length-map other.rows.items (entry_of_row other.letters.items)) in
+    let start : c.put-behind.result.start ≡ length old.letters.items = c.put-behind.ensures.put.start_is ∙ ap length c.make_room.ensures.items in
+    let letters : c.put-behind.new.letters.items ≡ old.letters.items ++ other.letters.items = c.put-behind.ensures.put.new_is ∙ (λ j. c.make_room.ensures.items j ++ c.deref.ensures.value j) in
+    let rows = c.put_at.ensures ∙ (λ j. take c.args.position (c.reserve.ensures.items j) ++ c.renumber.new.rows.items ++ drop c.args.position (c.reserve.ensures.items j)) in
+    let entries = entries_joined old.letters.items other.letters.items c.put-behind.new.letters.items c.put-behind.result.start letters start c.args.position old.next old.rows.items other.rows.items c.renumber.new.rows.items c.put_at.new.list.items c.renumber.ensures.moved rows c.self.invariant.fit in
     rw (← c.self.view_is, ← c.other.view_is) (λ j. record { entries = entries j; next = old.next + count j })
 
 pub put_at-requires-clause-room : goal.put_at-requires-clause-room
-put_at-requires-clause-room g c = omega (arith, c.in_ok-reserve.ensures.ok, c.renumber.ensures.len, c.len-count.ensures)
+put_at-requires-clause-room g c =
+    omega (arith, c.in_ok-reserve.ensures.ok, c.renumber.ensures.len, c.len-count.ensures)
+
+pub renumber-requires-clause-places : goal.renumber-requires-clause-places
+renumber-requires-clause-places g c =
+    let other = c.other.inside in
+    rows_fit (length other.letters.items) _ other.rows.items (omega (arith, c.in_ok-make_room.ensures.places)) c.other.invariant.fit

@@ -3,42 +3,52 @@ use Rattle.std.proofs.lemmas.Grind.{common_steps}
 use Rattle.std.proofs.lemmas.List.{length-append}
 use Rattle.std.specs.Option.{option_copied}
 use Rattle.gitconf_table.specs.Rows.{entries_of}
-use Rattle.gitconf_table.proofs.SectionLemmas.{entries_of-insert, tables}
-use Rattle.gitconf_table.proofs.TableLemmas.{inserted_numbered, numbered_apart, numbers_within, table_inserted}
+use Rattle.gitconf_table.proofs.RowLemmas.{entries_inserted, fit_inserted, rows_apart, rows_placed, rows_within}
+use Rattle.gitconf_table.proofs.SectionLemmas.{tables}
+use Rattle.gitconf_table.proofs.TableLemmas.{inserted_numbered, table_inserted}
 use Rattle.gitconf_table.proofs.table.SectionTable.insert_behind.Goals as goal
 
 pub relocate-requires-clause-within : goal.relocate-requires-clause-within
 relocate-requires-clause-within g c =
     let old = c.self.inside in
-    let rows : c.insert.new.self.items ≡ insert old.rows.items (c.args.position + 1) c.in_ok-row.row = grind (arith, common_steps) in
+    let letters = old.letters.items in
+    let rows : c.insert.new.self.items ≡ insert old.rows.items (c.args.position + 1) (record { id = old.next; names = c.in_ok-names.names; section = c.args.section }) = grind (arith, common_steps) in
+    let entries = entries_inserted letters _ c.args.name.now (option_copied c.args.subsection) c.in_ok-names.names c.in_ok-names.ensures.ok (c.args.position + 1) old.rows.items _ old.next c.args.section rows c.self.invariant.fit in
+    let once = inserted_numbered old.next (c.args.position + 1) (entries_of letters old.rows.items) _ _ _ _ entries c.self.invariant.table.numbered.once in
     let places : c.push.new.self.items ≡ old.places.items ++ (c.args.position + 1) ∷ [] = grind (arith, common_steps) in
-    let entries = ap entries_of rows ∙ entries_of-insert old.rows.items (c.args.position + 1) c.in_ok-row.row ∙ ap (insert (entries_of old.rows.items) (c.args.position + 1)) c.in_ok-row.ensures in
-    let count : length c.push.new.self.items ≡ old.next + 1 = rw (places, length-append) (omega (arith, c.self.invariant.counted)) in
-    numbers_within (old.next + 1) (entries_of c.insert.new.self.items) c.push.new.self.items (inserted_numbered old.next (c.args.position + 1) (entries_of old.rows.items) _ _ _ _ entries c.self.invariant.numbered.once) count
+    let count : length c.push.new.self.items ≡ old.next + 1 = rw (places, length-append) (omega (arith, c.self.invariant.table.counted)) in
+    rows_within c.put_names.new.letters.items (old.next + 1) c.insert.new.self.items c.push.new.self.items once count
 
 pub relocate-requires-clause-once : goal.relocate-requires-clause-once
 relocate-requires-clause-once g c =
     let old = c.self.inside in
-    let rows : c.insert.new.self.items ≡ insert old.rows.items (c.args.position + 1) c.in_ok-row.row = grind (arith, common_steps) in
-    let entries = ap entries_of rows ∙ entries_of-insert old.rows.items (c.args.position + 1) c.in_ok-row.row ∙ ap (insert (entries_of old.rows.items) (c.args.position + 1)) c.in_ok-row.ensures in
-    numbered_apart (old.next + 1) (entries_of c.insert.new.self.items) (inserted_numbered old.next (c.args.position + 1) (entries_of old.rows.items) _ _ _ _ entries c.self.invariant.numbered.once)
+    let letters = old.letters.items in
+    let rows : c.insert.new.self.items ≡ insert old.rows.items (c.args.position + 1) (record { id = old.next; names = c.in_ok-names.names; section = c.args.section }) = grind (arith, common_steps) in
+    let entries = entries_inserted letters _ c.args.name.now (option_copied c.args.subsection) c.in_ok-names.names c.in_ok-names.ensures.ok (c.args.position + 1) old.rows.items _ old.next c.args.section rows c.self.invariant.fit in
+    let once = inserted_numbered old.next (c.args.position + 1) (entries_of letters old.rows.items) _ _ _ _ entries c.self.invariant.table.numbered.once in
+    rows_apart c.put_names.new.letters.items (old.next + 1) c.insert.new.self.items once
 
 pub invariant_of-self-2 : goal.invariant_of-self-2
 invariant_of-self-2 g c =
     let old = c.self.inside in
-    let rows : c.insert.new.self.items ≡ insert old.rows.items (c.args.position + 1) c.in_ok-row.row = grind (arith, common_steps) in
+    let letters = old.letters.items in
+    let rows : c.insert.new.self.items ≡ insert old.rows.items (c.args.position + 1) (record { id = old.next; names = c.in_ok-names.names; section = c.args.section }) = grind (arith, common_steps) in
+    let entries = entries_inserted letters _ c.args.name.now (option_copied c.args.subsection) c.in_ok-names.names c.in_ok-names.ensures.ok (c.args.position + 1) old.rows.items _ old.next c.args.section rows c.self.invariant.fit in
     let places : c.push.new.self.items ≡ old.places.items ++ (c.args.position + 1) ∷ [] = grind (arith, common_steps) in
-    let entries = ap entries_of rows ∙ entries_of-insert old.rows.items (c.args.position + 1) c.in_ok-row.row ∙ ap (insert (entries_of old.rows.items) (c.args.position + 1)) c.in_ok-row.ensures in
-    let count : length c.push.new.self.items ≡ old.next + 1 = rw (places, length-append) (omega (arith, c.self.invariant.counted)) in
-    table_inserted old.next (c.args.position + 1) (entries_of old.rows.items) _ old.places.items c.relocate.new.places.items old.names.words _ old.full.words _ c.args.name.now (option_copied c.args.subsection) c.args.section
-    entries
-    (c.insert-2.ensures ∙ (λ j. insert (c.reserve-3.ensures.words j) (c.args.position + 1) (c.name_word-word.ensures j)))
-    (c.insert-3.ensures ∙ (λ j. insert (c.reserve-4.ensures.words j) (c.args.position + 1) (c.full_word.ensures j)))
-    (omega (arith, c.if-self.false)) c.self.invariant (c.relocate.ensures.len ∙ count) c.relocate.ensures.placed
+    let count : length c.push.new.self.items ≡ old.next + 1 = rw (places, length-append) (omega (arith, c.self.invariant.table.counted)) in
+    record {
+      table = table_inserted old.next (c.args.position + 1) (entries_of letters old.rows.items) _ old.places.items c.relocate.new.places.items old.names.words _ old.full.words _ c.args.name.now (option_copied c.args.subsection) c.args.section
+          entries
+          (c.insert-2.ensures ∙ (λ j. insert (c.reserve-3.ensures.words j) (c.args.position + 1) (c.name_word-word.ensures j)))
+          (c.insert-3.ensures ∙ (λ j. insert (c.reserve-4.ensures.words j) (c.args.position + 1) (c.full_word.ensures j)))
+          (omega (arith, c.if-self.false)) c.self.invariant.table (c.relocate.ensures.len ∙ count) (rows_placed c.put_names.new.letters.items _ _ c.relocate.ensures.placed);
+      fit = fit_inserted letters _ c.args.name.now (option_copied c.args.subsection) c.in_ok-names.names c.in_ok-names.ensures.ok (c.args.position + 1) old.rows.items _ old.next c.args.section rows c.self.invariant.fit;
+    }
 
 pub returns-clause-ok : goal.returns-clause-ok
 returns-clause-ok g c =
     let old = c.self.inside in
-    let rows : c.insert.new.self.items ≡ insert old.rows.items (c.args.position + 1) c.in_ok-row.row = grind (arith, common_steps) in
-    let entries = ap entries_of rows ∙ entries_of-insert old.rows.items (c.args.position + 1) c.in_ok-row.row ∙ ap (insert (entries_of old.rows.items) (c.args.position + 1)) c.in_ok-row.ensures in
+    let letters = old.letters.items in
+    let rows : c.insert.new.self.items ≡ insert old.rows.items (c.args.position + 1) (record { id = old.next; names = c.in_ok-names.names; section = c.args.section }) = grind (arith, common_steps) in
+    let entries = entries_inserted letters _ c.args.name.now (option_copied c.args.subsection) c.in_ok-names.names c.in_ok-names.ensures.ok (c.args.position + 1) old.rows.items _ old.next c.args.section rows c.self.invariant.fit in
     rw (← c.self.view_is) (ap (tables (old.next + 1)) entries)

@@ -7,7 +7,7 @@ use Rattle.gitconf_table.proofs.table.by_name.NamedDoubleEndedIterator.next_back
 pub returns-then-is_named-clause-steps : goal.returns-then-is_named-clause-steps
 returns-then-is_named-clause-steps g c =
     let it = c.loop-at.self in
-    sym c.loop-at.invariant ∙ last_found (λ e. (e.number, e.section)) (is_named it.name.now (option_copied it.subsection)) it.rows.now c.next_back.new.self c.in-Some.at it.places c.in-Some-row_at.row.now c.in-Some.ensures.steps
+    sym c.loop-at.invariant ∙ last_found (λ e. (e.number, e.section)) (is_named it.name.now (option_copied it.subsection)) it.letters.now it.rows.now c.next_back.new.self c.in-Some.at it.places c.in-Some-row_at.row.now c.in-Some.ensures.steps
     (sym c.in-Some-row_at.ensures) (sym c.is_named.ensures ∙ c.if-is_named.true)
 
 pub returns-then-is_named-clause-goes : goal.returns-then-is_named-clause-goes
@@ -20,11 +20,11 @@ returns-then-is_named-clause-goes g c = record {
 pub loop-at-preserved-else-is_named : goal.loop-at-preserved-else-is_named
 loop-at-preserved-else-is_named g c =
     let it = c.loop-at.self in
-    last_other (λ e. (e.number, e.section)) (is_named it.name.now (option_copied it.subsection)) it.rows.now c.next_back.new.self c.in-Some.at it.places c.in-Some-row_at.row.now c.in-Some.ensures.steps
+    last_other (λ e. (e.number, e.section)) (is_named it.name.now (option_copied it.subsection)) it.letters.now it.rows.now c.next_back.new.self c.in-Some.at it.places c.in-Some-row_at.row.now c.in-Some.ensures.steps
     (sym c.in-Some-row_at.ensures) (sym c.is_named.ensures ∙ c.if-is_named.false) ∙ c.loop-at.invariant
 
 pub loop-at-preserved : goal.loop-at-preserved
 loop-at-preserved g c =
     let it = c.loop-at.self in
-    last_none (λ e. (e.number, e.section)) (is_named it.name.now (option_copied it.subsection)) it.rows.now c.next_back.new.self c.in-Some.at it.places c.in-Some.ensures.steps
+    last_none (λ e. (e.number, e.section)) (is_named it.name.now (option_copied it.subsection)) it.letters.now it.rows.now c.next_back.new.self c.in-Some.at it.places c.in-Some.ensures.steps
     (sym c.in_default-row_at.ensures) ∙ c.loop-at.invariant

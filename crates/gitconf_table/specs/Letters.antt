@@ -1,0 +1,52 @@
+-- Names one behind the other in one list of bytes, and the places at which they stand there.
+use Rattle.std.specs.Prelude.{◌≡◌, ℕ, ◌+◌, ◌≤◌, List, ◌++◌, length, take, drop, Option, Some, None}
+use Rattle.std.specs.Option.{option_map}
+use Rattle.gitconf_table.specs.declared.letters.Part.{Part}
+use Rattle.gitconf_table.specs.declared.letters.Names.{Names}
+
+-- the bytes at a place
+abbrev pub part_of : (letters : List ℕ) → Part → List ℕ
+part_of letters p = take p.len (drop p.start letters)
+
+-- the place is one among so many bytes
+abbrev pub PartFits : (count : ℕ) → Part → Type 0
+PartFits count p = p.start + p.len ≤ count
+
+abbrev pub SubsectionFits : (count : ℕ) → Option Part → Type 0
+SubsectionFits count None = Unit {0}
+SubsectionFits count (Some p) = PartFits count p
+
+abbrev pub NamesFit : (count : ℕ) → Names → Type 0
+NamesFit count n = PartFits count n.name × SubsectionFits count n.subsection
+
+-- bytes were put behind the others, to that place
+pub record IsPut (bytes old new : List ℕ) (p : Part) : Type 0 where
+  pub new_is : new ≡ old ++ bytes
+  pub start_is : p.start ≡ length old
+  pub len_is : p.len ≡ length bytes
+
+-- so were those of a subsection, if there is one
+abbrev pub IsSubsectionPut : (subsection : Option (List ℕ)) (old new : List ℕ) → Option Part → Type 0
+IsSubsectionPut (Some bytes) old new (Some p) = IsPut bytes old new p
+IsSubsectionPut None old new None = new ≡ old
+IsSubsectionPut _ old new _ = ⊥
+
+-- how many bytes a subsection has
+abbrev pub subsection_len : Option (List ℕ) → ℕ
+subsection_len (Some bytes) = length bytes
+subsection_len None = 0
+
+-- a name and a subsection were put behind other bytes, to those places
+pub record ArePut (name : List ℕ) (subsection : Option (List ℕ)) (old new : List ℕ) (n : Names) : Type 0 where
+  pub more : List ℕ
+  pub new_is : new ≡ old ++ more
+  pub name_is : part_of new n.name ≡ name
+  pub subsection_is : option_map (part_of new) n.subsection ≡ subsection
+  pub fit : NamesFit (length new) n
+
+-- the same places among bytes that stand behind so many others
+abbrev pub moved_part : (by : ℕ) → Part → Part
+moved_part by p = record { start = by + p.start; len = p.len }
+
+abbrev pub moved_names : (by : ℕ) → Names → Names
+moved_names by n = record { name = moved_part by n.name; subsection = option_map (moved_part by) n.subsection }

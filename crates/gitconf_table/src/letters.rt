@@ -1,0 +1,175 @@
+//! Names one behind the other in one list of bytes, and the places at which they stand there.
+ghost use Rattle.std.specs.Prelude.{◌≡◌, ◌+◌, ◌<◌, ◌≤◌, ◌^◌, ◌++◌, drop, length, take, vec_capacity, vec_len, IfOk, OnOk, OnErr};
+ghost use Rattle.std.specs.Option.{option_copied, option_map};
+ghost use Rattle.gitconf_text.specs.Bytes.{fold};
+ghost use Rattle.gitconf_table.specs.Letters.{part_of, subsection_len, ArePut, IsPut, IsSubsectionPut};
+
+use std::alloc::AllocError;
+
+/// Where a name stands: the place of its first byte, and how many bytes it has.
+#[derive(Clone, Copy)]
+pub(crate) struct Part {
+    pub(crate) start: u32,
+    pub(crate) len: u32,
+}
+
+/// Where the name of a section stands, and its subsection, if it has one.
+#[derive(Clone, Copy)]
+pub(crate) struct Names {
+    // In ASCII lower case.
+    pub(crate) name: Part,
+    pub(crate) subsection: Option<Part>,
+}
+
+/// The bytes at a place.
+pub(crate) fn bytes_at(letters: &[u8], part: Part) -> &[u8]
+    ensures { result.now ≡ part_of letters.now part }
+{
+    let start = (part.start as usize).min(letters.len());
+    let behind = letters.split_at(start).1;
+    let len = (part.len as usize).min(behind.len());
+    behind.split_at(len).0
+}
+
+/// The subsection at its place, if there is one.
+pub(crate) fn subsection_at(letters: &[u8], names: Names) -> Option<&[u8]>
+    ensures { option_copied result ≡ option_map (part_of letters.now) names.subsection }
+{
+    match names.subsection {
+        Some(part) => Some(bytes_at(letters, part)),
+        None => None,
+    }
+}
+
+/// Makes room for so many bytes more.
+///
+/// # Errors
+///
+/// Want of memory, also where more than 4294967295 bytes would stand there.
+pub(crate) fn make_room(letters: &mut Vec<u8>, more: usize) -> Result<(), AllocError>
+    ensures items { letters.new.items ≡ letters.old.items }
+    ensures len { vec_len letters.new ≡ vec_len letters.old }
+    ensures room { OnOk result (vec_len letters.new + more ≤ vec_capacity letters.new) }
+    ensures places { OnOk result (vec_len letters.new + more < 2 ^ 32) }
+{
+    let count = letters.len().checked_add(more).ok_or(AllocError)?;
+    if count > u32::MAX as usize {
+        return Err(AllocError);
+    }
+    letters.reserve(more)
+}
+
+/// Puts bytes behind the others, within the room that there is, and answers their place.
+pub(crate) fn put(letters: &mut Vec<u8>, bytes: &[u8]) -> Part
+    requires room { vec_len letters.old + length bytes.now ≤ vec_capacity letters.old }
+    requires places { vec_len letters.old + length bytes.now < 2 ^ 32 }
+    ensures put { IsPut bytes.now letters.old.items letters.new.items result }
+    ensures len { vec_len letters.new ≡ vec_len letters.old + length bytes.now }
+    ensures room { vec_capacity letters.old ≤ vec_capacity letters.new }
+{
+    let start = letters.len() as u32;
+    letters.extend_from_slice(bytes).unwrap();
+    Part {
+        start,
+        len: bytes.len() as u32,
+    }
+}
+
+/// Puts the bytes in ASCII lower case behind the others, as [`put`] does.
+fn put_folded(letters: &mut Vec<u8>, bytes: &[u8]) -> Part
+    requires room { vec_len letters.old + length bytes.now ≤ vec_capacity letters.old }
+    requires places { vec_len letters.old + length bytes.now < 2 ^ 32 }
+    ensures put { IsPut (fold bytes.now) letters.old.items letters.new.items result }
+    ensures len { vec_len letters.new ≡ vec_len letters.old + length bytes.now }
+    ensures room { vec_capacity letters.old ≤ vec_capacity letters.new }
+{
+    let at = letters.len();
+    let part = put(letters, bytes);
+    fold_from(letters, at);
+    part
+}
+
+/// Puts the bytes from a place on in ASCII lower case.
+fn fold_from(letters: &mut [u8], at: usize)
+    requires { at ≤ length letters.old }
+    ensures { letters.new ≡ take at letters.old ++ fold (drop at letters.old) }
+{
+    let (_, tail) = letters.split_at_mut(at);
+    tail.make_ascii_lowercase();
+}
+
+/// How many bytes a name and a subsection have.
+fn names_len(name: &[u8], subsection: Option<&[u8]>) -> Result<usize, AllocError>
+    ensures { IfOk result (λ n. n ≡ length name.now + subsection_len (option_copied subsection.entry)) }
+{
+    match subsection {
+        Some(bytes) => name.len().checked_add(bytes.len()).ok_or(AllocError),
+        None => Ok(name.len()),
+    }
+}
+
+/// Puts a subsection behind the other bytes, if there is one.
+fn put_subsection(letters: &mut Vec<u8>, subsection: Option<&[u8]>) -> Option<Part>
+    requires room { vec_len letters.old + subsection_len (option_copied subsection) ≤ vec_capacity letters.old }
+    requires places { vec_len letters.old + subsection_len (option_copied subsection) < 2 ^ 32 }
+    ensures { IsSubsectionPut (option_copied subsection.entry) letters.old.items letters.new.items result }
+{
+    match subsection {
+        Some(bytes) => Some(put(letters, bytes)),
+        None => None,
+    }
+}
+
+/// Puts the name, in ASCII lower case, and the subsection behind the other bytes, and answers their places.
+///
+/// # Errors
+///
+/// Want of memory, also where more than 4294967295 bytes would stand there. The bytes are as they were.
+pub(crate) fn put_names(
+    letters: &mut Vec<u8>,
+    name: &[u8],
+    subsection: Option<&[u8]>,
+) -> Result<Names, AllocError>
+    ensures ok { IfOk result (ArePut (fold name.now) (option_copied subsection.entry) letters.old.items letters.new.items) }
+    ensures err { OnErr result (letters.new.items ≡ letters.old.items) }
+{
+    make_room(letters, names_len(name, subsection)?)?;
+    let name = put_folded(letters, name);
+    let subsection = put_subsection(letters, subsection);
+    Ok(Names { name, subsection })
+}
+
+impl Part {
+    ghost use Rattle.std.specs.Prelude.{◌≡◌, ◌+◌, ◌<◌, ◌^◌};
+    ghost use Rattle.gitconf_table.specs.Letters.{moved_part};
+
+    /// The same place among bytes that stand behind so many others.
+    fn moved(self, by: u32) -> Part
+        requires { by + self.start < 2 ^ 32 }
+        ensures { result ≡ moved_part by self }
+    {
+        Part {
+            start: by + self.start,
+            len: self.len,
+        }
+    }
+}
+
+impl Names {
+    ghost use Rattle.std.specs.Prelude.{◌≡◌, ◌-◌, ◌^◌};
+    ghost use Rattle.gitconf_table.specs.Letters.{moved_names, NamesFit};
+
+    /// The same places among bytes that stand behind so many others.
+    pub(crate) fn moved(self, by: u32) -> Names
+        requires { NamesFit (2 ^ 32 - 1 - by) self }
+        ensures { result ≡ moved_names by self }
+    {
+        Names {
+            name: self.name.moved(by),
+            subsection: match self.subsection {
+                Some(part) => Some(part.moved(by)),
+                None => None,
+            },
+        }
+    }
+}

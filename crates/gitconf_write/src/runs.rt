@@ -1,0 +1,177 @@
+//! Runs of a buffer's bytes, so that what stands side by side there is written at once.
+ghost use Rattle.gitconf_text.specs.Part.{EntryItem, spelled_item};
+ghost use Rattle.gitconf_text.specs.Header.{spelled_header};
+ghost use Rattle.gitconf_parse.specs.Items.{entry_of, item_of};
+ghost use Rattle.gitconf_parse.specs.Events.{header_of};
+ghost use Rattle.gitconf_state.specs.Printing.{closed_item};
+ghost use Rattle.gitconf_write.specs.Runs.{behind_name, run_of};
+ghost use Rattle.std.specs.Prelude.{◌≡◌, ◌≤◌, List, ℕ, ◌++◌, ◌∷◌, [], IfSome};
+
+use gitconf_parse::event::{Header, Span};
+use gitconf_parse::items::{Entry, Item};
+
+/// A run of bytes: where it begins, and where the byte behind its last one stands.
+#[derive(Clone, Copy, Debug)]
+pub(crate) struct Run {
+    start: usize,
+    end: usize,
+}
+
+impl Run {
+    ghost use Rattle.std.specs.Prelude.{◌≡◌, ◌≤◌, List, ℕ, ◌++◌, ◌∷◌, [], IfSome};
+    ghost use Rattle.gitconf_parse.specs.Events.{bytes_of};
+    ghost use Rattle.gitconf_write.specs.Runs.{run_of};
+
+    /// No bytes.
+    pub(crate) fn none() -> Run
+        ensures value { (buffer : List ℕ) → run_of buffer result ≡ [] }
+        ensures ordered { result.start ≤ result.end }
+    {
+        Run { start: 0, end: 0 }
+    }
+
+    /// The bytes of a span.
+    fn of(span: Span) -> Run
+        ensures value { (buffer : List ℕ) → run_of buffer result ≡ bytes_of buffer span }
+        ensures ordered { result.start ≤ result.end }
+    {
+        let start = span.start as usize;
+        Run {
+            start,
+            end: start + span.len as usize,
+        }
+    }
+
+    /// Its bytes in the buffer, as far as that goes.
+    pub(crate) fn bytes_in(self, buffer: &[u8]) -> &[u8]
+        ensures { result.now ≡ run_of buffer.now self }
+    {
+        let start = self.start.min(buffer.len());
+        let behind = buffer.split_at(start).1;
+        let len = self.end.saturating_sub(self.start).min(behind.len());
+        behind.split_at(len).0
+    }
+
+    /// Both runs as one, where the other stands directly behind this one.
+    #[inline(always)]
+    pub(crate) fn joined(self, other: Run) -> Option<Run>
+        requires mine { self.start ≤ self.end }
+        requires others { other.start ≤ other.end }
+        ensures value { IfSome result (λ r. (buffer : List ℕ) → run_of buffer r ≡ run_of buffer self ++ run_of buffer other) }
+        ensures ordered { IfSome result (λ r. r.start ≤ r.end) }
+    {
+        if self.end != other.start {
+            return None;
+        }
+        Some(Run {
+            start: self.start,
+            end: other.end,
+        })
+    }
+
+    /// The run and a span, where the span stands directly behind it or has no bytes.
+    #[inline(always)]
+    fn with(self, span: Span) -> Option<Run>
+        requires { self.start ≤ self.end }
+        ensures value { IfSome result (λ r. (buffer : List ℕ) → run_of buffer r ≡ run_of buffer self ++ bytes_of buffer span) }
+        ensures ordered { IfSome result (λ r. r.start ≤ r.end) }
+    {
+        if span.len == 0 {
+            return Some(self);
+        }
+        self.joined(Run::of(span))
+    }
+
+    /// The run and the byte directly behind it, where it is this one.
+    #[inline(always)]
+    fn with_byte(self, buffer: &[u8], byte: u8) -> Option<Run>
+        requires { self.start ≤ self.end }
+        ensures value { IfSome result (λ r. run_of buffer.now r ≡ run_of buffer.now self ++ byte ∷ []) }
+        ensures ordered { IfSome result (λ r. r.start ≤ r.end) }
+    {
+        if buffer.get(self.end).copied() != Some(byte) {
+            return None;
+        }
+        Some(Run {
+            start: self.start,
+            end: self.end + 1,
+        })
+    }
+
+    /// A byte and the span behind it, where that byte stands directly before the span.
+    #[inline(always)]
+    fn byte_before(buffer: &[u8], byte: u8, span: Span) -> Option<Run>
+        ensures value { IfSome result (λ r. run_of buffer.now r ≡ byte ∷ bytes_of buffer.now span) }
+        ensures ordered { IfSome result (λ r. r.start ≤ r.end) }
+    {
+        let start = (span.start as usize).checked_sub(1)?;
+        Run { start, end: start }
+            .with_byte(buffer, byte)?
+            .joined(Run::of(span))
+    }
+}
+
+/// The run that a header is, where all its parts stand side by side.
+pub(crate) fn header_run(buffer: &[u8], header: &Header) -> Option<Run>
+    ensures value { IfSome result (λ r. run_of buffer.now r ≡ spelled_header (header_of buffer.now header.now)) }
+    ensures ordered { IfSome result (λ r. r.start ≤ r.end) }
+{
+    let name = Run::byte_before(buffer, b'[', header.name)?;
+    subsection_run(buffer, name, header.separator, header.subsection)?.with_byte(buffer, b']')
+}
+
+/// The run and the subsection behind it, where all its parts stand side by side.
+fn subsection_run(
+    buffer: &[u8],
+    name: Run,
+    separator: Option<Span>,
+    subsection: Option<Span>,
+) -> Option<Run>
+    requires { name.start ≤ name.end }
+    ensures value { IfSome result (λ r. run_of buffer.now r ≡ run_of buffer.now name ++ behind_name buffer.now separator subsection) }
+    ensures ordered { IfSome result (λ r. r.start ≤ r.end) }
+{
+    match (separator, subsection) {
+        (Some(separator), Some(subsection)) => {
+            let run = name.with(separator)?;
+            if separator.bytes_in(buffer) == b".".as_slice() {
+                return run.with(subsection);
+            }
+            run.with_byte(buffer, b'"')?
+                .with(subsection)?
+                .with_byte(buffer, b'"')
+        }
+        _ => Some(name),
+    }
+}
+
+/// The run that an entry is, where its value doesn't go on and all its parts stand side by side.
+fn entry_run(buffer: &[u8], entry: &Entry) -> Option<Run>
+    ensures value { IfSome result (λ r. (line_end : List ℕ) → run_of buffer.now r ≡ spelled_item (closed_item line_end (EntryItem (entry_of buffer.now entry.now)))) }
+    ensures ordered { IfSome result (λ r. r.start ≤ r.end) }
+{
+    let key = Run::of(entry.name).with(entry.blanks)?;
+    match &entry.assigned {
+        None => Some(key),
+        Some(assigned) => {
+            if !assigned.value.pieces.is_empty() {
+                return None;
+            }
+            key.with_byte(buffer, b'=')?
+                .with(assigned.blanks)?
+                .with(assigned.value.last)
+        }
+    }
+}
+
+/// The run that an item is, where it is printed as it stands and all its parts stand side by side.
+pub(crate) fn item_run(buffer: &[u8], item: &Item) -> Option<Run>
+    ensures value { IfSome result (λ r. (line_end : List ℕ) → run_of buffer.now r ≡ spelled_item (closed_item line_end (item_of buffer.now item.now))) }
+    ensures ordered { IfSome result (λ r. r.start ≤ r.end) }
+{
+    match item {
+        Item::Blanks(run) | Item::LineEnds(run) => Some(Run::of(*run)),
+        Item::Comment { tag, text } => Run::byte_before(buffer, *tag, *text),
+        Item::Entry(entry) => entry_run(buffer, entry),
+    }
+}
