@@ -63,7 +63,7 @@ entry_with old new is e d blanks behind v value grown within fits some first sec
     go (Some a) at = rw at refl
     go None at = let any : list_any is_entry (items_of old is) ≡ true = any_entry_shown old is ∙ some in rw (at, any, state.spacing_of) refl
 
-all_both : {A : Type 0} (P : A → Type 0) (xs ys : List A) → AllByRecursion P xs → AllByRecursion P ys → AllByRecursion P (xs ++ ys)
+pub all_both : {A : Type 0} (P : A → Type 0) (xs ys : List A) → AllByRecursion P xs → AllByRecursion P ys → AllByRecursion P (xs ++ ys)
 all_both P [] ys first second = second
 all_both P (x ∷ xs) ys first second = (first.0, all_both P xs ys first.1 second)
 

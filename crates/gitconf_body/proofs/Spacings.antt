@@ -24,7 +24,7 @@ any_entry_shown buffer (items.Comment tag text ∷ is) = any_entry_shown buffer 
 any_entry_shown buffer (items.Entry e ∷ is) = refl
 
 -- o: the item before these
-leading_shown : (buffer : List ℕ) (o : Option parts.Item) (last : Option Span) (is : List Item) → option_map (bytes_of buffer) last ≡ state.blanks_of o → list_any is_stored_entry is ≡ true
+pub leading_shown : (buffer : List ℕ) (o : Option parts.Item) (last : Option Span) (is : List Item) → option_map (bytes_of buffer) last ≡ state.blanks_of o → list_any is_stored_entry is ≡ true
     → option_map (bytes_of buffer) (leading_span last is) ≡ state.blanks_of (last_or o (state.before_entry (items_of buffer is)))
 leading_shown buffer o last [] before some = absurd (cc)
 leading_shown buffer o last (items.Blanks run ∷ is) before some = leading_shown buffer _ (Some run) is refl some
@@ -32,7 +32,7 @@ leading_shown buffer o last (items.LineEnds run ∷ is) before some = leading_sh
 leading_shown buffer o last (items.Comment tag text ∷ is) before some = leading_shown buffer _ None is refl some
 leading_shown buffer o last (items.Entry e ∷ is) before some = before
 
-leading_fits : (limit : ℕ) (last : Option Span) (is : List Item) → OptionFits limit last → AreItemsWithin limit is → OptionFits limit (leading_span last is)
+pub leading_fits : (limit : ℕ) (last : Option Span) (is : List Item) → OptionFits limit last → AreItemsWithin limit is → OptionFits limit (leading_span last is)
 leading_fits limit last [] fits all = tt
 leading_fits limit last (items.Blanks run ∷ is) fits all = leading_fits limit (Some run) is all.0 all.1
 leading_fits limit last (items.LineEnds run ∷ is) fits all = leading_fits limit None is tt all.1

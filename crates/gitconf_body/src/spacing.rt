@@ -28,7 +28,7 @@ pub struct Spacing {
 const NOTHING: Span = Span { start: 0, len: 0 };
 
 /// Whether an item is an entry.
-fn has_entry(items: &[Item]) -> bool
+pub(crate) fn has_entry(items: &[Item]) -> bool
     ensures { result ≡ list_any spec.is_stored_entry items.now }
 {
     items.iter().any(|item| matches!(item, Item::Entry(_)))
@@ -43,7 +43,7 @@ pub(crate) fn blanks_len(items: &[Item]) -> usize
 }
 
 /// The blanks directly before the first entry.
-fn leading_blanks(items: &[Item]) -> Option<Span>
+pub(crate) fn leading_blanks(items: &[Item]) -> Option<Span>
     ensures { result ≡ spec.leading_span None items.now }
 {
     let mut last = None;
@@ -58,7 +58,7 @@ fn leading_blanks(items: &[Item]) -> Option<Span>
 }
 
 /// The blanks before and behind the first `=`.
-fn separator_blanks(items: &[Item]) -> (Span, Span)
+pub(crate) fn separator_blanks(items: &[Item]) -> (Span, Span)
     ensures { result ≡ spec.separator_spans items.now }
 {
     for item in items {
