@@ -1,5 +1,5 @@
 -- Entries that get another value by an editor.
-use Rattle.std.proofs.Common.{◌≡◌, ℕ, ◌+◌, ◌-◌, ◌^◌, min, arith, true, false, List, [], ◌∷◌, ◌++◌, length, get_or, slice_set, Option, Some, None, refl, ap, sym, subst, ◌∙◌}
+use Rattle.std.proofs.Common.{◌≡◌, ℕ, ◌+◌, ◌-◌, ◌^◌, min, arith, Bool, true, false, List, [], ◌∷◌, ◌++◌, length, get_or, slice_set, Option, Some, None, refl, ap, sym, subst, ◌∙◌}
 use Rattle.std.specs.Prelude.{filter}
 use Rattle.std.specs.List.{last_or, list_any, AllByRecursion}
 use Rattle.gitconf_text.specs.Part as parts
@@ -12,16 +12,19 @@ use Rattle.gitconf_parse.specs.Events.{bytes_of}
 use Rattle.gitconf_parse.specs.Items.{item_of, entry_of}
 use Rattle.gitconf_parse.specs.ItemsFit.{AreItemsWithin, ItemFits}
 use Rattle.gitconf_parse.specs.ShownEvents.{IsExtended}
-use Rattle.gitconf_state.specs.Edit.{update_last, is_entry_of, with_value}
+use Rattle.gitconf_state.specs.State.{is_entry}
+use Rattle.gitconf_state.specs.Edit.{blank_bytes, update_last, is_entry_of, set_bytes, set_value, spacing_of, with_value}
 use Rattle.gitconf_state.specs.Editors as states
 use Rattle.gitconf_state.proofs.EditLists.{any_at, update_last_at, last_passing, filter_none}
 use Rattle.gitconf_write.specs.Bodies.{items_of}
+use Rattle.gitconf_write.specs.LineEnds.{bytes_of_line_end}
 use Rattle.gitconf_body.specs.declared.editor.Around.{Around}
 use Rattle.gitconf_body.specs.declared.editor.Editor.{Editor}
-use Rattle.gitconf_body.specs.Editors.{around_in, changed_put, line_put, IfEntry, separator_in, separator_put, set_put}
+use Rattle.gitconf_body.specs.Editors.{around_in, around_put, changed_put, editor_in, end_put, leading_put, line_put, IfEntry, separator_in, separator_put, set_put}
 use Rattle.gitconf_body.specs.Places.{IsLastAt}
 use Rattle.gitconf_body.specs.Standing.{Stand}
 use Rattle.gitconf_body.proofs.Places.{set_at, found_at}
+use Rattle.gitconf_body.proofs.Counts.{last_exists, put_at, put_new}
 use Rattle.gitconf_body.proofs.Entries.{last_shown}
 use Rattle.gitconf_body.proofs.Standing.{stand_more, stand_both}
 
@@ -129,3 +132,71 @@ entry_replaced old new is js at e d editor key value l here grown within stand m
     all_parts : {A : Type 0} (P : A → Type 0) (before : List A) (x : A) (behind : List A) → AllByRecursion P (before ++ x ∷ behind) → AllByRecursion P before × AllByRecursion P behind
     all_parts P [] x behind all = (tt, all.1)
     all_parts P (y ∷ before) x behind all = let a = all_parts P before x behind all.1 in ((all.0, a.0), a.1)
+
+-- The editor of items sets a value as an edit by names does.
+pub set_same : (line_end key value : List ℕ) (items : List parts.Item)
+    → states.value_set (record { spacing = spacing_of items; line_end = line_end; ends = true }) key value items ≡ set_value line_end key value items
+set_same line_end key value items = go (list_any (is_entry_of key) items) refl
+  where
+    go : (b : Bool) → list_any (is_entry_of key) items ≡ b
+        → states.value_set (record { spacing = spacing_of items; line_end = line_end; ends = true }) key value items ≡ set_value line_end key value items
+    go true e = rw (e, states.value_set, set_value) refl
+    go false e = rw (e, states.value_set, set_value) refl
+
+-- an entry of a key is an entry
+some_entry : (key : List ℕ) (items : List parts.Item) → list_any (is_entry_of key) items ≡ true → list_any is_entry items ≡ true
+some_entry key [] some = absurd (cc)
+some_entry key (parts.BlanksItem run ∷ items) some = some_entry key items some
+some_entry key (parts.LineEndsItem run ∷ items) some = some_entry key items some
+some_entry key (parts.CommentItem tag text ∷ items) some = some_entry key items some
+some_entry key (parts.EntryItem e ∷ items) some = refl
+
+-- It puts as many bytes.
+pub set_bytes_same : (editor : Editor) (line_end key value : List ℕ) (items : List parts.Item) → leading_put editor.leading + around_put editor.around ≡ blank_bytes items
+    → end_put editor ≡ length line_end → set_put editor key value items ≡ set_bytes line_end key value items
+set_bytes_same editor line_end key value items blanks ends = go (list_any (is_entry_of key) items) refl
+  where
+    changed : (i : parts.Item) → is_entry_of key i ≡ true → around_put editor.around ≡ 0 → changed_put editor.around value i ≡ length (escaped value)
+    changed (parts.BlanksItem run) is none = absurd (cc)
+    changed (parts.LineEndsItem run) is none = absurd (cc)
+    changed (parts.CommentItem tag text) is none = absurd (cc)
+    changed (parts.EntryItem e) is none = of e.assigned refl
+      where
+        of : (o : Option parts.Assigned) → e.assigned ≡ o → changed_put editor.around value (parts.EntryItem e) ≡ length (escaped value)
+        of (Some a) at = rw at refl
+        of None at = rw at (omega (arith, none))
+
+    found : (i : parts.Item) (o : Option parts.Item) → o ≡ Some i
+        → elim o as (λ _. ℕ) [ None ↦ line_put editor key (Some value) None | Some i ↦ changed_put editor.around value i ] ≡ changed_put editor.around value i
+    found i o e = rw e refl
+
+    go : (b : Bool) → list_any (is_entry_of key) items ≡ b → set_put editor key value items ≡ set_bytes line_end key value items
+    go true some =
+        let l = last_exists (is_entry_of key) items some in
+        let none : blank_bytes items ≡ 0 = rw (some_entry key items some, blank_bytes) refl in
+        let around : around_put editor.around ≡ 0 = omega (arith, blanks, none) in
+        found l.1.found (last_or None (filter (is_entry_of key) items))
+        (ap (λ xs. last_or None (filter (is_entry_of key) xs)) l.1.is ∙ last_passing (is_entry_of key) None l.1.before l.1.found l.1.behind l.1.passes l.1.none)
+        ∙ changed l.1.found l.1.passes around ∙ sym (put_at line_end key value items l.0 l.1)
+    go false none =
+        let made = set_put_new editor key value items none in
+        let put = put_new line_end key value items none in
+        omega (arith, made, put, blanks, ends)
+
+pub set_by_editor : (buffer : List ℕ) (editor : Editor) (line_end key value : List ℕ) (seen is : List Item) → seen ≡ is
+    → editor_in buffer editor ≡ record { spacing = spacing_of (items_of buffer seen); line_end = line_end; ends = true }
+    → states.value_set (editor_in buffer editor) key value (items_of buffer is) ≡ set_value line_end key value (items_of buffer is)
+set_by_editor buffer editor line_end key value seen is same told =
+    ap (λ e. states.value_set e key value (items_of buffer is))
+    (told ∙ ap (λ xs. record { spacing = spacing_of (items_of buffer xs); line_end = line_end; ends = true }) same)
+    ∙ set_same line_end key value (items_of buffer is)
+
+pub put_by_editor : (buffer : List ℕ) (editor : Editor) (line_end key value : List ℕ) (seen is : List Item) → seen ≡ is
+    → editor_in buffer editor ≡ record { spacing = spacing_of (items_of buffer seen); line_end = line_end; ends = true }
+    → leading_put editor.leading + around_put editor.around ≡ blank_bytes (items_of buffer seen)
+    → set_put editor key value (items_of buffer is) ≡ set_bytes line_end key value (items_of buffer is)
+put_by_editor buffer editor line_end key value seen is same told blanks =
+    let on : editor.ends ≡ true = ap (λ e. e.ends) told in
+    let end : bytes_of_line_end editor.line_end ≡ line_end = ap (λ e. e.line_end) told in
+    let ends : end_put editor ≡ length line_end = rw (on, end_put) (ap length end) in
+    set_bytes_same editor line_end key value (items_of buffer is) (blanks ∙ ap (λ xs. blank_bytes (items_of buffer xs)) same) ends
