@@ -25,3 +25,4 @@ pub mod Making
 pub mod Sets
 pub mod Cloning
 pub mod Detaching
+pub mod Editing
