@@ -1,5 +1,5 @@
 -- Copies stand while their buffer grows.
-use Rattle.std.proofs.Common.{◌≡◌, ℕ, ◌+◌, ◌<◌, ◌^◌, List, [], ◌∷◌, ◌++◌, length, map, Option, Some, None, refl, ap, sym, subst, ◌∙◌, append_assoc, append-nil}
+use Rattle.std.proofs.Common.{◌≡◌, ℕ, ◌<◌, ◌^◌, List, [], ◌∷◌, ◌++◌, length, map, Option, Some, None, refl, ap, sym, subst, ◌∙◌, append_assoc, append-nil}
 use Rattle.std.specs.List.{AllByRecursion}
 use Rattle.gitconf_text.specs.Part as parts
 use Rattle.gitconf_parse.specs.declared.event.Span.{Span}
@@ -9,15 +9,14 @@ use Rattle.gitconf_parse.specs.declared.items.Piece.{Piece}
 use Rattle.gitconf_parse.specs.declared.items.Value.{Value}
 use Rattle.gitconf_parse.specs.declared.items.Assigned.{Assigned}
 use Rattle.gitconf_parse.specs.declared.items.Entry.{Entry}
-use Rattle.gitconf_parse.specs.declared.items.Item.{Item}
 use Rattle.gitconf_parse.specs.declared.items.Item.TheVariants as items
-use Rattle.gitconf_parse.specs.Events.{bytes_of, header_of, SpanFits, HeaderFits}
+use Rattle.gitconf_parse.specs.Events.{bytes_of, header_of, HeaderFits}
 use Rattle.gitconf_parse.specs.Items.{piece_of, value_of, assigned_of, entry_of, item_of}
-use Rattle.gitconf_parse.specs.ItemsFit.{PieceFits, ValueFits, AssignedFits, EntryFits, ItemFits, AreItemsWithin}
+use Rattle.gitconf_parse.specs.ItemsFit.{PieceFits, ValueFits, AssignedFits, EntryFits, ItemFits}
 use Rattle.gitconf_parse.specs.ShownEvents.{IsExtended}
-use Rattle.gitconf_body.specs.Buffers.{StandsAt, Grows}
+use Rattle.gitconf_body.specs.Buffers.{StandsAt}
 use Rattle.gitconf_body.specs.Copies.{IsCopy, IsLonger}
-use Rattle.gitconf_body.proofs.Append.{bytes_more, span_more, pieces_more, pieces_fit_more, assigned_more, assigned_fits_more, item_more, item_fits_more}
+use Rattle.gitconf_body.proofs.Append.{bytes_more, span_more, item_more, item_fits_more}
 use Rattle.gitconf_body.proofs.Buffers.{stands_more, twice_extended, same_extended}
 
 pub longer_then : (a b c : List ℕ) → IsLonger a b → IsLonger b c → IsLonger a c

@@ -110,7 +110,7 @@ pub set_bytes_new : (line_end key value : List ℕ) (items : List Item) → list
     → spacing_bytes (spacing_of items) + (length key + length (escaped value) + length line_end) ≤ token_bytes (set_tokens line_end key value items)
 set_bytes_new line_end key value items none = rw (set_tokens_new line_end key value items none) (entry_within (spacing_of items) line_end key value)
 
-last_exists : {A : Type 0} (test : A → Bool) (xs : List A) → list_any test xs ≡ true → (at : ℕ) × IsLastAt test xs at
+pub last_exists : {A : Type 0} (test : A → Bool) (xs : List A) → list_any test xs ≡ true → (at : ℕ) × IsLastAt test xs at
 last_exists test [] some = absurd (cc)
 last_exists {A} test (x ∷ xs) some = go (list_any test xs) refl (last_exists test xs)
   where

@@ -7,3 +7,7 @@ pub mod Entries
 pub mod Counts
 pub mod Headers
 pub mod Copies
+pub mod Editors
+pub mod Standing
+pub mod Changing
+pub mod Taken

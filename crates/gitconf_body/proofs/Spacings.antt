@@ -1,5 +1,5 @@
 -- The blanks of items are those that their spans have.
-use Rattle.std.proofs.Common.{◌≡◌, ℕ, true, false, List, [], ◌∷◌, length, Option, Some, None, refl, ap, sym, subst, arith, ◌∙◌}
+use Rattle.std.proofs.Common.{◌≡◌, ℕ, true, false, List, [], ◌∷◌, Option, Some, None, refl, arith, ◌∙◌}
 use Rattle.std.specs.List.{last_or, list_any}
 use Rattle.std.specs.Option.{option_map}
 use Rattle.gitconf_text.specs.Part as parts
@@ -12,8 +12,7 @@ use Rattle.gitconf_parse.specs.ItemsFit.{AreItemsWithin}
 use Rattle.gitconf_state.specs.State.{is_entry}
 use Rattle.gitconf_state.specs.Edit as state
 use Rattle.gitconf_write.specs.Bodies.{items_of}
-use Rattle.gitconf_body.specs.declared.spacing.Spacing.{Spacing}
-use Rattle.gitconf_body.specs.Spacings.{LeadingStands, SpacingStands, default_blanks, is_stored_entry, leading_span, nothing, separator_spans}
+use Rattle.gitconf_body.specs.Spacings.{default_blanks, is_stored_entry, leading_span, nothing, separator_spans}
 
 -- whether there is an entry
 pub any_entry_shown : (buffer : List ℕ) (is : List Item) → list_any is_entry (items_of buffer is) ≡ list_any is_stored_entry is
@@ -24,7 +23,7 @@ any_entry_shown buffer (items.Comment tag text ∷ is) = any_entry_shown buffer 
 any_entry_shown buffer (items.Entry e ∷ is) = refl
 
 -- o: the item before these
-leading_shown : (buffer : List ℕ) (o : Option parts.Item) (last : Option Span) (is : List Item) → option_map (bytes_of buffer) last ≡ state.blanks_of o → list_any is_stored_entry is ≡ true
+pub leading_shown : (buffer : List ℕ) (o : Option parts.Item) (last : Option Span) (is : List Item) → option_map (bytes_of buffer) last ≡ state.blanks_of o → list_any is_stored_entry is ≡ true
     → option_map (bytes_of buffer) (leading_span last is) ≡ state.blanks_of (last_or o (state.before_entry (items_of buffer is)))
 leading_shown buffer o last [] before some = absurd (cc)
 leading_shown buffer o last (items.Blanks run ∷ is) before some = leading_shown buffer _ (Some run) is refl some
@@ -32,7 +31,7 @@ leading_shown buffer o last (items.LineEnds run ∷ is) before some = leading_sh
 leading_shown buffer o last (items.Comment tag text ∷ is) before some = leading_shown buffer _ None is refl some
 leading_shown buffer o last (items.Entry e ∷ is) before some = before
 
-leading_fits : (limit : ℕ) (last : Option Span) (is : List Item) → OptionFits limit last → AreItemsWithin limit is → OptionFits limit (leading_span last is)
+pub leading_fits : (limit : ℕ) (last : Option Span) (is : List Item) → OptionFits limit last → AreItemsWithin limit is → OptionFits limit (leading_span last is)
 leading_fits limit last [] fits all = tt
 leading_fits limit last (items.Blanks run ∷ is) fits all = leading_fits limit (Some run) is all.0 all.1
 leading_fits limit last (items.LineEnds run ∷ is) fits all = leading_fits limit None is tt all.1
@@ -67,25 +66,6 @@ separator_fits limit (items.Entry e ∷ is) all = go e.assigned refl (separator_
     go None at later = rw at later
     go (Some a) at later = rw at (all.0.1, (let f = all.0.2 in rw at at f).0)
 
--- the blanks that a body with entries has
-pub found_spacing : (buffer : List ℕ) (is : List Item) (s : Spacing) → list_any is_stored_entry is ≡ true → s.leading ≡ leading_span None is
-    → s.before ≡ (separator_spans is).0 → s.behind ≡ (separator_spans is).1 → AreItemsWithin (length buffer) is
-    → SpacingStands buffer s (state.spacing_of (items_of buffer is))
-found_spacing buffer is s some leading before behind within =
-    let any : list_any is_entry (items_of buffer is) ≡ true = any_entry_shown buffer is ∙ some in
-    let f = separator_fits (length buffer) is within in
-    rw (any, state.spacing_of) (record {
-      leading = subst (λ l. LeadingStands buffer l (state.leading_blanks (items_of buffer is))) (sym leading)
-          (stands (leading_span None is) (state.leading_blanks (items_of buffer is)) (leading_shown buffer None None is refl some) (leading_fits (length buffer) None is tt within));
-      before = record { fits = subst (SpanFits (length buffer)) (sym before) f.0; is = ap (bytes_of buffer) before ∙ ap (λ p. p.0) (before_shown buffer is) };
-      behind = record { fits = subst (SpanFits (length buffer)) (sym behind) f.1; is = ap (bytes_of buffer) behind ∙ ap (λ p. p.1) (before_shown buffer is) };
-    })
-  where
-    stands : (o : Option Span) (run : Option (List ℕ)) → option_map (bytes_of buffer) o ≡ run → OptionFits (length buffer) o → LeadingStands buffer o run
-    stands None run shown fits = sym shown
-    stands (Some s) None shown fits = absurd (cc)
-    stands (Some s) (Some run) shown fits = record { fits = fits; is = cc }
-
 -- those of a body without entries
 pub default_spacing : (buffer : List ℕ) (is : List Item) → list_any is_stored_entry is ≡ false → state.spacing_of (items_of buffer is) ≡ default_blanks
 default_spacing buffer is none =
@@ -98,5 +78,3 @@ default_put buffer is none = let any : list_any is_entry (items_of buffer is) �
 
 pub found_put : (buffer : List ℕ) (is : List Item) → list_any is_stored_entry is ≡ true → state.blank_bytes (items_of buffer is) ≡ 0
 found_put buffer is some = let any : list_any is_entry (items_of buffer is) ≡ true = any_entry_shown buffer is ∙ some in rw (any, state.blank_bytes) refl
-
-pub ruleset spacings = (found_spacing, default_spacing, default_put, found_put)

@@ -1,15 +1,7 @@
 -- Where the parts of new texts stand in a buffer.
 use Rattle.std.specs.Prelude.{ℕ, List, [], ◌∷◌}
-use Rattle.gitconf_text.specs.Value.{escaped}
-use Rattle.gitconf_body.specs.declared.entry.Line.{Line}
 use Rattle.gitconf_body.specs.declared.section.Quoted.{Quoted}
 use Rattle.gitconf_body.specs.Buffers.{StandsAt}
-
--- A new entry's name, value and line end in a buffer.
-pub record LineStands (buffer : List ℕ) (l : Line) (key text ending : List ℕ) : Type 0 where
-  pub name : StandsAt buffer l.name key
-  pub value : StandsAt buffer l.value (escaped text)
-  pub line_end : StandsAt buffer l.line_end ending
 
 -- A header's name, its blank and its spelled subsection in a buffer.
 pub record QuotedStands (buffer : List ℕ) (q : Quoted) (text spelling : List ℕ) : Type 0 where

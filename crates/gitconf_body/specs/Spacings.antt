@@ -1,22 +1,9 @@
 -- Blanks as the code has them: spans of a buffer.
-use Rattle.std.specs.Prelude.{◌≡◌, ℕ, ◌+◌, Bool, true, false, List, [], ◌∷◌, length, Option, Some, None}
+use Rattle.std.specs.Prelude.{ℕ, ◌+◌, Bool, true, false, List, [], ◌∷◌, length, Option, Some, None}
 use Rattle.gitconf_parse.specs.declared.event.Span.{Span}
 use Rattle.gitconf_parse.specs.declared.items.Item.{Item}
 use Rattle.gitconf_parse.specs.declared.items.Item.TheVariants as items
 use Rattle.gitconf_state.specs.Edit as state
-use Rattle.gitconf_body.specs.Buffers.{StandsAt}
-use Rattle.gitconf_body.specs.declared.spacing.Spacing.{Spacing}
-
--- these blanks stand at their spans
-abbrev pub LeadingStands : (buffer : List ℕ) → Option Span → Option (List ℕ) → Type 0
-LeadingStands buffer None run = run ≡ None
-LeadingStands buffer (Some s) None = ⊥
-LeadingStands buffer (Some s) (Some run) = StandsAt buffer s run
-
-pub record SpacingStands (buffer : List ℕ) (s : Spacing) (blanks : state.Spacing) : Type 0 where
-  pub leading : LeadingStands buffer s.leading blanks.leading
-  pub before : StandsAt buffer s.before blanks.before
-  pub behind : StandsAt buffer s.behind blanks.behind
 
 -- those of a body without entries
 abbrev pub default_blanks : state.Spacing

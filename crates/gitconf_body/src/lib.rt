@@ -3,7 +3,11 @@
 
 pub mod buffer;
 pub mod copying;
+pub mod editor;
 pub mod entry;
+pub mod push;
 pub mod section;
+pub mod set;
 pub mod spacing;
+pub mod take_out;
 pub mod values;

@@ -27,3 +27,4 @@ pub mod Making
 pub mod Sets
 pub mod Cloning
 pub mod Detaching
+pub mod Editing

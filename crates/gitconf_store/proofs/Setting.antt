@@ -45,7 +45,7 @@ pub record HasOthers (limit : ℕ) (s t : Section) : Type 0 where
   pub held : t.held ≡ s.held
   pub within : AreItemsWithin limit t.items.items
 
-changed_fits : (b new copies : List ℕ) (s t : Section) (es : List (SectionEntry Section)) (at : ℕ) → IsExtended b new → HasOthers (length new) s t
+pub changed_fits : (b new copies : List ℕ) (s t : Section) (es : List (SectionEntry Section)) (at : ℕ) → IsExtended b new → HasOthers (length new) s t
     → AllByRecursion (SectionFits b copies) es → option_map (λ (e : SectionEntry Section). e.section) (slice_get es at) ≡ Some s
     → AllByRecursion (SectionFits new copies) (changed_at (λ e. record e { section = t }) es at)
 changed_fits b new copies s t [] at x others fits here = tt

@@ -1,4 +1,4 @@
-use Rattle.std.proofs.Common.{◌≡◌, ◌+◌, length}
+use Rattle.std.proofs.Common.{length}
 use Rattle.gitconf_parse.specs.Items.{piece_of}
 use Rattle.gitconf_parse.specs.ItemsFit.{PieceFits}
 use Rattle.gitconf_body.specs.Copies.{IsLonger}

@@ -1,0 +1,50 @@
+use Rattle.std.proofs.Common.{rules, arith, ◌≡◌, false, sym, ◌∙◌}
+use Rattle.std.specs.List.{list_any}
+use Rattle.gitconf_parse.specs.Items.{item_of}
+use Rattle.gitconf_state.specs.Edit.{is_entry_of}
+use Rattle.gitconf_state.proofs.EditPlaces.{old_value_none}
+use Rattle.gitconf_write.specs.Bodies.{items_of}
+use Rattle.gitconf_body.specs.Editors.{editor_in}
+use Rattle.gitconf_body.proofs.Buffers.{grows_ok, grows_err}
+use Rattle.gitconf_body.proofs.Changing.{value_set_new, set_put_new}
+use Rattle.gitconf_body.proofs.Places.{any_shown}
+use Rattle.gitconf_body.proofs.set.set.Goals as goal
+
+pub returns-in_err-push-clause-grows : goal.returns-in_err-push-clause-grows
+returns-in_err-push-clause-grows c =
+    let none : list_any (λ i. is_entry_of c.args.key.now (item_of c.args.buffer.now.items i)) c.args.items.now.items ≡ false = search rules in
+    let n = any_shown (is_entry_of c.args.key.now) (item_of c.args.buffer.now.items) c.args.items.now.items ∙ none in
+    rw (set_put_new c.args.editor.now c.args.key.now c.args.value.now (items_of c.args.buffer.now.items c.args.items.now.items) n) (search (rules, grows_err))
+
+pub returns-in_err-push-clause-refused : goal.returns-in_err-push-clause-refused
+returns-in_err-push-clause-refused c =
+    let none : list_any (λ i. is_entry_of c.args.key.now (item_of c.args.buffer.now.items i)) c.args.items.now.items ≡ false = search rules in
+    let n = any_shown (is_entry_of c.args.key.now) (item_of c.args.buffer.now.items) c.args.items.now.items ∙ none in
+    rw (set_put_new c.args.editor.now c.args.key.now c.args.value.now (items_of c.args.buffer.now.items c.args.items.now.items) n) (search rules)
+
+pub returns-in_default-clause-ok : goal.returns-in_default-clause-ok
+returns-in_default-clause-ok c =
+    let none : list_any (λ i. is_entry_of c.args.key.now (item_of c.args.buffer.now.items i)) c.args.items.now.items ≡ false = search rules in
+    let n = any_shown (is_entry_of c.args.key.now) (item_of c.args.buffer.now.items) c.args.items.now.items ∙ none in
+    c.in_ok-push.ensures.ok
+    ∙ sym (value_set_new (editor_in c.args.buffer.now.items c.args.editor.now) c.args.key.now c.args.value.now (items_of c.args.buffer.now.items c.args.items.now.items) n)
+
+pub returns-in_default-clause-answer : goal.returns-in_default-clause-answer
+returns-in_default-clause-answer c =
+    let none : list_any (λ i. is_entry_of c.args.key.now (item_of c.args.buffer.now.items i)) c.args.items.now.items ≡ false = search rules in
+    let n = any_shown (is_entry_of c.args.key.now) (item_of c.args.buffer.now.items) c.args.items.now.items ∙ none in
+    sym (old_value_none c.args.key.now (items_of c.args.buffer.now.items c.args.items.now.items) n)
+
+pub returns-in_default-clause-grows : goal.returns-in_default-clause-grows
+returns-in_default-clause-grows c =
+    let none : list_any (λ i. is_entry_of c.args.key.now (item_of c.args.buffer.now.items i)) c.args.items.now.items ≡ false = search rules in
+    let n = any_shown (is_entry_of c.args.key.now) (item_of c.args.buffer.now.items) c.args.items.now.items ∙ none in
+    let put = set_put_new c.args.editor.now c.args.key.now c.args.value.now (items_of c.args.buffer.now.items c.args.items.now.items) n in
+    grows_ok _ _ _ _ _ _ c.in_ok-push.ensures.grows (omega (arith, put))
+
+pub returns-in_default-clause-refused : goal.returns-in_default-clause-refused
+returns-in_default-clause-refused c =
+    let none : list_any (λ i. is_entry_of c.args.key.now (item_of c.args.buffer.now.items i)) c.args.items.now.items ≡ false = search rules in
+    let n = any_shown (is_entry_of c.args.key.now) (item_of c.args.buffer.now.items) c.args.items.now.items ∙ none in
+    let put = set_put_new c.args.editor.now c.args.key.now c.args.value.now (items_of c.args.buffer.now.items c.args.items.now.items) n in
+    λ big. absurd (let no = c.in_ok-push.ensures.refused (omega (arith, put, big)) in cc)

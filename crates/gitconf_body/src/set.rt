@@ -1,0 +1,169 @@
+//! Values that are set in a body by its editor.
+ghost use Rattle.std.specs.Prelude.{◌≡◌, ℕ, List, ◌+◌, ◌-◌, ◌<◌, ◌≤◌, ◌^◌, min, true, Option, Some, None, ◌∷◌, [], length, IfOk, OnOk, OnErr, IsErrOf, option_map};
+ghost use Rattle.gitconf_text.specs.Part as parts;
+ghost use Rattle.gitconf_text.specs.Value.{escaped};
+ghost use Rattle.gitconf_parse.specs.declared.items.Item.TheVariants as kinds;
+ghost use Rattle.gitconf_parse.specs.Items.{item_of, entry_of};
+ghost use Rattle.gitconf_parse.specs.ItemsFit.{AreItemsWithin, EntryFits};
+ghost use Rattle.gitconf_state.specs.Edit.{is_entry_of, item_raw, old_value, with_value};
+ghost use Rattle.gitconf_state.specs.Editors as state;
+ghost use Rattle.gitconf_write.specs.Bodies.{items_of};
+ghost use Rattle.gitconf_body.specs.Buffers.{Grows, StandsAt};
+ghost use Rattle.gitconf_body.specs.Editors as spec;
+ghost use Rattle.gitconf_body.specs.Editors.{around_in, editor_in, AroundFits, EditorFits, IfEntry};
+ghost use Rattle.gitconf_body.specs.Places.{IsLastAt};
+ghost use Rattle.gitconf_body.specs.Standing.{Stand};
+
+use crate::buffer::check_room;
+use crate::editor::{Around, Editor};
+use crate::entry::last_place;
+use crate::push::{around_len, entry_with, push, put_around, put_value};
+use crate::values::item_text;
+use gitconf_parse::event::Span;
+use gitconf_parse::items::{Entry, Item};
+use gitconf_text::parse::span;
+use gitconf_text::value::escaped_len;
+
+/// The blanks before and behind the `=` of an entry; where it has none, those of the editor, put into the buffer where they don't stand
+/// there.
+#[tactic(auto, using(crate::proofs::Buffers::extending))]
+fn separator_of(
+    buffer: &mut Vec<u8>,
+    around: Around,
+    entry: &Entry,
+) -> Result<(Span, Span), span::Error>
+    requires room { length buffer.old.items < 2 ^ 32 }
+    requires entry { EntryFits (length buffer.old.items) entry.now }
+    requires fits { AroundFits (length buffer.old.items) around }
+    ensures before { IfOk result (λ p. StandsAt buffer.new.items p.0 (spec.separator_in buffer.old.items around entry.now).0) }
+    ensures behind { IfOk result (λ p. StandsAt buffer.new.items p.1 (spec.separator_in buffer.old.items around entry.now).1) }
+    ensures grows { Grows result (spec.separator_put around entry.now) buffer.old.items buffer.new.items }
+{
+    match &entry.assigned {
+        Some(assigned) => Ok((entry.blanks, assigned.blanks)),
+        None => put_around(buffer, around),
+    }
+}
+
+/// The entry with another value, which is put into the buffer: its own blanks around `=`, or those of the editor where it has none.
+#[tactic(auto, using(crate::proofs::Buffers::extending))]
+fn changed_entry(
+    buffer: &mut Vec<u8>,
+    around: Around,
+    entry: &Entry,
+    value: &[u8],
+) -> Result<Entry, span::Error>
+    requires room { length buffer.old.items < 2 ^ 32 }
+    requires entry { EntryFits (length buffer.old.items) entry.now }
+    requires fits { AroundFits (length buffer.old.items) around }
+    ensures stands { (blanks : Option (List ℕ)) → IfOk result (λ e. Stand buffer.new.items (kinds.Entry e ∷ [])
+        (with_value (record { leading = blanks; before = (around_in buffer.old.items around).0; behind = (around_in buffer.old.items around).1 }) value.now
+        (parts.EntryItem (entry_of buffer.old.items entry.now)) ∷ [])) }
+    ensures grows { Grows result (spec.separator_put around entry.now + length (escaped value.now)) buffer.old.items buffer.new.items }
+{
+    let (before, behind) = separator_of(buffer, around, entry)?;
+    let value = put_value(buffer, value)?;
+    Ok(entry_with(*buffer.allocator(), entry.name, before, behind, value))
+}
+
+/// How many bytes an item's entry puts into the buffer, where it gets another value; the greatest number where they are more.
+fn changed_len(around: Around, item: &Item, value: &[u8]) -> usize
+    ensures { IfEntry item.now (λ e. result ≡ min (spec.separator_put around e + length (escaped value.now)) (2 ^ 64 - 1)) }
+{
+    let Item::Entry(entry) = item else {
+        return 0;
+    };
+    match entry.assigned {
+        Some(_) => escaped_len(value),
+        None => escaped_len(value).saturating_add(around_len(around)),
+    }
+}
+
+/// Gives the entry at a place another value.
+fn change(
+    buffer: &mut Vec<u8>,
+    items: &mut Vec<Item>,
+    at: usize,
+    editor: &Editor<'_>,
+    key: &[u8],
+    value: &[u8],
+) -> Result<(), span::Error>
+    requires room { length buffer.old.items < 2 ^ 32 }
+    requires within { AreItemsWithin (length buffer.old.items) items.old.items }
+    requires fits { EditorFits (length buffer.old.items) editor.now }
+    requires last { IsLastAt (λ i. is_entry_of key.now (item_of buffer.old.items i)) items.old.items at }
+    ensures ok { OnOk result (items_of buffer.new.items items.new.items
+        ≡ state.value_set (editor_in buffer.old.items editor.now) key.now value.now (items_of buffer.old.items items.old.items)) }
+    ensures within { AreItemsWithin (length buffer.new.items) items.new.items }
+    ensures grows { Grows result (spec.set_put editor.now key.now value.now (items_of buffer.old.items items.old.items)) buffer.old.items buffer.new.items }
+    ensures err { OnErr result (items.new.items ≡ items.old.items) }
+{
+    let entry = match &items[at] {
+        Item::Entry(entry) => changed_entry(buffer, editor.around, entry, value)?,
+        _ => unreachable!(),
+    };
+    items[at] = Item::Entry(entry);
+    Ok(())
+}
+
+/// Gives the entry at a place another value, as [`change`], where there is room for it in the buffer. Answers the old value's raw text.
+fn change_checked(
+    buffer: &mut Vec<u8>,
+    items: &mut Vec<Item>,
+    at: usize,
+    editor: &Editor<'_>,
+    key: &[u8],
+    value: &[u8],
+) -> Result<Vec<u8>, span::Error>
+    requires room { length buffer.old.items < 2 ^ 32 }
+    requires within { AreItemsWithin (length buffer.old.items) items.old.items }
+    requires fits { EditorFits (length buffer.old.items) editor.now }
+    requires last { IsLastAt (λ i. is_entry_of key.now (item_of buffer.old.items i)) items.old.items at }
+    ensures ok { OnOk result (items_of buffer.new.items items.new.items
+        ≡ state.value_set (editor_in buffer.old.items editor.now) key.now value.now (items_of buffer.old.items items.old.items)) }
+    ensures answer { IfOk result (λ o. Some o.items ≡ old_value key.now (items_of buffer.old.items items.old.items)) }
+    ensures within { AreItemsWithin (length buffer.new.items) items.new.items }
+    ensures grows { Grows result (spec.set_put editor.now key.now value.now (items_of buffer.old.items items.old.items)) buffer.old.items buffer.new.items }
+    ensures refused { 2 ^ 32 ≤ length buffer.old.items + spec.set_put editor.now key.now value.now (items_of buffer.old.items items.old.items) → IsErrOf result 3 }
+    ensures err { OnErr result (items.new.items ≡ items.old.items) }
+{
+    check_room(buffer, changed_len(editor.around, &items[at], value))?;
+    let old = item_text(*buffer.allocator(), buffer, &items[at])?;
+    change(buffer, items, at, editor, key, value)?;
+    Ok(old)
+}
+
+/// Gives the last entry of a key another value: what stands behind `=` is replaced, and `=` is put in where there is none, with the
+/// editor's blanks around it. Where no entry has the key, a line with it is pushed, as [`push`](crate::push::push) does. Answers the raw
+/// text of the old value: its pieces joined, not decoded; nothing for an entry without `=`; `None` where there was no entry.
+///
+/// One walk over the items. Takes memory for the old value, for what is put into the buffer, and for new items.
+///
+/// # Errors
+///
+/// A [`span::Error`]: number 3 exactly where the buffer would be longer than 4294967295 bytes, before any growth, and else 27 for want of
+/// memory. The items are then as they were, and the buffer may have grown.
+pub fn set(
+    buffer: &mut Vec<u8>,
+    items: &mut Vec<Item>,
+    editor: &Editor<'_>,
+    key: &[u8],
+    value: &[u8],
+) -> Result<Option<Vec<u8>>, span::Error>
+    requires room { length buffer.old.items < 2 ^ 32 }
+    requires within { AreItemsWithin (length buffer.old.items) items.old.items }
+    requires fits { EditorFits (length buffer.old.items) editor.now }
+    ensures ok { OnOk result (items_of buffer.new.items items.new.items
+        ≡ state.value_set (editor_in buffer.old.items editor.now) key.now value.now (items_of buffer.old.items items.old.items)) }
+    ensures answer { IfOk result (λ o. option_map (λ v. v.items) o ≡ old_value key.now (items_of buffer.old.items items.old.items)) }
+    ensures within { AreItemsWithin (length buffer.new.items) items.new.items }
+    ensures grows { Grows result (spec.set_put editor.now key.now value.now (items_of buffer.old.items items.old.items)) buffer.old.items buffer.new.items }
+    ensures refused { 2 ^ 32 ≤ length buffer.old.items + spec.set_put editor.now key.now value.now (items_of buffer.old.items items.old.items) → IsErrOf result 3 }
+    ensures err { OnErr result (items.new.items ≡ items.old.items) }
+{
+    let Some(at) = last_place(buffer, items, key) else {
+        push(buffer, items, editor, key, Some(value), None)?;
+        return Ok(None);
+    };
+    Ok(Some(change_checked(buffer, items, at, editor, key, value)?))
+}

@@ -1,0 +1,158 @@
+//! Entries that are taken out of a body.
+ghost use Rattle.std.specs.Prelude.{◌≡◌, ◌≤◌, ◌<◌, ◌+◌, ◌++◌, length, take, drop, Some, None, IfOk, OnOk, OnErr, IsOk, option_map};
+ghost use Rattle.gitconf_text.specs.Part as parts;
+ghost use Rattle.gitconf_text.specs.Value.{plain};
+ghost use Rattle.gitconf_parse.specs.Items.{entry_of, item_of};
+ghost use Rattle.gitconf_state.specs.Edit.{is_entry_of, old_value};
+ghost use Rattle.gitconf_state.specs.Editors.{entry_told, popped, popped_entry, removed};
+ghost use Rattle.gitconf_write.specs.Bodies.{items_of};
+ghost use Rattle.gitconf_body.specs.Places.{IsLastAt, IsLastPlace};
+ghost use Rattle.gitconf_body.specs.Spacings.{is_stored_entry};
+ghost use Rattle.gitconf_body.specs.Taken as spec;
+ghost use Rattle.gitconf_body.specs.Taken.{StayWithin};
+
+use crate::entry::last_place;
+use crate::values::{item_text, raw_text};
+use gitconf_parse::items::{Entry, Item};
+use gitconf_text::NoMemory;
+use gitconf_text::value::normalize;
+use std::alloc::Global;
+
+/// Whether line ends stand first.
+fn begins_line_ends(items: &[Item]) -> bool
+    ensures { result ≡ spec.begins_line_ends items.now }
+{
+    matches!(items, [Item::LineEnds(_), ..])
+}
+
+/// Whether blanks stand last.
+#[tactic(auto, using(crate::proofs::Taken::ends_with))]
+fn ends_blanks(items: &[Item]) -> bool
+    ensures { result ≡ spec.ends_blanks items.now }
+{
+    match items.split_last() {
+        Some((item, _)) => matches!(item, Item::Blanks(_)),
+        None => false,
+    }
+}
+
+/// Takes out the line ends at a place, where they stand there.
+fn drop_line_ends(items: &mut Vec<Item>, at: usize)
+    requires within { at ≤ length items.old.items }
+    ensures { items.new.items ≡ take at items.old.items ++ spec.behind_line_ends (drop at items.old.items) }
+{
+    if begins_line_ends(items.split_at(at).1) {
+        drop(items.remove(at));
+    }
+}
+
+/// Takes out the blanks directly before a place, where they stand there.
+fn drop_blanks(items: &mut Vec<Item>, at: usize)
+    requires within { at ≤ length items.old.items }
+    ensures { items.new.items ≡ spec.before_blanks (take at items.old.items) ++ drop at items.old.items }
+{
+    if ends_blanks(items.split_at(at).0) {
+        drop(items.remove(at - 1));
+    }
+}
+
+/// Takes out the item at a place, the line ends directly behind it, and the blanks directly before it.
+fn take_out(items: &mut Vec<Item>, at: usize)
+    requires within { at < length items.old.items }
+    ensures { items.new.items ≡ spec.before_blanks (take at items.old.items) ++ spec.behind_line_ends (drop (at + 1) items.old.items) }
+{
+    drop_line_ends(items, at + 1);
+    drop(items.remove(at));
+    drop_blanks(items, at);
+}
+
+/// Takes out the last entry of a key, with the blanks directly before it and the line ends directly behind it. What else stands in the
+/// body stays. Answers the raw text of its value: its pieces joined, not decoded; nothing for an entry without `=`. Where no entry has
+/// the key, nothing is taken out, and the answer is `None`.
+///
+/// One walk over the items. Takes memory for the answer alone.
+///
+/// # Errors
+///
+/// Want of memory, only where there is an entry. The items are then as they were.
+pub fn remove(buffer: &[u8], items: &mut Vec<Item>, key: &[u8]) -> Result<Option<Vec<u8>>, NoMemory>
+    ensures ok { OnOk result (items_of buffer.now items.new.items ≡ removed key.now (items_of buffer.now items.old.items)) }
+    ensures answer { IfOk result (λ o. option_map (λ v. v.items) o ≡ old_value key.now (items_of buffer.now items.old.items)) }
+    ensures none { old_value key.now (items_of buffer.now items.old.items) ≡ None → IsOk result }
+    ensures within { StayWithin items.old.items items.new.items }
+    ensures err { OnErr result (items.new.items ≡ items.old.items) }
+{
+    let Some(at) = last_place(buffer, items, key) else {
+        return Ok(None);
+    };
+    let old = item_text(*items.allocator(), buffer, &items[at])?;
+    take_out(items, at);
+    Ok(Some(old))
+}
+
+/// The place of the last entry, if there is one. It walks from the end up to that entry.
+#[tactic(auto, using(crate::proofs::Places::fronts))]
+fn last_entry(items: &[Item]) -> Option<usize>
+    ensures { IsLastPlace is_stored_entry items.now result }
+{
+    let mut rest = items;
+    while let Some((item, before)) = rest.split_last() {
+        if matches!(item, Item::Entry(_)) {
+            return Some(before.len());
+        }
+        rest = before;
+    }
+    None
+}
+
+/// What a value means. Memory is taken for the answer, and for its raw text.
+fn meaning(alloc: Global, raw: &[u8]) -> Result<Vec<u8>, NoMemory>
+    ensures { IfOk result (λ text. text.items ≡ plain raw.now) }
+{
+    let text = normalize(alloc, raw)?;
+    Ok(text.into_owned(alloc)?)
+}
+
+/// The key of the entry at a place, and what its value means.
+fn told(alloc: Global, buffer: &[u8], entry: &Entry) -> Result<(Vec<u8>, Vec<u8>), NoMemory>
+    ensures { IfOk result (λ t. Some (t.0.items, t.1.items) ≡ entry_told (parts.EntryItem (entry_of buffer.now entry.now))) }
+{
+    let mut name = Vec::new(alloc);
+    name.extend_from_slice(entry.name.bytes_in(buffer))?;
+    let value = match &entry.assigned {
+        Some(assigned) => {
+            let raw = raw_text(alloc, buffer, &assigned.value)?;
+            meaning(alloc, &raw)?
+        }
+        None => Vec::new(alloc),
+    };
+    Ok((name, value))
+}
+
+/// Takes out the last entry, whatever its key, with the blanks directly before it and all that stands behind it. Answers its key as it is
+/// spelled, and what its value means; no bytes for an entry without `=`. Where there is no entry, all items go, and the answer is `None`.
+///
+/// One walk over the items. Takes memory for the answer, and for the raw text of the value.
+///
+/// # Errors
+///
+/// Want of memory, only where there is an entry. The items are then as they were.
+pub fn pop(buffer: &[u8], items: &mut Vec<Item>) -> Result<Option<(Vec<u8>, Vec<u8>)>, NoMemory>
+    ensures ok { OnOk result (items_of buffer.now items.new.items ≡ popped (items_of buffer.now items.old.items)) }
+    ensures answer { IfOk result (λ o. option_map (λ t. (t.0.items, t.1.items)) o ≡ popped_entry (items_of buffer.now items.old.items)) }
+    ensures none { popped_entry (items_of buffer.now items.old.items) ≡ None → IsOk result }
+    ensures within { StayWithin items.old.items items.new.items }
+    ensures err { OnErr result (items.new.items ≡ items.old.items) }
+{
+    let Some(at) = last_entry(items) else {
+        items.clear();
+        return Ok(None);
+    };
+    let told = match &items[at] {
+        Item::Entry(entry) => told(*items.allocator(), buffer, entry)?,
+        _ => unreachable!(),
+    };
+    items.truncate(at);
+    drop_blanks(items, at);
+    Ok(Some(told))
+}
