@@ -1,5 +1,5 @@
 -- What look-ups of values in a type of the caller's answer.
-use Rattle.std.specs.Prelude.{◌≡◌, ◌≢◌, ◌⊎◌, ℕ, true, List, [], ◌∷◌, Option, Some, None, Result, Ok, Err}
+use Rattle.std.specs.Prelude.{◌≡◌, ◌≢◌, ◌⊎◌, ℕ, true, List, [], ◌∷◌, map, Option, Some, None, Result, Ok, Err}
 use Rattle.std.specs.Option.{option_map}
 use Rattle.std.specs.declared.vec.Vec.{Vec}
 use Rattle.bstr.specs.declared.bstring.BString.{BString}
@@ -8,7 +8,7 @@ use Rattle.gitconf_base.specs.Key.{Key}
 use Rattle.gitconf_state.specs.Lookup.{Miss}
 use Rattle.gitconf_state.specs.State.{SectionState, State}
 use Rattle.gitconf_store.specs.declared.section.SectionRef.{SectionRef}
-use Rattle.gitconf_store.specs.Lookups.{miss_at, value_at, value_in, values_at}
+use Rattle.gitconf_store.specs.Lookups.{miss_at, value_at, value_in, values_at, values_in}
 use Rattle.gitconf_store.specs.Misses.{missing}
 use Rattle.gitconf_store.specs.Views.{shown}
 use Rattle.gix_config.specs.declared.lookup.Error.{Error}
@@ -59,7 +59,22 @@ AreConverted gives values miss (Err (FailedConversion e)) = FirstRefused gives v
 AreConverted gives values miss (Err (ValueMissing refusal)) = (values ≡ []) × (refusal ≡ missing miss)
 AreConverted gives values miss (Err Memory) = values ≢ []
 
--- the same, where it is no refusal that there is no value
+-- A list of values is converted, each beside its section, or the type refuses one; or memory was wanting.
+abbrev pub IsListedWith : {T E Z : Type 0} → (gives : BString → Result T E → Type 0) → List (List ℕ × SectionState) → Result (Vec (T × SectionRef) Z) (Error E) → Type 0
+IsListedWith gives values (Ok found) = AreGiven gives (map (λ v. v.0) values) (map (λ f. f.0) found.items) × (map (λ v. v.1) values ≡ map (λ f. shown f.1) found.items)
+IsListedWith gives values (Err (FailedConversion e)) = FirstRefused gives (map (λ v. v.0) values) e
+IsListedWith gives values (Err (ValueMissing refusal)) = ⊥
+IsListedWith gives values (Err Memory) = Unit {0}
+
+-- as `AreConverted`, each value with the section in which it stands
+abbrev pub AreConvertedWith : {T E Z : Type 0} → (gives : BString → Result T E → Type 0) → List (List ℕ × SectionState) → Miss → Result (Vec (T × SectionRef) Z) (Error E) → Type 0
+AreConvertedWith gives values miss (Ok found) =
+    (values ≢ []) × AreGiven gives (map (λ v. v.0) values) (map (λ f. f.0) found.items) × (map (λ v. v.1) values ≡ map (λ f. shown f.1) found.items)
+AreConvertedWith gives values miss (Err (FailedConversion e)) = FirstRefused gives (map (λ v. v.0) values) e
+AreConvertedWith gives values miss (Err (ValueMissing refusal)) = (values ≡ []) × (refusal ≡ missing miss)
+AreConvertedWith gives values miss (Err Memory) = values ≢ []
+
+-- as `IsConverted`, where it is no refusal that there is no value
 abbrev pub IsTried : {T E : Type 0} → (gives : BString → Result T E → Type 0) → Option (List ℕ) → Result (Option T) (Error E) → Type 0
 IsTried gives value (Ok (Some t)) = IsGiven gives value (Ok t)
 IsTried gives value (Ok None) = value ≡ None
@@ -78,3 +93,6 @@ IsValueWithSection gives key state result = IsConvertedWith gives (value_in key 
 
 abbrev pub AreValues : {T E Z : Type 0} → (gives : BString → Result T E → Type 0) → Key → State → Result (Vec T Z) (Error E) → Type 0
 AreValues gives key state result = AreConverted gives (values_at key (λ _. true) state) (miss_at key state) result
+
+abbrev pub AreValuesWithSections : {T E Z : Type 0} → (gives : BString → Result T E → Type 0) → Key → State → Result (Vec (T × SectionRef) Z) (Error E) → Type 0
+AreValuesWithSections gives key state result = AreConvertedWith gives (values_in key (λ _. true) state) (miss_at key state) result

@@ -1,13 +1,22 @@
--- The refusals of files and of includes, of what they come from; want of memory has one case in each.
+-- The refusals of look-ups in a type of the caller's, of files and of includes, of what they come from; want of memory has one case in each.
 use Rattle.std.specs.Prelude.{ℕ, ◌==◌, if◌then◌else◌}
 use Rattle.gitconf_values.specs.declared.path.interpolate.Error.{Error as Interpolate}
 use Rattle.gitconf_values.specs.declared.path.interpolate.Error.TheVariants as interpolate
 use Rattle.gitconf_values.specs.Homes.{interpolate_number}
 use Rattle.gitconf_parse.specs.ParseError.{Refusal}
+use Rattle.gitconf_store.specs.Misses.{existing_number}
+use Rattle.gix_config.specs.declared.lookup.Error.{Error as LookUp}
+use Rattle.gix_config.specs.declared.lookup.Error.TheVariants as look_up
 use Rattle.gix_config.specs.declared.file.includes.Error.{Error as Includes}
 use Rattle.gix_config.specs.declared.file.includes.Error.TheVariants as includes
 use Rattle.gix_config.specs.declared.file.init.Error.{Error as Init}
 use Rattle.gix_config.specs.declared.file.init.Error.TheVariants as init
+
+-- the number of a refused look-up in a type of the caller's
+abbrev pub look_up_number : {E : Type 0} → LookUp E → ℕ
+look_up_number (look_up.ValueMissing e) = existing_number e
+look_up_number (look_up.FailedConversion e) = 10
+look_up_number look_up.Memory = 27
 
 -- the number of a refused include
 abbrev pub includes_number : Includes → ℕ

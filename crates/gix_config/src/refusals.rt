@@ -2,6 +2,7 @@
 ghost use Rattle.std.specs.Prelude.{◌≡◌};
 
 use crate::file::{includes, init, set_raw_value};
+use crate::lookup;
 use crate::lookup::existing;
 use gitconf_parse::error as parse;
 use gitconf_parse::sink::SinkFault;
@@ -104,6 +105,20 @@ impl Refusal for existing::Error {
             existing::Error::KeyMissing => 9,
             existing::Error::ValueName(e) => e.number(),
             existing::Error::Memory => 27,
+        }
+    }
+}
+
+impl<E> Refusal for lookup::Error<E> {
+    ghost use Rattle.gix_config.specs.Errors.{look_up_number};
+
+    ghost number_of = { look_up_number };
+
+    fn number(&self) -> u8 {
+        match self {
+            lookup::Error::ValueMissing(e) => e.number(),
+            lookup::Error::FailedConversion(_) => 10,
+            lookup::Error::Memory => 27,
         }
     }
 }

@@ -9,6 +9,7 @@ status_of kinds.Missing = 1
 status_of kinds.Usage = 2
 status_of (kinds.Refused refusal) = 3
 status_of (kinds.RefusedEdit refusal) = 3
+status_of (kinds.RefusedValue refusal) = 3
 status_of kinds.Input = 4
 status_of kinds.Output = 4
 status_of kinds.Memory = 5

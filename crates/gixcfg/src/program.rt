@@ -4,11 +4,11 @@ ghost use Rattle.gixcfg.specs.Status.{status_of};
 
 use crate::output::Output;
 use bstr::BString;
-use gix_config::file::set_raw_value;
+use gix_config::file::{SectionRef, set_raw_value};
 use gix_config::format::{Options, normalize};
 use gix_config::parse::{Error, SinkFault};
 use gix_config::refusals::Refusal;
-use gix_config::{File, KeyRef, NoMemory};
+use gix_config::{File, KeyRef, NoMemory, value};
 use std::alloc::{AllocError, AllocFailed, Global};
 use std::io::{ErrorKind, Read, Write};
 
@@ -20,8 +20,16 @@ pub const MEMORY: u8 = 5;
 enum Command<'a> {
     /// Prints the last value of a key.
     Get(KeyRef<'a>),
+    /// Prints all values of a key.
+    All(KeyRef<'a>),
+    /// Prints the boolean of a key.
+    Bool(KeyRef<'a>),
+    /// Prints the integer of a key.
+    Int(KeyRef<'a>),
     /// Gives a key a value, and prints the file.
     Set(KeyRef<'a>, &'a str),
+    /// Prints the entries of all sections.
+    List,
     /// Prints the file.
     Print,
     /// Prints the file, laid out.
@@ -39,6 +47,8 @@ enum Fault {
     Refused(Error),
     /// The edit is refused.
     RefusedEdit(set_raw_value::Error),
+    /// A value is refused by the type that it is to have.
+    RefusedValue(value::Error),
     /// Standard input can't be read.
     Input,
     /// Standard output failed.
@@ -57,7 +67,7 @@ impl Fault {
         match self {
             Fault::Missing => 1,
             Fault::Usage => 2,
-            Fault::Refused(_) | Fault::RefusedEdit(_) => 3,
+            Fault::Refused(_) | Fault::RefusedEdit(_) | Fault::RefusedValue(_) => 3,
             Fault::Input | Fault::Output => 4,
             Fault::Memory => MEMORY,
         }
@@ -110,11 +120,22 @@ impl From<set_raw_value::Error> for Fault {
     }
 }
 
+impl From<value::Error> for Fault {
+    fn from(refusal: value::Error) -> Fault {
+        match refusal.number() {
+            27 => Fault::Memory,
+            _ => Fault::RefusedValue(refusal),
+        }
+    }
+}
+
 /// Runs the program with the words behind its name, standard input, standard output and standard error, and answers
 /// its exit status: 0 done, 1 missing, 2 usage, 3 refused, 4 input or output, 5 memory.
 ///
-/// `get KEY` prints the last value of a key and a line feed, `set KEY VALUE` the file with that value, `print` the file that standard
-/// input is, `fmt` that file laid out by the default options. Standard input is read whole, and only where the words are understood.
+/// `get KEY` prints the last value of a key and a line feed, `all KEY` each of its values and a line feed, `bool KEY` and `int KEY` its
+/// boolean and its integer and a line feed, `set KEY VALUE` the file with that value, `list` a line for each entry of a section, `print`
+/// the file that standard input is, `fmt` that file laid out by the default options. Standard input is read whole, and only where the
+/// words are understood.
 pub fn run<R: Read + Drop, W: Write + Drop, E: Write + Drop>(
     alloc: Global,
     args: &[&str],
@@ -144,7 +165,11 @@ fn execute<R: Read, W: Write>(
     let text = read_all(alloc, input)?;
     match command {
         Command::Get(key) => put(&get(&load(alloc, &text)?, key)?, out),
+        Command::All(key) => put(&all(alloc, &load(alloc, &text)?, key)?, out),
+        Command::Bool(key) => put(boolean(&load(alloc, &text)?, key)?, out),
+        Command::Int(key) => put(&integer(alloc, &load(alloc, &text)?, key)?, out),
         Command::Set(key, value) => put_edited(alloc, &text, key, value, out),
+        Command::List => put(&list(alloc, &load(alloc, &text)?)?, out),
         Command::Print => put_file(alloc, &load(alloc, &text)?, out),
         Command::Fmt => put(&laid_out(alloc, &text)?, out),
     }
@@ -153,10 +178,22 @@ fn execute<R: Read, W: Write>(
 /// The command that the words are. A key without a dot is no key.
 fn command_of<'a>(args: &[&'a str]) -> Result<Command<'a>, Fault> {
     match args {
-        [word, key] if *word == "get" => Ok(Command::Get(key_of(key)?)),
+        [word, key] => key_command(word, key),
         [word, key, value] if *word == "set" => Ok(Command::Set(key_of(key)?, value)),
+        [word] if *word == "list" => Ok(Command::List),
         [word] if *word == "print" => Ok(Command::Print),
         [word] if *word == "fmt" => Ok(Command::Fmt),
+        _ => Err(Fault::Usage),
+    }
+}
+
+/// The command that a word and a key are.
+fn key_command<'a>(word: &str, key: &'a str) -> Result<Command<'a>, Fault> {
+    match word {
+        "get" => Ok(Command::Get(key_of(key)?)),
+        "all" => Ok(Command::All(key_of(key)?)),
+        "bool" => Ok(Command::Bool(key_of(key)?)),
+        "int" => Ok(Command::Int(key_of(key)?)),
         _ => Err(Fault::Usage),
     }
 }
@@ -193,6 +230,83 @@ fn get(file: &File, key: KeyRef<'_>) -> Result<BString, Fault> {
         }
         None => Err(Fault::Missing),
     }
+}
+
+/// All values of a key, each on a line.
+fn all(alloc: Global, file: &File, key: KeyRef<'_>) -> Result<Vec<u8>, Fault> {
+    let Some(values) = file.strings(key)? else {
+        return Err(Fault::Missing);
+    };
+    let mut lines = Vec::new(alloc);
+    for value in &values {
+        lines.extend_from_slice(value)?;
+        lines.push(b'\n')?;
+    }
+    Ok(lines)
+}
+
+/// The boolean of a key, on a line.
+fn boolean(file: &File, key: KeyRef<'_>) -> Result<&'static [u8], Fault> {
+    match file.boolean(key)? {
+        Some(true) => Ok(b"true\n"),
+        Some(false) => Ok(b"false\n"),
+        None => Err(Fault::Missing),
+    }
+}
+
+/// The integer of a key, on a line.
+fn integer(alloc: Global, file: &File, key: KeyRef<'_>) -> Result<Vec<u8>, Fault> {
+    match file.integer(key)? {
+        Some(number) => Ok(format!(in alloc; "{number}\n")?.into_bytes()),
+        None => Err(Fault::Missing),
+    }
+}
+
+/// The entries of all sections in file order, each on a line. Nothing is told of those before the first section.
+fn list(alloc: Global, file: &File) -> Result<Vec<u8>, Fault> {
+    let mut lines = Vec::new(alloc);
+    for section in file.sections() {
+        add_entries(&mut lines, &section)?;
+    }
+    Ok(lines)
+}
+
+/// Adds the entries of a section, each on a line.
+fn add_entries(lines: &mut Vec<u8>, section: &SectionRef<'_>) -> Result<(), NoMemory> {
+    let header = section.header();
+    for entry in section.body() {
+        let (name, value) = entry?;
+        add_names(lines, header.name(), header.subsection_name(), name)?;
+        lines.push(b'=')?;
+        lines.extend_from_slice(&value)?;
+        lines.push(b'\n')?;
+    }
+    Ok(())
+}
+
+/// Adds an entry's names, with dots between them: that of its section, the subsection if there is one, and its own. The first and the
+/// last are told in lower case.
+fn add_names(
+    lines: &mut Vec<u8>,
+    section_name: &[u8],
+    subsection_name: Option<&[u8]>,
+    value_name: &str,
+) -> Result<(), NoMemory> {
+    add_in_lower_case(lines, section_name)?;
+    lines.push(b'.')?;
+    if let Some(subsection_name) = subsection_name {
+        lines.extend_from_slice(subsection_name)?;
+        lines.push(b'.')?;
+    }
+    add_in_lower_case(lines, value_name.as_bytes())
+}
+
+/// Adds bytes, ASCII letters of them in lower case.
+fn add_in_lower_case(lines: &mut Vec<u8>, bytes: &[u8]) -> Result<(), NoMemory> {
+    for byte in bytes {
+        lines.push(byte.to_ascii_lowercase())?;
+    }
+    Ok(())
 }
 
 /// Gives a key a value.
@@ -264,6 +378,10 @@ fn tell<E: Write>(fault: &Fault, err: &mut E) {
             writeln!(err, "gixcfg: E{number}: {refusal}")
         }
         Fault::RefusedEdit(refusal) => {
+            let number = refusal.number();
+            writeln!(err, "gixcfg: E{number}")
+        }
+        Fault::RefusedValue(refusal) => {
             let number = refusal.number();
             writeln!(err, "gixcfg: E{number}")
         }

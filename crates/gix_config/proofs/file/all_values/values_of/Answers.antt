@@ -1,8 +1,8 @@
-use Rattle.std.proofs.Common.{rules, ◌≡◌, ℕ, length, List, sym, ◌∙◌, [], ◌∷◌, ◌++◌, map, refl, ap}
+use Rattle.std.proofs.Common.{rules, ◌≡◌, [], ◌∷◌, ◌++◌, map, refl, ap}
 use Rattle.std.specs.Vec.Iter.{into_iter_items, into_iter_len}
 use Rattle.bstr.specs.Owned.{bstring_bytes}
 use Rattle.gitconf_store.specs.Lookups.{texts_of}
-use Rattle.gix_config.proofs.Conversions.{all_done, one_done, one_refused}
+use Rattle.gix_config.proofs.Conversions.{all_done, no_items, one_done, one_refused}
 use Rattle.gix_config.proofs.file.all_values.values_of.Goals as goal
 
 pub loop-text-preserved : goal.loop-text-preserved
@@ -26,11 +26,6 @@ returns-in-Err g c =
     let value = bstring_bytes c.in-Some.text in
     let is : left ≡ value ∷ next = search rules in
     one_refused g.T.TryFrom.try_from_gives (texts_of c.args.texts) left next c.loop-text.values.items value c.in-Err.e c.loop-text.invariant.converting is (c.in-Some.text, refl, c.in-Err.ensures)
-
--- none are left, where their number is 0
-no_items : {A : Type 0} (xs : List A) (n : ℕ) → n ≡ length xs → n ≡ 0 → xs ≡ []
-no_items [] n is none = refl
-no_items (x ∷ xs) n is none = absurd (let h = sym is ∙ none in cc)
 
 pub returns : goal.returns
 returns g c =
