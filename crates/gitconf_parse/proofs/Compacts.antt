@@ -1,19 +1,20 @@
 -- Events as they are kept: a header more, and headers that are changed.
-use Rattle.std.proofs.Common.{◌≡◌, ℕ, zero, suc, ◌+◌, ◌<◌, true, List, [], ◌∷◌, ◌++◌, length, map, take, drop, get_or, refl, ap, sym, ◌∙◌, arith}
+use Rattle.std.proofs.Common.{◌≡◌, ℕ, zero, suc, ◌+◌, ◌≤◌, ◌<◌, ◌≢◌, ◌⊎◌, inl, inr, true, List, [], ◌∷◌, ◌++◌, length, map, take, drop, get_or, refl, ap, sym, subst, ◌∙◌, arith}
 use Rattle.std.proofs.Math.ListN.{set}
 use Rattle.std.specs.List.{AllByRecursion}
-use Rattle.std.proofs.lemmas.List.{map-append, take-map, drop-map, take_more, take-append-drop}
+use Rattle.std.proofs.lemmas.Bool.{cases_eq}
+use Rattle.std.proofs.lemmas.List.{length-append, map-append, take-map, drop-map, take-append-drop}
 use Rattle.gitconf_parse.specs.declared.event.Header.{Header}
 use Rattle.gitconf_parse.specs.declared.event.Event.TheVariants as kinds
 use Rattle.gitconf_parse.specs.declared.compact.Compact.{Compact}
 use Rattle.gitconf_parse.specs.declared.compact.Compact.TheVariants as kept
 use Rattle.gitconf_text.specs.Token.{HeaderToken}
 use Rattle.gitconf_parse.specs.declared.event.Event.{Event}
-use Rattle.gitconf_parse.specs.Compact.{no_header, event_at, events_in, is_kept_header, IsSectionFirst, IsDecoded, IsDecodedAt, StandsAmong}
-use Rattle.gitconf_parse.specs.Events.{header_of, token_of, EventFits}
+use Rattle.gitconf_parse.specs.Compact.{no_header, event_at, events_in, is_kept_header, AreDecoded, AreNamed, IsCompact, IsDecodedAt, IsSectionFirst, StandsAmong}
+use Rattle.gitconf_parse.specs.Events.{header_of, token_of, EventFits, HeaderFits}
 use Rattle.gitconf_parse.specs.ShownEvents.{IsShown}
 use Rattle.gitconf_parse.specs.Sections.{is_header_event, front_of, sections_of, is_cut}
-use Rattle.gitconf_parse.proofs.Shown.{front_of-map, sections_of-map, all_at, all_shown_more}
+use Rattle.gitconf_parse.proofs.Shown.{front_of-map, sections_of-map, all_shown_more}
 
 get_more : {A : Type 0} (xs more : List A) (i : ℕ) (d : A) → i < length xs → get_or (xs ++ more) i d ≡ get_or xs i d
 get_more [] more i d within = absurd (omega (arith, within))
@@ -85,41 +86,6 @@ get_set_same f (y ∷ xs) zero (suc j) x d same = refl
 get_set_same f (y ∷ xs) (suc i) zero x d same = refl
 get_set_same f (y ∷ xs) (suc i) (suc j) x d same = get_set_same f xs i j x d same
 
-event_set : (P : Event → Type 0) (headers : List Header) (place : ℕ) (h : Header) (c : Compact) → P (kinds.SectionHeader h) → P (event_at headers c) → P (event_at (set headers place h) c)
-event_set P headers place h (kept.SectionHeader at) new old = get_set (λ x. P (kinds.SectionHeader x)) headers place at h no_header new old
-event_set P headers place h (kept.Comment tag text) new old = old
-event_set P headers place h (kept.SectionValueName s) new old = old
-event_set P headers place h (kept.Value s) new old = old
-event_set P headers place h (kept.Newline s) new old = old
-event_set P headers place h (kept.ValueNotDone s) new old = old
-event_set P headers place h (kept.ValueDone s) new old = old
-event_set P headers place h (kept.Whitespace s) new old = old
-event_set P headers place h kept.KeyValueSeparator new old = old
-
--- what holds of all events still does
-pub events_set : (P : Event → Type 0) (headers : List Header) (place : ℕ) (h : Header) (list : List Compact) → P (kinds.SectionHeader h)
-    → AllByRecursion P (events_in headers list) → AllByRecursion P (events_in (set headers place h) list)
-events_set P headers place h [] new all = tt
-events_set P headers place h (c ∷ list) new all = (event_set P headers place h c new all.0, events_set P headers place h list new all.1)
-
-token_set : (buffer : List ℕ) (headers : List Header) (place : ℕ) (h : Header) (c : Compact) → header_of buffer h ≡ header_of buffer (get_or headers place no_header)
-    → token_of buffer (event_at (set headers place h) c) ≡ token_of buffer (event_at headers c)
-token_set buffer headers place h (kept.SectionHeader at) same = ap HeaderToken (get_set_same (header_of buffer) headers place at h no_header same)
-token_set buffer headers place h (kept.Comment tag text) same = refl
-token_set buffer headers place h (kept.SectionValueName s) same = refl
-token_set buffer headers place h (kept.Value s) same = refl
-token_set buffer headers place h (kept.Newline s) same = refl
-token_set buffer headers place h (kept.ValueNotDone s) same = refl
-token_set buffer headers place h (kept.ValueDone s) same = refl
-token_set buffer headers place h (kept.Whitespace s) same = refl
-token_set buffer headers place h kept.KeyValueSeparator same = refl
-
--- the tokens stay where the header reads the same
-pub tokens_set : (buffer : List ℕ) (headers : List Header) (place : ℕ) (h : Header) (list : List Compact) → header_of buffer h ≡ header_of buffer (get_or headers place no_header)
-    → map (token_of buffer) (events_in (set headers place h) list) ≡ map (token_of buffer) (events_in headers list)
-tokens_set buffer headers place h [] same = refl
-tokens_set buffer headers place h (c ∷ list) same = let first = token_set buffer headers place h c same in let rest = tokens_set buffer headers place h list same in cc
-
 pub length_set : {A : Type 0} (xs : List A) (i : ℕ) (x : A) → length (set xs i x) ≡ length xs
 length_set [] i x = refl
 length_set (y ∷ xs) zero x = refl
@@ -135,65 +101,116 @@ all_in P headers [] i d all within = absurd (omega (arith, within))
 all_in P headers (c ∷ list) zero d all within = all.0
 all_in P headers (c ∷ list) (suc i) d all within = all_in P headers list i d all.1 (omega (arith, within))
 
-one_more : (P : Event → Type 0) (headers : List Header) (list : List Compact) (c : Compact) → AllByRecursion P (events_in headers list) → P (event_at headers c) → AllByRecursion P (events_in headers (list ++ c ∷ []))
-one_more P headers [] c all new = (new, tt)
-one_more P headers (x ∷ list) c all new = (all.0, one_more P headers list c all.1 new)
-
--- so many events are decoded: they are shown as their tokens are, and no token changed
-pub record AreDecoded (buffer copies : List ℕ) (list : List Compact) (initial headers : List Header) (i : ℕ) : Type 0 where
-  pub shown : AllByRecursion (IsShown buffer copies) (events_in headers (take i list))
-  pub tokens : map (token_of buffer) (events_in headers list) ≡ map (token_of buffer) (events_in initial list)
-  pub fits : AllByRecursion (EventFits (length buffer)) (events_in headers list)
-  pub len : length headers ≡ length initial
-
-same_decoded : (buffer old new : List ℕ) (list : List Compact) (initial before after : List Header) (i : ℕ) (c : Compact) → take (i + 1) list ≡ take i list ++ c ∷ []
-    → (after ≡ before) × (new ≡ old) → IsShown buffer old (event_at before c) → AreDecoded buffer old list initial before i → AreDecoded buffer new list initial after (i + 1)
-same_decoded buffer old new list initial before after i c more same is so = rw (same.0, same.1) (record {
-  shown = rw more (one_more (IsShown buffer old) before (take i list) c so.shown is);
-  tokens = so.tokens;
-  fits = so.fits;
-  len = so.len;
+-- one header more is decoded
+pub decoded_next : (buffer old new : List ℕ) (initial before after : List Header) (at : ℕ) → at < length before → IsDecodedAt buffer old new at before after
+    → AreDecoded buffer old at initial before → AreDecoded buffer new (at + 1) initial after
+decoded_next buffer old new initial before after at within d so = rw d.after_is (record {
+  len = length_set before at d.header ∙ so.len;
+  same = λ k. get_set_same (header_of buffer) before at k d.header no_header d.same ∙ so.same k;
+  shown = λ k below. go k below (cases_eq k at);
 })
+  where
+    go : (k : ℕ) → k < at + 1 → (k ≡ at) ⊎ (k ≢ at) → IsShown buffer new (kinds.SectionHeader (get_or (set before at d.header) k no_header))
+    go k below (inl same) = rw (same, get_set_at before at d.header no_header within) d.shown
+    go k below (inr other) =
+        get_set (λ h. IsShown buffer new (kinds.SectionHeader h)) before at k d.header no_header d.shown
+        (all_shown_more buffer old new (kinds.SectionHeader (get_or before k no_header) ∷ []) d.extended (so.shown k (omega (arith, below, other)), tt)).0
 
-header_decoded : (buffer old new : List ℕ) (list : List Compact) (initial before after : List Header) (i place : ℕ) → take (i + 1) list ≡ take i list ++ kept.SectionHeader place ∷ []
-    → place < length before → IsDecodedAt buffer old new place before after → AreDecoded buffer old list initial before i → AreDecoded buffer new list initial after (i + 1)
-header_decoded buffer old new list initial before after i place more within d so = rw d.after_is (record {
-  shown = rw more (one_more (IsShown buffer new) (set before place d.header) (take i list) (kept.SectionHeader place)
-      (events_set (IsShown buffer new) before place d.header (take i list) d.shown (all_shown_more buffer old new _ d.extended so.shown))
-      (rw (get_set_at before place d.header no_header within) d.shown));
-  tokens = tokens_set buffer before place d.header list d.same ∙ so.tokens;
-  fits = events_set (EventFits (length buffer)) before place d.header list d.shown.fits so.fits;
-  len = length_set before place d.header ∙ so.len;
-})
+pub fits_next : (buffer old new : List ℕ) (before after : List Header) (at : ℕ) → IsDecodedAt buffer old new at before after
+    → ((k : ℕ) → k < length before → HeaderFits (length buffer) (get_or before k no_header)) → (k : ℕ) → k < length after → HeaderFits (length buffer) (get_or after k no_header)
+fits_next buffer old new before after at d fits k below =
+    let within : k < length before = let same : length after ≡ length before = ap length d.after_is ∙ length_set before at d.header in omega (arith, below, same) in
+    rw d.after_is (get_set (HeaderFits (length buffer)) before at k d.header no_header d.shown.fits (fits k within))
 
--- one more is decoded
-decoded_more : (buffer old new : List ℕ) (list : List Compact) (initial before after : List Header) (i : ℕ) (c : Compact) → take (i + 1) list ≡ take i list ++ c ∷ []
-    → StandsAmong (length before) c → EventFits (length buffer) (event_at before c) → IsDecoded buffer c old new before after
-    → AreDecoded buffer old list initial before i → AreDecoded buffer new list initial after (i + 1)
-decoded_more buffer old new list initial before after i (kept.SectionHeader place) more stands fits d so = header_decoded buffer old new list initial before after i place more stands d so
-decoded_more buffer old new list initial before after i (kept.Comment tag text) more stands fits d so =
-    same_decoded buffer old new list initial before after i _ more d (record { fits = fits; copy_fits = tt; shown = refl }) so
-decoded_more buffer old new list initial before after i (kept.SectionValueName s) more stands fits d so =
-    same_decoded buffer old new list initial before after i _ more d (record { fits = fits; copy_fits = tt; shown = refl }) so
-decoded_more buffer old new list initial before after i (kept.Value s) more stands fits d so =
-    same_decoded buffer old new list initial before after i _ more d (record { fits = fits; copy_fits = tt; shown = refl }) so
-decoded_more buffer old new list initial before after i (kept.Newline s) more stands fits d so =
-    same_decoded buffer old new list initial before after i _ more d (record { fits = fits; copy_fits = tt; shown = refl }) so
-decoded_more buffer old new list initial before after i (kept.ValueNotDone s) more stands fits d so =
-    same_decoded buffer old new list initial before after i _ more d (record { fits = fits; copy_fits = tt; shown = refl }) so
-decoded_more buffer old new list initial before after i (kept.ValueDone s) more stands fits d so =
-    same_decoded buffer old new list initial before after i _ more d (record { fits = fits; copy_fits = tt; shown = refl }) so
-decoded_more buffer old new list initial before after i (kept.Whitespace s) more stands fits d so =
-    same_decoded buffer old new list initial before after i _ more d (record { fits = fits; copy_fits = tt; shown = refl }) so
-decoded_more buffer old new list initial before after i kept.KeyValueSeparator more stands fits d so =
-    same_decoded buffer old new list initial before after i _ more d (record { fits = tt; copy_fits = tt; shown = refl }) so
+-- a header that is named by an event fits as that does
+pub named_fits : (n : ℕ) (headers : List Header) (list : List Compact) → AreNamed (length headers) list → AllByRecursion (EventFits n) (events_in headers list)
+    → (k : ℕ) → k < length headers → HeaderFits n (get_or headers k no_header)
+named_fits n headers list named all k below =
+    let at = named k below in
+    subst (λ c. EventFits n (event_at headers c)) at.2 (all_in (EventFits n) headers list at.0 kept.KeyValueSeparator all at.1)
 
-pub decoded_at : (buffer old new : List ℕ) (list : List Compact) (initial before after : List Header) (i : ℕ) (d : Compact) → i < length list
-    → AllByRecursion (StandsAmong (length initial)) list → IsDecoded buffer (get_or list i d) old new before after
-    → AreDecoded buffer old list initial before i → AreDecoded buffer new list initial after (i + 1)
-decoded_at buffer old new list initial before after i d within stand is so =
-    decoded_more buffer old new list initial before after i (get_or list i d) (take_more list i d within)
-    (rw so.len (all_at (StandsAmong (length initial)) list i d stand within)) (all_in (EventFits (length buffer)) before list i d so.fits within) is so
+token_same : (buffer : List ℕ) (before after : List Header) → ((k : ℕ) → header_of buffer (get_or after k no_header) ≡ header_of buffer (get_or before k no_header)) → (c : Compact)
+    → token_of buffer (event_at after c) ≡ token_of buffer (event_at before c)
+token_same buffer before after same (kept.SectionHeader place) = ap HeaderToken (same place)
+token_same buffer before after same (kept.Comment tag text) = refl
+token_same buffer before after same (kept.SectionValueName s) = refl
+token_same buffer before after same (kept.Value s) = refl
+token_same buffer before after same (kept.Newline s) = refl
+token_same buffer before after same (kept.ValueNotDone s) = refl
+token_same buffer before after same (kept.ValueDone s) = refl
+token_same buffer before after same (kept.Whitespace s) = refl
+token_same buffer before after same kept.KeyValueSeparator = refl
+
+-- the tokens stay where all headers read the same
+pub tokens_same : (buffer : List ℕ) (before after : List Header) (list : List Compact) → ((k : ℕ) → header_of buffer (get_or after k no_header) ≡ header_of buffer (get_or before k no_header))
+    → map (token_of buffer) (events_in after list) ≡ map (token_of buffer) (events_in before list)
+tokens_same buffer before after [] same = refl
+tokens_same buffer before after (c ∷ list) same = λ j. token_same buffer before after same c j ∷ tokens_same buffer before after list same j
+
+event_shown : (buffer copies : List ℕ) (before after : List Header) (c : Compact) → ((k : ℕ) → k < length before → IsShown buffer copies (kinds.SectionHeader (get_or after k no_header)))
+    → StandsAmong (length before) c → EventFits (length buffer) (event_at before c) → IsShown buffer copies (event_at after c)
+event_shown buffer copies before after (kept.SectionHeader place) shown stands fits = shown place stands
+event_shown buffer copies before after (kept.Comment tag text) shown stands fits = record { fits = fits; copy_fits = tt; shown = refl }
+event_shown buffer copies before after (kept.SectionValueName s) shown stands fits = record { fits = fits; copy_fits = tt; shown = refl }
+event_shown buffer copies before after (kept.Value s) shown stands fits = record { fits = fits; copy_fits = tt; shown = refl }
+event_shown buffer copies before after (kept.Newline s) shown stands fits = record { fits = fits; copy_fits = tt; shown = refl }
+event_shown buffer copies before after (kept.ValueNotDone s) shown stands fits = record { fits = fits; copy_fits = tt; shown = refl }
+event_shown buffer copies before after (kept.ValueDone s) shown stands fits = record { fits = fits; copy_fits = tt; shown = refl }
+event_shown buffer copies before after (kept.Whitespace s) shown stands fits = record { fits = fits; copy_fits = tt; shown = refl }
+event_shown buffer copies before after kept.KeyValueSeparator shown stands fits = record { fits = tt; copy_fits = tt; shown = refl }
+
+-- all events are shown as their tokens are where all headers are
+pub events_shown : (buffer copies : List ℕ) (before after : List Header) (list : List Compact) → ((k : ℕ) → k < length before → IsShown buffer copies (kinds.SectionHeader (get_or after k no_header)))
+    → AllByRecursion (StandsAmong (length before)) list → AllByRecursion (EventFits (length buffer)) (events_in before list) → AllByRecursion (IsShown buffer copies) (events_in after list)
+events_shown buffer copies before after [] shown stand fits = tt
+events_shown buffer copies before after (c ∷ list) shown stand fits = (event_shown buffer copies before after c shown stand.0 fits.0, events_shown buffer copies before after list shown stand.1 fits.1)
+
+-- an event more that is no header, and a header more
+named_more : (count : ℕ) (list : List Compact) (c : Compact) → AreNamed count list → AreNamed count (list ++ c ∷ [])
+named_more count list c named k below =
+    let at = named k below in
+    let longer : length (list ++ c ∷ []) ≡ length list + 1 = rw length-append refl in
+    (at.0, omega (arith, at.1, longer), get_more list (c ∷ []) at.0 kept.KeyValueSeparator at.1 ∙ at.2)
+
+stand_last : (count : ℕ) (list : List Compact) (c : Compact) → AllByRecursion (StandsAmong count) list → StandsAmong count c → AllByRecursion (StandsAmong count) (list ++ c ∷ [])
+stand_last count [] c all new = (new, tt)
+stand_last count (x ∷ list) c all new = (all.0, stand_last count list c all.1 new)
+
+pub compact_more : (count : ℕ) (list list2 : List Compact) (c : Compact) → list2 ≡ list ++ c ∷ [] → StandsAmong count c → IsCompact count list → IsCompact count list2
+compact_more count list list2 c is new all = rw is (record { stand = stand_last count list c all.stand new; named = named_more count list c all.named })
+
+stands_more : (m n : ℕ) (c : Compact) → m ≤ n → StandsAmong m c → StandsAmong n c
+stands_more m n (kept.SectionHeader place) more stands = omega (arith, more, stands)
+stands_more m n (kept.Comment tag text) more stands = tt
+stands_more m n (kept.SectionValueName s) more stands = tt
+stands_more m n (kept.Value s) more stands = tt
+stands_more m n (kept.Newline s) more stands = tt
+stands_more m n (kept.ValueNotDone s) more stands = tt
+stands_more m n (kept.ValueDone s) more stands = tt
+stands_more m n (kept.Whitespace s) more stands = tt
+stands_more m n kept.KeyValueSeparator more stands = tt
+
+all_stand_more : (m n : ℕ) (list : List Compact) → m ≤ n → AllByRecursion (StandsAmong m) list → AllByRecursion (StandsAmong n) list
+all_stand_more m n [] more all = tt
+all_stand_more m n (c ∷ list) more all = (stands_more m n c more all.0, all_stand_more m n list more all.1)
+
+pub compact_same : (before after : List Header) (list : List Compact) → length after ≡ length before → IsCompact (length before) list → IsCompact (length after) list
+compact_same before after list same all = subst (λ n. IsCompact n list) (sym same) all
+
+pub compact_header : (headers headers2 : List Header) (list list2 : List Compact) (h : Header) (place : ℕ) → place ≡ length headers → headers2 ≡ headers ++ h ∷ [] → list2 ≡ list ++ kept.SectionHeader place ∷ []
+    → IsCompact (length headers) list → IsCompact (length headers2) list2
+compact_header headers headers2 list list2 h place is one two all =
+    let count : length headers2 ≡ length headers + 1 = ap length one ∙ rw length-append refl in
+    subst (λ n. IsCompact n list2) (sym count) (rw two (record {
+      stand = stand_last (length headers + 1) list (kept.SectionHeader place) (all_stand_more (length headers) (length headers + 1) list (omega arith) all.stand) (omega (arith, is));
+      named = λ k below. go k below (cases_eq k place);
+    }))
+  where
+    go : (k : ℕ) → k < length headers + 1 → (k ≡ place) ⊎ (k ≢ place) → (i : ℕ) × (i < length (list ++ kept.SectionHeader place ∷ [])) × (get_or (list ++ kept.SectionHeader place ∷ []) i kept.KeyValueSeparator ≡ kept.SectionHeader k)
+    go k below (inl same) =
+        let longer : length (list ++ kept.SectionHeader place ∷ []) ≡ length list + 1 = rw length-append refl in
+        (length list, omega (arith, longer), get_last list (kept.SectionHeader place) kept.KeyValueSeparator ∙ ap kept.SectionHeader (sym same))
+    go k below (inr other) = named_more (length headers) list (kept.SectionHeader place) all.named k (omega (arith, below, other, is))
 
 -- the front of a list, and what stands behind it
 pub front_taken : (headers : List Header) (list : List Compact) (n : ℕ) → take n list ≡ front_of is_kept_header list → take n (events_in headers list) ≡ front_of is_header_event (events_in headers list)

@@ -1,5 +1,6 @@
 -- Events as they are kept: in 12 bytes each, with the headers in a list of their own.
-use Rattle.std.specs.Prelude.{◌≡◌, ℕ, ◌<◌, Bool, true, false, List, ◌∷◌, ◌++◌, get_or, set, map, None}
+use Rattle.std.specs.Prelude.{◌≡◌, ℕ, ◌<◌, Bool, true, false, List, ◌∷◌, ◌++◌, length, get_or, set, map, None}
+use Rattle.std.specs.List.{AllByRecursion}
 use Rattle.gitconf_parse.specs.declared.event.Header.{Header}
 use Rattle.gitconf_parse.specs.declared.event.Event.{Event}
 use Rattle.gitconf_parse.specs.declared.event.Event.TheVariants as kinds
@@ -38,6 +39,15 @@ abbrev pub StandsAmong : (count : ℕ) → Compact → Type 0
 StandsAmong count (kept.SectionHeader place) = place < count
 StandsAmong count _ = Unit {0}
 
+-- each of so many headers stands in the list
+abbrev pub AreNamed : (count : ℕ) → List Compact → Type 0
+AreNamed count list = (k : ℕ) → k < count → (i : ℕ) × (i < length list) × (get_or list i kept.KeyValueSeparator ≡ kept.SectionHeader k)
+
+-- what is kept names no more than so many headers, and all of them
+pub record IsCompact (count : ℕ) (list : List Compact) : Type 0 where
+  pub stand : AllByRecursion (StandsAmong count) list
+  pub named : AreNamed count list
+
 abbrev pub is_kept_header : Compact → Bool
 is_kept_header (kept.SectionHeader place) = true
 is_kept_header _ = false
@@ -60,7 +70,8 @@ pub record IsDecodedAt (buffer old new : List ℕ) (place : ℕ) (before after :
   pub shown : IsShown buffer new (kinds.SectionHeader header)
   pub extended : IsExtended old new
 
--- What was kept so is decoded where it is a header, and else nothing is changed.
-abbrev pub IsDecoded : (buffer : List ℕ) → Compact → (old new : List ℕ) → (before after : List Header) → Type 0
-IsDecoded buffer (kept.SectionHeader place) old new before after = IsDecodedAt buffer old new place before after
-IsDecoded buffer _ old new before after = (after ≡ before) × (new ≡ old)
+-- So many headers got their copies, and all read the same.
+pub record AreDecoded (buffer copies : List ℕ) (count : ℕ) (before after : List Header) : Type 0 where
+  pub len : length after ≡ length before
+  pub same : (k : ℕ) → header_of buffer (get_or after k no_header) ≡ header_of buffer (get_or before k no_header)
+  pub shown : (k : ℕ) → k < count → IsShown buffer copies (kinds.SectionHeader (get_or after k no_header))

@@ -163,15 +163,14 @@ pub struct EventVec {
 
 impl Model for EventVec {
     ghost use Rattle.std.specs.Prelude.{List, length};
-    ghost use Rattle.std.specs.List.{AllByRecursion};
-    ghost use Rattle.gitconf_parse.specs.Compact.{StandsAmong, events_in};
+    ghost use Rattle.gitconf_parse.specs.Compact.{events_in, IsCompact};
     ghost use Rattle.gitconf_parse.specs.declared.event.Event.{Event};
 
     ghost Value = { List Event };
 
     ghost view = { λ e. events_in e.headers.items e.list.items };
 
-    ghost invariant = { λ e. AllByRecursion (StandsAmong (length e.headers.items)) e.list.items };
+    ghost invariant = { λ e. IsCompact (length e.headers.items) e.list.items };
 }
 
 impl EventVec {
@@ -233,8 +232,11 @@ impl EventVec {
         if place > u32::MAX as usize {
             return Err(NoMemory);
         }
+        self.list.reserve(1)?;
         self.headers.push(header)?;
-        self.list.push(Compact::SectionHeader(place as u32))?;
+        self.list
+            .push(Compact::SectionHeader(place as u32))
+            .unwrap();
         Ok(())
     }
 
@@ -250,7 +252,7 @@ impl EventVec {
     {
         let list = self.list;
         let mut headers = self.headers;
-        decode_headers(buffer, &list, &mut headers, copies)?;
+        decode_headers(buffer, &mut headers, copies)?;
         Ok(EventVec { list, headers })
     }
 

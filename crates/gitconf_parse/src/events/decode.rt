@@ -1,15 +1,14 @@
 //! Subsections that aren't what is spelled, decoded.
-ghost use Rattle.std.specs.Prelude.{◌≡◌, ◌++◌, ◌<◌, Some, get_or, length, map, OnOk, IfOk};
-ghost use Rattle.std.specs.List.{AllByRecursion, list_any};
+ghost use Rattle.std.specs.Prelude.{◌≡◌, ℕ, ◌++◌, ◌<◌, Some, get_or, length, OnOk, IfOk};
+ghost use Rattle.std.specs.List.{list_any};
 ghost use Rattle.std.specs.Char.{is_ascii_uppercase};
 ghost use Rattle.gitconf_text.specs.Bytes.{fold};
 ghost use Rattle.gitconf_text.specs.Header.{unquoted};
 ghost use Rattle.gitconf_text.specs.Token.{HeaderToken};
-ghost use Rattle.gitconf_parse.specs.Compact.{no_header, event_at, events_in, IsDecoded, IsDecodedAt, StandsAmong};
-ghost use Rattle.gitconf_parse.specs.Events.{token_of, header_of, EventFits, HeaderFits};
-ghost use Rattle.gitconf_parse.specs.ShownEvents.{decoded_or, shown_header, shown_token, CopyFits, IsShown, IsExtended};
+ghost use Rattle.gitconf_parse.specs.Compact.{no_header, AreDecoded, IsDecodedAt};
+ghost use Rattle.gitconf_parse.specs.Events.{header_of, HeaderFits};
+ghost use Rattle.gitconf_parse.specs.ShownEvents.{decoded_or, shown_header, shown_token, CopyFits, IsExtended};
 
-use crate::compact::Compact;
 use crate::event::{Copied, Header};
 use gitconf_text::NoMemory;
 
@@ -140,38 +139,17 @@ fn decode_at(
     Ok(())
 }
 
-/// Gives what is kept so the copy of its subsection, where it is a header with a subsection that isn't what is spelled.
-fn decode_kept(
-    buffer: &[u8],
-    kept: Compact,
-    headers: &mut Vec<Header>,
-    copies: &mut Vec<u8>,
-) -> Result<(), NoMemory>
-    requires stands { StandsAmong (length headers.old.items) kept }
-    requires fits { EventFits (length buffer.now) (event_at headers.old.items kept) }
-    ensures { OnOk result (IsDecoded buffer.now kept copies.old.items copies.new.items headers.old.items headers.new.items) }
-{
-    match kept {
-        Compact::SectionHeader(place) => decode_at(buffer, headers, place as usize, copies),
-        _ => Ok(()),
-    }
-}
-
-/// Gives each header of a list of events the copy of its subsection, where that isn't what is spelled.
+/// Gives each header the copy of its subsection, where that isn't what is spelled.
 pub fn decode_headers(
     buffer: &[u8],
-    list: &[Compact],
     headers: &mut Vec<Header>,
     copies: &mut Vec<u8>,
 ) -> Result<(), NoMemory>
-    requires fits { AllByRecursion (EventFits (length buffer.now)) (events_in headers.old.items list.now) }
-    requires stand { AllByRecursion (StandsAmong (length headers.old.items)) list.now }
-    ensures tokens { OnOk result (map (token_of buffer.now) (events_in headers.new.items list.now) ≡ map (token_of buffer.now) (events_in headers.old.items list.now)) }
-    ensures shown { OnOk result (AllByRecursion (IsShown buffer.now copies.new.items) (events_in headers.new.items list.now)) }
-    ensures len { OnOk result (length headers.new.items ≡ length headers.old.items) }
+    requires { (k : ℕ) → k < length headers.old.items → HeaderFits (length buffer.now) (get_or headers.old.items k no_header) }
+    ensures { OnOk result (AreDecoded buffer.now copies.new.items (length headers.old.items) headers.old.items headers.new.items) }
 {
-    for kept in list {
-        decode_kept(buffer, *kept, headers, copies)?;
+    for place in 0..headers.len() {
+        decode_at(buffer, headers, place, copies)?;
     }
     Ok(())
 }

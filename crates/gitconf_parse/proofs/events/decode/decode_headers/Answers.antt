@@ -1,12 +1,12 @@
-use Rattle.gitconf_parse.specs.Events.{EventFits}
-use Rattle.std.proofs.Common.{length}
-use Rattle.gitconf_parse.proofs.Compacts.{all_in, decoded_at}
+use Rattle.std.proofs.Common.{◌<◌, length, arith}
+use Rattle.gitconf_parse.proofs.Compacts.{decoded_next, fits_next}
 use Rattle.gitconf_parse.proofs.events.decode.decode_headers.Goals as goal
 
-pub decode_kept-requires-clause-fits : goal.decode_kept-requires-clause-fits
-decode_kept-requires-clause-fits c =
-    all_in (EventFits (length c.args.buffer.now)) c.loop-kept.headers.items c.args.list.now c.loop-kept.kept-index _ c.loop-kept.invariant.fits c.loop-kept-test.true
-
-pub loop-kept-preserved : goal.loop-kept-preserved
-loop-kept-preserved c =
-    decoded_at _ _ _ c.args.list.now _ _ _ c.loop-kept.kept-index _ c.loop-kept-test.true c.requires.stand c.in_ok-decode_kept.ensures c.loop-kept.invariant
+pub loop-place-preserved : goal.loop-place-preserved
+loop-place-preserved c =
+    let within : c.loop-place.place < length c.loop-place.headers.items = omega (arith, c.loop-place-test.true, c.len-place-end.ensures, c.args.headers.now.ok, c.loop-place.invariant.decoded.len) in
+    record {
+      decoded = decoded_next c.args.buffer.now c.loop-place.copies.items c.decode_at.new.copies.items c.args.headers.now.items c.loop-place.headers.items c.decode_at.new.headers.items c.loop-place.place within
+          c.in_ok-decode_at.ensures c.loop-place.invariant.decoded;
+      fits = fits_next c.args.buffer.now c.loop-place.copies.items c.decode_at.new.copies.items c.loop-place.headers.items c.decode_at.new.headers.items c.loop-place.place c.in_ok-decode_at.ensures c.loop-place.invariant.fits;
+    }
