@@ -70,11 +70,13 @@ stand_both buffer is js shown others first second = record {
 -- the blanks around `=` stay
 pub around_fits_more : (old new : List ℕ) (a : Around) → IsExtended old new → AroundFits (length old) a → AroundFits (length new) a
 around_fits_more old new arounds.Spaces grown fits = tt
+around_fits_more old new (arounds.Given before behind) grown fits = tt
 around_fits_more old new (arounds.Stored before behind) grown fits =
     ((stands_more old new before _ grown (record { fits = fits.0; is = refl })).fits, (stands_more old new behind _ grown (record { fits = fits.1; is = refl })).fits)
 
 pub around_more : (old new : List ℕ) (a : Around) → IsExtended old new → AroundFits (length old) a → around_in new a ≡ around_in old a
 around_more old new arounds.Spaces grown fits = refl
+around_more old new (arounds.Given before behind) grown fits = refl
 around_more old new (arounds.Stored before behind) grown fits =
     λ i. ((stands_more old new before _ grown (record { fits = fits.0; is = refl })).is i, (stands_more old new behind _ grown (record { fits = fits.1; is = refl })).is i)
 

@@ -39,10 +39,12 @@ stored_leading (Some run) = leadings.Stored run
 abbrev pub around_in : (buffer : List ℕ) → Around → List ℕ × List ℕ
 around_in buffer arounds.Spaces = (32 ∷ [], 32 ∷ [])
 around_in buffer (arounds.Stored before behind) = (bytes_of buffer before, bytes_of buffer behind)
+around_in buffer (arounds.Given before behind) = (before.now, behind.now)
 
 abbrev pub AroundFits : (limit : ℕ) → Around → Type 0
 AroundFits limit arounds.Spaces = Unit {0}
 AroundFits limit (arounds.Stored before behind) = SpanFits limit before × SpanFits limit behind
+AroundFits limit (arounds.Given before behind) = Unit {0}
 
 -- the blanks of an editor
 abbrev pub spacing_in : (buffer : List ℕ) → Editor → state.Spacing
@@ -65,6 +67,7 @@ leading_put (leadings.Given bytes) = length bytes.now
 abbrev pub around_put : Around → ℕ
 around_put arounds.Spaces = 1
 around_put (arounds.Stored before behind) = 0
+around_put (arounds.Given before behind) = length before.now + length behind.now
 
 -- of a value, with the blanks around its `=`
 abbrev pub value_put : Around → (value : Option (List ℕ)) → ℕ

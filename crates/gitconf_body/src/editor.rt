@@ -25,11 +25,13 @@ pub enum Leading<'a> {
 
 /// The blanks before and behind `=`.
 #[derive(Clone, Copy, Debug)]
-pub enum Around {
+pub enum Around<'a> {
     /// A space on both sides, which is put into the buffer with each value.
     Spaces,
     /// Those at spans of the buffer that is edited; no bytes where there are none.
     Stored { before: Span, behind: Span },
+    /// These bytes, which are put into the buffer with each value.
+    Given { before: &'a [u8], behind: &'a [u8] },
 }
 
 /// What an editor of a body writes beside names and values. It stays as it was made, also while the body changes.
@@ -38,7 +40,7 @@ pub struct Editor<'a> {
     /// The blanks before a key.
     pub leading: Leading<'a>,
     /// The blanks before and behind `=`.
-    pub around: Around,
+    pub around: Around<'a>,
     /// What a line ends with.
     pub line_end: LineEnd,
     /// Whether a line end is put behind what is pushed.

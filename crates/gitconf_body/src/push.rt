@@ -47,19 +47,27 @@ fn put_leading(buffer: &mut Vec<u8>, leading: &Leading<'_>) -> Result<Option<Spa
 
 /// The blanks before and behind `=`, put into the buffer where they don't stand there.
 #[tactic(auto, using(crate::proofs::Buffers::extending))]
-pub(crate) fn put_around(buffer: &mut Vec<u8>, around: Around) -> Result<(Span, Span), span::Error>
+pub(crate) fn put_around(
+    buffer: &mut Vec<u8>,
+    around: &Around<'_>,
+) -> Result<(Span, Span), span::Error>
     requires room { length buffer.old.items < 2 ^ 32 }
-    requires fits { AroundFits (length buffer.old.items) around }
-    ensures before { IfOk result (λ p. StandsAt buffer.new.items p.0 (around_in buffer.old.items around).0) }
-    ensures behind { IfOk result (λ p. StandsAt buffer.new.items p.1 (around_in buffer.old.items around).1) }
-    ensures grows { Grows result (spec.around_put around) buffer.old.items buffer.new.items }
+    requires fits { AroundFits (length buffer.old.items) around.now }
+    ensures before { IfOk result (λ p. StandsAt buffer.new.items p.0 (around_in buffer.old.items around.now).0) }
+    ensures behind { IfOk result (λ p. StandsAt buffer.new.items p.1 (around_in buffer.old.items around.now).1) }
+    ensures grows { Grows result (spec.around_put around.now) buffer.old.items buffer.new.items }
 {
     match around {
         Around::Spaces => {
             let space = append(buffer, b" ")?;
             Ok((space, space))
         }
-        Around::Stored { before, behind } => Ok((before, behind)),
+        Around::Stored { before, behind } => Ok((*before, *behind)),
+        Around::Given { before, behind } => {
+            let before = append(buffer, before)?;
+            let behind = append(buffer, behind)?;
+            Ok((before, behind))
+        }
     }
 }
 
@@ -106,15 +114,15 @@ pub(crate) fn entry_with(
 #[tactic(auto, using(crate::proofs::Buffers::extending))]
 fn put_entry(
     buffer: &mut Vec<u8>,
-    around: Around,
+    around: &Around<'_>,
     key: &[u8],
     value: Option<&[u8]>,
 ) -> Result<Entry, span::Error>
     requires room { length buffer.old.items < 2 ^ 32 }
-    requires fits { AroundFits (length buffer.old.items) around }
+    requires fits { AroundFits (length buffer.old.items) around.now }
     ensures stands { (blanks : Option (List ℕ)) → IfOk result (λ e. Stand buffer.new.items (kinds.Entry e ∷ [])
-        (state.entry_made (record { leading = blanks; before = (around_in buffer.old.items around).0; behind = (around_in buffer.old.items around).1 }) key.now (option_copied value.entry) ∷ [])) }
-    ensures grows { Grows result (length key.now + spec.value_put around (option_copied value.entry)) buffer.old.items buffer.new.items }
+        (state.entry_made (record { leading = blanks; before = (around_in buffer.old.items around.now).0; behind = (around_in buffer.old.items around.now).1 }) key.now (option_copied value.entry) ∷ [])) }
+    ensures grows { Grows result (length key.now + spec.value_put around.now (option_copied value.entry)) buffer.old.items buffer.new.items }
 {
     let Some(value) = value else {
         let name = append(buffer, key)?;
@@ -226,7 +234,7 @@ fn put_line(
     ensures grows { Grows result (spec.line_put editor.now key.now (option_copied value.entry) (option_copied comment.entry)) buffer.old.items buffer.new.items }
 {
     let leading = put_leading(buffer, &editor.leading)?;
-    let entry = put_entry(buffer, editor.around, key, value)?;
+    let entry = put_entry(buffer, &editor.around, key, value)?;
     let comment = put_comment(buffer, comment)?;
     let line_end = put_end(buffer, editor)?;
     Ok(Line {
@@ -270,19 +278,20 @@ fn leading_len(leading: &Leading<'_>) -> usize
     }
 }
 
-/// How many bytes [`put_around`] puts into the buffer.
-pub(crate) fn around_len(around: Around) -> usize
-    ensures { result ≡ spec.around_put around }
+/// How many bytes [`put_around`] puts into the buffer; the greatest number where they are more.
+pub(crate) fn around_len(around: &Around<'_>) -> usize
+    ensures { result ≡ min (spec.around_put around.now) (2 ^ 64 - 1) }
 {
     match around {
         Around::Spaces => 1,
         Around::Stored { .. } => 0,
+        Around::Given { before, behind } => before.len().saturating_add(behind.len()),
     }
 }
 
 /// How many bytes a value and the blanks around its `=` put into the buffer; the greatest number where they are more.
-fn value_len(around: Around, value: Option<&[u8]>) -> usize
-    ensures { result ≡ min (spec.value_put around (option_copied value.entry)) (2 ^ 64 - 1) }
+fn value_len(around: &Around<'_>, value: Option<&[u8]>) -> usize
+    ensures { result ≡ min (spec.value_put around.now (option_copied value.entry)) (2 ^ 64 - 1) }
 {
     match value {
         Some(value) => escaped_len(value).saturating_add(around_len(around)),
@@ -317,7 +326,7 @@ fn line_len(editor: &Editor<'_>, key: &[u8], value: Option<&[u8]>, comment: Opti
 {
     leading_len(&editor.leading)
         .saturating_add(key.len())
-        .saturating_add(value_len(editor.around, value))
+        .saturating_add(value_len(&editor.around, value))
         .saturating_add(spaced_comment_len(comment))
         .saturating_add(end_len(editor))
 }

@@ -29,15 +29,15 @@ use gitconf_text::value::escaped_len;
 #[tactic(auto, using(crate::proofs::Buffers::extending))]
 fn separator_of(
     buffer: &mut Vec<u8>,
-    around: Around,
+    around: &Around<'_>,
     entry: &Entry,
 ) -> Result<(Span, Span), span::Error>
     requires room { length buffer.old.items < 2 ^ 32 }
     requires entry { EntryFits (length buffer.old.items) entry.now }
-    requires fits { AroundFits (length buffer.old.items) around }
-    ensures before { IfOk result (λ p. StandsAt buffer.new.items p.0 (spec.separator_in buffer.old.items around entry.now).0) }
-    ensures behind { IfOk result (λ p. StandsAt buffer.new.items p.1 (spec.separator_in buffer.old.items around entry.now).1) }
-    ensures grows { Grows result (spec.separator_put around entry.now) buffer.old.items buffer.new.items }
+    requires fits { AroundFits (length buffer.old.items) around.now }
+    ensures before { IfOk result (λ p. StandsAt buffer.new.items p.0 (spec.separator_in buffer.old.items around.now entry.now).0) }
+    ensures behind { IfOk result (λ p. StandsAt buffer.new.items p.1 (spec.separator_in buffer.old.items around.now entry.now).1) }
+    ensures grows { Grows result (spec.separator_put around.now entry.now) buffer.old.items buffer.new.items }
 {
     match &entry.assigned {
         Some(assigned) => Ok((entry.blanks, assigned.blanks)),
@@ -49,17 +49,17 @@ fn separator_of(
 #[tactic(auto, using(crate::proofs::Buffers::extending))]
 fn changed_entry(
     buffer: &mut Vec<u8>,
-    around: Around,
+    around: &Around<'_>,
     entry: &Entry,
     value: &[u8],
 ) -> Result<Entry, span::Error>
     requires room { length buffer.old.items < 2 ^ 32 }
     requires entry { EntryFits (length buffer.old.items) entry.now }
-    requires fits { AroundFits (length buffer.old.items) around }
+    requires fits { AroundFits (length buffer.old.items) around.now }
     ensures stands { (blanks : Option (List ℕ)) → IfOk result (λ e. Stand buffer.new.items (kinds.Entry e ∷ [])
-        (with_value (record { leading = blanks; before = (around_in buffer.old.items around).0; behind = (around_in buffer.old.items around).1 }) value.now
+        (with_value (record { leading = blanks; before = (around_in buffer.old.items around.now).0; behind = (around_in buffer.old.items around.now).1 }) value.now
         (parts.EntryItem (entry_of buffer.old.items entry.now)) ∷ [])) }
-    ensures grows { Grows result (spec.separator_put around entry.now + length (escaped value.now)) buffer.old.items buffer.new.items }
+    ensures grows { Grows result (spec.separator_put around.now entry.now + length (escaped value.now)) buffer.old.items buffer.new.items }
 {
     let (before, behind) = separator_of(buffer, around, entry)?;
     let value = put_value(buffer, value)?;
@@ -67,8 +67,8 @@ fn changed_entry(
 }
 
 /// How many bytes an item's entry puts into the buffer, where it gets another value; the greatest number where they are more.
-fn changed_len(around: Around, item: &Item, value: &[u8]) -> usize
-    ensures { IfEntry item.now (λ e. result ≡ min (spec.separator_put around e + length (escaped value.now)) (2 ^ 64 - 1)) }
+fn changed_len(around: &Around<'_>, item: &Item, value: &[u8]) -> usize
+    ensures { IfEntry item.now (λ e. result ≡ min (spec.separator_put around.now e + length (escaped value.now)) (2 ^ 64 - 1)) }
 {
     let Item::Entry(entry) = item else {
         return 0;
@@ -99,7 +99,7 @@ fn change(
     ensures err { OnErr result (items.new.items ≡ items.old.items) }
 {
     let entry = match &items[at] {
-        Item::Entry(entry) => changed_entry(buffer, editor.around, entry, value)?,
+        Item::Entry(entry) => changed_entry(buffer, &editor.around, entry, value)?,
         _ => unreachable!(),
     };
     items[at] = Item::Entry(entry);
@@ -127,7 +127,7 @@ fn change_checked(
     ensures refused { 2 ^ 32 ≤ length buffer.old.items + spec.set_put editor.now key.now value.now (items_of buffer.old.items items.old.items) → IsErrOf result 3 }
     ensures err { OnErr result (items.new.items ≡ items.old.items) }
 {
-    check_room(buffer, changed_len(editor.around, &items[at], value))?;
+    check_room(buffer, changed_len(&editor.around, &items[at], value))?;
     let old = item_text(*buffer.allocator(), buffer, &items[at])?;
     change(buffer, items, at, editor, key, value)?;
     Ok(old)

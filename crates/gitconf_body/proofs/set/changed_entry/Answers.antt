@@ -11,7 +11,7 @@ returns-clause-stands c = λ blanks.
     let last = c.put_value.ensures.grows.extended in
     let both = twice_extended _ _ _ c.separator_of.ensures.grows.extended last in
     subst (λ i. Stand c.put_value.new.buffer.items (kinds.Entry c.entry_with.result ∷ []) (i ∷ []))
-    (changed_is c.args.buffer.now.items c.args.around c.args.entry.now blanks c.args.value.now)
+    (changed_is c.args.buffer.now.items c.args.around.now c.args.entry.now blanks c.args.value.now)
     (entry_stands c.put_value.new.buffer.items c.entry_with.result c.args.entry.now.name c.in_ok-before.before c.in_ok-before.behind c.in_ok-value.value _ _ _ _
     (c.entry_with.ensures.told c.put_value.new.buffer.items) c.entry_with.ensures.fits
     (stands_more _ _ _ _ both (record { fits = c.requires.entry.0; is = refl })) (stands_more _ _ _ _ last c.in_ok-before.ensures.before)
