@@ -15,7 +15,7 @@ from words import Malformed, hex_word, to_transcript
 # Commands that another program need not have. Where it has none, the row is passed over.
 BEYOND = {"name", "valuename", "keeps", "loadkept", "setkey", "stringkey", "printfail", "printnone", "refusals", "reset",
           "sectionkey", "sectionif", "bynameif", "headerof", "valueof", "implicitof", "valuesof", "namesof", "hasname",
-          "countof", "entriesof", "display"}
+          "countof", "entriesof", "display", "rawwith", "rawswith", "flag", "tryflag", "flags", "flagwith", "flagswith"}
 
 # Commands by a key, and the one by names that stands for each.
 BY_NAMES = {"stringkey": "string", "setkey": "setraw"}

@@ -8,6 +8,7 @@ pub enum Command {
     Text(TextCommand),
     Value(ValueCommand),
     LookUp(LookUpCommand),
+    Typed(TypedCommand),
     View(ViewCommand),
     Section(SectionCommand),
     Part(PartCommand),
@@ -71,6 +72,25 @@ pub enum LookUpCommand {
     Integer,
     /// `ints`
     Integers,
+}
+
+/// Commands that look values of a key up with their sections, or in a type that the caller names.
+#[derive(Clone, Copy)]
+pub enum TypedCommand {
+    /// `rawwith`
+    RawWithSection,
+    /// `rawswith`
+    RawAllWithSections,
+    /// `flag`
+    Flag,
+    /// `tryflag`
+    FlagIfAny,
+    /// `flags`
+    Flags,
+    /// `flagwith`
+    FlagWithSection,
+    /// `flagswith`
+    FlagsWithSections,
 }
 
 /// Commands that look at a file.
@@ -197,6 +217,9 @@ fn named(word: &[u8]) -> Option<Command> {
     if let Some(command) = look_up_command(word) {
         return Some(Command::LookUp(command));
     }
+    if let Some(command) = typed_command(word) {
+        return Some(Command::Typed(command));
+    }
     if let Some(command) = view_command(word) {
         return Some(Command::View(command));
     }
@@ -253,6 +276,19 @@ fn look_up_command(word: &[u8]) -> Option<LookUpCommand> {
         b"bool" => Some(LookUpCommand::Boolean),
         b"int" => Some(LookUpCommand::Integer),
         b"ints" => Some(LookUpCommand::Integers),
+        _ => None,
+    }
+}
+
+fn typed_command(word: &[u8]) -> Option<TypedCommand> {
+    match word {
+        b"rawwith" => Some(TypedCommand::RawWithSection),
+        b"rawswith" => Some(TypedCommand::RawAllWithSections),
+        b"flag" => Some(TypedCommand::Flag),
+        b"tryflag" => Some(TypedCommand::FlagIfAny),
+        b"flags" => Some(TypedCommand::Flags),
+        b"flagwith" => Some(TypedCommand::FlagWithSection),
+        b"flagswith" => Some(TypedCommand::FlagsWithSections),
         _ => None,
     }
 }

@@ -33,6 +33,12 @@ pub enum Answer<'a> {
     Texts(Vec<BString>),
     /// Numbers with a sign, one word each.
     Integers(Vec<i64>),
+    /// `true` or `false`, one word each.
+    Flags(Vec<bool>),
+    /// Texts, each with the number of a section behind it.
+    TextsAt(Vec<(BString, SectionId)>),
+    /// `true` or `false`, each with the number of a section behind it.
+    FlagsAt(Vec<(bool, SectionId)>),
     /// Bytes, or none.
     Optional(Option<BString>),
     /// The text of a refusal.

@@ -8,6 +8,7 @@ mod parsing;
 mod paths;
 mod printing;
 mod sections;
+mod typed;
 mod values;
 mod views;
 
@@ -16,7 +17,7 @@ use crate::session::Session;
 use crate::writers::Failure;
 use gitconf_script::commands::{
     Command, EditCommand, LookUpCommand, PartCommand, PrintCommand, SectionCommand, StateCommand,
-    TextCommand, ValueCommand, ViewCommand,
+    TextCommand, TypedCommand, ValueCommand, ViewCommand,
 };
 use gitconf_script::words::Word;
 use gix_config::File;
@@ -36,6 +37,7 @@ pub fn outcome_of<'a>(
         Command::Text(command) => text_outcome(alloc, command, words),
         Command::Value(command) => value_outcome(alloc, command, words),
         Command::LookUp(command) => look_up_outcome(session.file(), command, words),
+        Command::Typed(command) => typed_outcome(alloc, session.file(), command, words),
         Command::View(command) => view_outcome(session.file(), command, words),
         Command::Section(command) => section_outcome(alloc, session, command, words),
         Command::Part(command) => part_outcome(alloc, session.file(), command, words),
@@ -78,6 +80,23 @@ fn look_up_outcome<'a>(file: &File, command: LookUpCommand, words: &[Word<'_>]) 
         LookUpCommand::Boolean => lookups::boolean(file, words),
         LookUpCommand::Integer => lookups::integer(file, words),
         LookUpCommand::Integers => lookups::integers(file, words),
+    }
+}
+
+fn typed_outcome<'a>(
+    alloc: Global,
+    file: &File,
+    command: TypedCommand,
+    words: &[Word<'_>],
+) -> Outcome<'a> {
+    match command {
+        TypedCommand::RawWithSection => typed::rawwith(alloc, file, words),
+        TypedCommand::RawAllWithSections => typed::rawswith(alloc, file, words),
+        TypedCommand::Flag => typed::flag(file, words),
+        TypedCommand::FlagIfAny => typed::tryflag(file, words),
+        TypedCommand::Flags => typed::flags(alloc, file, words),
+        TypedCommand::FlagWithSection => typed::flagwith(alloc, file, words),
+        TypedCommand::FlagsWithSections => typed::flagswith(alloc, file, words),
     }
 }
 

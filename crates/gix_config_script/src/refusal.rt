@@ -7,7 +7,7 @@ use gix_config::parse::section::{NameError, ValueNameError};
 use gix_config::parse::{Error, SinkFault};
 use gix_config::path::interpolate;
 use gix_config::refusals::Refusal as _;
-use gix_config::{NoMemory, value};
+use gix_config::{NoMemory, lookup, value};
 use std::alloc::{AllocError, AllocFailed};
 
 /// Why a command was not done.
@@ -57,6 +57,12 @@ impl From<set_raw_value::Error> for Refusal {
 
 impl From<existing::Error> for Refusal {
     fn from(refusal: existing::Error) -> Refusal {
+        Refusal::Numbered(refusal.number())
+    }
+}
+
+impl<E: Drop> From<lookup::Error<E>> for Refusal {
+    fn from(refusal: lookup::Error<E>) -> Refusal {
         Refusal::Numbered(refusal.number())
     }
 }

@@ -53,6 +53,9 @@ fn put_answer(alloc: Global, line: &mut String, answer: &Answer<'_>) -> Result<(
         Answer::Path(path) => put_bytes(alloc, line, path.as_bytes()),
         Answer::Texts(texts) => put_texts(alloc, line, texts),
         Answer::Integers(numbers) => put_integers(line, numbers),
+        Answer::Flags(flags) => put_flags(line, flags),
+        Answer::TextsAt(found) => put_texts_at(alloc, line, found),
+        Answer::FlagsAt(found) => put_flags_at(alloc, line, found),
         Answer::Optional(Some(bytes)) => put_bytes(alloc, line, bytes),
         Answer::Optional(None) => put_optional(alloc, line, None),
         Answer::Message(refusal) => put_message(alloc, line, refusal),
@@ -89,6 +92,39 @@ fn put_texts(alloc: Global, line: &mut String, texts: &[BString]) -> Result<(), 
 fn put_integers(line: &mut String, numbers: &[i64]) -> Result<(), AllocError> {
     for number in numbers {
         put_integer(line, *number)?;
+    }
+    Ok(())
+}
+
+fn put_flags(line: &mut String, flags: &[bool]) -> Result<(), AllocError> {
+    for flag in flags {
+        put_flag(line, *flag)?;
+    }
+    Ok(())
+}
+
+/// Texts, each with the number of a section behind it.
+fn put_texts_at(
+    alloc: Global,
+    line: &mut String,
+    found: &[(BString, SectionId)],
+) -> Result<(), AllocError> {
+    for (text, id) in found {
+        put_bytes(alloc, line, text)?;
+        put_id_word(alloc, line, *id)?;
+    }
+    Ok(())
+}
+
+/// `true` or `false`, each with the number of a section behind it.
+fn put_flags_at(
+    alloc: Global,
+    line: &mut String,
+    found: &[(bool, SectionId)],
+) -> Result<(), AllocError> {
+    for (flag, id) in found {
+        put_flag(line, *flag)?;
+        put_id_word(alloc, line, *id)?;
     }
     Ok(())
 }
