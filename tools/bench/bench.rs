@@ -32,9 +32,8 @@ fn set(text: &[u8], key: &str) -> u128 {
     nanos(|| drop(black_box(file.set_raw_value(key, "a new value"))))
 }
 
-fn look_up(file: &File, key: &str) -> u128 {
-    let all = nanos(|| (0..LOOKUPS).for_each(|_| drop(black_box(file.string(black_box(key))))));
-    all / u128::from(LOOKUPS)
+fn look_ups(look_up: impl Fn()) -> u128 {
+    nanos(|| (0..LOOKUPS).for_each(|_| look_up())) / u128::from(LOOKUPS)
 }
 
 fn main() {
@@ -47,7 +46,14 @@ fn main() {
             // An earlier file is let go.
             "load" => nanos(|| drop(mem::replace(&mut file, load(&text)))),
             "events" => events(&text),
-            "look-up" => look_up(&file, key),
+            "look-up" => look_ups(|| drop(black_box(file.string(black_box(key))))),
+            "raw" => look_ups(|| drop(black_box(file.raw_value(black_box(key))))),
+            "boolean" => look_ups(|| drop(black_box(file.boolean(black_box(key))))),
+            "by-name" => look_ups(|| {
+                let name = black_box(key).split('.').next().expect("a key has a dot");
+                black_box(file.sections_by_name(name).and_then(|mut sections| sections.next()));
+            }),
+            "values" => nanos(|| drop(black_box(file.strings(black_box(key))))),
             "print" => nanos(|| drop(black_box(file.to_bstring()))),
             "set" => set(&text, key),
             "lay-out" => nanos(|| drop(black_box(format::normalize(black_box(&text), Default::default())).ok())),

@@ -1,7 +1,7 @@
 //! Times what the library does with standard input, as often as asked: `file_bench WHAT ROUNDS KEY [times]`.
 //!
-//! WHAT is `load`, `look-up`, `print`, `set`, `lay-out` or `decode`, or `all` for each of them in turn. `decode` takes
-//! standard input for a raw value. With `times` each round tells its nanoseconds.
+//! WHAT is `load`, `look-up`, `raw`, `boolean`, `by-name`, `values`, `print`, `set`, `lay-out` or `decode`, or `all` for each of them
+//! in turn. `decode` takes standard input for a raw value. With `times` each round tells its nanoseconds.
 #![tactic(auto)]
 
 use anyhow::{Context, Result, bail};
@@ -17,13 +17,28 @@ use std::{env, io};
 /// How often a key is looked up in a round.
 const LOOKUPS: u32 = 256;
 
+/// What is looked up.
+#[derive(Clone, Copy)]
+enum LookUp {
+    /// The last value of a key, or nothing.
+    Value,
+    /// The same, or a refusal.
+    Raw,
+    /// The boolean of a key. A value that is none counts as found.
+    Boolean,
+    /// The first of the sections that have the name of the key's section.
+    Section,
+}
+
 /// What is timed.
 #[derive(Clone, Copy)]
 enum Measure {
     /// Loading a file, and letting an earlier one go.
     Load,
     /// Looking a key up.
-    LookUp,
+    LookUp(LookUp),
+    /// Looking all values of a key up.
+    Values,
     /// Printing a file.
     Print,
     /// Setting a value of a file that was not edited before.
@@ -81,33 +96,77 @@ fn time_load(rt: HostRuntime, task: Task<'_>) -> Result<()> {
     Ok(())
 }
 
+/// Whether a look-up finds the key.
+fn is_found(file: &File, key: KeyRef<'_>, what: LookUp) -> bool {
+    match what {
+        LookUp::Value => matches!(file.string(key), Ok(Some(_))),
+        LookUp::Raw => file.raw_value(key).is_ok(),
+        LookUp::Boolean => !matches!(file.boolean(key), Ok(None)),
+        LookUp::Section => has_section(file, key.section_name),
+    }
+}
+
+/// Whether a section has the name.
+fn has_section(file: &File, name: &str) -> bool {
+    match file.sections_by_name(name) {
+        Some(mut sections) => sections.next().is_some(),
+        None => false,
+    }
+}
+
 /// How many of the look-ups find the key.
-fn found(file: &File, key: KeyRef<'_>) -> Result<u32> {
+fn found(file: &File, key: KeyRef<'_>, what: LookUp) -> u32 {
     let mut n = 0u32;
     for _ in 0..LOOKUPS {
-        if file.string(key)?.is_some() {
+        if is_found(file, key, what) {
             n = n.wrapping_add(1);
         }
     }
-    Ok(n)
+    n
 }
 
 /// How many of the look-ups find the key, and the nanoseconds that they took.
-fn look_up<R: Clock>(rt: &R, file: &File, key: KeyRef<'_>) -> Result<(u32, u128)> {
+fn look_up<R: Clock>(rt: &R, file: &File, key: KeyRef<'_>, what: LookUp) -> Result<(u32, u128)> {
     let start = Instant::now(rt)?;
-    let hits = found(file, key)?;
+    let hits = found(file, key, what);
     Ok((hits, start.elapsed(rt)?.as_nanos()))
 }
 
-fn time_look_up(rt: HostRuntime, task: Task<'_>) -> Result<()> {
+fn time_look_up(rt: HostRuntime, task: Task<'_>, what: LookUp) -> Result<()> {
     let file = load(rt.alloc(), task.text)?;
     let mut hits = 0;
     for _ in 0..task.rounds {
-        let (found, nanos) = look_up(&rt, &file, task.key)?;
+        let (found, nanos) = look_up(&rt, &file, task.key, what)?;
         tell(rt, task, nanos / LOOKUPS as u128)?;
         hits = found;
     }
     println!(rt; "{hits} of {LOOKUPS} found")?;
+    Ok(())
+}
+
+/// How many values the key has, and the nanoseconds that it took to find them and to let them go.
+fn values<R: Clock>(rt: &R, file: &File, key: KeyRef<'_>) -> Result<(usize, u128)> {
+    let start = Instant::now(rt)?;
+    let count = count_values(file, key)?;
+    Ok((count, start.elapsed(rt)?.as_nanos()))
+}
+
+fn count_values(file: &File, key: KeyRef<'_>) -> Result<usize> {
+    match file.strings(key)? {
+        Some(values) => Ok(values.len()),
+        None => Ok(0),
+    }
+}
+
+fn time_values(rt: HostRuntime, task: Task<'_>) -> Result<()> {
+    let file = load(rt.alloc(), task.text)?;
+    let mut found = 0;
+    for _ in 0..task.rounds {
+        let (count, nanos) = values(&rt, &file, task.key)?;
+        tell(rt, task, nanos)?;
+        found = count;
+    }
+    println!(rt; "{found} values found")?;
     Ok(())
 }
 
@@ -191,7 +250,8 @@ fn time_decode(rt: HostRuntime, task: Task<'_>) -> Result<()> {
 fn time(rt: HostRuntime, measure: Measure, task: Task<'_>) -> Result<()> {
     match measure {
         Measure::Load => time_load(rt, task),
-        Measure::LookUp => time_look_up(rt, task),
+        Measure::LookUp(what) => time_look_up(rt, task, what),
+        Measure::Values => time_values(rt, task),
         Measure::Print => time_print(rt, task),
         Measure::Set => time_set(rt, task),
         Measure::LayOut => time_lay_out(rt, task),
@@ -203,7 +263,11 @@ fn time(rt: HostRuntime, measure: Measure, task: Task<'_>) -> Result<()> {
 fn is_asked(word: &str, measure: Measure) -> bool {
     let name = match measure {
         Measure::Load => "load",
-        Measure::LookUp => "look-up",
+        Measure::LookUp(LookUp::Value) => "look-up",
+        Measure::LookUp(LookUp::Raw) => "raw",
+        Measure::LookUp(LookUp::Boolean) => "boolean",
+        Measure::LookUp(LookUp::Section) => "by-name",
+        Measure::Values => "values",
         Measure::Print => "print",
         Measure::Set => "set",
         Measure::LayOut => "lay-out",
@@ -212,9 +276,13 @@ fn is_asked(word: &str, measure: Measure) -> bool {
     word == name || word == "all"
 }
 
-const MEASURES: [Measure; 6] = [
+const MEASURES: [Measure; 10] = [
     Measure::Load,
-    Measure::LookUp,
+    Measure::LookUp(LookUp::Value),
+    Measure::LookUp(LookUp::Raw),
+    Measure::LookUp(LookUp::Boolean),
+    Measure::LookUp(LookUp::Section),
+    Measure::Values,
     Measure::Print,
     Measure::Set,
     Measure::LayOut,
