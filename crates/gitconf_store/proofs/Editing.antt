@@ -1,5 +1,5 @@
 -- The section of a number with other items, in a longer buffer.
-use Rattle.std.proofs.Common.{◌≡◌, ℕ, zero, suc, ◌+◌, ◌<◌, ◌≤◌, ◌^◌, ◌==◌, Bool, true, false, nat_lt, List, [], ◌∷◌, length, map, filter, position, Option, Some, None, refl, ap, sym, subst, ◌∙◌, arith, inl, inr}
+use Rattle.std.proofs.Common.{◌≡◌, ℕ, zero, suc, ◌+◌, ◌<◌, ◌≤◌, ◌^◌, ◌==◌, Bool, true, false, nat_lt, List, [], ◌∷◌, length, map, filter, position, Option, Some, None, Result, refl, ap, sym, subst, ◌∙◌, arith, inl, inr}
 use Rattle.std.specs.Prelude.{if◌then◌else◌, ◌⊎◌}
 use Rattle.std.specs.List.{AllByRecursion, last_or, position_or_len, slice_get}
 use Rattle.std.specs.Option.{option_map}
@@ -12,11 +12,20 @@ use Rattle.gitconf_parse.specs.Events.{header_of}
 use Rattle.gitconf_parse.specs.ItemsFit.{AreItemsWithin}
 use Rattle.gitconf_parse.specs.ShownEvents.{IsExtended}
 use Rattle.gitconf_state.specs.Edit.{with_used}
-use Rattle.gitconf_state.specs.Edits.{change_items, numbered, told_of, Raw, Entry}
+use Rattle.gitconf_state.specs.Edits.{change_items, items_of_numbered, numbered, told_of, Raw, Entry}
 use Rattle.gitconf_state.specs.State.{SectionState, State, HasItems}
 use Rattle.gitconf_write.specs.Bodies.{items_of}
+use Rattle.gitconf_write.specs.LineEnds.{bytes_of_line_end}
+use Rattle.gitconf_body.specs.declared.editor.Editor.{Editor}
+use Rattle.gitconf_body.specs.declared.editor.Leading.{Leading}
+use Rattle.gitconf_body.specs.declared.editor.Leading.TheVariants as leadings
+use Rattle.gitconf_body.specs.declared.editor.Around.{Around}
+use Rattle.gitconf_body.specs.declared.editor.Around.TheVariants as arounds
+use Rattle.gitconf_body.specs.Editors.{editor_in, leading_in, around_in, EditorFits, LeadingFits, AroundFits}
 use Rattle.gitconf_body.proofs.Buffers.{extended_fit, extended_items}
 use Rattle.gitconf_store.specs.declared.section.Section.{Section}
+use Rattle.gitconf_store.specs.Edits.{UsedGrows}
+use Rattle.gitconf_store.specs.Editors.{given_editor, IsGiven, IsGivenLeading, IsGivenAround, PutsIn}
 use Rattle.gitconf_store.specs.Store.{section_state, state_of, SectionFits, AllSectionsFit, StoreFits}
 use Rattle.gitconf_store.proofs.Setting.{HasOthers, changed_fits, kept_view, section_in, sections_in}
 
@@ -175,3 +184,62 @@ raw_inside is = cc
 
 pub entry_inside : {o p : Option (List ℕ × List ℕ)} → Entry o ≡ Entry p → o ≡ p
 entry_inside is = cc
+
+-- An editor whose blanks are bytes of its own is the same whatever buffer it edits.
+pub given_same : (b : List ℕ) (e : Editor) → IsGiven e → editor_in b e ≡ given_editor e
+given_same b e given = λ i. record {
+  spacing = record { leading = leading e.leading given.0 i; before = (around e.around given.1 i).0; behind = (around e.around given.1 i).1 };
+  line_end = bytes_of_line_end e.line_end;
+  ends = e.ends;
+}
+  where
+    leading : (l : Leading) → IsGivenLeading l → leading_in b l ≡ leading_in [] l
+    leading leadings.Nothing given = refl
+    leading (leadings.Given bytes) given = refl
+    leading (leadings.Stored run) given = absurd given
+
+    around : (a : Around) → IsGivenAround a → around_in b a ≡ around_in [] a
+    around arounds.Spaces given = refl
+    around (arounds.Given before behind) given = refl
+    around (arounds.Stored before behind) given = absurd given
+
+pub given_fits : (limit : ℕ) (e : Editor) → IsGiven e → EditorFits limit e
+given_fits limit e given = (leading e.leading given.0, around e.around given.1)
+  where
+    leading : (l : Leading) → IsGivenLeading l → LeadingFits limit l
+    leading leadings.Nothing given = tt
+    leading (leadings.Given bytes) given = tt
+    leading (leadings.Stored run) given = absurd given
+
+    around : (a : Around) → IsGivenAround a → AroundFits limit a
+    around arounds.Spaces given = tt
+    around (arounds.Given before behind) given = tt
+    around (arounds.Stored before behind) given = absurd given
+
+-- what is put where the section stands, and where none has the number
+pub puts_at : {T : Type 0} (b : List ℕ) (front : List Item) (meta : Meta) (table : Sections Section) (id at : ℕ) (s : Section) (r : Result T ℕ) (count : ℕ) (new : State)
+    → AreNumbered table.next table.entries → section_at at table ≡ Some s → number_at at table ≡ Some id → UsedGrows r count (length b) new.used
+    → PutsIn id r count (state_of b front meta table) new
+puts_at b front meta table id at s r count new once here number grows =
+    go (numbered id (state_of b front meta table)) refl (told_at b s table.entries table.next id at None once here number)
+  where
+    go : (o : Option SectionState) → numbered id (state_of b front meta table) ≡ o → option_map (λ (s : SectionState). s.items) o ≡ Some (items_of b s.items.items)
+        → PutsIn id r count (state_of b front meta table) new
+    go None at is = absurd (cc)
+    go (Some u) at is = record { there = rw at grows; missing = λ none. absurd (let no = sym at ∙ none in cc) }
+
+pub puts_none : {T : Type 0} (b : List ℕ) (front : List Item) (meta : Meta) (table : Sections Section) (id : ℕ) (r : Result T ℕ) (count : ℕ) → place_of id table ≡ None
+    → PutsIn id r count (state_of b front meta table) (state_of b front meta table)
+puts_none b front meta table id r count none =
+    let no : numbered id (state_of b front meta table) ≡ None = others_untold b id None table.entries (missing id table.entries none) in
+    record { there = rw no tt; missing = λ _. refl }
+
+-- the items of the section there
+pub numbered_items_at : (b : List ℕ) (front : List Item) (meta : Meta) (table : Sections Section) (id at : ℕ) (s : Section)
+    → AreNumbered table.next table.entries → section_at at table ≡ Some s → number_at at table ≡ Some id → items_of_numbered id (state_of b front meta table) ≡ items_of b s.items.items
+numbered_items_at b front meta table id at s once here number = go (numbered id (state_of b front meta table)) (told_at b s table.entries table.next id at None once here number)
+  where
+    go : (o : Option SectionState) → option_map (λ (s : SectionState). s.items) o ≡ Some (items_of b s.items.items)
+        → elim o as (λ _. List parts.Item) [ None ↦ [] | Some s ↦ s.items ] ≡ items_of b s.items.items
+    go None is = absurd (cc)
+    go (Some u) is = cc

@@ -20,3 +20,4 @@ pub mod Lookups
 pub mod Targets
 pub mod Edits
 pub mod SetErrors
+pub mod Editors

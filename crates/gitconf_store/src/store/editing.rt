@@ -1,12 +1,118 @@
 //! Edits of the section of a number, on which an editor of a section stands.
 use crate::store::Store;
-use gitconf_body::take_out;
+use gitconf_body::editor::Editor;
+use gitconf_body::{push, set, take_out};
 use gitconf_table::table::SectionId;
 use gitconf_text::NoMemory;
+use gitconf_text::parse::span;
 
 impl Store {
-    ghost use Rattle.std.specs.Prelude.{◌≡◌, IfOk, IsOk, None, OnOk, OnErr, option_map};
-    ghost use Rattle.gitconf_state.specs.Edits.{answer, apply, Entry, Pop, Raw, Remove};
+    ghost use Rattle.std.specs.Option.{option_copied};
+    ghost use Rattle.std.specs.Prelude.{◌≡◌, true, IfOk, IsOk, None, OnOk, OnErr, length, option_map};
+    ghost use Rattle.gitconf_text.specs.Names.{is_value_name};
+    ghost use Rattle.gitconf_state.specs.Edit.{with_used};
+    ghost use Rattle.gitconf_state.specs.Edits.{answer, apply, items_of_numbered, Entry, IsEditor, Pop, Push, PushLineEnd, Raw, Remove, SetValue};
+    ghost use Rattle.gitconf_write.specs.LineEnds.{bytes_of_line_end};
+    ghost use Rattle.gitconf_body.specs.Editors.{line_put, set_put};
+    ghost use Rattle.gitconf_store.specs.Editors.{given_editor, IsGiven, PutsIn};
+
+    /// Pushes a line behind the items of the section of a number: the editor's blanks, the key, and where a value is given `=` with the
+    /// editor's blanks around it and the value as a file spells it; then the comment, if one is given, behind a space and `#`, with a space
+    /// before a first byte that is no white space, and each LF turned to a space; then the editor's line end, unless it is switched off. All
+    /// else stays as it is; where no section has the number, all does.
+    ///
+    /// A walk over the numbers up to that of the section. Takes memory for what is put into the buffer, and for the new items.
+    ///
+    /// # Errors
+    ///
+    /// A [`span::Error`]: number 3 exactly where the buffer would be longer than 4294967295 bytes, before any growth, and else 27 for want
+    /// of memory. The file is then as it was, but that its buffer may have grown.
+    pub fn push_entry(
+        &mut self,
+        id: SectionId,
+        editor: &Editor<'_>,
+        key: &[u8],
+        value: Option<&[u8]>,
+        comment: Option<&[u8]>,
+    ) -> Result<(), span::Error>
+        requires given { IsGiven editor.now }
+        requires editor { IsEditor (given_editor editor.now) }
+        requires key { is_value_name key.now ≡ true }
+        ensures ok { OnOk result (self.new ≡ with_used self.new.used
+            (apply (Push id (given_editor editor.now) key.now (option_copied value.entry) (option_copied comment.entry)) self.old)) }
+        ensures err { OnErr result (self.new ≡ with_used self.new.used self.old) }
+        ensures used { PutsIn id result (line_put editor.now key.now (option_copied value.entry) (option_copied comment.entry)) self.old self.new }
+    {
+        prove!(self.sections.next_id() == self.sections.next_id());
+        let Some(at) = self.sections.position(id) else {
+            return Ok(());
+        };
+        let section = self.sections.at_mut(at);
+        push::push(
+            &mut self.buffer,
+            &mut section.items,
+            editor,
+            key,
+            value,
+            comment,
+        )
+    }
+
+    /// Pushes the editor's line end behind the items of the section of a number, also where it is switched off behind lines. All else stays
+    /// as it is; where no section has the number, all does.
+    ///
+    /// A walk over the numbers up to that of the section. Takes memory for the line end in the buffer, and for the new item.
+    ///
+    /// # Errors
+    ///
+    /// Those of [`Store::push_entry`].
+    pub fn push_newline(&mut self, id: SectionId, editor: &Editor<'_>) -> Result<(), span::Error>
+        requires editor { IsEditor (given_editor editor.now) }
+        ensures ok { OnOk result (self.new ≡ with_used self.new.used (apply (PushLineEnd id (given_editor editor.now)) self.old)) }
+        ensures err { OnErr result (self.new ≡ with_used self.new.used self.old) }
+        ensures used { PutsIn id result (length (bytes_of_line_end editor.now.line_end)) self.old self.new }
+    {
+        prove!(self.sections.next_id() == self.sections.next_id());
+        let Some(at) = self.sections.position(id) else {
+            return Ok(());
+        };
+        let section = self.sections.at_mut(at);
+        push::push_newline(&mut self.buffer, &mut section.items, editor)
+    }
+
+    /// Gives the last entry of a key in the section of a number another value: what stands behind `=` is replaced, and `=` is put in where
+    /// there is none, with the editor's blanks around it. Where no entry of the section has the key, a line with it is pushed, as
+    /// [`Store::push_entry`] does. All else stays as it is; where no section has the number, all does. Answers the raw text of the old
+    /// value: its pieces joined, not decoded; nothing for an entry without `=`; `None` where there was no entry, or no section.
+    ///
+    /// A walk over the numbers up to that of the section, and one over its items. Takes memory for the old value, for what is put into the
+    /// buffer, and for new items.
+    ///
+    /// # Errors
+    ///
+    /// Those of [`Store::push_entry`].
+    pub fn set_entry(
+        &mut self,
+        id: SectionId,
+        editor: &Editor<'_>,
+        key: &[u8],
+        value: &[u8],
+    ) -> Result<Option<Vec<u8>>, span::Error>
+        requires given { IsGiven editor.now }
+        requires editor { IsEditor (given_editor editor.now) }
+        requires key { is_value_name key.now ≡ true }
+        ensures ok { OnOk result (self.new ≡ with_used self.new.used (apply (SetValue id (given_editor editor.now) key.now value.now) self.old)) }
+        ensures answer { IfOk result (λ o. Raw (option_map (λ v. v.items) o) ≡ answer (SetValue id (given_editor editor.now) key.now value.now) self.old) }
+        ensures err { OnErr result (self.new ≡ with_used self.new.used self.old) }
+        ensures used { PutsIn id result (set_put editor.now key.now value.now (items_of_numbered id self.old)) self.old self.new }
+    {
+        prove!(self.sections.next_id() == self.sections.next_id());
+        let Some(at) = self.sections.position(id) else {
+            return Ok(None);
+        };
+        let section = self.sections.at_mut(at);
+        set::set(&mut self.buffer, &mut section.items, editor, key, value)
+    }
 
     /// Takes out the last entry of a key in the section of a number, with the blanks directly before it and the line ends directly behind
     /// it. All else stays as it is. Answers the raw text of its value: its pieces joined, not decoded; nothing for an entry without `=`.
