@@ -28,3 +28,4 @@ pub mod Sets
 pub mod Cloning
 pub mod Detaching
 pub mod Editing
+pub mod LineBytes

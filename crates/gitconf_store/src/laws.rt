@@ -6,9 +6,12 @@ ghost use Rattle.gitconf_parse.specs.declared.items.Item.{Item};
 ghost use Rattle.gitconf_parse.specs.Events.{header_of, HeaderFits};
 ghost use Rattle.gitconf_parse.specs.ItemsFit.{AreItemsWithin};
 ghost use Rattle.gitconf_state.specs.Edit.{set_raw_value_bytes};
-ghost use Rattle.gitconf_state.specs.Edits.{SetRawValue, new_bytes};
+ghost use Rattle.gitconf_state.specs.Edits.{Push, SetRawValue, SetValue, items_of_numbered, new_bytes};
 ghost use Rattle.gitconf_state.specs.State.{State};
 ghost use Rattle.gitconf_write.specs.Bodies.{items_of};
+ghost use Rattle.gitconf_body.specs.declared.editor.Editor.{Editor};
+ghost use Rattle.gitconf_body.specs.Editors.{line_put, set_put};
+ghost use Rattle.gitconf_store.specs.Editors.{given_editor};
 
 /// Bytes that are appended to a buffer change nothing of what spans within it stand for, and these stand within the longer one.
 pub fn appending_leaves_every_view()
@@ -21,4 +24,12 @@ pub fn appending_leaves_every_view()
 pub fn edits_put_no_more_than_their_tokens()
     ensures { (name : List ℕ) (subsection : Option (List ℕ)) (key : List ℕ) (keeps : Meta → Bool) (value : List ℕ) (state : State)
         → set_raw_value_bytes name subsection key keeps value state ≤ new_bytes (SetRawValue name subsection key keeps value) state }
+{}
+
+/// What an editor puts into the buffer is no longer than the tokens that it makes: for a line that is pushed, and for a value that is set.
+pub fn editors_put_no_more_than_their_tokens()
+    ensures pushed { (number : ℕ) (editor : Editor) (key : List ℕ) (value comment : Option (List ℕ)) (state : State)
+        → line_put editor key value comment ≤ new_bytes (Push number (given_editor editor) key value comment) state }
+    ensures set { (number : ℕ) (editor : Editor) (key value : List ℕ) (state : State)
+        → set_put editor key value (items_of_numbered number state) ≤ new_bytes (SetValue number (given_editor editor) key value) state }
 {}

@@ -1,0 +1,10 @@
+use Rattle.std.proofs.Common.{[]}
+use Rattle.gitconf_state.specs.Edits.{items_of_numbered}
+use Rattle.gitconf_store.proofs.LineBytes.{line_within, set_within}
+use Rattle.gitconf_store.proofs.laws.editors_put_no_more_than_their_tokens.Goals as goal
+
+pub returns-clause-pushed : goal.returns-clause-pushed
+returns-clause-pushed c = λ number editor key value comment state. line_within [] editor key value comment
+
+pub returns-clause-set : goal.returns-clause-set
+returns-clause-set c = λ number editor key value state. set_within [] editor key value (items_of_numbered number state)
