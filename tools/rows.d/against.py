@@ -15,7 +15,11 @@ from words import Malformed, hex_word, to_transcript
 # Commands that another program need not have. Where it has none, the row is passed over.
 BEYOND = {"name", "valuename", "keeps", "loadkept", "setkey", "stringkey", "printfail", "printnone", "refusals", "reset",
           "sectionkey", "sectionif", "bynameif", "headerof", "valueof", "implicitof", "valuesof", "namesof", "hasname",
-          "countof", "entriesof", "display", "rawwith", "rawswith", "flag", "tryflag", "flags", "flagwith", "flagswith"}
+          "countof", "entriesof", "display", "rawwith", "rawswith", "flag", "tryflag", "flags", "flagwith", "flagswith",
+          "removeif"}
+
+# Of these, the ones that change the file.
+CHANGES = {"loadkept", "removeif"}
 
 # Commands by a key, and the one by names that stands for each.
 BY_NAMES = {"stringkey": "string", "setkey": "setraw"}
@@ -151,7 +155,7 @@ class _Comparison:
         """Compares the row with the other program's answer, or passes it over."""
         if row.wanted == "unknown" or (answer in HAS_NONE and row.word in BEYOND and answer != row.answer):
             # One of the two programs has done it, the other hasn't.
-            self._is_same_file = self._is_same_file and row.word != "loadkept" and answer in HAS_NONE
+            self._is_same_file = self._is_same_file and row.word not in CHANGES and answer in HAS_NONE
             self._pass_over(row.word)
             return
         self._is_same_file = self._is_same_file or (row.word in LOADS and answer == "ok")

@@ -131,6 +131,50 @@ pub fn section_names_and_flag<'a>(
     }
 }
 
+/// SEC2 PLACE: the names of a section, and where it is put.
+pub fn section_names_and_place<'a>(
+    words: &'a [Word<'_>],
+) -> Result<SectionNames<'a>, NotUnderstood> {
+    match words {
+        [name, subsection, place] => {
+            place.section_place()?;
+            Ok(SectionNames {
+                name: name.text()?,
+                subsection: subsection.optional()?,
+            })
+        }
+        _ => Err(NotUnderstood),
+    }
+}
+
+/// SEC2 PLACE B: the same, and what a filter answers.
+pub fn section_names_place_and_flag<'a>(
+    words: &'a [Word<'_>],
+) -> Result<(SectionNames<'a>, bool), NotUnderstood> {
+    match words {
+        [name, subsection, place, flag] => {
+            place.section_place()?;
+            let names = SectionNames {
+                name: name.text()?,
+                subsection: subsection.optional()?,
+            };
+            Ok((names, flag.flag()?))
+        }
+        _ => Err(NotUnderstood),
+    }
+}
+
+/// N PLACE: the number of a section, and where it is put.
+pub fn number_and_place(words: &[Word<'_>]) -> Result<usize, NotUnderstood> {
+    match words {
+        [number, place] => {
+            place.section_place()?;
+            number.number()
+        }
+        _ => Err(NotUnderstood),
+    }
+}
+
 /// BYTES: a name.
 pub fn text<'a>(words: &'a [Word<'_>]) -> Result<&'a str, NotUnderstood> {
     one_word(words)?.text()

@@ -176,6 +176,12 @@ pub enum EditCommand {
     SetRaw,
     /// `setkey`
     SetByKey,
+    /// `remove`
+    Remove,
+    /// `removeif`
+    RemovePassing,
+    /// `removeid`
+    RemoveNumbered,
 }
 
 /// Commands on whole files, and on the state of the script.
@@ -349,6 +355,9 @@ fn edit_command(word: &[u8]) -> Option<EditCommand> {
     match word {
         b"setraw" => Some(EditCommand::SetRaw),
         b"setkey" => Some(EditCommand::SetByKey),
+        b"remove" => Some(EditCommand::Remove),
+        b"removeif" => Some(EditCommand::RemovePassing),
+        b"removeid" => Some(EditCommand::RemoveNumbered),
         _ => None,
     }
 }

@@ -110,6 +110,14 @@ impl Word<'_> {
             _ => Err(NotUnderstood),
         }
     }
+
+    /// The place of a section that stands alone: `s` or `t`.
+    pub fn section_place(&self) -> Result<(), NotUnderstood> {
+        match self.plain()? {
+            b"s" | b"t" => Ok(()),
+            _ => Err(NotUnderstood),
+        }
+    }
 }
 
 fn utf8(bytes: &[u8]) -> Result<&str, NotUnderstood> {

@@ -2,7 +2,7 @@
 
 use crate::refusal::Refusal;
 use bstr::BString;
-use gix_config::file::{SectionId, SectionRef};
+use gix_config::file::{Section, SectionId, SectionRef};
 use gix_config::parse::{Error, Events};
 use gix_config::{File, Path};
 use std::borrow::CowSlice;
@@ -53,6 +53,8 @@ pub enum Answer<'a> {
     Body(SectionRef<'a>),
     /// The events of what is held behind a section.
     Held(SectionRef<'a>),
+    /// A section that stands alone.
+    Alone(Section),
     /// The number of a section.
     Id(SectionId),
     /// Numbers of sections.

@@ -42,7 +42,7 @@ pub fn outcome_of<'a>(
         Command::Section(command) => section_outcome(alloc, session, command, words),
         Command::Part(command) => part_outcome(alloc, session.file(), command, words),
         Command::Print(command) => print_outcome(alloc, session.file(), command, words),
-        Command::Edit(command) => edit_outcome(session.file_mut(), command, words),
+        Command::Edit(command) => edit_outcome(alloc, session.file_mut(), command, words),
         Command::State(command) => state_outcome(alloc, session, command, words),
     }
 }
@@ -169,10 +169,18 @@ fn print_outcome<'a>(
     }
 }
 
-fn edit_outcome<'a>(file: &mut File, command: EditCommand, words: &[Word<'_>]) -> Outcome<'a> {
+fn edit_outcome<'a>(
+    alloc: Global,
+    file: &mut File,
+    command: EditCommand,
+    words: &[Word<'_>],
+) -> Outcome<'a> {
     match command {
         EditCommand::SetRaw => edits::setraw(file, words),
         EditCommand::SetByKey => edits::setkey(file, words),
+        EditCommand::Remove => edits::remove(file, words),
+        EditCommand::RemovePassing => edits::removeif(file, words),
+        EditCommand::RemoveNumbered => edits::removeid(alloc, file, words),
     }
 }
 

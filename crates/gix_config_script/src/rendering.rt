@@ -10,7 +10,7 @@ use gitconf_script::answers::{
     put_number, put_optional, put_refused,
 };
 use gix_config::File;
-use gix_config::file::{SectionId, SectionRef};
+use gix_config::file::{Section, SectionId, SectionRef};
 use gix_config::parse::{Error, EventRef};
 use gix_config::refusals::Refusal as _;
 use gix_config::value::normalize;
@@ -70,6 +70,7 @@ fn put_answer(alloc: Global, line: &mut String, answer: &Answer<'_>) -> Result<(
         },
         Answer::Body(section) => put_events(alloc, line, section.events()),
         Answer::Held(section) => put_events(alloc, line, section.held_events()),
+        Answer::Alone(section) => put_section(alloc, line, section),
         Answer::Id(id) => put_id_word(alloc, line, *id),
         Answer::Ids(ids) => put_ids(alloc, line, ids),
         Answer::Names(section) => put_value_names(alloc, line, section),
@@ -230,8 +231,16 @@ fn put_value_names(
     Ok(())
 }
 
+/// The text of a section that stands alone.
+fn put_section(alloc: Global, line: &mut String, section: &Section) -> Result<(), AllocError> {
+    match section.to_ref().to_bstring() {
+        Ok(text) => put_bytes(alloc, line, &text),
+        Err(_) => Err(AllocError),
+    }
+}
+
 /// The number of a section. The library shows it by `Debug` alone.
-fn put_id(alloc: Global, line: &mut String, id: SectionId) -> Result<(), AllocError> {
+pub fn put_id(alloc: Global, line: &mut String, id: SectionId) -> Result<(), AllocError> {
     let shown = format!(in alloc; "{id:?}")?;
     put_digits_of(line, &shown)
 }

@@ -2,9 +2,15 @@
 
 use crate::answer::{Answer, Outcome};
 use crate::refusal::Refusal;
-use gitconf_script::arguments::{names_and_bytes, two_texts};
+use crate::rendering::put_id;
+use gitconf_script::arguments::{
+    names_and_bytes, number_and_place, section_names_and_place, section_names_place_and_flag,
+    two_texts,
+};
 use gitconf_script::words::Word;
+use gix_config::file::{Section, SectionId};
 use gix_config::{File, KeyRef};
+use std::alloc::Global;
 
 /// `setraw KEY3 BYTES`: sets a value, and answers the one that was there.
 pub fn setraw<'a>(file: &mut File, words: &[Word<'_>]) -> Outcome<'a> {
@@ -20,4 +26,44 @@ pub fn setkey<'a>(file: &mut File, words: &[Word<'_>]) -> Outcome<'a> {
         return Err(Refusal::Line);
     };
     Ok(Answer::Optional(file.set_raw_value(key, value)?))
+}
+
+/// `remove SEC2 PLACE`: takes the last section of the name and subsection out, and answers its text.
+pub fn remove<'a>(file: &mut File, words: &[Word<'_>]) -> Outcome<'a> {
+    let names = section_names_and_place(words)?;
+    Ok(taken_out(file.remove_section(names.name, names.subsection)?))
+}
+
+/// `removeif SEC2 PLACE B`: the same with a filter that answers so for all.
+pub fn removeif<'a>(file: &mut File, words: &[Word<'_>]) -> Outcome<'a> {
+    let (names, passes) = section_names_place_and_flag(words)?;
+    let section = file.remove_section_filter(names.name, names.subsection, |_| passes)?;
+    Ok(taken_out(section))
+}
+
+/// `removeid N PLACE`: the same, the section of a number.
+pub fn removeid<'a>(alloc: Global, file: &mut File, words: &[Word<'_>]) -> Outcome<'a> {
+    let number = number_and_place(words)?;
+    let id = id_of(alloc, file, number)?;
+    Ok(taken_out(file.remove_section_by_id(id)?))
+}
+
+fn taken_out<'a>(section: Option<Section>) -> Answer<'a> {
+    match section {
+        Some(section) => Answer::Alone(section),
+        None => Answer::Absent,
+    }
+}
+
+/// The section's number that reads so; that of no section where none does.
+fn id_of(alloc: Global, file: &File, number: usize) -> Result<SectionId, Refusal> {
+    let wanted = format!(in alloc; "{number}")?;
+    for id in file.section_ids() {
+        let mut shown = String::new(alloc);
+        put_id(alloc, &mut shown, id)?;
+        if shown == wanted {
+            return Ok(id);
+        }
+    }
+    Ok(SectionId::default())
 }
