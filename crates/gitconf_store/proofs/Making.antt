@@ -27,11 +27,11 @@ use Rattle.gitconf_store.proofs.Loading.{sections_fit_more}
 use Rattle.gitconf_store.proofs.Setting.{sections_in, sections_fit_in}
 
 -- a section that was made with these items, in the buffer
-pub record IsMadeWith (b copies : List ℕ) (s : Section) (meta : Meta) (name : List ℕ) (subsection : Option (List ℕ)) (items : List parts.Item) : Type 0 where
+pub record IsMadeWith (b copies : List ℕ) (s : Section) (meta : Meta) (name : List ℕ) (subsection : Option (List ℕ)) (body : List parts.Item) : Type 0 where
   pub header : header_of b s.header ≡ made_header name subsection
   pub shown : IsShown b copies (kinds.SectionHeader s.header)
   pub meta_is : s.meta.value ≡ meta
-  pub items : items_of b s.items.items ≡ items
+  pub items : items_of b s.items.items ≡ body
   pub within : AreItemsWithin (length b) s.items.items
   pub held : s.held.items ≡ []
 

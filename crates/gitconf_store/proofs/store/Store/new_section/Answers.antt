@@ -7,7 +7,7 @@ use Rattle.gitconf_parse.specs.Events.{header_of}
 use Rattle.gitconf_text.specs.Part.{LineEndsItem}
 use Rattle.gitconf_state.specs.Edit.{made_header, with_used}
 use Rattle.gitconf_state.specs.Edits as states
-use Rattle.gitconf_state.specs.State.{is_item}
+use Rattle.gitconf_state.specs.State.{State, is_item}
 use Rattle.gitconf_state.proofs.EditItems.{new_section_is}
 use Rattle.gitconf_state.specs.LineEnds.{file_line_end}
 use Rattle.gitconf_write.specs.LineEnds.{bytes_of_line_end}
@@ -39,16 +39,16 @@ returns-in_err-shared-clause-err c =
     (longer_state c.self.inside.buffer.items c.new_section.new.buffer.items c.self.inside.copies.items c.self.inside.front.items c.self.inside.meta.value c.self.inside.sections
     c.new_section.ensures.grows.extended c.self.invariant))
 
-pub invariant_of-self-in_err-push : goal.invariant_of-self-in_err-push
-invariant_of-self-in_err-push c =
+pub invariant_of-self-in_err-id : goal.invariant_of-self-in_err-id
+invariant_of-self-in_err-id c =
     let same : c.push.new.self ≡ c.self.inside.sections = search rules in
     rw same (longer_fits c.self.inside.buffer.items c.new_section.new.buffer.items c.self.inside.copies.items c.new_section.new.copies.items c.self.inside.front.items c.self.inside.meta.value c.self.inside.sections
     c.new_section.ensures.grows.extended c.new_section.ensures.extended c.new_section.ensures.grows.room c.self.invariant)
 
-pub returns-in_err-push-clause-err : goal.returns-in_err-push-clause-err
-returns-in_err-push-clause-err c =
+pub returns-in_err-id-clause-err : goal.returns-in_err-id-clause-err
+returns-in_err-id-clause-err c =
     let same : c.push.new.self ≡ c.self.inside.sections = search rules in
-    rw (← c.self.view_is) (if_err_at_all c.from_residual-in_err-push.result
+    rw (← c.self.view_is) (if_err_at_all c.from_residual-in_err-id.result
     (ap (state_of c.new_section.new.buffer.items c.self.inside.front.items c.self.inside.meta.value) same
     ∙ longer_state c.self.inside.buffer.items c.new_section.new.buffer.items c.self.inside.copies.items c.self.inside.front.items c.self.inside.meta.value c.self.inside.sections
     c.new_section.ensures.grows.extended c.self.invariant))
@@ -73,9 +73,10 @@ invariant_of-self-2 c =
     let named : is_made_name name ≡ true = search rules in
     let valid : is_valid_or_none subsection ≡ true = search rules in
     let after : c.push.new.self ≡ with_last name subsection s c.self.inside.sections = search rules in
-    let line_end : bytes_of_line_end c.line_end-line_end.result ≡ file_line_end c.self.old = c.line_end-line_end.ensures in
+    let state : State = state_of c.self.inside.buffer.items c.self.inside.front.items c.self.inside.meta.value c.self.inside.sections in
+    let line_end : bytes_of_line_end c.line_end-line_end.result ≡ file_line_end state = c.line_end-line_end.ensures ∙ ap file_line_end (sym c.self.view_is) in
     let all : list_all is_item items ≡ true =
-      subst (λ l. list_all is_item (LineEndsItem l ∷ []) ≡ true) (sym line_end) (new_section_is name subsection c.self.old named valid).items in
+      subst (λ l. list_all is_item (LineEndsItem l ∷ []) ≡ true) (sym line_end) (new_section_is name subsection state named valid).items in
     made_fits c.self.inside.buffer.items c.new_section.new.buffer.items c.self.inside.copies.items c.new_section.new.copies.items c.self.inside.front.items c.self.inside.meta.value c.self.inside.sections c.push.new.self
     s name subsection items
     c.new_section.ensures.grows.extended c.new_section.ensures.extended c.new_section.ensures.grows.room c.self.invariant made after named valid all

@@ -7,7 +7,7 @@ use Rattle.gitconf_parse.specs.Events.{header_of}
 use Rattle.gitconf_text.specs.Part.{LineEndsItem}
 use Rattle.gitconf_state.specs.Edit.{made_header, new_section, set_value, with_used}
 use Rattle.gitconf_state.specs.Edits as states
-use Rattle.gitconf_state.specs.State.{is_item}
+use Rattle.gitconf_state.specs.State.{State, is_item}
 use Rattle.gitconf_state.proofs.EditItems.{file_line_end_is, new_section_is, section_with_is}
 use Rattle.gitconf_state.specs.LineEnds.{file_line_end}
 use Rattle.gitconf_write.specs.LineEnds.{bytes_of_line_end}
@@ -73,10 +73,11 @@ invariant_of-self-2 c =
     let named : is_made_name name ≡ true = search rules in
     let valid : is_valid_or_none subsection ≡ true = search rules in
     let after : c.push.new.self ≡ with_last name subsection s c.self.inside.sections = search rules in
-    let line_end : bytes_of_line_end c.line_end-line_end.result ≡ file_line_end c.self.old = c.line_end-line_end.ensures in
+    let state : State = state_of c.self.inside.buffer.items c.self.inside.front.items c.self.inside.meta.value c.self.inside.sections in
+    let line_end : bytes_of_line_end c.line_end-line_end.result ≡ file_line_end state = c.line_end-line_end.ensures ∙ ap file_line_end (sym c.self.view_is) in
     let all : list_all is_item items ≡ true =
       subst (λ l. list_all is_item (set_value l c.args.key.now c.args.value.now (LineEndsItem l ∷ [])) ≡ true) (sym line_end)
-      (section_with_is (file_line_end c.self.old) c.args.key.now c.args.value.now (new_section name subsection c.self.old) c.requires.key (file_line_end_is c.self.old) (new_section_is name subsection c.self.old named valid)).items in
+      (section_with_is (file_line_end state) c.args.key.now c.args.value.now (new_section name subsection state) c.requires.key (file_line_end_is state) (new_section_is name subsection state named valid)).items in
     made_fits c.self.inside.buffer.items c.section_with.new.buffer.items c.self.inside.copies.items c.section_with.new.copies.items c.self.inside.front.items c.self.inside.meta.value c.self.inside.sections c.push.new.self
     s name subsection items
     c.section_with.ensures.grows.extended c.section_with.ensures.extended c.section_with.ensures.grows.room c.self.invariant made after named valid all
