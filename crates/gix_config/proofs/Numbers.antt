@@ -17,6 +17,9 @@ numbered_stands id state stands =
     let l = last_at (λ (s : SectionState). s.number == id) state.sections stands in
     (l.found, ap (λ ss. last_or None (filter (λ (s : SectionState). s.number == id) ss)) l.is ∙ last_passing (λ (s : SectionState). s.number == id) None l.before l.found l.behind l.passes l.none)
 
+pub number_missing : (id : ℕ) (state : State) → has_number id state ≡ true → numbered id state ≡ None → ⊥
+number_missing id state stands none = let s = numbered_stands id state stands in let no = sym none ∙ s.1 in absurd (cc)
+
 -- sections that are changed keep their numbers
 numbers_kept : (id : ℕ) (change : SectionState → SectionState) → ((s : SectionState) → (change s).number ≡ s.number) → (ss : List SectionState)
     → list_any (λ (s : SectionState). s.number == id) (map change ss) ≡ list_any (λ (s : SectionState). s.number == id) ss
@@ -43,6 +46,7 @@ edited_in {T} edit id result count old new stands ok err puts within =
     go : (o : Option SectionState) → ((s : SectionState) × (o ≡ Some s)) → IfSome o (λ _. UsedGrows {T = T} result count old.used new.used) → UsedGrows {T = T} result count old.used new.used
     go None some there = absurd (let h = some.1 in cc)
     go (Some s) some there = there
+
     large : (r : Result T ℕ) → UsedGrows {T = T} r count old.used new.used → IfErr r (λ e. e ≡ 3 → 2 ^ 32 ≤ old.used + new_bytes edit old)
     large (Ok t) used = tt
     large (Err e) used = λ is. let g = used.too_large (ap Err is) in omega (arith, g, within)

@@ -9,7 +9,7 @@ use gitconf_write::line_end::LineEnd;
 
 impl File {
     ghost use Rattle.std.specs.Option.{option_copied};
-    ghost use Rattle.std.specs.Prelude.{◌≡◌, ◌↔◌, [], true, false, IfOk, IsErrOf, IfSome, IsOk, None, OnOk, OnErr, option_map};
+    ghost use Rattle.std.specs.Prelude.{◌≡◌, ◌↔◌, [], true, false, IfOk, IsErrOf, IfSome, IsOk, None, Some, OnOk, OnErr, option_map};
     ghost use Rattle.gitconf_text.specs.Names.{is_made_name, is_valid_or_none, is_value_name};
     ghost use Rattle.gitconf_state.specs.Edit.{spacing_of, with_used};
     ghost use Rattle.gitconf_state.specs.Edits.{answer, apply, numbered, Entry, IsEditor, NewSection, Pop, Push, PushLineEnd, Raw, Remove, SetValue};
@@ -102,15 +102,23 @@ impl File {
         self.store.pop_entry(id)
     }
 
+    /// The section of a number that one has.
+    pub(crate) fn section_of(&self, id: SectionId) -> SectionRef<'_>
+        requires { has_number id self.now ≡ true }
+        ensures { numbered id self.now ≡ Some (shown result) }
+    {
+        match self.store.section_by_id(id) {
+            Some(section) => section,
+            None => unreachable!(),
+        }
+    }
+
     /// The blanks that the section of a number has.
     pub(crate) fn blanks_of(&self, id: SectionId) -> Result<Blanks, NoMemory>
         requires { has_number id self.now ≡ true }
         ensures { IfOk result (λ blanks. IfSome (numbered id self.now) (λ s. blanks ≡ spacing_of s.items)) }
     {
-        match self.store.section_by_id(id) {
-            Some(section) => section.blanks(),
-            None => unreachable!(),
-        }
+        self.section_of(id).blanks()
     }
 
     /// The line end that the file uses.

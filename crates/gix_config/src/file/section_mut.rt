@@ -6,8 +6,6 @@ ghost use Rattle.gix_config.specs.Edited.{has_number};
 mod making;
 mod reading;
 
-pub use making::Error;
-
 use crate::file::section::value;
 use crate::file::{File, SectionId};
 use bstr::BString;
@@ -17,6 +15,7 @@ use gitconf_text::parse::section::ValueNameError;
 use gitconf_text::parse::section::bytes::is_value_name;
 use gitconf_text::parse::span;
 use gitconf_write::line_end::LineEnd;
+pub use making::Error;
 
 /// An editor of one section of a file. What it writes beside names and values stays as it was when the editor was made, also while the
 /// section changes: the blanks before a name, those around `=`, and the line end, the file's.

@@ -3,10 +3,9 @@ ghost use Rattle.std.specs.Option.{option_copied};
 ghost use Rattle.std.specs.Prelude.{◌≡◌};
 ghost use Rattle.gix_config.specs.Edited.{unless_none};
 
-use crate::file::Metadata;
 use crate::file::section::{BodyRef, HeaderRef, ValueNames};
 use crate::file::section_mut::SectionMut;
-use crate::file::{SectionId, SectionRef};
+use crate::file::{Metadata, SectionId, SectionRef};
 use bstr::BString;
 use gitconf_text::NoMemory;
 
@@ -37,10 +36,7 @@ impl<'a> SectionMut<'a> {
         ensures section { numbered (number_of self.now) (edited self.now) ≡ Some (shown result) }
         ensures items { (shown result).items ≡ items_of_numbered (number_of self.now) (edited self.now) }
     {
-        match self.file.section_by_id(self.id) {
-            Some(section) => section,
-            None => unreachable!(),
-        }
+        self.file.section_of(self.id)
     }
 
     /// The section's header.
