@@ -35,8 +35,10 @@ last_any {A} test other o (y ∷ ys) x has is = go (test y) refl is (λ p. last_
     more : (p : Option A) → ((p ≡ Some x) ⊎ (list_any other ys ≡ true)) → (p ≡ Some x → (o ≡ Some x) ⊎ (list_any other (y ∷ ys) ≡ true)) → (o ≡ Some x) ⊎ (list_any other (y ∷ ys) ≡ true)
     more p (inl same) f = f same
     more p (inr any) f = inr (or_right (other y) (list_any other ys) any)
+
     here : Some y ≡ Some x → (o ≡ Some x) ⊎ (list_any other (y ∷ ys) ≡ true)
     here same = let it : x ≡ y = cc in inr (let first : other y ≡ true = subst (λ z. other z ≡ true) it has in rw first refl)
+
     go : (b : Bool) → test y ≡ b → last_or o (filter test (y ∷ ys)) ≡ Some x → ((p : Option A) → last_or p (filter test ys) ≡ Some x → (p ≡ Some x) ⊎ (list_any other ys ≡ true))
         → (o ≡ Some x) ⊎ (list_any other (y ∷ ys) ≡ true)
     go true e is later = more (Some y) (later (Some y) (rw e at is)) here

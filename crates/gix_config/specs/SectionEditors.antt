@@ -1,11 +1,14 @@
 -- Editors of a section: the file, the section's number, and what they write beside names and values.
-use Rattle.std.specs.Prelude.{◌≡◌, ◌≢◌, ℕ, Bool, true, List, Option, Some, None, Result, Ok, Err}
+use Rattle.std.specs.Prelude.{◌≡◌, ◌≢◌, ℕ, Bool, true, false, List, IfOk, IsErrOf, Option, Some, None, Result, Ok, Err}
 use Rattle.std.specs.Option.{option_map}
 use Rattle.std.specs.Borrow.{GName}
+use Rattle.gitconf_text.specs.Names.{is_made_name, is_valid_or_none}
 use Rattle.gitconf_text.specs.SectionKeys.{SectionKey}
+use Rattle.gitconf_text.specs.declared.parse.section.header.Error.{Error as HeaderError}
+use Rattle.gitconf_text.specs.declared.parse.section.header.Error.TheVariants.{InvalidName, InvalidSubSection}
 use Rattle.gitconf_base.specs.Metadata.{Meta}
-use Rattle.gitconf_state.specs.Edit.{Spacing, spacing_of}
-use Rattle.gitconf_state.specs.Edits.{numbered}
+use Rattle.gitconf_state.specs.Edit.{new_section, Spacing, spacing_of, with_used}
+use Rattle.gitconf_state.specs.Edits.{NewSection, apply, numbered}
 use Rattle.gitconf_state.specs.Editors.{Editor, editor_of}
 use Rattle.gitconf_state.specs.Lookup.{listed, miss_of}
 use Rattle.gitconf_state.specs.State.{SectionState, State}
@@ -33,6 +36,10 @@ number_of e = e.id
 -- what it writes
 abbrev pub editor : SectionMut Spacing → Editor
 editor e = editor_with e.blanks e.line_end e.ends
+
+-- an editor with other blanks before names
+abbrev pub with_leading : Option (List ℕ) → Editor → Editor
+with_leading leading e = record { spacing = record { leading = leading; before = e.spacing.before; behind = e.spacing.behind }; line_end = e.line_end; ends = e.ends }
 
 -- where it stands, and what it writes
 abbrev pub told : SectionMut Spacing → ℕ × Editor

@@ -47,6 +47,7 @@ impl File {
     ghost use Rattle.std.specs.Fn.{ComputesKey};
     ghost use Rattle.std.specs.Option.{option_copied, option_map};
     ghost use Rattle.std.specs.Prelude.{◌≡◌, ◌↔◌, Bool, false, true, IfOk, IsErrOf};
+    ghost use Rattle.gitconf_text.specs.declared.parse.section.header.Error.TheVariants.{InvalidName, InvalidSubSection};
     ghost use Rattle.gitconf_text.specs.Names.{is_made_name, is_valid_or_none};
     ghost use Rattle.gitconf_text.specs.SectionKeys.{parsed_section_key};
     ghost use Rattle.gitconf_base.specs.Metadata.{Meta};
@@ -192,6 +193,30 @@ impl File {
         })
     }
 
+    /// As [`File::section_mut_filter`], by a key as in [`File::section_mut_by_key`].
+    ///
+    /// # Errors
+    ///
+    /// Refusal 9 where the name isn't UTF-8, and those of [`File::section_mut_filter`].
+    pub fn section_mut_filter_by_key<F: FnMut(&Metadata) -> bool>(
+        &mut self,
+        section_key: &[u8],
+        filter: F,
+    ) -> Result<SectionMut<'_>, Error>
+        requires { F.IsAlwaysCallable filter }
+        ensures same_file { IfOk result (λ e. lent e ≡ self.entry.ghost_name) }
+        ensures same_state { IfOk result (λ e. edited e ≡ self.old) }
+        // For a filter that answers by what it is shown.
+        ensures exact { (keeps : Meta → Bool) → ComputesKey F.FnMut keeps filter
+            → IsPassingEditorOfKey (parsed_section_key section_key.now) keeps self.old result }
+        ensures* refused { sem 𝓛 (RestsIfErr the_row self.entry lent result (λ n. n ≡ self.old)) }
+    {
+        let Some(key) = KeyRef::parse(section_key) else {
+            return Err(Error::Lookup(existing::Error::KeyMissing));
+        };
+        self.section_mut_filter(key.section_name, key.subsection_name, filter)
+    }
+
     /// An editor of the section of a number: no walk over sections, one over its items, and one over the file's up to the first line end.
     ///
     /// # Errors
@@ -232,14 +257,13 @@ impl File {
         ensures same_file { IfOk result (λ e. lent e ≡ self.entry.ghost_name) }
         ensures made { IfOk result (λ e. edited e ≡ with_used (edited e).used (apply (NewSection name.now (option_copied subsection_name.entry)) self.old)) }
         ensures editor { IfOk result (λ e. told e ≡ editor_at self.old (new_section name.now (option_copied subsection_name.entry) self.old)) }
-        ensures name { IsErrOf result header.Error.InvalidName → (is_made_name name.now ≡ false) }
-        ensures subsection { IsErrOf result header.Error.InvalidSubSection
-            → ((is_made_name name.now ≡ true) × (is_valid_or_none (option_copied subsection_name.entry) ≡ false)) }
+        ensures name { IsErrOf result InvalidName ↔ (is_made_name name.now ≡ false) }
+        ensures subsection { IsErrOf result InvalidSubSection
+            ↔ ((is_made_name name.now ≡ true) × (is_valid_or_none (option_copied subsection_name.entry) ≡ false)) }
         ensures* refused { sem 𝓛 (RestsIfErr the_row self.entry lent result (λ n. n ≡ with_used n.used self.old)) }
     {
-        let blanks = self.fresh_blanks()?;
         let line_end = self.line_end();
-        let id = self.make_section(name, subsection_name)?;
+        let (id, blanks) = self.make_section(name, subsection_name)?;
         Ok(SectionMut {
             file: self,
             id,
