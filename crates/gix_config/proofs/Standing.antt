@@ -3,6 +3,7 @@ use Rattle.std.proofs.Common.{◌≡◌, ◌≢◌, ◌⊎◌, ◌==◌, ◌||�
 use Rattle.std.specs.List.{last_or, list_any}
 use Rattle.std.specs.Option.{option_map}
 use Rattle.std.proofs.lemmas.Bool.{eq-eqb}
+use Rattle.gitconf_text.specs.declared.parse.section.header.Error.TheVariants as headers
 use Rattle.gitconf_base.specs.Metadata.{Meta}
 use Rattle.gitconf_state.specs.Edit.{Spacing}
 use Rattle.gitconf_state.specs.Edits.{numbered, with_sections}
@@ -21,7 +22,7 @@ use Rattle.gix_config.specs.declared.file.section_mut.making.Error.{Error}
 use Rattle.gix_config.specs.declared.file.section_mut.making.Error.TheVariants.{NonePasses, Lookup}
 use Rattle.gitconf_store.proofs.Numbering.{numbered_has}
 use Rattle.gix_config.specs.Edited.{has_number}
-use Rattle.gix_config.specs.SectionEditors.{blanks_at, editor_at, IsNumbered, IsPassing}
+use Rattle.gix_config.specs.SectionEditors.{blanks_at, editor_at, IsFoundOrMade, IsNumbered, IsPassing}
 
 or_right : (a b : Bool) → b ≡ true → (a || b) ≡ true
 or_right true b is = refl
@@ -133,3 +134,12 @@ number_found id state s is =
     go : ((None ≡ Some s) ⊎ (list_any (λ (t : SectionState). t.number == id) state.sections ≡ true)) → has_number id state ≡ true
     go (inl other) = absurd (cc)
     go (inr any) = any
+
+-- want of memory is no refusal of a name
+pub memory_refused : {T A : Type 0} (after : T → State) (shown : T → A) (give : SectionState → A) (name : List ℕ) (subsection : Option (List ℕ)) (keeps : Meta → Bool) (old : State)
+    → picked name subsection keeps old ≢ None → IsFoundOrMade {T = T} after shown give name subsection keeps old (Err headers.Memory)
+memory_refused after shown give name subsection keeps old some = record {
+  ok = tt;
+  invalid_name = (λ is. absurd (cc), λ none. absurd (some none.0));
+  invalid_subsection = (λ is. absurd (cc), λ none. absurd (some none.0));
+}

@@ -1,5 +1,5 @@
 -- Editors of a section: the file, the section's number, and what they write beside names and values.
-use Rattle.std.specs.Prelude.{◌≡◌, ◌≢◌, ℕ, Bool, true, false, List, IfOk, IsErrOf, Option, Some, None, Result, Ok, Err}
+use Rattle.std.specs.Prelude.{◌≡◌, ◌≢◌, ◌↔◌, ℕ, Bool, true, false, List, IfOk, IsErrOf, Option, Some, None, Result, Ok, Err}
 use Rattle.std.specs.Option.{option_map}
 use Rattle.std.specs.Borrow.{GName}
 use Rattle.gitconf_text.specs.Names.{is_made_name, is_valid_or_none}
@@ -81,3 +81,14 @@ IsEditorOfKey (Some key) state result = IsEditorFound key.section key.subsection
 abbrev pub IsPassingEditorOfKey : Option SectionKey → (keeps : Meta → Bool) → State → Result (SectionMut Spacing) Error → Type 0
 IsPassingEditorOfKey None keeps state result = result ≡ Err (Lookup KeyMissing)
 IsPassingEditorOfKey (Some key) keeps state result = IsPassing told (editor_at state) key.section key.subsection keeps state result
+
+-- What was found, in a state that stays; where nothing was, a section was made, and that is told of it. Refusals of names are of a section
+-- that has to be made.
+abbrev pub IsFoundOr : {A : Type 0} → (give : SectionState → A) → (name : List ℕ) → (subsection : Option (List ℕ)) → Option SectionState → (old new : State) → A → Type 0
+IsFoundOr give name subsection (Some s) old new told = (new ≡ old) × (told ≡ give s)
+IsFoundOr give name subsection None old new told = (new ≡ with_used new.used (apply (NewSection name subsection) old)) × (told ≡ give (new_section name subsection old))
+
+pub record IsFoundOrMade {T A : Type 0} (after : T → State) (shown : T → A) (give : SectionState → A) (name : List ℕ) (subsection : Option (List ℕ)) (keeps : Meta → Bool) (old : State) (result : Result T HeaderError) : Type 0 where
+  pub ok : IfOk result (λ t. IsFoundOr give name subsection (picked name subsection keeps old) old (after t) (shown t))
+  pub invalid_name : IsErrOf result InvalidName ↔ ((picked name subsection keeps old ≡ None) × (is_made_name name ≡ false))
+  pub invalid_subsection : IsErrOf result InvalidSubSection ↔ ((picked name subsection keeps old ≡ None) × (is_made_name name ≡ true) × (is_valid_or_none subsection ≡ false))

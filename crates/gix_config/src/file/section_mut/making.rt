@@ -46,7 +46,7 @@ impl File {
     ghost use Rattle.std.specs.Borrow.{sem, RestsIfErr};
     ghost use Rattle.std.specs.Fn.{ComputesKey};
     ghost use Rattle.std.specs.Option.{option_copied, option_map};
-    ghost use Rattle.std.specs.Prelude.{◌≡◌, ◌↔◌, Bool, false, true, IfOk, IsErrOf};
+    ghost use Rattle.std.specs.Prelude.{◌≡◌, ◌≢◌, ◌↔◌, Bool, false, true, IfOk, IfSome, IsErrOf, MatchResult, None, OnErr};
     ghost use Rattle.gitconf_text.specs.declared.parse.section.header.Error.TheVariants.{InvalidName, InvalidSubSection};
     ghost use Rattle.gitconf_text.specs.Names.{is_made_name, is_valid_or_none};
     ghost use Rattle.gitconf_text.specs.SectionKeys.{parsed_section_key};
@@ -58,7 +58,7 @@ impl File {
     ghost use Rattle.gitconf_store.specs.Picks.{picked};
     ghost use Rattle.gix_config.specs.contracts.file.File.{the_row};
     ghost use Rattle.gix_config.specs.Edited.{has_number};
-    ghost use Rattle.gix_config.specs.SectionEditors.{blanks_at, edited, editor_at, lent, told, IsEditorOfKey, IsNumbered, IsPassing, IsPassingEditorOfKey};
+    ghost use Rattle.gix_config.specs.SectionEditors.{blanks_at, edited, editor_at, lent, told, IsEditorOfKey, IsFoundOrMade, IsNumbered, IsPassing, IsPassingEditorOfKey};
 
     /// The number and the blanks of the last section that has the name and subsection.
     fn blanks_by_names(
@@ -98,6 +98,61 @@ impl File {
         };
         let blanks = blanks?;
         Ok((id, blanks))
+    }
+
+    /// The number and the blanks of the last section whose metadata passes the filter, if there is one.
+    fn blanks_if_passing<F: FnMut(&Metadata) -> bool>(
+        &self,
+        name: &str,
+        subsection_name: Option<&[u8]>,
+        filter: F,
+    ) -> Result<Option<(SectionId, Blanks)>, NoMemory>
+        requires { F.IsAlwaysCallable filter }
+        ensures exact { (keeps : Meta → Bool) → ComputesKey F.FnMut keeps filter
+            → MatchResult result (λ found. found ≡ option_map blanks_at (picked name.now (option_copied subsection_name.entry) keeps self.now))
+            (λ _. picked name.now (option_copied subsection_name.entry) keeps self.now ≢ None) }
+        ensures stands { IfOk result (λ found. IfSome found (λ f. has_number f.0 self.now ≡ true)) }
+    {
+        let (id, blanks) = match self.section_filter(name, subsection_name, filter) {
+            Ok(Some(section)) => (section.id(), section.blanks()),
+            Ok(None) => return Ok(None),
+            Err(_) => return Ok(None),
+        };
+        let blanks = blanks?;
+        Ok(Some((id, blanks)))
+    }
+
+    /// The same; where there is none, a section is made.
+    fn find_or_make<F: FnMut(&Metadata) -> bool>(
+        &mut self,
+        name: &str,
+        subsection_name: Option<&[u8]>,
+        filter: F,
+    ) -> Result<(SectionId, Blanks), header::Error>
+        requires { F.IsAlwaysCallable filter }
+        ensures exact { (keeps : Meta → Bool) → ComputesKey F.FnMut keeps filter
+            → IsFoundOrMade (λ _. self.new) (λ f. f) blanks_at name.now (option_copied subsection_name.entry) keeps self.old result }
+        ensures stands { IfOk result (λ f. has_number f.0 self.new ≡ true) }
+        ensures err { OnErr result (self.new ≡ with_used self.new.used self.old) }
+    {
+        match self.blanks_if_passing(name, subsection_name, filter) {
+            Ok(Some(found)) => Ok(found),
+            Ok(None) => self.make_section(name, subsection_name),
+            Err(_) => Err(header::Error::Memory),
+        }
+    }
+
+    /// The same, without a filter.
+    fn find_any_or_make(
+        &mut self,
+        name: &str,
+        subsection_name: Option<&[u8]>,
+    ) -> Result<(SectionId, Blanks), header::Error>
+        ensures exact { IsFoundOrMade (λ _. self.new) (λ f. f) blanks_at name.now (option_copied subsection_name.entry) (λ _. true) self.old result }
+        ensures stands { IfOk result (λ f. has_number f.0 self.new ≡ true) }
+        ensures err { OnErr result (self.new ≡ with_used self.new.used self.old) }
+    {
+        self.find_or_make(name, subsection_name, |_| true)
     }
 
     /// The blanks of the section of a number.
@@ -264,6 +319,61 @@ impl File {
     {
         let line_end = self.line_end();
         let (id, blanks) = self.make_section(name, subsection_name)?;
+        Ok(SectionMut {
+            file: self,
+            id,
+            blanks,
+            line_end,
+            ends: true,
+        })
+    }
+
+    /// As [`File::section_mut`]; where there is no such section one is made, as by [`File::new_section`].
+    ///
+    /// # Errors
+    ///
+    /// Where a section is made, those of [`File::new_section`]; else want of memory. The file is then as it was.
+    pub fn section_mut_or_create_new(
+        &mut self,
+        name: &str,
+        subsection_name: Option<&[u8]>,
+    ) -> Result<SectionMut<'_>, header::Error>
+        ensures same_file { IfOk result (λ e. lent e ≡ self.entry.ghost_name) }
+        ensures exact { IsFoundOrMade edited told (editor_at self.old) name.now (option_copied subsection_name.entry) (λ _. true) self.old result }
+        ensures* refused { sem 𝓛 (RestsIfErr the_row self.entry lent result (λ n. n ≡ with_used n.used self.old)) }
+    {
+        let line_end = self.line_end();
+        let (id, blanks) = self.find_any_or_make(name, subsection_name)?;
+        Ok(SectionMut {
+            file: self,
+            id,
+            blanks,
+            line_end,
+            ends: true,
+        })
+    }
+
+    /// As [`File::section_mut_filter`]; where no section passes one is made, as by [`File::new_section`], whether or not the filter would
+    /// pass it.
+    ///
+    /// # Errors
+    ///
+    /// Those of [`File::section_mut_or_create_new`].
+    pub fn section_mut_or_create_new_filter<F: FnMut(&Metadata) -> bool>(
+        &mut self,
+        name: &str,
+        subsection_name: Option<&[u8]>,
+        filter: F,
+    ) -> Result<SectionMut<'_>, header::Error>
+        requires { F.IsAlwaysCallable filter }
+        ensures same_file { IfOk result (λ e. lent e ≡ self.entry.ghost_name) }
+        // For a filter that answers by what it is shown.
+        ensures exact { (keeps : Meta → Bool) → ComputesKey F.FnMut keeps filter
+            → IsFoundOrMade edited told (editor_at self.old) name.now (option_copied subsection_name.entry) keeps self.old result }
+        ensures* refused { sem 𝓛 (RestsIfErr the_row self.entry lent result (λ n. n ≡ with_used n.used self.old)) }
+    {
+        let line_end = self.line_end();
+        let (id, blanks) = self.find_or_make(name, subsection_name, filter)?;
         Ok(SectionMut {
             file: self,
             id,
