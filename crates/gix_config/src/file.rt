@@ -11,6 +11,7 @@ pub mod section;
 pub mod sections;
 mod typed;
 mod values;
+mod white_space;
 
 use bstr::BString;
 use gitconf_base::key::AsKey;
@@ -28,6 +29,7 @@ use gitconf_text::NoMemory;
 use std::alloc::Global;
 use std::marker::Model;
 use std::rc::Rc;
+pub use white_space::is_whitespace;
 
 /// The metadata with one owner, who may share it.
 fn shared(alloc: Global, meta: Metadata) -> Result<Rc<Metadata>, NoMemory>
