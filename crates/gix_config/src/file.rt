@@ -2,12 +2,14 @@
 ghost use Rattle.std.specs.Prelude.{◌≡◌, IfOk};
 
 mod all_values;
+mod editing;
 mod impls;
 pub mod includes;
 pub mod init;
 mod look_ups;
 mod removing;
 pub mod section;
+pub mod section_mut;
 pub mod sections;
 mod typed;
 mod values;
@@ -26,6 +28,7 @@ pub use gitconf_store::set_raw_value;
 use gitconf_store::store::Store;
 pub use gitconf_table::table::SectionId;
 use gitconf_text::NoMemory;
+pub use section_mut::SectionMut;
 use std::alloc::Global;
 use std::marker::Model;
 use std::rc::Rc;
