@@ -1,6 +1,6 @@
 -- A section that stands alone with other items, in a longer buffer.
-use Rattle.std.proofs.Common.{◌≡◌, ℕ, ◌<◌, ◌^◌, true, List, [], length, Option, refl, ap, sym, subst, ◌∙◌, inl, inr}
-use Rattle.std.specs.Prelude.{◌⊎◌}
+use Rattle.std.proofs.Common.{◌≡◌, ℕ, ◌+◌, ◌<◌, ◌≤◌, ◌^◌, true, List, [], length, Option, Result, Ok, Err, arith, refl, ap, sym, subst, ◌∙◌, inl, inr}
+use Rattle.std.specs.Prelude.{◌⊎◌, OnErr, OnOk}
 use Rattle.std.specs.List.{list_all}
 use Rattle.gitconf_text.specs.Names.{is_made_name, is_valid_or_none}
 use Rattle.gitconf_text.specs.Part as parts
@@ -12,16 +12,22 @@ use Rattle.gitconf_parse.specs.Events.{header_of}
 use Rattle.gitconf_parse.specs.ItemsFit.{AreItemsWithin}
 use Rattle.gitconf_parse.specs.ShownEvents.{IsExtended, IsShown}
 use Rattle.gitconf_parse.proofs.Shown.{is_shown_more}
-use Rattle.gitconf_state.specs.Edit.{header_bytes, made_header}
-use Rattle.gitconf_state.specs.Edits.{renamed}
+use Rattle.gitconf_state.specs.Edit.{header_bytes, made_header, token_bytes}
+use Rattle.gitconf_state.specs.Editors.{value_set}
+use Rattle.gitconf_state.specs.Edits.{renamed, value_set_tokens, Detached}
 use Rattle.gitconf_state.specs.State.{is_header, is_item}
 use Rattle.gitconf_state.proofs.EditItems.{made_header_is}
 use Rattle.gitconf_write.specs.Bodies.{items_of}
+use Rattle.gitconf_body.specs.declared.editor.Editor.{Editor}
+use Rattle.gitconf_body.specs.Editors.{set_put}
 use Rattle.gitconf_body.proofs.Buffers.{extended_fit, extended_items}
 use Rattle.gitconf_store.specs.declared.section.Section.{Section}
-use Rattle.gitconf_store.specs.Alone.{detached_of, made_alone, with_items, StandsAlone}
+use Rattle.gitconf_store.specs.Alone.{detached_of, made_alone, with_items, IsEditedAlone, StandsAlone}
+use Rattle.gitconf_store.specs.Editors.{given_editor}
+use Rattle.gitconf_store.specs.Edits.{UsedGrows}
 use Rattle.gitconf_store.specs.Store.{section_under}
 use Rattle.gitconf_store.proofs.Append.{header_more, header_shown_more}
+use Rattle.gitconf_store.proofs.LineBytes.{set_within}
 use Rattle.gitconf_store.proofs.Setting.{HasOthers}
 
 -- its header in the longer buffer
@@ -121,3 +127,27 @@ made_alone_is b s name subsection meta made from empty none count = λ i. record
   section = record { number = no_number; header = made i; meta = from i; items = items_of b (empty i); held = items_of b (none i) };
   used = count i;
 }
+
+-- What was put is no longer than the tokens.
+pub done_alone : {T : Type 0} (r : Result T ℕ) (change : List parts.Item → List parts.Item) (count bytes : ℕ) (old new : Detached) → OnOk r (new.section ≡ with_items change old.section)
+    → OnErr r (new.section ≡ old.section) → UsedGrows r count old.used new.used → count ≤ bytes → IsEditedAlone change bytes (λ e. e) r old new
+done_alone (Ok t) change count bytes old new ok err used within = record { ok = ok; err = err; grown = let g = used.grown in omega (arith, g, within); too_large = tt }
+done_alone (Err e) change count bytes old new ok err used within =
+    record { ok = ok; err = err; grown = let g = used.grown in omega (arith, g, within); too_large = λ is. let g = used.too_large (ap Err is) in omega (arith, g, within) }
+
+-- The same where the answer or the refusal is passed on.
+pub done_with : {T U E : Type 0} (t : T) (u : U) (number : E → ℕ) (change : List parts.Item → List parts.Item) (bytes : ℕ) (old new : Detached)
+    → IsEditedAlone change bytes (λ e. e) (Ok t) old new → IsEditedAlone change bytes number (Ok u) old new
+done_with t u number change bytes old new done = record { ok = done.ok; err = tt; grown = done.grown; too_large = tt }
+
+pub refused_with : {T U E : Type 0} (n : ℕ) (e : E) (number : E → ℕ) (change : List parts.Item → List parts.Item) (bytes : ℕ) (old new : Detached) → number e ≡ n
+    → IsEditedAlone {T = T} change bytes (λ e. e) (Err n) old new → IsEditedAlone {T = U} change bytes number (Err e) old new
+refused_with n e number change bytes old new is done = record { ok = tt; err = done.err; grown = done.grown; too_large = λ three. done.too_large (sym is ∙ three) }
+
+-- A value is set in it.
+pub set_done : {T : Type 0} (e : Editor) (key name value : List ℕ) (r : Result T ℕ) (old new : Detached) → key ≡ name → OnOk r (new.section ≡ with_items (value_set (given_editor e) key value) old.section)
+    → OnErr r (new.section ≡ old.section) → UsedGrows r (set_put e key value old.section.items) old.used new.used
+    → IsEditedAlone (value_set (given_editor e) name value) (token_bytes (value_set_tokens (given_editor e) name value old.section.items)) (λ e. e) r old new
+set_done e key name value r old new same ok err used =
+    subst (λ k. IsEditedAlone (value_set (given_editor e) k value) (token_bytes (value_set_tokens (given_editor e) k value old.section.items)) (λ e. e) r old new) same
+    (done_alone r (value_set (given_editor e) key value) _ _ old new ok err used (set_within [] e key value old.section.items))

@@ -1,5 +1,5 @@
 -- A section that stands alone, in a buffer of its own.
-use Rattle.std.specs.Prelude.{◌≡◌, ℕ, ◌<◌, ◌^◌, ◌==◌, Bool, true, List, [], ◌∷◌, length, Option}
+use Rattle.std.specs.Prelude.{◌≡◌, ℕ, ◌<◌, ◌≤◌, ◌+◌, ◌^◌, ◌==◌, Bool, true, List, [], ◌∷◌, length, Option, Result, IfErr, OnErr, OnOk}
 use Rattle.std.specs.List.{list_all, list_any}
 use Rattle.gitconf_text.specs.HeaderErrors.{header_number}
 use Rattle.gitconf_text.specs.Part as parts
@@ -49,3 +49,11 @@ pub record StandsAlone (buffer copies : List ℕ) (s : Section) : Type 0 where
   pub spelled : is_header (header_of buffer s.header) ≡ true
   pub items : list_all is_item (items_of buffer s.items.items) ≡ true
   pub none_held : s.held.items ≡ []
+
+-- An editor's edit was done, or refused, and the section is then as it was. No more bytes are put into its buffer than the edit's tokens have;
+-- refusal 3 comes only where these would pass the limit.
+pub record IsEditedAlone {T E : Type 0} (change : List parts.Item → List parts.Item) (bytes : ℕ) (number : E → ℕ) (result : Result T E) (old new : Detached) : Type 0 where
+  pub ok : OnOk result (new.section ≡ with_items change old.section)
+  pub err : OnErr result (new.section ≡ old.section)
+  pub grown : new.used ≤ old.used + bytes
+  pub too_large : IfErr result (λ e. number e ≡ 3 → 2 ^ 32 ≤ old.used + bytes)

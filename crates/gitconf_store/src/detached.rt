@@ -16,6 +16,8 @@ ghost use Rattle.gitconf_store.specs.Store.{section_under};
 ghost use Rattle.gitconf_store.specs.Alone.{alone, StandsAlone};
 
 mod editing;
+pub mod editor;
+mod writing;
 
 use crate::section;
 use crate::section::{SectionRef, shared};
