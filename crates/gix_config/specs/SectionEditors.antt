@@ -4,7 +4,7 @@ use Rattle.std.specs.Option.{option_map}
 use Rattle.std.specs.Borrow.{GName}
 use Rattle.gitconf_text.specs.SectionKeys.{SectionKey}
 use Rattle.gitconf_base.specs.Metadata.{Meta}
-use Rattle.gitconf_state.specs.Edit.{Spacing}
+use Rattle.gitconf_state.specs.Edit.{Spacing, spacing_of}
 use Rattle.gitconf_state.specs.Edits.{numbered}
 use Rattle.gitconf_state.specs.Editors.{Editor, editor_of}
 use Rattle.gitconf_state.specs.Lookup.{listed, miss_of}
@@ -42,6 +42,24 @@ told e = (number_of e, editor e)
 abbrev pub editor_at : State → SectionState → ℕ × Editor
 editor_at state s = (s.number, editor_of state s)
 
+-- the blanks of a section, under its number
+abbrev pub blanks_at : SectionState → ℕ × Spacing
+blanks_at s = (s.number, spacing_of s.items)
+
+-- What was found of the last section of the name and subsection that passes; it is told where there are some and none passes.
+abbrev pub IsPassing : {T A : Type 0} → (shown : T → A) → (give : SectionState → A)
+    → (name : List ℕ) → (subsection : Option (List ℕ)) → (keeps : Meta → Bool) → State → Result T Error → Type 0
+IsPassing shown give name subsection keeps state (Ok found) = option_map give (picked name subsection keeps state) ≡ Some (shown found)
+IsPassing shown give name subsection keeps state (Err NonePasses) = HasSection name subsection state × (picked name subsection keeps state ≡ None)
+IsPassing shown give name subsection keeps state (Err (Lookup Memory)) = picked name subsection keeps state ≢ None
+IsPassing shown give name subsection keeps state (Err (Lookup refusal)) = IsMissing name subsection state refusal
+
+-- What was found of the section of the number.
+abbrev pub IsNumbered : {T A : Type 0} → (shown : T → A) → (give : SectionState → A) → (number : ℕ) → State → Result T Error → Type 0
+IsNumbered shown give number state (Ok found) = option_map give (numbered number state) ≡ Some (shown found)
+IsNumbered shown give number state (Err NonePasses) = numbered number state ≡ None
+IsNumbered shown give number state (Err (Lookup refusal)) = (refusal ≡ Memory) × (numbered number state ≢ None)
+
 -- the last section of the name and subsection has an editor, or it is told what is missing
 abbrev pub IsEditorFound : (name : List ℕ) → (subsection : Option (List ℕ)) → State → Result (SectionMut Spacing) Existing → Type 0
 IsEditorFound name subsection state result =
@@ -52,19 +70,7 @@ abbrev pub IsEditorOfKey : Option SectionKey → State → Result (SectionMut Sp
 IsEditorOfKey None state result = result ≡ Err KeyMissing
 IsEditorOfKey (Some key) state result = IsEditorFound key.section key.subsection state result
 
--- the last one that passes; it is told where there are some and none passes
-abbrev pub IsPassingEditor : (name : List ℕ) → (subsection : Option (List ℕ)) → (keeps : Meta → Bool) → State → Result (SectionMut Spacing) Error → Type 0
-IsPassingEditor name subsection keeps state (Ok e) = option_map (editor_at state) (picked name subsection keeps state) ≡ Some (told e)
-IsPassingEditor name subsection keeps state (Err NonePasses) = HasSection name subsection state × (picked name subsection keeps state ≡ None)
-IsPassingEditor name subsection keeps state (Err (Lookup Memory)) = picked name subsection keeps state ≢ None
-IsPassingEditor name subsection keeps state (Err (Lookup refusal)) = IsMissing name subsection state refusal
-
+-- with a filter
 abbrev pub IsPassingEditorOfKey : Option SectionKey → (keeps : Meta → Bool) → State → Result (SectionMut Spacing) Error → Type 0
 IsPassingEditorOfKey None keeps state result = result ≡ Err (Lookup KeyMissing)
-IsPassingEditorOfKey (Some key) keeps state result = IsPassingEditor key.section key.subsection keeps state result
-
--- the section of the number
-abbrev pub IsNumberedEditor : (number : ℕ) → State → Result (SectionMut Spacing) Error → Type 0
-IsNumberedEditor number state (Ok e) = option_map (editor_at state) (numbered number state) ≡ Some (told e)
-IsNumberedEditor number state (Err NonePasses) = numbered number state ≡ None
-IsNumberedEditor number state (Err (Lookup refusal)) = (refusal ≡ Memory) × (numbered number state ≢ None)
+IsPassingEditorOfKey (Some key) keeps state result = IsPassing told (editor_at state) key.section key.subsection keeps state result

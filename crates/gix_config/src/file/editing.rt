@@ -113,26 +113,11 @@ impl File {
         }
     }
 
-    /// The blanks that the section of a number has.
-    pub(crate) fn blanks_of(&self, id: SectionId) -> Result<Blanks, NoMemory>
-        requires { has_number id self.now ≡ true }
-        ensures { IfOk result (λ blanks. IfSome (numbered id self.now) (λ s. blanks ≡ spacing_of s.items)) }
-    {
-        self.section_of(id).blanks()
-    }
-
     /// The line end that the file uses.
     pub(crate) fn line_end(&self) -> LineEnd
         ensures { bytes_of_line_end result ≡ file_line_end self.now }
     {
         self.store.line_end()
-    }
-
-    /// The section of a number, if there is one.
-    pub(crate) fn section_by_id(&self, id: SectionId) -> Option<SectionRef<'_>>
-        ensures { option_map shown result ≡ numbered id self.now }
-    {
-        self.store.section_by_id(id)
     }
 
     /// The blanks of a body without entries.
