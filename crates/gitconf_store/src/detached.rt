@@ -17,6 +17,7 @@ ghost use Rattle.gitconf_store.specs.Alone.{alone, StandsAlone};
 
 mod editing;
 pub mod editor;
+mod editor_views;
 mod writing;
 
 use crate::section;
@@ -139,7 +140,7 @@ impl SectionRef<'_> {
 }
 
 /// The bytes of a text, if there is one.
-fn bytes_of(text: &Option<BString>) -> Option<&[u8]>
+pub(crate) fn bytes_of(text: &Option<BString>) -> Option<&[u8]>
     ensures { option_copied result ≡ option_map bstring_bytes text.now }
 {
     match text {

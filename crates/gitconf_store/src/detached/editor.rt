@@ -1,19 +1,21 @@
 //! The editor of a section that stands in no file.
-use crate::detached::Section;
 use crate::detached::writing::text_of;
-use crate::section::{SectionRef, value};
+use crate::detached::{Section, bytes_of};
+use crate::section::value;
 use bstr::BString;
+use gitconf_base::source::Trust;
 use gitconf_body::blanks::Blanks;
 use gitconf_text::NoMemory;
+use gitconf_text::parse::section::header;
 use gitconf_text::parse::span;
 use gitconf_write::line_end::LineEnd;
 
 /// An editor of a section that stands in no file. What it writes beside names and values stays as it was when the editor was made, also
 /// while the section changes: the blanks before a name, those around `=`, and the line end, that of the section's first newline, or LF.
 pub struct DetachedSectionMut<'a, B: Drop = Blanks> {
-    section: &'a mut Section,
-    blanks: B,
-    line_end: LineEnd,
+    pub(super) section: &'a mut Section,
+    pub(super) blanks: B,
+    pub(super) line_end: LineEnd,
     /// Whether a line end is put behind what is pushed.
     ends: bool,
 }
@@ -68,17 +70,19 @@ impl Section {
 
 impl<'a> DetachedSectionMut<'a> {
     ghost use Rattle.std.specs.Option.{option_copied};
-    ghost use Rattle.std.specs.Prelude.{◌≡◌, ◌↔◌, false, flat_map, length, IfOk, IsErrAnd, IsOk, None, OnErr, OnOk, Some, option_map};
+    ghost use Rattle.std.specs.Prelude.{◌≡◌, ◌↔◌, ◌+◌, ◌≤◌, ◌^◌, true, false, flat_map, length, IfErr, IfOk, IfSome, IsErrAnd, IsErrOf, IsOk, None, OnErr, OnOk, Some, option_map};
     ghost use Rattle.gitconf_text.specs.Token.{item_tokens};
     ghost use Rattle.bstr.specs.Owned.{bstring_bytes};
-    ghost use Rattle.gitconf_text.specs.Names.{is_value_name};
-    ghost use Rattle.gitconf_state.specs.Edit.{old_value, token_bytes};
+    ghost use Rattle.std.specs.List.{list_all};
+    ghost use Rattle.gitconf_text.specs.Bytes.{is_whitespace};
+    ghost use Rattle.gitconf_text.specs.Names.{is_made_name, is_valid_or_none, is_value_name};
+    ghost use Rattle.gitconf_text.specs.declared.parse.section.header.Error.TheVariants.{InvalidName, InvalidSubSection, Span};
+    ghost use Rattle.gitconf_state.specs.Edit.{header_bytes, old_value, token_bytes};
     ghost use Rattle.gitconf_state.specs.Editors.{line_end_pushed, line_made, pushed, removed, value_set};
-    ghost use Rattle.gitconf_state.specs.Edits.{value_set_tokens};
-    ghost use Rattle.gitconf_store.specs.Alone.{with_items, IsEditedAlone};
+    ghost use Rattle.gitconf_state.specs.Edits.{renamed, value_set_tokens, with_trust};
+    ghost use Rattle.gitconf_store.specs.Alone.{is_refusal_of_header, with_items, IsEditedAlone};
     ghost use Rattle.gitconf_store.specs.AloneEditors.{edited, editor, lent};
     ghost use Rattle.gitconf_store.specs.ValueErrors.{value_number};
-    ghost use Rattle.gitconf_store.specs.Views.{shown};
 
     /// Pushes a line behind the section's others: the blanks before a name, the name, and where a value is given `=` with the blanks around it
     /// and the value, spelled as a file has it; then the line end, unless it is switched off. It looks at no item. Takes memory for what is
@@ -186,18 +190,58 @@ impl<'a> DetachedSectionMut<'a> {
         self.ends = on;
         self
     }
-
-    /// The section as it now stands. Constant time, and no memory.
-    pub fn section(&self) -> SectionRef<'_>
-        ensures { shown result ≡ (edited self.now).section }
+    /// Gives the section a header that is made of a name and a subsection, as [`Section::new`] makes it. All else stays as it is.
+    ///
+    /// # Errors
+    ///
+    /// Those of [`Section::new`], number 3 exactly where the section's buffer would be longer than 4294967295 bytes. The section is then as
+    /// it was.
+    pub fn rename(
+        &mut self,
+        name: &str,
+        subsection_name: Option<BString>,
+    ) -> Result<(), header::Error>
+        ensures same_section { lent self.new ≡ lent self.old }
+        ensures same_editor { editor self.new ≡ editor self.old }
+        ensures ok { OnOk result ((edited self.new).section ≡ renamed name.now (option_map bstring_bytes subsection_name) (edited self.old).section) }
+        ensures invalid_name { IsErrOf result InvalidName ↔ (is_made_name name.now ≡ false) }
+        ensures invalid_subsection { IsErrOf result InvalidSubSection
+            ↔ ((is_made_name name.now ≡ true) × (is_valid_or_none (option_map bstring_bytes subsection_name) ≡ false)) }
+        ensures too_large { IsErrOf result (Span 3) ↔ ((is_made_name name.now ≡ true) × (is_valid_or_none (option_map bstring_bytes subsection_name) ≡ true)
+            × (2 ^ 32 ≤ (edited self.old).used + header_bytes name.now (option_map bstring_bytes subsection_name))) }
+        ensures known { IfErr result (λ e. is_refusal_of_header e ≡ true) }
+        ensures err { OnErr result ((edited self.new).section ≡ (edited self.old).section) }
+        ensures grown { (edited self.new).used ≤ (edited self.old).used + header_bytes name.now (option_map bstring_bytes subsection_name) }
     {
-        self.section.to_ref()
+        self.section.rename(name, bytes_of(&subsection_name))
     }
 
-    /// The line end that it writes.
-    pub fn newline(&self) -> &[u8]
-        ensures { result.now ≡ (editor self.now).line_end }
+    /// Gives the section another trust. All else stays as it is, and so does what shared its metadata. Takes memory for metadata of its own.
+    ///
+    /// # Errors
+    ///
+    /// Want of memory. The section is then as it was.
+    pub fn set_trust(&mut self, trust: Trust) -> Result<(), NoMemory>
+        ensures same_section { lent self.new ≡ lent self.old }
+        ensures same_editor { editor self.new ≡ editor self.old }
+        ensures ok { OnOk result (edited self.new ≡ record { section = with_trust trust (edited self.old).section; used = (edited self.old).used }) }
+        ensures err { OnErr result (edited self.new ≡ edited self.old) }
     {
-        self.line_end.as_bytes()
+        self.section.set_trust(trust)
+    }
+
+    /// Puts other blanks before names from now on, or none. They have to be ASCII white space. Takes memory for a copy of them.
+    ///
+    /// # Errors
+    ///
+    /// Want of memory. The blanks are then as they were.
+    pub fn set_leading_whitespace(&mut self, whitespace: Option<BString>) -> Result<(), NoMemory>
+        requires white { IfSome whitespace (λ blanks. list_all is_whitespace (bstring_bytes blanks) ≡ true) }
+        ensures same_section { lent self.new ≡ lent self.old }
+        ensures same_state { edited self.new ≡ edited self.old }
+        ensures ok { OnOk result (editor self.new ≡ record (editor self.old) { spacing = record (editor self.old).spacing { leading = option_map bstring_bytes whitespace } }) }
+        ensures err { OnErr result (editor self.new ≡ editor self.old) }
+    {
+        self.blanks.set_leading(bytes_of(&whitespace))
     }
 }
