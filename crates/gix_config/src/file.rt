@@ -22,6 +22,7 @@ use gitconf_parse::error::Error;
 use gitconf_parse::events::{Events, check_len};
 use gitconf_parse::sink::{Sink, SinkFault};
 pub use gitconf_store::detached::Section;
+pub use gitconf_store::detached::editor::DetachedSectionMut;
 pub use gitconf_store::events::ItemEvents;
 pub use gitconf_store::section::{SectionRef, Sections};
 pub use gitconf_store::set_raw_value;
