@@ -17,6 +17,10 @@ stands_last old bytes new s is start len = record {
   is = ap (λ b. take s.len (drop s.start b)) is ∙ ap (λ n. take s.len (drop n (old ++ bytes))) start ∙ ap (take s.len) (drop_at old bytes (length old) refl) ∙ take_all s.len bytes (omega (arith, len));
 }
 
+-- how long the buffer is then
+pub put_once : (old bytes new : List ℕ) → new ≡ old ++ bytes → length new ≡ length old + length bytes
+put_once old bytes new is = ap length is ∙ length-append old bytes
+
 -- what stood there stands there still
 pub stands_more : (old new : List ℕ) (s : Span) (bytes : List ℕ) → IsExtended old new → StandsAt old s bytes → StandsAt new s bytes
 stands_more old new s bytes e stands = record {

@@ -1,5 +1,5 @@
 //! Sections that are made.
-ghost use Rattle.std.specs.Prelude.{◌≡◌, ℕ, ◌+◌, ◌-◌, ◌<◌, ◌≤◌, ◌^◌, min, true, ◌∷◌, [], List, length, Some, None, IfOk, IsErrOf};
+ghost use Rattle.std.specs.Prelude.{◌≡◌, ℕ, ◌+◌, ◌-◌, ◌<◌, ◌≤◌, ◌^◌, min, true, ◌∷◌, [], List, length, Some, None, IfOk, OnOk, IsErrOf};
 ghost use Rattle.std.specs.Option.{option_copied};
 ghost use Rattle.gitconf_text.specs.Names.{is_valid_or_none};
 ghost use Rattle.gitconf_text.specs.Part as parts;
@@ -57,11 +57,12 @@ fn copy_of(
 }
 
 /// Puts the text of a header without a subsection into the buffer.
-#[tactic(auto, using(crate::proofs::Buffers::extending, crate::proofs::Headers::plain_shown))]
+#[tactic(auto, using(crate::proofs::Buffers::extending, crate::proofs::Buffers::put_once, crate::proofs::Headers::plain_shown))]
 fn append_plain(buffer: &mut Vec<u8>, name: &[u8]) -> Result<Header, span::Error>
     requires room { length buffer.old.items < 2 ^ 32 }
     ensures header { IfOk result (λ h. header_of buffer.new.items h ≡ made_header name.now None) }
     ensures shown { (copies : List ℕ) → IfOk result (λ h. IsShown buffer.new.items copies (events.SectionHeader h)) }
+    ensures put { OnOk result (length buffer.new.items ≡ length buffer.old.items + length name.now) }
     ensures grows { Grows result (length name.now) buffer.old.items buffer.new.items }
 {
     let name = append(buffer, name)?;
@@ -86,6 +87,7 @@ struct Quoted {
 fn append_quoted(buffer: &mut Vec<u8>, name: &[u8], spelling: &[u8]) -> Result<Quoted, span::Error>
     requires room { length buffer.old.items < 2 ^ 32 }
     ensures stands { IfOk result (λ q. QuotedStands buffer.new.items q name.now spelling.now) }
+    ensures put { OnOk result (length buffer.new.items ≡ length buffer.old.items + (length name.now + (1 + length spelling.now))) }
     ensures grows { Grows result (length name.now + (1 + length spelling.now)) buffer.old.items buffer.new.items }
 {
     let name = append(buffer, name)?;
@@ -115,6 +117,7 @@ fn append_header(
     requires valid { is_valid_or_none (option_copied subsection) ≡ true }
     ensures header { IfOk result (λ h. header_of buffer.new.items h ≡ made_header name.now (option_copied subsection.entry)) }
     ensures shown { IfOk result (λ h. IsShown buffer.new.items copies.new.items (events.SectionHeader h)) }
+    ensures put { OnOk result (length buffer.new.items ≡ length buffer.old.items + header_bytes name.now (option_copied subsection.entry)) }
     ensures grows { Grows result (header_bytes name.now (option_copied subsection.entry)) buffer.old.items buffer.new.items }
     ensures extended { IsExtended copies.old.items copies.new.items }
 {
@@ -157,6 +160,33 @@ fn header_len(name: &[u8], subsection: Option<&[u8]>) -> usize
             .saturating_add(escaped_subsection_len(subsection)),
         None => name.len(),
     }
+}
+
+/// A header that is made of these names. Takes memory for its text in the buffer, and for a copy of its subsection, where that isn't what
+/// is spelled, behind the others.
+///
+/// # Errors
+///
+/// A [`span::Error`]: number 3 exactly where the buffer would be longer than 4294967295 bytes, before any growth, and else 27 for want of
+/// memory. The buffer and the copies may have grown.
+#[tactic(auto, using(crate::proofs::Buffers::extending))]
+pub fn make_header(
+    buffer: &mut Vec<u8>,
+    copies: &mut Vec<u8>,
+    name: &[u8],
+    subsection: Option<&[u8]>,
+) -> Result<Header, span::Error>
+    requires room { length buffer.old.items < 2 ^ 32 }
+    requires valid { is_valid_or_none (option_copied subsection) ≡ true }
+    ensures header { IfOk result (λ h. header_of buffer.new.items h ≡ made_header name.now (option_copied subsection.entry)) }
+    ensures shown { IfOk result (λ h. IsShown buffer.new.items copies.new.items (events.SectionHeader h)) }
+    ensures put { OnOk result (length buffer.new.items ≡ length buffer.old.items + header_bytes name.now (option_copied subsection.entry)) }
+    ensures grows { Grows result (header_bytes name.now (option_copied subsection.entry)) buffer.old.items buffer.new.items }
+    ensures refused { 2 ^ 32 ≤ length buffer.old.items + header_bytes name.now (option_copied subsection.entry) → IsErrOf result 3 }
+    ensures extended { IsExtended copies.old.items copies.new.items }
+{
+    check_room(buffer, header_len(name, subsection))?;
+    append_header(buffer, copies, name, subsection)
 }
 
 /// How many bytes [`section_with`] puts into a buffer; the greatest number where they are more.

@@ -11,7 +11,7 @@ pub fn no_words(words: &[Word<'_>]) -> Result<(), NotUnderstood> {
 }
 
 /// The only word.
-fn one_word<'a, 'b>(words: &'a [Word<'b>]) -> Result<&'a Word<'b>, NotUnderstood> {
+pub(crate) fn one_word<'a, 'b>(words: &'a [Word<'b>]) -> Result<&'a Word<'b>, NotUnderstood> {
     match words {
         [word] => Ok(word),
         _ => Err(NotUnderstood),
@@ -137,7 +137,7 @@ pub fn section_names_and_place<'a>(
 ) -> Result<SectionNames<'a>, NotUnderstood> {
     match words {
         [name, subsection, place] => {
-            place.section_place()?;
+            let _ = place.place()?;
             Ok(SectionNames {
                 name: name.text()?,
                 subsection: subsection.optional()?,
@@ -153,7 +153,7 @@ pub fn section_names_place_and_flag<'a>(
 ) -> Result<(SectionNames<'a>, bool), NotUnderstood> {
     match words {
         [name, subsection, place, flag] => {
-            place.section_place()?;
+            let _ = place.place()?;
             let names = SectionNames {
                 name: name.text()?,
                 subsection: subsection.optional()?,
@@ -168,7 +168,7 @@ pub fn section_names_place_and_flag<'a>(
 pub fn number_and_place(words: &[Word<'_>]) -> Result<usize, NotUnderstood> {
     match words {
         [number, place] => {
-            place.section_place()?;
+            let _ = place.place()?;
             number.number()
         }
         _ => Err(NotUnderstood),

@@ -6,6 +6,8 @@ pub mod answers;
 pub mod arguments;
 pub mod bracket;
 pub mod commands;
+pub mod editor_arguments;
+pub mod editors;
 pub mod kinds;
 pub mod layouts;
 pub mod play;

@@ -21,6 +21,13 @@ pub enum Slot {
     I,
 }
 
+/// The place of a section that stands alone.
+#[derive(Clone, Copy)]
+pub enum Place {
+    S,
+    T,
+}
+
 /// A word of a line.
 #[derive(Drop)]
 pub enum Word<'a> {
@@ -112,9 +119,10 @@ impl Word<'_> {
     }
 
     /// The place of a section that stands alone: `s` or `t`.
-    pub fn section_place(&self) -> Result<(), NotUnderstood> {
+    pub fn place(&self) -> Result<Place, NotUnderstood> {
         match self.plain()? {
-            b"s" | b"t" => Ok(()),
+            b"s" => Ok(Place::S),
+            b"t" => Ok(Place::T),
             _ => Err(NotUnderstood),
         }
     }

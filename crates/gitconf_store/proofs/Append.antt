@@ -40,7 +40,7 @@ option_fits_more : (buffer more : List ℕ) (o : Option Span) → OptionFits (le
 option_fits_more buffer more None fits = tt
 option_fits_more buffer more (Some s) fits = span_more buffer more s fits
 
-header_shown_more : (buffer copies more : List ℕ) (h : Header) → IsShown buffer copies (kinds.SectionHeader h) → IsShown (buffer ++ more) copies (kinds.SectionHeader h)
+pub header_shown_more : (buffer copies more : List ℕ) (h : Header) → IsShown buffer copies (kinds.SectionHeader h) → IsShown (buffer ++ more) copies (kinds.SectionHeader h)
 header_shown_more buffer copies more h s = record {
   fits = record {
     name = span_more buffer more h.name s.fits.name;

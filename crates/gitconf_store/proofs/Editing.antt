@@ -24,15 +24,12 @@ use Rattle.gitconf_body.specs.declared.editor.Around.TheVariants as arounds
 use Rattle.gitconf_body.specs.Editors.{editor_in, leading_in, around_in, EditorFits, LeadingFits, AroundFits}
 use Rattle.gitconf_body.proofs.Buffers.{extended_fit, extended_items}
 use Rattle.gitconf_store.specs.declared.section.Section.{Section}
+use Rattle.gitconf_store.specs.Alone.{with_items}
 use Rattle.gitconf_store.specs.Edits.{UsedGrows}
 use Rattle.gitconf_body.specs.Blanks.{given_editor, IsGiven, IsGivenLeading, IsGivenAround}
 use Rattle.gitconf_store.specs.Editors.{PutsIn}
 use Rattle.gitconf_store.specs.Store.{section_state, state_of, SectionFits, AllSectionsFit, StoreFits}
 use Rattle.gitconf_store.proofs.Setting.{HasOthers, changed_fits, kept_view, section_in, sections_in}
-
--- a section with a change of its items
-abbrev pub with_items : (List parts.Item → List parts.Item) → SectionState → SectionState
-with_items change s = record { number = s.number; header = s.header; meta = s.meta; items = change s.items; held = s.held }
 
 abbrev chosen : (id : ℕ) → (List parts.Item → List parts.Item) → SectionState → SectionState
 chosen id change s = if s.number == id then with_items change s else s

@@ -27,5 +27,6 @@ pub mod Making
 pub mod Sets
 pub mod Cloning
 pub mod Detaching
+pub mod AloneEdits
 pub mod Editing
 pub mod LineBytes

@@ -1,6 +1,10 @@
 //! Sections that stand in no file.
 ghost use Rattle.std.specs.Prelude.{◌≡◌, ◌<◌, ◌^◌, ℕ, true, length, IfOk, OnOk};
 ghost use Rattle.std.specs.List.{list_all};
+ghost use Rattle.std.specs.Option.{option_copied, option_map};
+ghost use Rattle.bstr.specs.Owned.{bstring_bytes};
+ghost use Rattle.gitconf_text.specs.Names.{is_made_name, is_valid_or_none};
+ghost use Rattle.gitconf_text.specs.declared.parse.section.header.Error.TheVariants.{InvalidName, InvalidSubSection, Span};
 ghost use Rattle.gitconf_parse.specs.Events.{header_of};
 ghost use Rattle.gitconf_parse.specs.declared.event.Event.TheVariants as kinds;
 ghost use Rattle.gitconf_parse.specs.ItemsFit.{AreItemsWithin};
@@ -11,15 +15,26 @@ ghost use Rattle.gitconf_body.specs.Copies.{IsCopy, IsLonger};
 ghost use Rattle.gitconf_store.specs.Store.{section_under};
 ghost use Rattle.gitconf_store.specs.Alone.{alone, StandsAlone};
 
+mod editing;
+pub mod editor;
+mod editor_views;
+mod writing;
+
 use crate::section;
 use crate::section::{SectionRef, shared};
+use bstr::BString;
+use gitconf_base::meta::Metadata;
 use gitconf_body::copying::{copied_header, copied_items};
+use gitconf_body::section::make_header;
 use gitconf_parse::event::Header;
 use gitconf_parse::events::decoded_header;
 use gitconf_parse::items::Item;
 use gitconf_table::table::SectionId;
 use gitconf_text::NoMemory;
+use gitconf_text::parse::section::header;
+use std::alloc::Global;
 use std::marker::Model;
+use std::rc::Rc;
 
 /// Items with their bytes copied behind those of another buffer. Bytes that are too many for it are want of memory.
 fn owned_items(from: &[u8], to: &mut Vec<u8>, items: &[Item]) -> Result<Vec<Item>, NoMemory>
@@ -124,9 +139,62 @@ impl SectionRef<'_> {
     }
 }
 
+/// The bytes of a text, if there is one.
+pub(crate) fn bytes_of(text: &Option<BString>) -> Option<&[u8]>
+    ensures { option_copied result ≡ option_map bstring_bytes text.now }
+{
+    match text {
+        Some(text) => Some(text.as_bytes()),
+        None => None,
+    }
+}
+
 impl Section {
-    ghost use Rattle.std.specs.Prelude.{◌≡◌, IfOk};
+    ghost use Rattle.std.specs.Prelude.{◌≡◌, ◌≤◌, ◌^◌, ◌↔◌, true, false, IfErr, IfOk, IsErrOf};
+    ghost use Rattle.gitconf_state.specs.Edit.{header_bytes};
+    ghost use Rattle.gitconf_store.specs.Alone.{is_refusal_of_header, made_alone};
     ghost use Rattle.gitconf_store.specs.Views.{shown};
+
+    /// A section of a name and a subsection: its body has nothing, also no line end, and its number is the greatest, which no file gives. The
+    /// name may be empty. The subsection is written in quotes behind a space, each `"` and each backslash in it behind a backslash. One
+    /// pass over both, which takes memory for their text and for a copy of a subsection that is spelled otherwise.
+    ///
+    /// # Errors
+    ///
+    /// `InvalidName` where a byte of the name is no letter, digit or dash, and else `InvalidSubSection` where the subsection holds LF or
+    /// NUL; else `Span`, number 3, exactly where their text is longer than 4294967295 bytes, and `Memory` for want of memory.
+    pub fn new(
+        alloc: Global,
+        name: &str,
+        subsection: Option<BString>,
+        meta: Rc<Metadata>,
+    ) -> Result<Section, header::Error>
+        ensures made { IfOk result (λ s. s ≡ made_alone name.now (option_map bstring_bytes subsection) meta.value) }
+        ensures invalid_name { IsErrOf result InvalidName ↔ (is_made_name name.now ≡ false) }
+        ensures invalid_subsection { IsErrOf result InvalidSubSection
+            ↔ ((is_made_name name.now ≡ true) × (is_valid_or_none (option_map bstring_bytes subsection) ≡ false)) }
+        ensures too_large { IsErrOf result (Span 3) ↔ ((is_made_name name.now ≡ true) × (is_valid_or_none (option_map bstring_bytes subsection) ≡ true)
+            × (2 ^ 32 ≤ header_bytes name.now (option_map bstring_bytes subsection))) }
+        ensures known { IfErr result (λ e. is_refusal_of_header e ≡ true) }
+    {
+        let name = name.as_bytes();
+        let subsection = bytes_of(&subsection);
+        header::validate(name, subsection)?;
+        let mut buffer = Vec::new(alloc);
+        let mut copies = Vec::new(alloc);
+        let header = make_header(&mut buffer, &mut copies, name, subsection)?;
+        Ok(Section {
+            buffer,
+            copies,
+            id: SectionId::default(),
+            section: section::Section {
+                header,
+                meta,
+                items: Vec::new(alloc),
+                held: Vec::new(alloc),
+            },
+        })
+    }
 
     /// A view of it, as of a section of a file. Takes no memory.
     pub fn to_ref(&self) -> SectionRef<'_>

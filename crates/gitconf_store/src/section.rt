@@ -3,6 +3,8 @@ ghost use Rattle.std.specs.Prelude.{◌≡◌, IfOk};
 ghost use Rattle.gitconf_table.specs.SectionIters as table;
 ghost use Rattle.gitconf_store.specs.Viewed.{AreViewed, AreViewed-prop, IsViewed, IsViewed-prop};
 
+pub mod value;
+
 use crate::events::ItemEvents;
 use bstr::BString;
 use gitconf_base::meta::Metadata;

@@ -4,13 +4,7 @@ use Rattle.std.specs.List.{list_any}
 use Rattle.gitconf_state.specs.Edit.{with_used}
 use Rattle.gitconf_state.specs.Edits.{Edit, apply, new_bytes}
 use Rattle.gitconf_state.specs.State.{State}
-use Rattle.gix_config.specs.declared.file.section.value.Error.{Error}
-use Rattle.gix_config.specs.declared.file.section.value.Error.TheVariants.{ValueName, Span}
-
--- the number of a refusal to write a value
-abbrev pub value_number : Error → ℕ
-value_number (ValueName number) = number
-value_number (Span number) = number
+pub use Rattle.gitconf_store.specs.ValueErrors.{value_number}
 
 -- a section has the number
 abbrev pub has_number : (number : ℕ) → State → Bool

@@ -13,6 +13,7 @@ pub mod section_mut;
 pub mod sections;
 mod typed;
 mod values;
+mod white_space;
 
 use bstr::BString;
 use gitconf_base::key::AsKey;
@@ -21,6 +22,7 @@ use gitconf_parse::error::Error;
 use gitconf_parse::events::{Events, check_len};
 use gitconf_parse::sink::{Sink, SinkFault};
 pub use gitconf_store::detached::Section;
+pub use gitconf_store::detached::editor::DetachedSectionMut;
 pub use gitconf_store::events::ItemEvents;
 pub use gitconf_store::section::{SectionRef, Sections};
 pub use gitconf_store::set_raw_value;
@@ -31,6 +33,7 @@ pub use section_mut::SectionMut;
 use std::alloc::Global;
 use std::marker::Model;
 use std::rc::Rc;
+pub use white_space::is_whitespace;
 
 /// The metadata with one owner, who may share it.
 fn shared(alloc: Global, meta: Metadata) -> Result<Rc<Metadata>, NoMemory>

@@ -76,7 +76,7 @@ invariant_of-self-2 c =
     let state : State = state_of c.self.inside.buffer.items c.self.inside.front.items c.self.inside.meta.value c.self.inside.sections in
     let line_end : bytes_of_line_end c.line_end-line_end.result ≡ file_line_end state = c.line_end-line_end.ensures ∙ ap file_line_end (sym c.self.view_is) in
     let all : list_all is_item items ≡ true =
-      subst (λ l. list_all is_item (LineEndsItem l ∷ []) ≡ true) (sym line_end) (new_section_is name subsection state named valid).items in
+    subst (λ l. list_all is_item (LineEndsItem l ∷ []) ≡ true) (sym line_end) (new_section_is name subsection state named valid).items in
     made_fits c.self.inside.buffer.items c.new_section.new.buffer.items c.self.inside.copies.items c.new_section.new.copies.items c.self.inside.front.items c.self.inside.meta.value c.self.inside.sections c.push.new.self
     s name subsection items
     c.new_section.ensures.grows.extended c.new_section.ensures.extended c.new_section.ensures.grows.room c.self.invariant made after named valid all

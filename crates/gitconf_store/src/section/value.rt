@@ -17,7 +17,7 @@ pub enum Error {
 
 impl From<span::Error> for Error {
     ghost use Rattle.std.specs.Prelude.{◌≡◌};
-    ghost use Rattle.gix_config.specs.declared.file.section.value.Error.TheVariants.{Span};
+    ghost use Rattle.gitconf_store.specs.declared.section.value.Error.TheVariants.{Span};
 
     ghost from_gives = { λ number e. e ≡ Span number };
 

@@ -1,0 +1,9 @@
+-- What the refusals to write a value are.
+use Rattle.std.specs.Prelude.{ℕ}
+use Rattle.gitconf_store.specs.declared.section.value.Error.{Error}
+use Rattle.gitconf_store.specs.declared.section.value.Error.TheVariants.{ValueName, Span}
+
+-- the number of each
+abbrev pub value_number : Error → ℕ
+value_number (ValueName number) = number
+value_number (Span number) = number
