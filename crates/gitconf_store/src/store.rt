@@ -1,7 +1,9 @@
 //! The state of a file behind one buffer.
 mod editing;
+mod existing;
 mod look_ups;
 mod removing;
+mod values_at;
 mod views;
 
 use crate::edit::last_place;
