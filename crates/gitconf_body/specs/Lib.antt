@@ -7,3 +7,4 @@ pub mod Editors
 pub mod Standing
 pub mod Taken
 pub mod ValuesAt
+pub mod Blanks

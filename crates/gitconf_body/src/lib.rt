@@ -1,6 +1,7 @@
 //! The items of a body: what their values are, and how they are edited in a buffer that only grows.
 #![tactic(auto)]
 
+pub mod blanks;
 pub mod buffer;
 pub mod copying;
 pub mod editor;

@@ -209,3 +209,33 @@ pub fn section_with(
     let header = append_header(buffer, copies, name, subsection)?;
     Ok(Section { header, items })
 }
+
+/// A section that is made, its body one line end. Takes memory for what is put into the buffer, and for the items.
+///
+/// # Errors
+///
+/// Those of [`section_with`].
+#[tactic(auto, using(crate::proofs::Buffers::extending))]
+pub fn new_section(
+    buffer: &mut Vec<u8>,
+    copies: &mut Vec<u8>,
+    line_end: LineEnd,
+    name: &[u8],
+    subsection: Option<&[u8]>,
+) -> Result<Section, span::Error>
+    requires room { length buffer.old.items < 2 ^ 32 }
+    requires valid { is_valid_or_none (option_copied subsection) ≡ true }
+    ensures header { IfOk result (λ s. header_of buffer.new.items s.header ≡ made_header name.now (option_copied subsection.entry)) }
+    ensures shown { IfOk result (λ s. IsShown buffer.new.items copies.new.items (events.SectionHeader s.header)) }
+    ensures items { IfOk result (λ s. items_of buffer.new.items s.items.items ≡ parts.LineEndsItem (bytes_of_line_end line_end) ∷ []) }
+    ensures within { IfOk result (λ s. AreItemsWithin (length buffer.new.items) s.items.items) }
+    ensures grows { Grows result (length (bytes_of_line_end line_end) + header_bytes name.now (option_copied subsection.entry)) buffer.old.items buffer.new.items }
+    ensures refused { 2 ^ 32 ≤ length buffer.old.items + (length (bytes_of_line_end line_end) + header_bytes name.now (option_copied subsection.entry)) → IsErrOf result 3 }
+    ensures extended { IsExtended copies.old.items copies.new.items }
+{
+    let count = header_len(name, subsection).saturating_add(line_end.as_bytes().len());
+    check_room(buffer, count)?;
+    let items = one_line(buffer, line_end)?;
+    let header = append_header(buffer, copies, name, subsection)?;
+    Ok(Section { header, items })
+}

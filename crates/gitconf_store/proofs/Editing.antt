@@ -25,7 +25,8 @@ use Rattle.gitconf_body.specs.Editors.{editor_in, leading_in, around_in, EditorF
 use Rattle.gitconf_body.proofs.Buffers.{extended_fit, extended_items}
 use Rattle.gitconf_store.specs.declared.section.Section.{Section}
 use Rattle.gitconf_store.specs.Edits.{UsedGrows}
-use Rattle.gitconf_store.specs.Editors.{given_editor, IsGiven, IsGivenLeading, IsGivenAround, PutsIn}
+use Rattle.gitconf_body.specs.Blanks.{given_editor, IsGiven, IsGivenLeading, IsGivenAround}
+use Rattle.gitconf_store.specs.Editors.{PutsIn}
 use Rattle.gitconf_store.specs.Store.{section_state, state_of, SectionFits, AllSectionsFit, StoreFits}
 use Rattle.gitconf_store.proofs.Setting.{HasOthers, changed_fits, kept_view, section_in, sections_in}
 

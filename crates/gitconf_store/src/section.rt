@@ -6,6 +6,7 @@ ghost use Rattle.gitconf_store.specs.Viewed.{AreViewed, AreViewed-prop, IsViewed
 use crate::events::ItemEvents;
 use bstr::BString;
 use gitconf_base::meta::Metadata;
+use gitconf_body::blanks::Blanks;
 use gitconf_parse::event::Header;
 use gitconf_parse::items::Item;
 use gitconf_parse::sink::{Sink, SinkFault};
@@ -54,6 +55,7 @@ impl<'a> SectionRef<'a> {
     ghost use Rattle.gitconf_parse.specs.ShownEvents.{shown_token};
     ghost use Rattle.gitconf_parse.specs.Sink.{Writes, Counts};
     ghost use Rattle.gitconf_state.specs.Clean.{IsCleanSection};
+    ghost use Rattle.gitconf_state.specs.Edit.{spacing_of};
     ghost use Rattle.gitconf_state.specs.Printing.{printed_section, ends_with_line};
     ghost use Rattle.gitconf_state.specs.State.{SectionState, section_document};
     ghost use Rattle.gitconf_write.specs.Bodies.{tokens_in};
@@ -88,6 +90,18 @@ impl<'a> SectionRef<'a> {
         ensures { events_left result ≡ map shown_token (tokens_in (shown self.now).held) }
     {
         ItemEvents::over(self.buffer, &self.section.held)
+    }
+
+    /// The blanks that its body has, with memory of their own. One walk over its items.
+    ///
+    /// # Errors
+    ///
+    /// Want of memory.
+    pub fn blanks(&self) -> Result<Blanks, NoMemory>
+        ensures { IfOk result (λ blanks. blanks ≡ spacing_of (shown self.now).items) }
+    {
+        let items = &self.section.items;
+        Blanks::of_items(*items.allocator(), self.buffer, items)
     }
 
     /// Writes the section alone: its header and its body, with a line end put in where two of its parts would else

@@ -2,6 +2,7 @@
 mod editing;
 mod existing;
 mod look_ups;
+mod making;
 mod removing;
 mod values_at;
 mod views;
@@ -247,7 +248,7 @@ impl Store {
 
     /// The line end that the file uses: that of the first newline of its front, or else of its sections' bodies in
     /// order, those within values too; LF where there is none. What is held behind sections isn't asked.
-    fn line_end(&self) -> LineEnd
+    pub fn line_end(&self) -> LineEnd
         ensures { bytes_of_line_end result ≡ file_line_end self.now }
     {
         tokens::file_line_end(&self.buffer, &self.front, self.sections())

@@ -1,2 +1,3 @@
 pub mod Integers
 pub mod Conversions
+pub mod Numbers

@@ -4,3 +4,5 @@ pub mod Errors
 pub mod Made
 pub mod Typed
 pub mod Converted
+pub mod Edited
+pub mod SectionEditors

@@ -1,15 +1,20 @@
-use Rattle.std.proofs.Common.{rules, ◌≡◌, true, [], sym, ap, ◌∙◌}
+use Rattle.std.proofs.Common.{rules, ◌≡◌, true, [], ◌∷◌, length, sym, ap, subst, ◌∙◌}
+use Rattle.std.specs.List.{list_all}
 use Rattle.std.specs.Option.{option_copied}
 use Rattle.gitconf_text.specs.Names.{is_made_name, is_valid_or_none}
 use Rattle.gitconf_table.specs.Sections.{with_last}
 use Rattle.gitconf_parse.specs.Events.{header_of}
-use Rattle.gitconf_state.specs.Edit.{made_header}
+use Rattle.gitconf_text.specs.Part.{LineEndsItem}
+use Rattle.gitconf_state.specs.Edit.{made_header, new_section, set_value, with_used}
+use Rattle.gitconf_state.specs.Edits as states
+use Rattle.gitconf_state.specs.State.{State, is_item}
+use Rattle.gitconf_state.proofs.EditItems.{file_line_end_is, new_section_is, section_with_is}
 use Rattle.gitconf_state.specs.LineEnds.{file_line_end}
 use Rattle.gitconf_write.specs.LineEnds.{bytes_of_line_end}
 use Rattle.gitconf_store.specs.declared.section.Section.{Section}
 use Rattle.gitconf_store.specs.Store.{state_of}
 use Rattle.gitconf_store.proofs.Setting.{if_err_at_all}
-use Rattle.gitconf_store.proofs.Making.{IsMadeWith, longer_state, longer_fits, made_state, made_fits}
+use Rattle.gitconf_store.proofs.Making.{IsMadeWith, longer_state, longer_fits, made_section, made_state, made_fits}
 use Rattle.gitconf_store.proofs.store.Store.set_in_new.Goals as goal
 
 pub invariant_of-self : goal.invariant_of-self
@@ -53,14 +58,11 @@ invariant_of-self-2 c =
     let name = c.args.section_name.now in
     let subsection = option_copied c.args.subsection_name in
     let s : Section = record { header = c.in_ok-section.section.header; meta = c.in_ok-shared.field-0; items = c.in_ok-section.section.items; held = c.new.result } in
-    let line_end : bytes_of_line_end c.line_end-line_end.result ≡ file_line_end (state_of c.self.inside.buffer.items c.self.inside.front.items c.self.inside.meta.value c.self.inside.sections) =
-    c.line_end-line_end.ensures ∙ ap file_line_end (sym c.self.view_is) in
+    let items = set_value (bytes_of_line_end c.line_end-line_end.result) c.args.key.now c.args.value.now (LineEndsItem (bytes_of_line_end c.line_end-line_end.result) ∷ []) in
     let header : header_of c.section_with.new.buffer.items s.header ≡ made_header name subsection = search rules in
     let meta : s.meta.value ≡ c.self.inside.meta.value = search rules in
     let held : s.held.items ≡ [] = search rules in
-    let named : is_made_name name ≡ true = search rules in
-    let valid : is_valid_or_none subsection ≡ true = search rules in
-    let made : IsMadeWith c.section_with.new.buffer.items c.section_with.new.copies.items s c.self.inside.meta.value (bytes_of_line_end c.line_end-line_end.result) name subsection c.args.key.now c.args.value.now = record {
+    let made : IsMadeWith c.section_with.new.buffer.items c.section_with.new.copies.items s c.self.inside.meta.value name subsection items = record {
       header = header;
       shown = c.in_ok-section.ensures.shown;
       meta_is = meta;
@@ -68,22 +70,28 @@ invariant_of-self-2 c =
       within = c.in_ok-section.ensures.within;
       held = held;
     } in
+    let named : is_made_name name ≡ true = search rules in
+    let valid : is_valid_or_none subsection ≡ true = search rules in
     let after : c.push.new.self ≡ with_last name subsection s c.self.inside.sections = search rules in
+    let state : State = state_of c.self.inside.buffer.items c.self.inside.front.items c.self.inside.meta.value c.self.inside.sections in
+    let line_end : bytes_of_line_end c.line_end-line_end.result ≡ file_line_end state = c.line_end-line_end.ensures ∙ ap file_line_end (sym c.self.view_is) in
+    let all : list_all is_item items ≡ true =
+      subst (λ l. list_all is_item (set_value l c.args.key.now c.args.value.now (LineEndsItem l ∷ [])) ≡ true) (sym line_end)
+      (section_with_is (file_line_end state) c.args.key.now c.args.value.now (new_section name subsection state) c.requires.key (file_line_end_is state) (new_section_is name subsection state named valid)).items in
     made_fits c.self.inside.buffer.items c.section_with.new.buffer.items c.self.inside.copies.items c.section_with.new.copies.items c.self.inside.front.items c.self.inside.meta.value c.self.inside.sections c.push.new.self
-    s (bytes_of_line_end c.line_end-line_end.result) name subsection c.args.key.now c.args.value.now
-    c.section_with.ensures.grows.extended c.section_with.ensures.extended c.section_with.ensures.grows.room c.self.invariant made line_end after named valid c.requires.key
+    s name subsection items
+    c.section_with.ensures.grows.extended c.section_with.ensures.extended c.section_with.ensures.grows.room c.self.invariant made after named valid all
 
 pub returns-clause-ok : goal.returns-clause-ok
 returns-clause-ok c =
     let name = c.args.section_name.now in
     let subsection = option_copied c.args.subsection_name in
     let s : Section = record { header = c.in_ok-section.section.header; meta = c.in_ok-shared.field-0; items = c.in_ok-section.section.items; held = c.new.result } in
-    let line_end : bytes_of_line_end c.line_end-line_end.result ≡ file_line_end (state_of c.self.inside.buffer.items c.self.inside.front.items c.self.inside.meta.value c.self.inside.sections) =
-    c.line_end-line_end.ensures ∙ ap file_line_end (sym c.self.view_is) in
+    let items = set_value (bytes_of_line_end c.line_end-line_end.result) c.args.key.now c.args.value.now (LineEndsItem (bytes_of_line_end c.line_end-line_end.result) ∷ []) in
     let header : header_of c.section_with.new.buffer.items s.header ≡ made_header name subsection = search rules in
     let meta : s.meta.value ≡ c.self.inside.meta.value = search rules in
     let held : s.held.items ≡ [] = search rules in
-    let made : IsMadeWith c.section_with.new.buffer.items c.section_with.new.copies.items s c.self.inside.meta.value (bytes_of_line_end c.line_end-line_end.result) name subsection c.args.key.now c.args.value.now = record {
+    let made : IsMadeWith c.section_with.new.buffer.items c.section_with.new.copies.items s c.self.inside.meta.value name subsection items = record {
       header = header;
       shown = c.in_ok-section.ensures.shown;
       meta_is = meta;
@@ -92,6 +100,9 @@ returns-clause-ok c =
       held = held;
     } in
     let after : c.push.new.self ≡ with_last name subsection s c.self.inside.sections = search rules in
+    let line_end : bytes_of_line_end c.line_end-line_end.result ≡ file_line_end (state_of c.self.inside.buffer.items c.self.inside.front.items c.self.inside.meta.value c.self.inside.sections) =
+    c.line_end-line_end.ensures ∙ ap file_line_end (sym c.self.view_is) in
     rw (← c.self.view_is) (made_state c.self.inside.buffer.items c.section_with.new.buffer.items c.self.inside.copies.items c.section_with.new.copies.items c.self.inside.front.items c.self.inside.meta.value c.self.inside.sections c.push.new.self
-    s (bytes_of_line_end c.line_end-line_end.result) name subsection c.args.key.now c.args.value.now
-    c.section_with.ensures.grows.extended c.self.invariant made line_end after)
+    s name subsection items c.section_with.ensures.grows.extended c.self.invariant made after
+    ∙ ap (λ l. with_used (length c.section_with.new.buffer.items) (states.with_last (made_section name subsection (set_value l c.args.key.now c.args.value.now (LineEndsItem l ∷ []))
+    (state_of c.self.inside.buffer.items c.self.inside.front.items c.self.inside.meta.value c.self.inside.sections)) (state_of c.self.inside.buffer.items c.self.inside.front.items c.self.inside.meta.value c.self.inside.sections))) line_end)

@@ -1,0 +1,80 @@
+//! Sections that are made.
+use crate::section::{Section, shared};
+use crate::store::Store;
+use gitconf_body::blanks::Blanks;
+use gitconf_body::section;
+use gitconf_table::table::SectionId;
+use gitconf_text::NoMemory;
+use gitconf_text::parse::section::header::{Error, validate};
+
+impl Store {
+    ghost use Rattle.std.specs.List.{list_any};
+    ghost use Rattle.std.specs.Option.{option_copied};
+    ghost use Rattle.std.specs.Prelude.{◌≡◌, [], ◌==◌, ◌+◌, ◌≤◌, ◌^◌, ◌↔◌, true, false, length, IfOk, IfErr, IsErrAnd, IsErrOf, OnOk, OnErr};
+    ghost use Rattle.gitconf_text.specs.HeaderErrors.{header_number};
+    ghost use Rattle.gitconf_text.specs.Names.{is_made_name, is_valid_or_none};
+    ghost use Rattle.gitconf_state.specs.Edit.{header_bytes, spacing_of, with_used};
+    ghost use Rattle.gitconf_state.specs.Edits.{answer, apply, NewSection, Number};
+    ghost use Rattle.gitconf_state.specs.LineEnds.{file_line_end};
+    ghost use Rattle.gitconf_store.specs.Edits.{EditGrows, set_numbers};
+
+    /// Makes a section behind all others, its body one line end, the file's; it has the file's metadata. Answers its number.
+    ///
+    /// A walk over the file's items up to the first line end. Takes memory for what is put into the buffer, for the items, and for the
+    /// section's place.
+    ///
+    /// # Errors
+    ///
+    /// Refusal 4 for a name that a section can't be made of, else 5 for a subsection that it can't be made of; 3 where the buffer would
+    /// be longer than 4294967295 bytes, which is asked before any growth, or there is no number left; 27 for want of memory. The file is
+    /// then as it was, but that its buffer may have grown.
+    pub fn new_section(
+        &mut self,
+        name: &str,
+        subsection_name: Option<&[u8]>,
+    ) -> Result<SectionId, Error>
+        ensures name { IsErrOf result Error.InvalidName ↔ (is_made_name name.now ≡ false) }
+        ensures subsection { IsErrOf result Error.InvalidSubSection
+            ↔ ((is_made_name name.now ≡ true) × (is_valid_or_none (option_copied subsection_name.entry) ≡ false)) }
+        ensures ok { OnOk result (self.new ≡ with_used self.new.used (apply (NewSection name.now (option_copied subsection_name.entry)) self.old)) }
+        ensures answer { IfOk result (λ id. Number id ≡ answer (NewSection name.now (option_copied subsection_name.entry)) self.old) }
+        ensures err { OnErr result (self.new ≡ with_used self.new.used self.old) }
+        ensures used { EditGrows result header_number
+            (length (file_line_end self.old) + header_bytes name.now (option_copied subsection_name.entry)) self.old self.new }
+        ensures refused { is_made_name name.now ≡ true → is_valid_or_none (option_copied subsection_name.entry) ≡ true
+            → 2 ^ 32 ≤ self.old.used + (length (file_line_end self.old) + header_bytes name.now (option_copied subsection_name.entry))
+            → IsErrAnd result (λ e. header_number e ≡ 3) }
+        ensures known { IfErr result (λ e. list_any (λ number. number == header_number e) set_numbers ≡ true) }
+    {
+        validate(name.as_bytes(), subsection_name)?;
+        let line_end = self.line_end();
+        let section = section::new_section(
+            &mut self.buffer,
+            &mut self.copies,
+            line_end,
+            name.as_bytes(),
+            subsection_name,
+        )?;
+        let section = Section {
+            header: section.header,
+            meta: shared(&self.meta)?,
+            items: section.items,
+            held: Vec::new(*self.buffer.allocator()),
+        };
+        let id = self
+            .sections
+            .push(name.as_bytes(), subsection_name, section)?;
+        Ok(id)
+    }
+
+    /// The blanks that an editor of a body without entries has.
+    ///
+    /// # Errors
+    ///
+    /// Want of memory.
+    pub fn fresh_blanks(&self) -> Result<Blanks, NoMemory>
+        ensures { IfOk result (λ blanks. blanks ≡ spacing_of []) }
+    {
+        Blanks::of_items(*self.buffer.allocator(), &[], &[])
+    }
+}

@@ -1,0 +1,63 @@
+-- The section of a number stands behind each edit of it.
+use Rattle.std.proofs.Common.{◌≡◌, ℕ, ◌+◌, ◌≤◌, ◌^◌, ◌==◌, ◌||◌, Bool, true, false, List, [], ◌∷◌, map, filter, Option, Some, None, Result, Ok, Err, refl, ap, sym, ◌∙◌, arith}
+use Rattle.std.specs.Prelude.{if◌then◌else◌, IfErr, IfSome, OnErr, OnOk}
+use Rattle.std.specs.List.{last_or, list_any}
+use Rattle.gitconf_text.specs.Part.{Item}
+use Rattle.gitconf_state.specs.Edit.{with_used}
+use Rattle.gitconf_state.specs.Edits.{Edit, apply, change_items, new_bytes, numbered}
+use Rattle.gitconf_state.specs.State.{SectionState, State}
+use Rattle.gitconf_state.proofs.EditLists.{last_at, last_passing}
+use Rattle.gitconf_store.specs.Edits.{UsedGrows}
+use Rattle.gitconf_store.specs.Editors.{PutsIn}
+use Rattle.gix_config.specs.Edited.{has_number, IsEdited}
+
+-- a section of the number
+pub numbered_stands : (id : ℕ) (state : State) → has_number id state ≡ true → (s : SectionState) × (numbered id state ≡ Some s)
+numbered_stands id state stands =
+    let l = last_at (λ (s : SectionState). s.number == id) state.sections stands in
+    (l.found, ap (λ ss. last_or None (filter (λ (s : SectionState). s.number == id) ss)) l.is ∙ last_passing (λ (s : SectionState). s.number == id) None l.before l.found l.behind l.passes l.none)
+
+pub number_missing : (id : ℕ) (state : State) → has_number id state ≡ true → numbered id state ≡ None → ⊥
+number_missing id state stands none = let s = numbered_stands id state stands in let no = sym none ∙ s.1 in absurd (cc)
+
+-- sections that are changed keep their numbers
+numbers_kept : (id : ℕ) (change : SectionState → SectionState) → ((s : SectionState) → (change s).number ≡ s.number) → (ss : List SectionState)
+    → list_any (λ (s : SectionState). s.number == id) (map change ss) ≡ list_any (λ (s : SectionState). s.number == id) ss
+numbers_kept id change same [] = refl
+numbers_kept id change same (s ∷ ss) = λ i. (same s i == id) || numbers_kept id change same ss i
+
+-- also where one of them is
+pub items_keep_numbers : (id number : ℕ) (change : List Item → List Item) (state : State) → has_number id (change_items number change state) ≡ has_number id state
+items_keep_numbers id number change state = numbers_kept id _ (λ s. go s (s.number == number)) state.sections
+  where
+    go : (s : SectionState) (t : Bool)
+        → (if t then record { number = s.number; header = s.header; meta = s.meta; items = change s.items; held = s.held } else s).number ≡ s.number
+    go s true = refl
+    go s false = refl
+
+-- an edit, from what a store says of it
+pub edited_in : {T : Type 0} (edit : Edit) (id : ℕ) (result : Result T ℕ) (count : ℕ) (old new : State) → has_number id old ≡ true
+    → OnOk result (new ≡ with_used new.used (apply edit old)) → OnErr result (new ≡ with_used new.used old)
+    → PutsIn id result count old new → count ≤ new_bytes edit old → IsEdited edit (λ e. e) result old new
+edited_in {T} edit id result count old new stands ok err puts within =
+    let used = go (numbered id old) (numbered_stands id old stands) puts.there in
+    record { ok = ok; err = err; grown = (let g = used.grown in omega (arith, g, within)); too_large = large result used }
+  where
+    go : (o : Option SectionState) → ((s : SectionState) × (o ≡ Some s)) → IfSome o (λ _. UsedGrows {T = T} result count old.used new.used) → UsedGrows {T = T} result count old.used new.used
+    go None some there = absurd (let h = some.1 in cc)
+    go (Some s) some there = there
+
+    large : (r : Result T ℕ) → UsedGrows {T = T} r count old.used new.used → IfErr r (λ e. e ≡ 3 → 2 ^ 32 ≤ old.used + new_bytes edit old)
+    large (Ok t) used = tt
+    large (Err e) used = λ is. let g = used.too_large (ap Err is) in omega (arith, g, within)
+
+-- the section still stands
+pub edited_stands : {T E : Type 0} (edit : Edit) (number : E → ℕ) (result : Result T E) (old new : State) (id : ℕ) → has_number id (apply edit old) ≡ has_number id old
+    → has_number id old ≡ true → IsEdited edit number result old new → has_number id new ≡ true
+edited_stands edit number (Ok t) old new id keeps stands e = ap (has_number id) e.ok ∙ keeps ∙ stands
+edited_stands edit number (Err t) old new id keeps stands e = ap (has_number id) e.err ∙ stands
+
+pub either_stands : {T E : Type 0} (result : Result T E) (old new after : State) (id : ℕ) → has_number id after ≡ has_number id old
+    → has_number id old ≡ true → OnOk result (new ≡ after) → OnErr result (new ≡ old) → has_number id new ≡ true
+either_stands (Ok t) old new after id keeps stands ok err = ap (has_number id) ok ∙ keeps ∙ stands
+either_stands (Err t) old new after id keeps stands ok err = ap (has_number id) err ∙ stands

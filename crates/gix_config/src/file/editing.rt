@@ -1,0 +1,161 @@
+//! Edits of the section of a number, on which editors stand.
+use crate::file::{File, SectionId, SectionRef};
+use gitconf_body::blanks::Blanks;
+use gitconf_body::editor::Editor;
+use gitconf_text::NoMemory;
+use gitconf_text::parse::section::header;
+use gitconf_text::parse::span;
+use gitconf_write::line_end::LineEnd;
+
+impl File {
+    ghost use Rattle.std.specs.Option.{option_copied};
+    ghost use Rattle.std.specs.Prelude.{◌≡◌, ◌↔◌, [], true, false, IfOk, IsErrOf, IfSome, IsOk, None, Some, OnOk, OnErr, option_map};
+    ghost use Rattle.gitconf_text.specs.Names.{is_made_name, is_valid_or_none, is_value_name};
+    ghost use Rattle.gitconf_state.specs.Edit.{spacing_of, with_used};
+    ghost use Rattle.gitconf_state.specs.Edits.{answer, apply, numbered, Entry, IsEditor, NewSection, Pop, Push, PushLineEnd, Raw, Remove, SetValue};
+    ghost use Rattle.gitconf_state.specs.LineEnds.{file_line_end};
+    ghost use Rattle.gitconf_write.specs.LineEnds.{bytes_of_line_end};
+    ghost use Rattle.gitconf_store.specs.Editors.{given_editor, IsGiven};
+    ghost use Rattle.gitconf_store.specs.Views.{shown};
+    ghost use Rattle.gix_config.specs.Edited.{has_number, IsEdited};
+
+    /// [`Store::push_entry`](gitconf_store::store::Store::push_entry).
+    pub(crate) fn push_entry(
+        &mut self,
+        id: SectionId,
+        editor: &Editor<'_>,
+        key: &[u8],
+        value: Option<&[u8]>,
+        comment: Option<&[u8]>,
+    ) -> Result<(), span::Error>
+        requires stands { has_number id self.old ≡ true }
+        requires given { IsGiven editor.now }
+        requires editor { IsEditor (given_editor editor.now) }
+        requires key { is_value_name key.now ≡ true }
+        ensures done { IsEdited (Push id (given_editor editor.now) key.now (option_copied value.entry) (option_copied comment.entry)) (λ e. e) result self.old self.new }
+        ensures stands { has_number id self.new ≡ true }
+    {
+        self.store.push_entry(id, editor, key, value, comment)
+    }
+
+    /// [`Store::push_newline`](gitconf_store::store::Store::push_newline).
+    pub(crate) fn push_newline(
+        &mut self,
+        id: SectionId,
+        editor: &Editor<'_>,
+    ) -> Result<(), span::Error>
+        requires stands { has_number id self.old ≡ true }
+        requires editor { IsEditor (given_editor editor.now) }
+        ensures done { IsEdited (PushLineEnd id (given_editor editor.now)) (λ e. e) result self.old self.new }
+        ensures stands { has_number id self.new ≡ true }
+    {
+        self.store.push_newline(id, editor)
+    }
+
+    /// [`Store::set_entry`](gitconf_store::store::Store::set_entry).
+    pub(crate) fn set_entry(
+        &mut self,
+        id: SectionId,
+        editor: &Editor<'_>,
+        key: &[u8],
+        value: &[u8],
+    ) -> Result<Option<Vec<u8>>, span::Error>
+        requires stands { has_number id self.old ≡ true }
+        requires given { IsGiven editor.now }
+        requires editor { IsEditor (given_editor editor.now) }
+        requires key { is_value_name key.now ≡ true }
+        ensures done { IsEdited (SetValue id (given_editor editor.now) key.now value.now) (λ e. e) result self.old self.new }
+        ensures answer { IfOk result (λ o. Raw (option_map (λ v. v.items) o) ≡ answer (SetValue id (given_editor editor.now) key.now value.now) self.old) }
+        ensures stands { has_number id self.new ≡ true }
+    {
+        self.store.set_entry(id, editor, key, value)
+    }
+
+    /// [`Store::remove_entry`](gitconf_store::store::Store::remove_entry).
+    pub(crate) fn remove_entry(
+        &mut self,
+        id: SectionId,
+        key: &[u8],
+    ) -> Result<Option<Vec<u8>>, NoMemory>
+        requires stands { has_number id self.old ≡ true }
+        ensures ok { OnOk result (self.new ≡ apply (Remove id key.now) self.old) }
+        ensures answer { IfOk result (λ o. Raw (option_map (λ v. v.items) o) ≡ answer (Remove id key.now) self.old) }
+        ensures none { answer (Remove id key.now) self.old ≡ Raw None → IsOk result }
+        ensures err { OnErr result (self.new ≡ self.old) }
+        ensures stands { has_number id self.new ≡ true }
+    {
+        self.store.remove_entry(id, key)
+    }
+
+    /// [`Store::pop_entry`](gitconf_store::store::Store::pop_entry).
+    pub(crate) fn pop_entry(
+        &mut self,
+        id: SectionId,
+    ) -> Result<Option<(Vec<u8>, Vec<u8>)>, NoMemory>
+        requires stands { has_number id self.old ≡ true }
+        ensures ok { OnOk result (self.new ≡ apply (Pop id) self.old) }
+        ensures answer { IfOk result (λ o. Entry (option_map (λ t. (t.0.items, t.1.items)) o) ≡ answer (Pop id) self.old) }
+        ensures none { answer (Pop id) self.old ≡ Entry None → IsOk result }
+        ensures err { OnErr result (self.new ≡ self.old) }
+        ensures stands { has_number id self.new ≡ true }
+    {
+        self.store.pop_entry(id)
+    }
+
+    /// The section of a number that one has.
+    pub(crate) fn section_of(&self, id: SectionId) -> SectionRef<'_>
+        requires { has_number id self.now ≡ true }
+        ensures { numbered id self.now ≡ Some (shown result) }
+    {
+        match self.store.section_by_id(id) {
+            Some(section) => section,
+            None => unreachable!(),
+        }
+    }
+
+    /// The blanks that the section of a number has.
+    pub(crate) fn blanks_of(&self, id: SectionId) -> Result<Blanks, NoMemory>
+        requires { has_number id self.now ≡ true }
+        ensures { IfOk result (λ blanks. IfSome (numbered id self.now) (λ s. blanks ≡ spacing_of s.items)) }
+    {
+        self.section_of(id).blanks()
+    }
+
+    /// The line end that the file uses.
+    pub(crate) fn line_end(&self) -> LineEnd
+        ensures { bytes_of_line_end result ≡ file_line_end self.now }
+    {
+        self.store.line_end()
+    }
+
+    /// The section of a number, if there is one.
+    pub(crate) fn section_by_id(&self, id: SectionId) -> Option<SectionRef<'_>>
+        ensures { option_map shown result ≡ numbered id self.now }
+    {
+        self.store.section_by_id(id)
+    }
+
+    /// The blanks of a body without entries.
+    pub(crate) fn fresh_blanks(&self) -> Result<Blanks, NoMemory>
+        ensures { IfOk result (λ blanks. blanks ≡ spacing_of []) }
+    {
+        self.store.fresh_blanks()
+    }
+
+    /// [`Store::new_section`](gitconf_store::store::Store::new_section).
+    pub(crate) fn make_section(
+        &mut self,
+        name: &str,
+        subsection_name: Option<&[u8]>,
+    ) -> Result<SectionId, header::Error>
+        ensures name { IsErrOf result header.Error.InvalidName ↔ (is_made_name name.now ≡ false) }
+        ensures subsection { IsErrOf result header.Error.InvalidSubSection
+            ↔ ((is_made_name name.now ≡ true) × (is_valid_or_none (option_copied subsection_name.entry) ≡ false)) }
+        ensures ok { OnOk result (self.new ≡ with_used self.new.used (apply (NewSection name.now (option_copied subsection_name.entry)) self.old)) }
+        ensures id { IfOk result (λ id. id ≡ self.old.next) }
+        ensures stands { IfOk result (λ id. has_number id self.new ≡ true) }
+        ensures err { OnErr result (self.new ≡ with_used self.new.used self.old) }
+    {
+        self.store.new_section(name, subsection_name)
+    }
+}

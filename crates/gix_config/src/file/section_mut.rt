@@ -1,0 +1,205 @@
+//! Editing one section of a file.
+ghost use Rattle.std.proofs.Math.Bool.{Bool-set};
+ghost use Rattle.std.specs.Prelude.{◌≡◌, true};
+ghost use Rattle.gix_config.specs.Edited.{has_number};
+
+mod making;
+mod reading;
+
+use crate::file::section::value;
+use crate::file::{File, SectionId};
+use bstr::BString;
+use gitconf_body::blanks::Blanks;
+use gitconf_text::NoMemory;
+use gitconf_text::parse::section::ValueNameError;
+use gitconf_text::parse::section::bytes::is_value_name;
+use gitconf_text::parse::span;
+use gitconf_write::line_end::LineEnd;
+pub use making::Error;
+
+/// An editor of one section of a file. What it writes beside names and values stays as it was when the editor was made, also while the
+/// section changes: the blanks before a name, those around `=`, and the line end, the file's.
+pub struct SectionMut<'a, B: Drop = Blanks> {
+    file: &'a mut File,
+    id: SectionId,
+    blanks: B,
+    line_end: LineEnd,
+    /// Whether a line end is put behind what is pushed.
+    ends: bool,
+    ghost stands: { has_number id file.now ≡ true } by { Bool-set (has_number id file.now) true },
+}
+
+impl<B: Drop> Drop for SectionMut<'_, B> {
+    ghost use Rattle.std.specs.Prelude.{◌≡◌};
+    ghost use Rattle.gix_config.specs.SectionEditors.{edited};
+
+    // By hand, so that callers know what the file is when the editor is gone.
+    fn drop(self)
+        ensures { self.exit.0.now ≡ edited self.entry }
+    {
+        let SectionMut {
+            file,
+            id: _,
+            blanks,
+            line_end: _,
+            ends: _,
+        } = self;
+        drop(blanks);
+        let _ = file;
+    }
+}
+
+impl<'a> SectionMut<'a> {
+    ghost use Rattle.std.specs.Option.{option_copied};
+    ghost use Rattle.std.specs.Prelude.{◌≡◌, ◌↔◌, false, IfOk, IsErrAnd, IsOk, None, OnErr, OnOk, Some, option_map};
+    ghost use Rattle.bstr.specs.Owned.{bstring_bytes};
+    ghost use Rattle.gitconf_text.specs.Names.{is_value_name};
+    ghost use Rattle.gitconf_state.specs.Edits.{answer, apply, Entry, Pop, Push, PushLineEnd, Raw, Remove, SetValue};
+    ghost use Rattle.gix_config.specs.Edited.{IsEdited, value_number};
+    ghost use Rattle.gix_config.specs.SectionEditors.{edited, editor, lent, number_of};
+
+    /// Pushes a line, with a comment or without one.
+    fn push_line(
+        &mut self,
+        value_name: &str,
+        value: Option<&[u8]>,
+        comment: Option<&[u8]>,
+    ) -> Result<(), value::Error>
+        ensures same_file { lent self.new ≡ lent self.old }
+        ensures same_section { number_of self.new ≡ number_of self.old }
+        ensures same_editor { editor self.new ≡ editor self.old }
+        ensures invalid { IsErrAnd result (λ e. value_number e ≡ 6) ↔ (is_value_name value_name.now ≡ false) }
+        ensures done { IsEdited (Push (number_of self.old) (editor self.old) value_name.now (option_copied value.entry) (option_copied comment.entry))
+            value_number result (edited self.old) (edited self.new) }
+    {
+        let key = value_name.as_bytes();
+        if !is_value_name(key) {
+            return Err(value::Error::ValueName(ValueNameError::invalid()));
+        }
+        let editor = self.blanks.editor(self.line_end, self.ends);
+        self.file.push_entry(self.id, &editor, key, value, comment)?;
+        Ok(())
+    }
+
+    /// Pushes a line behind the section's others: the blanks before a name, the name, and where a value is given `=` with the blanks
+    /// around it and the value, spelled as a file has it; then the line end, unless it is switched off.
+    ///
+    /// A walk over the numbers of sections up to this one's, and nothing that grows with the section. Takes memory for what is put into
+    /// the file's buffer, and for the new items.
+    ///
+    /// # Errors
+    ///
+    /// Refusal 6 for a name that is none; else 3 where the file would take more than 4294967295 bytes, and 27 for want of memory. The
+    /// file is then as it was.
+    pub fn push(&mut self, value_name: &str, value: Option<&[u8]>) -> Result<(), value::Error>
+        ensures same_file { lent self.new ≡ lent self.old }
+        ensures same_section { number_of self.new ≡ number_of self.old }
+        ensures same_editor { editor self.new ≡ editor self.old }
+        ensures invalid { IsErrAnd result (λ e. value_number e ≡ 6) ↔ (is_value_name value_name.now ≡ false) }
+        ensures done { IsEdited (Push (number_of self.old) (editor self.old) value_name.now (option_copied value.entry) None)
+            value_number result (edited self.old) (edited self.new) }
+    {
+        self.push_line(value_name, value, None)
+    }
+
+    /// As [`SectionMut::push`], with a comment behind the value: a space, `#` and the comment, with a space in front where it doesn't
+    /// begin with white space, and each LF turned to a space.
+    ///
+    /// # Errors
+    ///
+    /// Those of [`SectionMut::push`].
+    pub fn push_with_comment(
+        &mut self,
+        value_name: &str,
+        value: Option<&[u8]>,
+        comment: &[u8],
+    ) -> Result<(), value::Error>
+        ensures same_file { lent self.new ≡ lent self.old }
+        ensures same_section { number_of self.new ≡ number_of self.old }
+        ensures same_editor { editor self.new ≡ editor self.old }
+        ensures invalid { IsErrAnd result (λ e. value_number e ≡ 6) ↔ (is_value_name value_name.now ≡ false) }
+        ensures done { IsEdited (Push (number_of self.old) (editor self.old) value_name.now (option_copied value.entry) (Some comment.now))
+            value_number result (edited self.old) (edited self.new) }
+    {
+        self.push_line(value_name, value, Some(comment))
+    }
+
+    /// Pushes the line end, also where it is switched off behind lines.
+    ///
+    /// # Errors
+    ///
+    /// Number 3 where the file would take more than 4294967295 bytes, and 27 for want of memory. The file is then as it was.
+    pub fn push_newline(&mut self) -> Result<(), span::Error>
+        ensures same_file { lent self.new ≡ lent self.old }
+        ensures same_section { number_of self.new ≡ number_of self.old }
+        ensures same_editor { editor self.new ≡ editor self.old }
+        ensures done { IsEdited (PushLineEnd (number_of self.old) (editor self.old)) (λ e. e) result (edited self.old) (edited self.new) }
+    {
+        let editor = self.blanks.editor(self.line_end, self.ends);
+        self.file.push_newline(self.id, &editor)
+    }
+
+    /// Gives the last entry of the name another value: what stands behind `=` is replaced, and `=` is put in where there is none, with
+    /// the editor's blanks around it. Where no entry has the name, a line with it is pushed, as [`SectionMut::push`] does. Answers the
+    /// raw text of the old value: its pieces joined, not decoded; nothing for an entry without `=`; `None` where there was no entry.
+    ///
+    /// A walk over the numbers of sections up to this one's, and one over its items. Takes memory for the old value, for what is put
+    /// into the file's buffer, and for new items.
+    ///
+    /// # Errors
+    ///
+    /// Those of [`SectionMut::push`].
+    pub fn set(&mut self, value_name: &str, value: &[u8]) -> Result<Option<BString>, value::Error>
+        ensures same_file { lent self.new ≡ lent self.old }
+        ensures same_section { number_of self.new ≡ number_of self.old }
+        ensures same_editor { editor self.new ≡ editor self.old }
+        ensures invalid { IsErrAnd result (λ e. value_number e ≡ 6) ↔ (is_value_name value_name.now ≡ false) }
+        ensures done { IsEdited (SetValue (number_of self.old) (editor self.old) value_name.now value.now) value_number result (edited self.old) (edited self.new) }
+        ensures answer { IfOk result (λ o. Raw (option_map bstring_bytes o) ≡ answer (SetValue (number_of self.old) (editor self.old) value_name.now value.now) (edited self.old)) }
+    {
+        let key = value_name.as_bytes();
+        if !is_value_name(key) {
+            return Err(value::Error::ValueName(ValueNameError::invalid()));
+        }
+        let editor = self.blanks.editor(self.line_end, self.ends);
+        match self.file.set_entry(self.id, &editor, key, value)? {
+            Some(old) => Ok(Some(BString::new(old))),
+            None => Ok(None),
+        }
+    }
+
+    /// Takes out the last entry of the name, with the blanks directly before it and the line ends directly behind it. Answers the raw
+    /// text of its value, as [`SectionMut::set`] does; `None` where there is no such entry.
+    ///
+    /// A walk over the numbers of sections up to this one's, and one over its items. Takes memory for the answer alone.
+    ///
+    /// # Errors
+    ///
+    /// Want of memory, only where there is an entry. The file is then as it was.
+    pub fn remove(&mut self, value_name: &str) -> Result<Option<BString>, NoMemory>
+        ensures same_file { lent self.new ≡ lent self.old }
+        ensures same_section { number_of self.new ≡ number_of self.old }
+        ensures same_editor { editor self.new ≡ editor self.old }
+        ensures ok { OnOk result (edited self.new ≡ apply (Remove (number_of self.old) value_name.now) (edited self.old)) }
+        ensures answer { IfOk result (λ o. Raw (option_map bstring_bytes o) ≡ answer (Remove (number_of self.old) value_name.now) (edited self.old)) }
+        ensures none { answer (Remove (number_of self.old) value_name.now) (edited self.old) ≡ Raw None → IsOk result }
+        ensures err { OnErr result (edited self.new ≡ edited self.old) }
+    {
+        match self.file.remove_entry(self.id, value_name.as_bytes())? {
+            Some(old) => Ok(Some(BString::new(old))),
+            None => Ok(None),
+        }
+    }
+
+    /// Whether a line end is put behind what is pushed from now on; it is, unless this says otherwise.
+    pub fn set_implicit_newline(&mut self, on: bool) -> &mut Self
+        ensures same { result.ghost_name ≡ self.entry.ghost_name }
+        ensures same_file { lent result.now ≡ lent self.old }
+        ensures same_state { edited result.now ≡ edited self.old }
+        ensures same_section { number_of result.now ≡ number_of self.old }
+        ensures editor { editor result.now ≡ record (editor self.old) { ends = on } }
+    {
+        self.ends = on;
+        self
+    }
+}

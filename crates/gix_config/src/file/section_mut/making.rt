@@ -1,0 +1,205 @@
+//! Editors of sections that are found, and of sections that are made.
+use crate::file::section_mut::SectionMut;
+use crate::file::{File, Metadata, SectionId};
+use crate::lookup::existing;
+use gitconf_text::NoMemory;
+use gitconf_text::parse::section::header;
+use gitconf_text::parse::section::unvalidated::KeyRef;
+use thiserror::Error;
+
+/// Why there is no editor.
+#[derive(Debug, Drop, Error)]
+pub enum Error {
+    /// There are such sections, and none passes the filter; or no section has the number.
+    #[error("No section passes")]
+    NonePasses,
+    /// What is missing, or a growth was refused: refusals 7, 8, 9 and 27.
+    #[error(transparent)]
+    Lookup(existing::Error),
+}
+
+impl From<existing::Error> for Error {
+    ghost use Rattle.std.specs.Prelude.{◌≡◌};
+    ghost use Rattle.gix_config.specs.declared.file.section_mut.making.Error.TheVariants.{Lookup};
+
+    ghost from_gives = { λ refusal e. e ≡ Lookup refusal };
+
+    fn from(refusal: existing::Error) -> Error {
+        Error::Lookup(refusal)
+    }
+}
+
+impl From<NoMemory> for Error {
+    ghost use Rattle.std.specs.Prelude.{◌≡◌};
+    ghost use Rattle.gitconf_store.specs.declared.lookup.existing.Error.TheVariants.{Memory};
+    ghost use Rattle.gix_config.specs.declared.file.section_mut.making.Error.TheVariants.{Lookup};
+
+    ghost from_gives = { λ _ e. e ≡ Lookup Memory };
+
+    fn from(_e: NoMemory) -> Error {
+        Error::Lookup(existing::Error::Memory)
+    }
+}
+
+impl File {
+    ghost use Rattle.std.specs.Borrow.{sem, RestsIfErr};
+    ghost use Rattle.std.specs.Fn.{ComputesKey};
+    ghost use Rattle.std.specs.Option.{option_copied, option_map};
+    ghost use Rattle.std.specs.Prelude.{◌≡◌, ◌↔◌, Bool, false, true, IfOk, IsErrOf};
+    ghost use Rattle.gitconf_text.specs.Names.{is_made_name, is_valid_or_none};
+    ghost use Rattle.gitconf_text.specs.SectionKeys.{parsed_section_key};
+    ghost use Rattle.gitconf_base.specs.Metadata.{Meta};
+    ghost use Rattle.gitconf_state.specs.Edit.{new_section, with_used};
+    ghost use Rattle.gitconf_state.specs.Edits.{NewSection, apply};
+    ghost use Rattle.gitconf_state.specs.Lookup.{listed, miss_of};
+    ghost use Rattle.gitconf_store.specs.Misses.{IsExisting};
+    ghost use Rattle.gitconf_store.specs.Picks.{picked};
+    ghost use Rattle.gix_config.specs.contracts.file.File.{the_row};
+    ghost use Rattle.gix_config.specs.SectionEditors.{edited, editor_at, lent, told, IsEditorOfKey, IsNumberedEditor, IsPassingEditor, IsPassingEditorOfKey};
+
+    /// An editor of the last section that has the name, without ASCII case, and exactly the subsection. It is found by an index; then one
+    /// walk over its items, and one over the file's up to the first line end. Takes memory for the blanks that the section has.
+    ///
+    /// # Errors
+    ///
+    /// Refusal 7 where no section has the name, 8 where none of these has the subsection; 27 for want of memory. The file is then as it
+    /// was.
+    pub fn section_mut(
+        &mut self,
+        name: &str,
+        subsection_name: Option<&[u8]>,
+    ) -> Result<SectionMut<'_>, existing::Error>
+        ensures same_file { IfOk result (λ e. lent e ≡ self.entry.ghost_name) }
+        ensures same_state { IfOk result (λ e. edited e ≡ self.old) }
+        ensures found { IsExisting told result
+            (option_map (editor_at self.old) (picked name.now (option_copied subsection_name.entry) (λ _. true) self.old))
+            (miss_of name.now (option_copied subsection_name.entry) (listed self.old)) }
+        ensures* refused { sem 𝓛 (RestsIfErr the_row self.entry lent result (λ n. n ≡ self.old)) }
+    {
+        let id = self.section(name, subsection_name)?.id();
+        let blanks = self.blanks_of(id)?;
+        let line_end = self.line_end();
+        Ok(SectionMut {
+            file: self,
+            id,
+            blanks,
+            line_end,
+            ends: true,
+        })
+    }
+
+    /// As [`File::section_mut`], by a key such as `remote.origin`: the name stands before its first dot, and all behind it is the
+    /// subsection; without a dot there is none.
+    ///
+    /// # Errors
+    ///
+    /// Refusal 9 where the name isn't UTF-8, and those of [`File::section_mut`].
+    pub fn section_mut_by_key(
+        &mut self,
+        section_key: &[u8],
+    ) -> Result<SectionMut<'_>, existing::Error>
+        ensures same_file { IfOk result (λ e. lent e ≡ self.entry.ghost_name) }
+        ensures same_state { IfOk result (λ e. edited e ≡ self.old) }
+        ensures found { IsEditorOfKey (parsed_section_key section_key.now) self.old result }
+        ensures* refused { sem 𝓛 (RestsIfErr the_row self.entry lent result (λ n. n ≡ self.old)) }
+    {
+        let Some(key) = KeyRef::parse(section_key) else {
+            return Err(existing::Error::KeyMissing);
+        };
+        self.section_mut(key.section_name, key.subsection_name)
+    }
+
+    /// As [`File::section_mut`], the last section whose metadata passes the filter, which is asked from the last one on, up to that one.
+    ///
+    /// # Errors
+    ///
+    /// [`Error::NonePasses`] where there are such sections and none passes; else those of [`File::section_mut`].
+    pub fn section_mut_filter<F: FnMut(&Metadata) -> bool>(
+        &mut self,
+        name: &str,
+        subsection_name: Option<&[u8]>,
+        filter: F,
+    ) -> Result<SectionMut<'_>, Error>
+        requires { F.IsAlwaysCallable filter }
+        ensures same_file { IfOk result (λ e. lent e ≡ self.entry.ghost_name) }
+        ensures same_state { IfOk result (λ e. edited e ≡ self.old) }
+        // For a filter that answers by what it is shown.
+        ensures exact { (keeps : Meta → Bool) → ComputesKey F.FnMut keeps filter
+            → IsPassingEditor name.now (option_copied subsection_name.entry) keeps self.old result }
+        ensures* refused { sem 𝓛 (RestsIfErr the_row self.entry lent result (λ n. n ≡ self.old)) }
+    {
+        let id = match self.section_filter(name, subsection_name, filter)? {
+            Some(section) => section.id(),
+            None => return Err(Error::NonePasses),
+        };
+        let blanks = self.blanks_of(id)?;
+        let line_end = self.line_end();
+        Ok(SectionMut {
+            file: self,
+            id,
+            blanks,
+            line_end,
+            ends: true,
+        })
+    }
+
+    /// An editor of the section of a number: no walk over sections, one over its items, and one over the file's up to the first line end.
+    ///
+    /// # Errors
+    ///
+    /// [`Error::NonePasses`] where no section has the number; 27 for want of memory. The file is then as it was.
+    pub fn section_mut_by_id(&mut self, id: SectionId) -> Result<SectionMut<'_>, Error>
+        ensures same_file { IfOk result (λ e. lent e ≡ self.entry.ghost_name) }
+        ensures same_state { IfOk result (λ e. edited e ≡ self.old) }
+        ensures found { IsNumberedEditor id self.old result }
+        ensures* refused { sem 𝓛 (RestsIfErr the_row self.entry lent result (λ n. n ≡ self.old)) }
+    {
+        if self.section_by_id(id).is_none() {
+            return Err(Error::NonePasses);
+        }
+        let blanks = self.blanks_of(id)?;
+        let line_end = self.line_end();
+        Ok(SectionMut {
+            file: self,
+            id,
+            blanks,
+            line_end,
+            ends: true,
+        })
+    }
+
+    /// Makes a section behind all others, its body one line end, the file's, with the file's metadata; and answers an editor of it, which
+    /// writes a tab before names and a space on both sides of `=`.
+    ///
+    /// A walk over the file's items up to the first line end. Takes memory for what is put into the buffer, for the items, and for the
+    /// section's place.
+    ///
+    /// # Errors
+    ///
+    /// Refusal 4 for a name that a section can't be made of, else 5 for a subsection that it can't be made of; 3 where the file would
+    /// take more than 4294967295 bytes, or there is no number left; 27 for want of memory. The file is then as it was.
+    pub fn new_section(
+        &mut self,
+        name: &str,
+        subsection_name: Option<&[u8]>,
+    ) -> Result<SectionMut<'_>, header::Error>
+        ensures same_file { IfOk result (λ e. lent e ≡ self.entry.ghost_name) }
+        ensures made { IfOk result (λ e. edited e ≡ with_used (edited e).used (apply (NewSection name.now (option_copied subsection_name.entry)) self.old)) }
+        ensures editor { IfOk result (λ e. told e ≡ editor_at self.old (new_section name.now (option_copied subsection_name.entry) self.old)) }
+        ensures name { IsErrOf result header.Error.InvalidName → (is_made_name name.now ≡ false) }
+        ensures subsection { IsErrOf result header.Error.InvalidSubSection
+            → ((is_made_name name.now ≡ true) × (is_valid_or_none (option_copied subsection_name.entry) ≡ false)) }
+        ensures* refused { sem 𝓛 (RestsIfErr the_row self.entry lent result (λ n. n ≡ with_used n.used self.old)) }
+    {
+        let blanks = self.fresh_blanks()?;
+        let line_end = self.line_end();
+        let id = self.make_section(name, subsection_name)?;
+        Ok(SectionMut {
+            file: self,
+            id,
+            blanks,
+            line_end,
+            ends: true,
+        })
+    }
+}
