@@ -1,3 +1,4 @@
 pub mod Integers
 pub mod Conversions
 pub mod Numbers
+pub mod ValueEditors

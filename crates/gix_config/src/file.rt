@@ -2,8 +2,8 @@
 ghost use Rattle.std.specs.Prelude.{◌≡◌, IfOk};
 
 mod all_values;
-mod existing;
 mod editing;
+mod existing;
 mod impls;
 pub mod includes;
 pub mod init;
@@ -13,6 +13,7 @@ pub mod section;
 pub mod section_mut;
 pub mod sections;
 mod typed;
+pub mod value_mut;
 mod values;
 
 use bstr::BString;
@@ -32,6 +33,7 @@ pub use section_mut::SectionMut;
 use std::alloc::Global;
 use std::marker::Model;
 use std::rc::Rc;
+pub use value_mut::ValueMut;
 
 /// The metadata with one owner, who may share it.
 fn shared(alloc: Global, meta: Metadata) -> Result<Rc<Metadata>, NoMemory>
