@@ -54,11 +54,7 @@ impl File {
     ) -> Result<(), set_raw_value::Error>
         ensures { IsSetExisting (key_at section_name.now (option_copied subsection_name.entry) value_name.now) new_value.now result self.old self.new }
     {
-        self.store.set_existing_raw_value_by(
-            section_name,
-            subsection_name,
-            value_name,
-            new_value,
-        )
+        self.store
+            .set_existing_raw_value_by(section_name, subsection_name, value_name, new_value)
     }
 }
