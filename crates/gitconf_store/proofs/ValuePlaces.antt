@@ -1,5 +1,5 @@
 -- Where the entries of a key stand, and what entries mean.
-use Rattle.std.proofs.Common.{◌≡◌, ℕ, zero, suc, ◌+◌, Bool, true, false, List, [], ◌∷◌, ◌++◌, length, map, Option, Some, None, Result, Ok, Err, refl, ap, sym, subst, ◌∙◌, arith, append-nil, inl, inr}
+use Rattle.std.proofs.Common.{◌≡◌, ℕ, zero, suc, ◌+◌, Bool, true, false, List, [], ◌∷◌, ◌++◌, ◌≤◌, length, map, take, Option, Some, None, Result, Ok, Err, refl, ap, sym, subst, ◌∙◌, arith, append-nil, inl, inr}
 use Rattle.std.specs.Prelude.{◌≢◌, ◌⊎◌, ◌==◌, ◌||◌, filter, flat_map, IfErr, IfSome, IsErr}
 use Rattle.std.specs.List.{AllByRecursion, enumerate_from, last_or, list_all, list_any, slice_get}
 use Rattle.std.specs.Option.{option_map}
@@ -7,12 +7,13 @@ use Rattle.std.proofs.lemmas.Bool.{eq-eqb, or_left, or_parts, or_right}
 use Rattle.std.proofs.lemmas.Grind.{flat_map-append}
 use Rattle.gitconf_text.specs.Names.{is_value_name}
 use Rattle.gitconf_text.specs.Part as parts
+use Rattle.gitconf_text.proofs.ValuesEscaped.{plain-escaped}
 use Rattle.gitconf_base.specs.Key.{Key}
 use Rattle.gitconf_base.specs.Metadata.{Meta}
 use Rattle.gitconf_parse.specs.declared.items.Item.{Item}
 use Rattle.gitconf_parse.specs.Items.{item_of}
 use Rattle.gitconf_state.specs.Edit.{is_entry_of, spacing_of}
-use Rattle.gitconf_state.specs.Editors.{Editor}
+use Rattle.gitconf_state.specs.Editors.{Editor, entry_made, written_at}
 use Rattle.gitconf_state.specs.Edits.{WriteAt, apply, items_of_numbered, numbered, with_sections}
 use Rattle.gitconf_state.specs.Lookup.{KeyMissing, Listed, has_name, is_named, listed, listing, miss_of}
 use Rattle.gitconf_state.specs.State.{HasItems, HasSectionItems, SectionState, State, is_item}
@@ -28,7 +29,7 @@ use Rattle.gitconf_store.specs.Lookups.{sections_named}
 use Rattle.gitconf_store.specs.Misses.{missing}
 use Rattle.gitconf_store.specs.Picks.{HasSection, IsMissing}
 use Rattle.gitconf_store.specs.SomeSections.{AreSome}
-use Rattle.gitconf_store.specs.ValuePlaces.{IsPlace, IsSomeValuePlace, editor_of_numbered, last_value_place, places_among, refusal_of, value_place, value_places}
+use Rattle.gitconf_store.specs.ValuePlaces.{IsPlace, IsSomeValuePlace, editor_of_numbered, item_meaning, last_value_place, meaning_at, places_among, refusal_of, value_place, value_places}
 use Rattle.gitconf_store.specs.Walks.{passing}
 use Rattle.gitconf_store.proofs.SectionsKept.{any_listed, none_kept}
 use Rattle.gitconf_store.proofs.SomeSections.{none_of}
@@ -272,3 +273,21 @@ pub refused_anyway : (key : Key) (state : State) (result : Result (ℕ × ℕ) E
     → IsSomeValuePlace key state result
 refused_anyway key state (Ok place) fault m = absurd (cc)
 refused_anyway key state (Err refusal) fault m = ([], none_of state.sections, missing_placed key (λ _. true) (with_sections [] state) state refusal refl m)
+
+-- What was written at a place is what is read there.
+there : (items : List parts.Item) (place : ℕ) (i : parts.Item) (behind : List parts.Item) → place ≤ length items → slice_get (take place items ++ i ∷ behind) place ≡ Some i
+there items zero i behind within = refl
+there [] (suc place) i behind within = absurd (omega (arith, within))
+there (j ∷ items) (suc place) i behind within = there items place i behind (omega (arith, within))
+
+pub written_is_read : (editor : Editor) (place : ℕ) (stands keeps_line_end : Bool) (key value : List ℕ) (items : List parts.Item) → place ≤ length items
+    → meaning_at place (written_at editor place stands keeps_line_end key value items) ≡ Some value
+written_is_read editor place stands keeps_line_end key value items within =
+    go (slice_get (written_at editor place stands keeps_line_end key value items) place) (there items place (entry_made editor.spacing key (Some value)) _ within)
+  where
+    go : (o : Option parts.Item) → o ≡ Some (entry_made editor.spacing key (Some value))
+        → elim o as (λ _. Option (List ℕ)) [ None ↦ None | Some i ↦ item_meaning i ] ≡ Some value
+    go None is = absurd (cc)
+    go (Some i) is =
+        let h : i ≡ entry_made editor.spacing key (Some value) = cc in
+        ap item_meaning h ∙ ap (λ (text : List ℕ). Some text) (plain-escaped value)
