@@ -2,3 +2,4 @@ pub mod Integers
 pub mod Conversions
 pub mod Numbers
 pub mod ValueEditors
+pub mod Standing

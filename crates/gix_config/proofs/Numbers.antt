@@ -1,10 +1,11 @@
 -- The section of a number stands behind each edit of it.
-use Rattle.std.proofs.Common.{◌≡◌, ℕ, ◌+◌, ◌≤◌, ◌^◌, ◌==◌, ◌||◌, Bool, true, false, List, [], ◌∷◌, map, filter, Option, Some, None, Result, Ok, Err, refl, ap, sym, ◌∙◌, arith}
+use Rattle.std.proofs.Common.{◌≡◌, ℕ, ◌+◌, ◌≤◌, ◌^◌, ◌==◌, ◌||◌, Bool, true, false, List, [], ◌∷◌, map, filter, Option, Some, None, Result, Ok, Err, refl, ap, sym, subst, ◌∙◌, arith}
 use Rattle.std.specs.Prelude.{if◌then◌else◌, IfErr, IfSome, OnErr, OnOk}
 use Rattle.std.specs.List.{last_or, list_any}
 use Rattle.gitconf_text.specs.Part.{Item}
 use Rattle.gitconf_state.specs.Edit.{with_used}
-use Rattle.gitconf_state.specs.Edits.{Edit, apply, change_items, new_bytes, numbered}
+use Rattle.gitconf_state.specs.Edits.{Edit, SetValue, apply, change_items, new_bytes, numbered}
+use Rattle.gitconf_state.specs.Editors.{Editor}
 use Rattle.gitconf_state.specs.State.{SectionState, State}
 use Rattle.gitconf_state.proofs.EditLists.{last_at, last_passing}
 use Rattle.gitconf_store.specs.Edits.{UsedGrows}
@@ -61,3 +62,17 @@ pub either_stands : {T E : Type 0} (result : Result T E) (old new after : State)
     → has_number id old ≡ true → OnOk result (new ≡ after) → OnErr result (new ≡ old) → has_number id new ≡ true
 either_stands (Ok t) old new after id keeps stands ok err = ap (has_number id) ok ∙ keeps ∙ stands
 either_stands (Err t) old new after id keeps stands ok err = ap (has_number id) err ∙ stands
+
+-- the same of another answer
+pub edited_ok : {T U E F : Type 0} (edit : Edit) (number : E → ℕ) (count : F → ℕ) (t : T) (u : U) (old new : State) → IsEdited {T = T} {E = E} edit number (Ok t) old new → IsEdited {T = U} {E = F} edit count (Ok u) old new
+edited_ok edit number count t u old new e = record { ok = e.ok; err = tt; grown = e.grown; too_large = tt }
+
+pub edited_err : {T U E F : Type 0} (edit : Edit) (number : E → ℕ) (count : F → ℕ) (e : E) (f : F) (old new : State) → count f ≡ number e
+    → IsEdited {T = T} {E = E} edit number (Err e) old new → IsEdited {T = U} {E = F} edit count (Err f) old new
+edited_err edit number count e f old new same is = record { ok = tt; err = is.err; grown = is.grown; too_large = λ three. is.too_large (sym same ∙ three) }
+
+-- the same edit, by the editor and the key that they are
+pub set_again : {T E : Type 0} (id : ℕ) (value : List ℕ) (number : E → ℕ) (result : Result T E) (old new : State) (editor other : Editor) (key name : List ℕ) → editor ≡ other → key ≡ name
+    → IsEdited (SetValue id editor key value) number result old new → IsEdited (SetValue id other name value) number result old new
+set_again id value number result old new editor other key name same alike e =
+    subst (λ k. IsEdited (SetValue id other k value) number result old new) alike (subst (λ d. IsEdited (SetValue id d key value) number result old new) same e)

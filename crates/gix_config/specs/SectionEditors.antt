@@ -1,11 +1,14 @@
 -- Editors of a section: the file, the section's number, and what they write beside names and values.
-use Rattle.std.specs.Prelude.{◌≡◌, ◌≢◌, ℕ, Bool, true, List, Option, Some, None, Result, Ok, Err}
+use Rattle.std.specs.Prelude.{◌≡◌, ◌≢◌, ℕ, Bool, true, false, List, IfOk, IsErrOf, Option, Some, None, Result, Ok, Err}
 use Rattle.std.specs.Option.{option_map}
 use Rattle.std.specs.Borrow.{GName}
+use Rattle.gitconf_text.specs.Names.{is_made_name, is_valid_or_none}
 use Rattle.gitconf_text.specs.SectionKeys.{SectionKey}
+use Rattle.gitconf_text.specs.declared.parse.section.header.Error.{Error as HeaderError}
+use Rattle.gitconf_text.specs.declared.parse.section.header.Error.TheVariants.{InvalidName, InvalidSubSection}
 use Rattle.gitconf_base.specs.Metadata.{Meta}
-use Rattle.gitconf_state.specs.Edit.{Spacing}
-use Rattle.gitconf_state.specs.Edits.{numbered}
+use Rattle.gitconf_state.specs.Edit.{new_section, Spacing, spacing_of, with_used}
+use Rattle.gitconf_state.specs.Edits.{NewSection, apply, numbered}
 use Rattle.gitconf_state.specs.Editors.{Editor, editor_of}
 use Rattle.gitconf_state.specs.Lookup.{listed, miss_of}
 use Rattle.gitconf_state.specs.State.{SectionState, State}
@@ -34,6 +37,10 @@ number_of e = e.id
 abbrev pub editor : SectionMut Spacing → Editor
 editor e = editor_with e.blanks e.line_end e.ends
 
+-- an editor with other blanks before names
+abbrev pub with_leading : Option (List ℕ) → Editor → Editor
+with_leading leading e = record { spacing = record { leading = leading; before = e.spacing.before; behind = e.spacing.behind }; line_end = e.line_end; ends = e.ends }
+
 -- where it stands, and what it writes
 abbrev pub told : SectionMut Spacing → ℕ × Editor
 told e = (number_of e, editor e)
@@ -41,6 +48,24 @@ told e = (number_of e, editor e)
 -- the same of a new editor of a section
 abbrev pub editor_at : State → SectionState → ℕ × Editor
 editor_at state s = (s.number, editor_of state s)
+
+-- the blanks of a section, under its number
+abbrev pub blanks_at : SectionState → ℕ × Spacing
+blanks_at s = (s.number, spacing_of s.items)
+
+-- What was found of the last section of the name and subsection that passes; it is told where there are some and none passes.
+abbrev pub IsPassing : {T A : Type 0} → (shown : T → A) → (give : SectionState → A)
+    → (name : List ℕ) → (subsection : Option (List ℕ)) → (keeps : Meta → Bool) → State → Result T Error → Type 0
+IsPassing shown give name subsection keeps state (Ok found) = option_map give (picked name subsection keeps state) ≡ Some (shown found)
+IsPassing shown give name subsection keeps state (Err NonePasses) = HasSection name subsection state × (picked name subsection keeps state ≡ None)
+IsPassing shown give name subsection keeps state (Err (Lookup Memory)) = picked name subsection keeps state ≢ None
+IsPassing shown give name subsection keeps state (Err (Lookup refusal)) = IsMissing name subsection state refusal
+
+-- What was found of the section of the number.
+abbrev pub IsNumbered : {T A : Type 0} → (shown : T → A) → (give : SectionState → A) → (number : ℕ) → State → Result T Error → Type 0
+IsNumbered shown give number state (Ok found) = option_map give (numbered number state) ≡ Some (shown found)
+IsNumbered shown give number state (Err NonePasses) = numbered number state ≡ None
+IsNumbered shown give number state (Err (Lookup refusal)) = (refusal ≡ Memory) × (numbered number state ≢ None)
 
 -- the last section of the name and subsection has an editor, or it is told what is missing
 abbrev pub IsEditorFound : (name : List ℕ) → (subsection : Option (List ℕ)) → State → Result (SectionMut Spacing) Existing → Type 0
@@ -52,19 +77,7 @@ abbrev pub IsEditorOfKey : Option SectionKey → State → Result (SectionMut Sp
 IsEditorOfKey None state result = result ≡ Err KeyMissing
 IsEditorOfKey (Some key) state result = IsEditorFound key.section key.subsection state result
 
--- the last one that passes; it is told where there are some and none passes
-abbrev pub IsPassingEditor : (name : List ℕ) → (subsection : Option (List ℕ)) → (keeps : Meta → Bool) → State → Result (SectionMut Spacing) Error → Type 0
-IsPassingEditor name subsection keeps state (Ok e) = option_map (editor_at state) (picked name subsection keeps state) ≡ Some (told e)
-IsPassingEditor name subsection keeps state (Err NonePasses) = HasSection name subsection state × (picked name subsection keeps state ≡ None)
-IsPassingEditor name subsection keeps state (Err (Lookup Memory)) = picked name subsection keeps state ≢ None
-IsPassingEditor name subsection keeps state (Err (Lookup refusal)) = IsMissing name subsection state refusal
-
+-- with a filter
 abbrev pub IsPassingEditorOfKey : Option SectionKey → (keeps : Meta → Bool) → State → Result (SectionMut Spacing) Error → Type 0
 IsPassingEditorOfKey None keeps state result = result ≡ Err (Lookup KeyMissing)
-IsPassingEditorOfKey (Some key) keeps state result = IsPassingEditor key.section key.subsection keeps state result
-
--- the section of the number
-abbrev pub IsNumberedEditor : (number : ℕ) → State → Result (SectionMut Spacing) Error → Type 0
-IsNumberedEditor number state (Ok e) = option_map (editor_at state) (numbered number state) ≡ Some (told e)
-IsNumberedEditor number state (Err NonePasses) = numbered number state ≡ None
-IsNumberedEditor number state (Err (Lookup refusal)) = (refusal ≡ Memory) × (numbered number state ≢ None)
+IsPassingEditorOfKey (Some key) keeps state result = IsPassing told (editor_at state) key.section key.subsection keeps state result

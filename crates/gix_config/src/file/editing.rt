@@ -9,12 +9,15 @@ use gitconf_write::line_end::LineEnd;
 
 impl File {
     ghost use Rattle.std.specs.Option.{option_copied};
-    ghost use Rattle.std.specs.Prelude.{◌≡◌, ◌↔◌, [], true, false, IfOk, IsErrOf, IfSome, IsOk, None, Some, OnOk, OnErr, option_map};
+    ghost use Rattle.std.specs.Prelude.{◌≡◌, ◌↔◌, ◌+◌, [], length, true, false, IfOk, IsErrOf, IfSome, IsOk, None, Some, OnOk, OnErr, option_map};
+    ghost use Rattle.gitconf_text.specs.declared.parse.section.header.Error.TheVariants.{InvalidName, InvalidSubSection};
     ghost use Rattle.gitconf_text.specs.Names.{is_made_name, is_valid_or_none, is_value_name};
-    ghost use Rattle.gitconf_state.specs.Edit.{spacing_of, with_used};
+    ghost use Rattle.gitconf_state.specs.Edit.{header_bytes, spacing_of, with_used};
     ghost use Rattle.gitconf_state.specs.Edits.{answer, apply, numbered, Entry, IsEditor, NewSection, Pop, Push, PushLineEnd, Raw, Remove, SetValue};
     ghost use Rattle.gitconf_state.specs.LineEnds.{file_line_end};
     ghost use Rattle.gitconf_write.specs.LineEnds.{bytes_of_line_end};
+    ghost use Rattle.gitconf_text.specs.HeaderErrors.{header_number};
+    ghost use Rattle.gitconf_store.specs.Edits.{EditGrows};
     ghost use Rattle.gitconf_store.specs.Editors.{given_editor, IsGiven};
     ghost use Rattle.gitconf_store.specs.Views.{shown};
     ghost use Rattle.gix_config.specs.Edited.{has_number, IsEdited};
@@ -113,14 +116,6 @@ impl File {
         }
     }
 
-    /// The blanks that the section of a number has.
-    pub(crate) fn blanks_of(&self, id: SectionId) -> Result<Blanks, NoMemory>
-        requires { has_number id self.now ≡ true }
-        ensures { IfOk result (λ blanks. IfSome (numbered id self.now) (λ s. blanks ≡ spacing_of s.items)) }
-    {
-        self.section_of(id).blanks()
-    }
-
     /// The line end that the file uses.
     pub(crate) fn line_end(&self) -> LineEnd
         ensures { bytes_of_line_end result ≡ file_line_end self.now }
@@ -128,34 +123,25 @@ impl File {
         self.store.line_end()
     }
 
-    /// The section of a number, if there is one.
-    pub(crate) fn section_by_id(&self, id: SectionId) -> Option<SectionRef<'_>>
-        ensures { option_map shown result ≡ numbered id self.now }
-    {
-        self.store.section_by_id(id)
-    }
-
-    /// The blanks of a body without entries.
-    pub(crate) fn fresh_blanks(&self) -> Result<Blanks, NoMemory>
-        ensures { IfOk result (λ blanks. blanks ≡ spacing_of []) }
-    {
-        self.store.fresh_blanks()
-    }
-
-    /// [`Store::new_section`](gitconf_store::store::Store::new_section).
+    /// Makes a section, and answers its number and the blanks of an editor of it. The names are looked at first.
     pub(crate) fn make_section(
         &mut self,
         name: &str,
         subsection_name: Option<&[u8]>,
-    ) -> Result<SectionId, header::Error>
-        ensures name { IsErrOf result header.Error.InvalidName ↔ (is_made_name name.now ≡ false) }
-        ensures subsection { IsErrOf result header.Error.InvalidSubSection
+    ) -> Result<(SectionId, Blanks), header::Error>
+        ensures name { IsErrOf result InvalidName ↔ (is_made_name name.now ≡ false) }
+        ensures subsection { IsErrOf result InvalidSubSection
             ↔ ((is_made_name name.now ≡ true) × (is_valid_or_none (option_copied subsection_name.entry) ≡ false)) }
         ensures ok { OnOk result (self.new ≡ with_used self.new.used (apply (NewSection name.now (option_copied subsection_name.entry)) self.old)) }
-        ensures id { IfOk result (λ id. id ≡ self.old.next) }
-        ensures stands { IfOk result (λ id. has_number id self.new ≡ true) }
+        ensures made { IfOk result (λ f. f ≡ (self.old.next, spacing_of [])) }
+        ensures stands { IfOk result (λ f. has_number f.0 self.new ≡ true) }
         ensures err { OnErr result (self.new ≡ with_used self.new.used self.old) }
+        ensures used { EditGrows result header_number
+            (length (file_line_end self.old) + header_bytes name.now (option_copied subsection_name.entry)) self.old self.new }
     {
-        self.store.new_section(name, subsection_name)
+        header::validate(name.as_bytes(), subsection_name)?;
+        let blanks = self.store.fresh_blanks()?;
+        let id = self.store.new_section(name, subsection_name)?;
+        Ok((id, blanks))
     }
 }

@@ -50,13 +50,15 @@ impl<B: Drop> Drop for SectionMut<'_, B> {
 }
 
 impl<'a> SectionMut<'a> {
+    ghost use Rattle.std.specs.List.{list_all};
     ghost use Rattle.std.specs.Option.{option_copied};
-    ghost use Rattle.std.specs.Prelude.{◌≡◌, ◌↔◌, false, IfOk, IsErrAnd, IsOk, None, OnErr, OnOk, Some, option_map};
+    ghost use Rattle.gitconf_text.specs.Bytes.{is_whitespace};
+    ghost use Rattle.std.specs.Prelude.{◌≡◌, ◌↔◌, false, true, IfOk, IfSome, IsErrAnd, IsOk, None, OnErr, OnOk, Some, option_map};
     ghost use Rattle.bstr.specs.Owned.{bstring_bytes};
     ghost use Rattle.gitconf_text.specs.Names.{is_value_name};
     ghost use Rattle.gitconf_state.specs.Edits.{answer, apply, Entry, Pop, Push, PushLineEnd, Raw, Remove, SetValue};
     ghost use Rattle.gix_config.specs.Edited.{IsEdited, value_number};
-    ghost use Rattle.gix_config.specs.SectionEditors.{edited, editor, lent, number_of};
+    ghost use Rattle.gix_config.specs.SectionEditors.{edited, editor, lent, number_of, with_leading};
 
     /// Pushes a line, with a comment or without one.
     fn push_line(
@@ -162,9 +164,10 @@ impl<'a> SectionMut<'a> {
             return Err(value::Error::ValueName(ValueNameError::invalid()));
         }
         let editor = self.blanks.editor(self.line_end, self.ends);
-        match self.file.set_entry(self.id, &editor, key, value)? {
-            Some(old) => Ok(Some(BString::new(old))),
-            None => Ok(None),
+        match self.file.set_entry(self.id, &editor, key, value) {
+            Ok(Some(old)) => Ok(Some(BString::new(old))),
+            Ok(None) => Ok(None),
+            Err(refusal) => Err(value::Error::Span(refusal)),
         }
     }
 
@@ -189,6 +192,22 @@ impl<'a> SectionMut<'a> {
             Some(old) => Ok(Some(BString::new(old))),
             None => Ok(None),
         }
+    }
+
+    /// Puts other blanks before names, or none. Only white space may be given ([`is_whitespace`](crate::file::is_whitespace)).
+    ///
+    /// # Errors
+    ///
+    /// Want of memory. The editor is then as it was.
+    pub fn set_leading_whitespace(&mut self, whitespace: Option<&[u8]>) -> Result<(), NoMemory>
+        requires { IfSome (option_copied whitespace) (λ run. list_all is_whitespace run ≡ true) }
+        ensures same_file { lent self.new ≡ lent self.old }
+        ensures same_state { edited self.new ≡ edited self.old }
+        ensures same_section { number_of self.new ≡ number_of self.old }
+        ensures ok { OnOk result (editor self.new ≡ with_leading (option_copied whitespace.entry) (editor self.old)) }
+        ensures err { OnErr result (editor self.new ≡ editor self.old) }
+    {
+        self.blanks.set_leading(whitespace)
     }
 
     /// Whether a line end is put behind what is pushed from now on; it is, unless this says otherwise.

@@ -2,6 +2,7 @@
 use crate::file::section_mut::SectionMut;
 use crate::file::{File, Metadata, SectionId};
 use crate::lookup::existing;
+use gitconf_body::blanks::Blanks;
 use gitconf_text::NoMemory;
 use gitconf_text::parse::section::header;
 use gitconf_text::parse::section::unvalidated::KeyRef;
@@ -46,6 +47,7 @@ impl File {
     ghost use Rattle.std.specs.Fn.{ComputesKey};
     ghost use Rattle.std.specs.Option.{option_copied, option_map};
     ghost use Rattle.std.specs.Prelude.{◌≡◌, ◌↔◌, Bool, false, true, IfOk, IsErrOf};
+    ghost use Rattle.gitconf_text.specs.declared.parse.section.header.Error.TheVariants.{InvalidName, InvalidSubSection};
     ghost use Rattle.gitconf_text.specs.Names.{is_made_name, is_valid_or_none};
     ghost use Rattle.gitconf_text.specs.SectionKeys.{parsed_section_key};
     ghost use Rattle.gitconf_base.specs.Metadata.{Meta};
@@ -55,7 +57,60 @@ impl File {
     ghost use Rattle.gitconf_store.specs.Misses.{IsExisting};
     ghost use Rattle.gitconf_store.specs.Picks.{picked};
     ghost use Rattle.gix_config.specs.contracts.file.File.{the_row};
-    ghost use Rattle.gix_config.specs.SectionEditors.{edited, editor_at, lent, told, IsEditorOfKey, IsNumberedEditor, IsPassingEditor, IsPassingEditorOfKey};
+    ghost use Rattle.gix_config.specs.Edited.{has_number};
+    ghost use Rattle.gix_config.specs.SectionEditors.{blanks_at, edited, editor_at, lent, told, IsEditorOfKey, IsNumbered, IsPassing, IsPassingEditorOfKey};
+
+    /// The number and the blanks of the last section that has the name and subsection.
+    fn blanks_by_names(
+        &self,
+        name: &str,
+        subsection_name: Option<&[u8]>,
+    ) -> Result<(SectionId, Blanks), existing::Error>
+        ensures found { IsExisting (λ f. f) result
+            (option_map blanks_at (picked name.now (option_copied subsection_name.entry) (λ _. true) self.now))
+            (miss_of name.now (option_copied subsection_name.entry) (listed self.now)) }
+        ensures stands { IfOk result (λ f. has_number f.0 self.now ≡ true) }
+    {
+        let (id, blanks) = match self.section(name, subsection_name) {
+            Ok(section) => (section.id(), section.blanks()),
+            Err(missing) => return Err(missing),
+        };
+        let blanks = blanks?;
+        Ok((id, blanks))
+    }
+
+    /// Those of the last one whose metadata passes the filter.
+    fn blanks_of_passing<F: FnMut(&Metadata) -> bool>(
+        &self,
+        name: &str,
+        subsection_name: Option<&[u8]>,
+        filter: F,
+    ) -> Result<(SectionId, Blanks), Error>
+        requires { F.IsAlwaysCallable filter }
+        ensures exact { (keeps : Meta → Bool) → ComputesKey F.FnMut keeps filter
+            → IsPassing (λ f. f) blanks_at name.now (option_copied subsection_name.entry) keeps self.now result }
+        ensures stands { IfOk result (λ f. has_number f.0 self.now ≡ true) }
+    {
+        let (id, blanks) = match self.section_filter(name, subsection_name, filter) {
+            Ok(Some(section)) => (section.id(), section.blanks()),
+            Ok(None) => return Err(Error::NonePasses),
+            Err(missing) => return Err(Error::Lookup(missing)),
+        };
+        let blanks = blanks?;
+        Ok((id, blanks))
+    }
+
+    /// The blanks of the section of a number.
+    fn blanks_of_numbered(&self, id: SectionId) -> Result<Blanks, Error>
+        ensures found { IsNumbered (λ blanks. (id, blanks)) blanks_at id self.now result }
+        ensures stands { IfOk result (λ _. has_number id self.now ≡ true) }
+    {
+        let blanks = match self.store.section_by_id(id) {
+            Some(section) => section.blanks(),
+            None => return Err(Error::NonePasses),
+        };
+        Ok(blanks?)
+    }
 
     /// An editor of the last section that has the name, without ASCII case, and exactly the subsection. It is found by an index; then one
     /// walk over its items, and one over the file's up to the first line end. Takes memory for the blanks that the section has.
@@ -76,8 +131,7 @@ impl File {
             (miss_of name.now (option_copied subsection_name.entry) (listed self.old)) }
         ensures* refused { sem 𝓛 (RestsIfErr the_row self.entry lent result (λ n. n ≡ self.old)) }
     {
-        let id = self.section(name, subsection_name)?.id();
-        let blanks = self.blanks_of(id)?;
+        let (id, blanks) = self.blanks_by_names(name, subsection_name)?;
         let line_end = self.line_end();
         Ok(SectionMut {
             file: self,
@@ -125,14 +179,10 @@ impl File {
         ensures same_state { IfOk result (λ e. edited e ≡ self.old) }
         // For a filter that answers by what it is shown.
         ensures exact { (keeps : Meta → Bool) → ComputesKey F.FnMut keeps filter
-            → IsPassingEditor name.now (option_copied subsection_name.entry) keeps self.old result }
+            → IsPassing told (editor_at self.old) name.now (option_copied subsection_name.entry) keeps self.old result }
         ensures* refused { sem 𝓛 (RestsIfErr the_row self.entry lent result (λ n. n ≡ self.old)) }
     {
-        let id = match self.section_filter(name, subsection_name, filter)? {
-            Some(section) => section.id(),
-            None => return Err(Error::NonePasses),
-        };
-        let blanks = self.blanks_of(id)?;
+        let (id, blanks) = self.blanks_of_passing(name, subsection_name, filter)?;
         let line_end = self.line_end();
         Ok(SectionMut {
             file: self,
@@ -143,6 +193,30 @@ impl File {
         })
     }
 
+    /// As [`File::section_mut_filter`], by a key as in [`File::section_mut_by_key`].
+    ///
+    /// # Errors
+    ///
+    /// Refusal 9 where the name isn't UTF-8, and those of [`File::section_mut_filter`].
+    pub fn section_mut_filter_by_key<F: FnMut(&Metadata) -> bool>(
+        &mut self,
+        section_key: &[u8],
+        filter: F,
+    ) -> Result<SectionMut<'_>, Error>
+        requires { F.IsAlwaysCallable filter }
+        ensures same_file { IfOk result (λ e. lent e ≡ self.entry.ghost_name) }
+        ensures same_state { IfOk result (λ e. edited e ≡ self.old) }
+        // For a filter that answers by what it is shown.
+        ensures exact { (keeps : Meta → Bool) → ComputesKey F.FnMut keeps filter
+            → IsPassingEditorOfKey (parsed_section_key section_key.now) keeps self.old result }
+        ensures* refused { sem 𝓛 (RestsIfErr the_row self.entry lent result (λ n. n ≡ self.old)) }
+    {
+        let Some(key) = KeyRef::parse(section_key) else {
+            return Err(Error::Lookup(existing::Error::KeyMissing));
+        };
+        self.section_mut_filter(key.section_name, key.subsection_name, filter)
+    }
+
     /// An editor of the section of a number: no walk over sections, one over its items, and one over the file's up to the first line end.
     ///
     /// # Errors
@@ -151,13 +225,10 @@ impl File {
     pub fn section_mut_by_id(&mut self, id: SectionId) -> Result<SectionMut<'_>, Error>
         ensures same_file { IfOk result (λ e. lent e ≡ self.entry.ghost_name) }
         ensures same_state { IfOk result (λ e. edited e ≡ self.old) }
-        ensures found { IsNumberedEditor id self.old result }
+        ensures found { IsNumbered told (editor_at self.old) id self.old result }
         ensures* refused { sem 𝓛 (RestsIfErr the_row self.entry lent result (λ n. n ≡ self.old)) }
     {
-        if self.section_by_id(id).is_none() {
-            return Err(Error::NonePasses);
-        }
-        let blanks = self.blanks_of(id)?;
+        let blanks = self.blanks_of_numbered(id)?;
         let line_end = self.line_end();
         Ok(SectionMut {
             file: self,
@@ -186,14 +257,13 @@ impl File {
         ensures same_file { IfOk result (λ e. lent e ≡ self.entry.ghost_name) }
         ensures made { IfOk result (λ e. edited e ≡ with_used (edited e).used (apply (NewSection name.now (option_copied subsection_name.entry)) self.old)) }
         ensures editor { IfOk result (λ e. told e ≡ editor_at self.old (new_section name.now (option_copied subsection_name.entry) self.old)) }
-        ensures name { IsErrOf result header.Error.InvalidName → (is_made_name name.now ≡ false) }
-        ensures subsection { IsErrOf result header.Error.InvalidSubSection
-            → ((is_made_name name.now ≡ true) × (is_valid_or_none (option_copied subsection_name.entry) ≡ false)) }
+        ensures name { IsErrOf result InvalidName ↔ (is_made_name name.now ≡ false) }
+        ensures subsection { IsErrOf result InvalidSubSection
+            ↔ ((is_made_name name.now ≡ true) × (is_valid_or_none (option_copied subsection_name.entry) ≡ false)) }
         ensures* refused { sem 𝓛 (RestsIfErr the_row self.entry lent result (λ n. n ≡ with_used n.used self.old)) }
     {
-        let blanks = self.fresh_blanks()?;
         let line_end = self.line_end();
-        let id = self.make_section(name, subsection_name)?;
+        let (id, blanks) = self.make_section(name, subsection_name)?;
         Ok(SectionMut {
             file: self,
             id,

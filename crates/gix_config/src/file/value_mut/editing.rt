@@ -90,7 +90,7 @@ impl File {
         requires key { is_value_name key.now ≡ true }
         ensures { IfOk result (λ s. s ≡ record { key = key.now; spacing = spacing_of (items_of_numbered id self.now) }) }
     {
-        let blanks = self.blanks_of(id)?;
+        let blanks = self.section_of(id).blanks()?;
         Spelling::new(key, blanks)
     }
 }

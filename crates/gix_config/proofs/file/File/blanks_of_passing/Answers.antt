@@ -1,0 +1,12 @@
+use Rattle.std.proofs.Common.{◌≡◌, true, ap, sym, subst}
+use Rattle.std.specs.Option.{option_copied, option_map}
+use Rattle.gitconf_store.specs.Views.{shown}
+use Rattle.gix_config.specs.Edited.{has_number}
+use Rattle.gix_config.proofs.Standing.{some_stands}
+use Rattle.gix_config.proofs.file.File.blanks_of_passing.Goals as goal
+
+pub returns-clause-stands : goal.returns-clause-stands
+returns-clause-stands g c =
+    subst (λ n. has_number n c.args.self.now ≡ true) (sym c.id.ensures)
+    (some_stands c.args.name.now (option_copied c.args.subsection_name) c.args.self.now
+    (option_map shown c.in-Ok-Some.field-0) (shown c.in-Ok-Some.section) (ap (option_map shown) c.in-Ok-Some.field-0-is) c.in-Ok-Some.ensures.some.1)

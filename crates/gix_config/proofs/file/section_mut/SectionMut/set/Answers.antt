@@ -1,0 +1,14 @@
+use Rattle.std.proofs.Common.{refl}
+use Rattle.gix_config.specs.Edited.{value_number}
+use Rattle.gix_config.proofs.Numbers.{edited_err, edited_ok, set_again}
+use Rattle.gix_config.proofs.file.section_mut.SectionMut.set.Goals as goal
+
+pub returns-in-Err-clause-done : goal.returns-in-Err-clause-done
+returns-in-Err-clause-done c =
+    edited_err _ (λ e. e) value_number c.in-Err.refusal _ _ _ refl
+    (set_again _ _ _ _ _ _ _ _ _ _ c.editor-editor.ensures.told c.as_bytes-key.ensures.value c.in-Err.ensures.done)
+
+pub returns-in-Ok-Some-clause-done : goal.returns-in-Ok-Some-clause-done
+returns-in-Ok-Some-clause-done c =
+    edited_ok _ (λ e. e) value_number _ _ _ _
+    (set_again _ _ _ _ _ _ _ _ _ _ c.editor-editor.ensures.told c.as_bytes-key.ensures.value c.in-Ok-Some.ensures.done)
