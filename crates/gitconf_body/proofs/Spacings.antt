@@ -12,6 +12,7 @@ use Rattle.gitconf_parse.specs.ItemsFit.{AreItemsWithin}
 use Rattle.gitconf_state.specs.State.{is_entry}
 use Rattle.gitconf_state.specs.Edit as state
 use Rattle.gitconf_write.specs.Bodies.{items_of}
+use Rattle.gitconf_body.specs.Editors.{around_bytes}
 use Rattle.gitconf_body.specs.Spacings.{default_blanks, is_stored_entry, leading_span, nothing, separator_spans}
 
 -- whether there is an entry
@@ -78,3 +79,9 @@ default_put buffer is none = let any : list_any is_entry (items_of buffer is) �
 
 pub found_put : (buffer : List ℕ) (is : List Item) → list_any is_stored_entry is ≡ true → state.blank_bytes (items_of buffer is) ≡ 0
 found_put buffer is some = let any : list_any is_entry (items_of buffer is) ≡ true = any_entry_shown buffer is ∙ some in rw (any, state.blank_bytes) refl
+
+pub none_put : (buffer : List ℕ) (is : List Item) → list_any is_stored_entry is ≡ false → around_bytes (items_of buffer is) ≡ 1
+none_put buffer is none = let any : list_any is_entry (items_of buffer is) ≡ false = any_entry_shown buffer is ∙ none in rw any refl
+
+pub some_put : (buffer : List ℕ) (is : List Item) → list_any is_stored_entry is ≡ true → around_bytes (items_of buffer is) ≡ 0
+some_put buffer is some = let any : list_any is_entry (items_of buffer is) ≡ true = any_entry_shown buffer is ∙ some in rw any refl

@@ -155,13 +155,13 @@ line_ends_all limit (items.LineEnds run ∷ is) all = all.1
 line_ends_all limit (items.Comment tag text ∷ is) all = all
 line_ends_all limit (items.Entry e ∷ is) all = all
 
-taken_all : (limit : ℕ) (is : List Item) (n : ℕ) → AreItemsWithin limit is → AreItemsWithin limit (take n is)
+pub taken_all : (limit : ℕ) (is : List Item) (n : ℕ) → AreItemsWithin limit is → AreItemsWithin limit (take n is)
 taken_all limit [] zero all = tt
 taken_all limit [] (suc n) all = tt
 taken_all limit (i ∷ is) zero all = tt
 taken_all limit (i ∷ is) (suc n) all = (all.0, taken_all limit is n all.1)
 
-dropped_all : (limit : ℕ) (is : List Item) (n : ℕ) → AreItemsWithin limit is → AreItemsWithin limit (drop n is)
+pub dropped_all : (limit : ℕ) (is : List Item) (n : ℕ) → AreItemsWithin limit is → AreItemsWithin limit (drop n is)
 dropped_all limit is zero all = all
 dropped_all limit [] (suc n) all = tt
 dropped_all limit (i ∷ is) (suc n) all = dropped_all limit is n all.1

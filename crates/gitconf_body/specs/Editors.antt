@@ -1,6 +1,6 @@
 -- Editors as the code has them: their blanks are spans of the buffer that they edit, or bytes that are put there.
 use Rattle.std.specs.Prelude.{ℕ, ◌+◌, List, [], ◌∷◌, length, filter, Option, Some, None, if◌then◌else◌}
-use Rattle.std.specs.List.{last_or}
+use Rattle.std.specs.List.{last_or, list_any}
 use Rattle.gitconf_text.specs.Value.{escaped}
 use Rattle.gitconf_text.specs.Part as parts
 use Rattle.gitconf_parse.specs.declared.event.Span.{Span}
@@ -8,6 +8,7 @@ use Rattle.gitconf_parse.specs.declared.items.Entry.{Entry}
 use Rattle.gitconf_parse.specs.declared.items.Item.{Item}
 use Rattle.gitconf_parse.specs.declared.items.Item.TheVariants as items
 use Rattle.gitconf_parse.specs.Events.{bytes_of, SpanFits}
+use Rattle.gitconf_state.specs.State.{is_entry}
 use Rattle.gitconf_state.specs.Edit.{is_entry_of}
 use Rattle.gitconf_state.specs.Edit as state
 use Rattle.gitconf_state.specs.Editors as states
@@ -68,6 +69,10 @@ abbrev pub around_put : Around → ℕ
 around_put arounds.Spaces = 1
 around_put (arounds.Stored before behind) = 0
 around_put (arounds.Given before behind) = length before.now + length behind.now
+
+-- those of a body's editor: a space where the body has no entry
+abbrev pub around_bytes : List parts.Item → ℕ
+around_bytes items = if list_any is_entry items then 0 else 1
 
 -- of a value, with the blanks around its `=`
 abbrev pub value_put : Around → (value : Option (List ℕ)) → ℕ

@@ -6,4 +6,5 @@ pub mod Copies
 pub mod Editors
 pub mod Standing
 pub mod Taken
+pub mod ValuesAt
 pub mod Blanks

@@ -125,6 +125,11 @@ impl Blanks {
         }
     }
 
+    /// Where their memory comes from.
+    pub fn allocator(&self) -> Global {
+        *self.before.allocator()
+    }
+
     /// The blanks before a key, if there are any.
     pub fn leading(&self) -> Option<&[u8]>
         ensures { option_copied result ≡ self.now.leading }

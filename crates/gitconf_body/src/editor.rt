@@ -4,7 +4,7 @@ ghost use Rattle.gitconf_parse.specs.ItemsFit.{AreItemsWithin};
 ghost use Rattle.gitconf_state.specs.Edit.{blank_bytes, spacing_of};
 ghost use Rattle.gitconf_write.specs.Bodies.{items_of};
 ghost use Rattle.gitconf_write.specs.LineEnds.{bytes_of_line_end};
-ghost use Rattle.gitconf_body.specs.Editors.{around_put, editor_in, leading_put, stored_leading, EditorFits};
+ghost use Rattle.gitconf_body.specs.Editors.{around_bytes, around_put, editor_in, leading_put, stored_leading, EditorFits};
 ghost use Rattle.gitconf_body.specs.Spacings.{leading_span};
 
 use crate::spacing::{has_entry, leading_blanks, separator_blanks};
@@ -65,6 +65,7 @@ pub fn editor_of(items: &[Item], line_end: LineEnd) -> Editor<'static>
         ≡ record { spacing = spacing_of (items_of buffer items.now); line_end = bytes_of_line_end line_end; ends = true } }
     ensures fits { (limit : ℕ) → AreItemsWithin limit items.now → EditorFits limit result }
     ensures blanks { (buffer : List ℕ) → leading_put result.leading + around_put result.around ≡ blank_bytes (items_of buffer items.now) }
+    ensures around { (buffer : List ℕ) → around_put result.around ≡ around_bytes (items_of buffer items.now) }
 {
     if !has_entry(items) {
         return Editor {

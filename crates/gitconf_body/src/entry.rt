@@ -26,7 +26,7 @@ fn is_entry_of(buffer: &[u8], item: &Item, key: &[u8]) -> bool
 
 /// The place of the last entry of a key, if there is one. It walks from the end up to that entry.
 #[tactic(auto, using(crate::proofs::Places::fronts))]
-pub(crate) fn last_place(buffer: &[u8], items: &[Item], key: &[u8]) -> Option<usize>
+pub fn last_place(buffer: &[u8], items: &[Item], key: &[u8]) -> Option<usize>
     ensures { IsLastPlace (λ i. state.is_entry_of key.now (item_of buffer.now i)) items.now result }
 {
     let mut rest = items;

@@ -11,4 +11,5 @@ pub mod section;
 pub mod set;
 pub mod spacing;
 pub mod take_out;
+pub mod value_at;
 pub mod values;

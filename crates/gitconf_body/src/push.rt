@@ -112,7 +112,7 @@ pub(crate) fn entry_with(
 
 /// An entry of a key, with a value or without one, put into the buffer.
 #[tactic(auto, using(crate::proofs::Buffers::extending))]
-fn put_entry(
+pub(crate) fn put_entry(
     buffer: &mut Vec<u8>,
     around: &Around<'_>,
     key: &[u8],
@@ -290,7 +290,7 @@ pub(crate) fn around_len(around: &Around<'_>) -> usize
 }
 
 /// How many bytes a value and the blanks around its `=` put into the buffer; the greatest number where they are more.
-fn value_len(around: &Around<'_>, value: Option<&[u8]>) -> usize
+pub(crate) fn value_len(around: &Around<'_>, value: Option<&[u8]>) -> usize
     ensures { result ≡ min (spec.value_put around.now (option_copied value.entry)) (2 ^ 64 - 1) }
 {
     match value {

@@ -30,3 +30,5 @@ pub mod Detaching
 pub mod AloneEdits
 pub mod Editing
 pub mod LineBytes
+pub mod ValuePlaces
+pub mod Existing

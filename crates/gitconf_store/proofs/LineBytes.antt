@@ -1,21 +1,23 @@
--- A line that is pushed puts no more bytes than its tokens have.
+-- A line that is pushed, and a value that is set or written, put no more bytes than their tokens have.
 use Rattle.std.proofs.Common.{◌≡◌, ℕ, ◌+◌, ◌≤◌, Bool, true, false, List, [], ◌∷◌, ◌++◌, length, Option, Some, None, refl, ap, ◌∙◌, arith, append-nil, length-append}
 use Rattle.std.specs.Prelude.{filter, flat_map, if◌then◌else◌}
-use Rattle.std.specs.List.{last_or}
+use Rattle.std.specs.List.{last_or, list_any}
 use Rattle.std.proofs.lemmas.Grind.{flat_map-append}
 use Rattle.gitconf_text.specs.Part.{Assigned, Item, BlanksItem, LineEndsItem, CommentItem, EntryItem}
 use Rattle.gitconf_text.specs.Token.{Token, WhitespaceToken, NewlineToken, ValueToken, NameToken, SeparatorToken, CommentToken, item_tokens, filled, spelled_token}
 use Rattle.gitconf_text.specs.Value.{escaped}
-use Rattle.gitconf_state.specs.Edit.{is_entry_of, leading_item, token_bytes, value_tokens_of}
+use Rattle.gitconf_state.specs.Edit.{Spacing, is_entry_of, leading_item, spacing_of, token_bytes, value_tokens_of}
 use Rattle.gitconf_state.specs.Editors.{comment_made, comment_text, end_made, entry_made, line_made}
 use Rattle.gitconf_state.specs.Edits.{value_set_tokens}
+use Rattle.gitconf_state.specs.State.{is_entry}
 use Rattle.gitconf_write.specs.LineEnds.{bytes_of_line_end}
 use Rattle.gitconf_body.specs.declared.editor.Editor.{Editor}
 use Rattle.gitconf_body.specs.declared.editor.Leading.{Leading}
 use Rattle.gitconf_body.specs.declared.editor.Leading.TheVariants as leadings
 use Rattle.gitconf_body.specs.declared.editor.Around.{Around}
 use Rattle.gitconf_body.specs.declared.editor.Around.TheVariants as arounds
-use Rattle.gitconf_body.specs.Editors.{around_in, around_put, changed_put, comment_put, editor_in, end_put, leading_in, leading_put, line_put, set_put, spacing_in, value_put}
+use Rattle.gitconf_body.specs.Editors.{around_bytes, around_in, around_put, changed_put, comment_put, editor_in, end_put, leading_in, leading_put, line_put, set_put, spacing_in, value_put}
+use Rattle.gitconf_body.specs.ValuesAt.{rewritten_put, written_put}
 
 both_bytes : (a b : List Token) → token_bytes (a ++ b) ≡ token_bytes a + token_bytes b
 both_bytes a b = ap length (flat_map-append spelled_token a b) ∙ length-append (flat_map spelled_token a) (flat_map spelled_token b)
@@ -109,3 +111,26 @@ set_within b e key value items = go (last_or None (filter (is_entry_of key) item
     go : (o : Option Item) → last_or None (filter (is_entry_of key) items) ≡ o → set_put e key value items ≤ token_bytes (value_set_tokens (editor_in b e) key value items)
     go None at = rw (at, set_put, value_set_tokens) (line_within b e key (Some value) None)
     go (Some i) at = rw (at, set_put, value_set_tokens) (changed_within b e value i)
+
+-- So does an entry that is written at a place.
+made_bytes : (s : Spacing) (key value : List ℕ)
+    → token_bytes (item_tokens (entry_made s key (Some value))) ≡ length key + (length s.before + (1 + (length s.behind + length (escaped value))))
+made_bytes s key value =
+    let n = one_bytes (NameToken key) (filled WhitespaceToken s.before ++ (SeparatorToken ∷ (filled WhitespaceToken s.behind ++ ValueToken (escaped value) ∷ []))) in
+    let f = both_bytes (filled WhitespaceToken s.before) (SeparatorToken ∷ (filled WhitespaceToken s.behind ++ ValueToken (escaped value) ∷ [])) in
+    let o = one_bytes SeparatorToken (filled WhitespaceToken s.behind ++ ValueToken (escaped value) ∷ []) in
+    let g = both_bytes (filled WhitespaceToken s.behind) (ValueToken (escaped value) ∷ []) in
+    let v = one_bytes (ValueToken (escaped value)) [] in
+    let first = run_bytes s.before in
+    let second = run_bytes s.behind in
+    omega (arith, n, f, o, g, v, first, second)
+
+pub written_within : (b : List ℕ) (e : Editor) (key value : List ℕ) → written_put e key value ≤ token_bytes (item_tokens (entry_made (spacing_in b e) key (Some value)))
+written_within b e key value = entry_within b e key (Some value)
+
+pub rewritten_within : (key value : List ℕ) (items : List Item) → rewritten_put key value items ≤ token_bytes (item_tokens (entry_made (spacing_of items) key (Some value)))
+rewritten_within key value items = let made = made_bytes (spacing_of items) key value in let put = around (list_any is_entry items) refl in omega (arith, made, put)
+  where
+    around : (t : Bool) → list_any is_entry items ≡ t → around_bytes items ≤ length (spacing_of items).before + 1
+    around true is = rw is (omega arith)
+    around false is = rw is (omega arith)

@@ -31,7 +31,7 @@ number_of_header headers.InvalidSubSection = refl
 number_of_header (headers.Span number) = refl
 number_of_header headers.Memory = refl
 
-number_of_span : (e : ℕ) → set_number (of_span e) ≡ e
+pub number_of_span : (e : ℕ) → set_number (of_span e) ≡ e
 number_of_span e = go (e == 27) refl
   where
     go : (b : Bool) → (e == 27) ≡ b → set_number (if b then Memory else Span e) ≡ e

@@ -23,3 +23,5 @@ pub mod SetErrors
 pub mod Editors
 pub mod ValueErrors
 pub mod AloneEditors
+pub mod ValuePlaces
+pub mod Existing

@@ -4,14 +4,24 @@ use Rattle.gitconf_text.specs.HeaderErrors.{header_number}
 use Rattle.gitconf_text.specs.declared.parse.section.header.Error.{Error as HeaderError}
 use Rattle.gitconf_text.specs.declared.parse.section.header.Error.TheVariants as headers
 use Rattle.gitconf_store.specs.declared.set_raw_value.Error.{Error}
-use Rattle.gitconf_store.specs.declared.set_raw_value.Error.TheVariants.{Header, ValueName, Span, Memory}
+use Rattle.gitconf_store.specs.declared.set_raw_value.Error.TheVariants.{Lookup, Header, ValueName, Span, Memory}
+use Rattle.gitconf_store.specs.declared.lookup.existing.Error.{Error as ExistingError}
+use Rattle.gitconf_store.specs.declared.lookup.existing.Error.TheVariants as existing
+use Rattle.gitconf_store.specs.Misses.{existing_number}
 
 -- the number of each
 abbrev pub set_number : Error → ℕ
+set_number (Lookup e) = existing_number e
 set_number (Header e) = header_number e
 set_number (ValueName number) = number
 set_number (Span number) = number
 set_number Memory = 27
+
+-- what a refusal of a look-up is: a name that is none, and want of memory, have cases of their own
+abbrev pub of_existing : ExistingError → Error
+of_existing (existing.ValueName number) = ValueName number
+of_existing existing.Memory = Memory
+of_existing e = Lookup e
 
 -- what a refusal of a header is: want of memory has a case of its own
 abbrev pub of_header : HeaderError → Error

@@ -1,17 +1,22 @@
 //! What holds of buffers, spans and edits, for all of them: each law is a function that does nothing.
-ghost use Rattle.std.specs.Prelude.{◌≡◌, ◌≤◌, ℕ, Bool, List, ◌++◌, Option, length};
+ghost use Rattle.std.specs.Prelude.{◌≡◌, ◌≤◌, ℕ, Bool, List, ◌++◌, Option, Some, length};
+ghost use Rattle.gitconf_text.specs.Part as parts;
 ghost use Rattle.gitconf_base.specs.Metadata.{Meta};
 ghost use Rattle.gitconf_parse.specs.declared.event.Header.{Header};
 ghost use Rattle.gitconf_parse.specs.declared.items.Item.{Item};
 ghost use Rattle.gitconf_parse.specs.Events.{header_of, HeaderFits};
 ghost use Rattle.gitconf_parse.specs.ItemsFit.{AreItemsWithin};
 ghost use Rattle.gitconf_state.specs.Edit.{set_raw_value_bytes};
-ghost use Rattle.gitconf_state.specs.Edits.{Push, SetRawValue, SetValue, items_of_numbered, new_bytes};
+ghost use Rattle.gitconf_state.specs.Edits.{Push, SetRawValue, SetValue, WriteAt, items_of_numbered, new_bytes};
+ghost use Rattle.gitconf_state.specs.Editors as states;
+ghost use Rattle.gitconf_state.specs.Editors.{written_at};
 ghost use Rattle.gitconf_state.specs.State.{State};
 ghost use Rattle.gitconf_write.specs.Bodies.{items_of};
 ghost use Rattle.gitconf_body.specs.declared.editor.Editor.{Editor};
 ghost use Rattle.gitconf_body.specs.Editors.{line_put, set_put};
+ghost use Rattle.gitconf_body.specs.ValuesAt.{rewritten_put, written_put};
 ghost use Rattle.gitconf_store.specs.Editors.{given_editor};
+ghost use Rattle.gitconf_store.specs.ValuePlaces.{editor_of_numbered, meaning_at};
 
 /// Bytes that are appended to a buffer change nothing of what spans within it stand for, and these stand within the longer one.
 pub fn appending_leaves_every_view()
@@ -26,10 +31,22 @@ pub fn edits_put_no_more_than_their_tokens()
         → set_raw_value_bytes name subsection key keeps value state ≤ new_bytes (SetRawValue name subsection key keeps value) state }
 {}
 
-/// What an editor puts into the buffer is no longer than the tokens that it makes: for a line that is pushed, and for a value that is set.
+/// What an editor puts into the buffer is no longer than the tokens that it makes: for a line that is pushed, for a value that is set, and
+/// for an entry that is written at a place, with blanks of the editor's own or with those that the section has.
 pub fn editors_put_no_more_than_their_tokens()
     ensures pushed { (number : ℕ) (editor : Editor) (key : List ℕ) (value comment : Option (List ℕ)) (state : State)
         → line_put editor key value comment ≤ new_bytes (Push number (given_editor editor) key value comment) state }
     ensures set { (number : ℕ) (editor : Editor) (key value : List ℕ) (state : State)
         → set_put editor key value (items_of_numbered number state) ≤ new_bytes (SetValue number (given_editor editor) key value) state }
+    ensures written { (number place : ℕ) (editor : Editor) (stands keeps_line_end : Bool) (key value : List ℕ) (state : State)
+        → written_put editor key value ≤ new_bytes (WriteAt number (given_editor editor) place stands keeps_line_end key value) state }
+    ensures rewritten { (number place : ℕ) (stands keeps_line_end : Bool) (key value : List ℕ) (state : State)
+        → rewritten_put key value (items_of_numbered number state)
+        ≤ new_bytes (WriteAt number (editor_of_numbered number state) place stands keeps_line_end key value) state }
+{}
+
+/// The value that was written at a place, whatever its bytes, is what the entry there then means.
+pub fn written_values_are_read()
+    ensures { (editor : states.Editor) (place : ℕ) (stands keeps_line_end : Bool) (key value : List ℕ) (items : List parts.Item) → place ≤ length items
+        → meaning_at place (written_at editor place stands keeps_line_end key value items) ≡ Some value }
 {}

@@ -13,6 +13,7 @@ ghost use Rattle.gitconf_write.specs.Bodies.{items_of};
 pub(crate) mod entries;
 pub mod existing;
 pub(crate) mod found;
+pub(crate) mod places;
 pub(crate) mod texts;
 pub(crate) mod walk;
 

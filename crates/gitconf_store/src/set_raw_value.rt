@@ -1,6 +1,7 @@
 //! How setting a raw value is refused.
 ghost use Rattle.std.specs.Prelude.{◌≡◌};
 
+use crate::lookup::existing;
 use gitconf_text::NoMemory;
 use gitconf_text::parse::section::{ValueNameError, header};
 use gitconf_text::parse::span;
@@ -9,6 +10,9 @@ use thiserror::Error;
 /// How setting a raw value is refused.
 #[derive(Debug, Drop, Error)]
 pub enum Error {
+    /// No such value stands, and none may be made: refusal 7, 8 or 9.
+    #[error(transparent)]
+    Lookup(existing::Error),
     /// A section has to be made, and can't be: refusal 3, 4 or 5.
     #[error(transparent)]
     Header(header::Error),
@@ -21,6 +25,20 @@ pub enum Error {
     /// A growth was refused: refusal 27.
     #[error("out of memory")]
     Memory,
+}
+
+impl From<existing::Error> for Error {
+    ghost use Rattle.gitconf_store.specs.SetErrors.{of_existing};
+
+    ghost from_gives = { λ existing e. e ≡ of_existing existing };
+
+    fn from(existing: existing::Error) -> Error {
+        match existing {
+            existing::Error::ValueName(name) => Error::ValueName(name),
+            existing::Error::Memory => Error::Memory,
+            existing => Error::Lookup(existing),
+        }
+    }
 }
 
 impl From<header::Error> for Error {

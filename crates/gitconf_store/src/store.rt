@@ -1,8 +1,10 @@
 //! The state of a file behind one buffer.
 mod editing;
+mod existing;
 mod look_ups;
 mod making;
 mod removing;
+mod values_at;
 mod views;
 
 use crate::edit::last_place;

@@ -1,4 +1,5 @@
 pub mod Integers
 pub mod Conversions
 pub mod Numbers
+pub mod ValueEditors
 pub mod Standing

@@ -6,3 +6,5 @@ pub mod Typed
 pub mod Converted
 pub mod Edited
 pub mod SectionEditors
+pub mod Spelled
+pub mod ValueEditors

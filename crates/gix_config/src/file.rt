@@ -3,6 +3,7 @@ ghost use Rattle.std.specs.Prelude.{◌≡◌, IfOk};
 
 mod all_values;
 mod editing;
+mod existing;
 mod impls;
 pub mod includes;
 pub mod init;
@@ -12,6 +13,7 @@ pub mod section;
 pub mod section_mut;
 pub mod sections;
 mod typed;
+pub mod value_mut;
 mod values;
 mod white_space;
 
@@ -34,6 +36,7 @@ use std::alloc::Global;
 use std::marker::Model;
 use std::rc::Rc;
 pub use white_space::is_whitespace;
+pub use value_mut::ValueMut;
 
 /// The metadata with one owner, who may share it.
 fn shared(alloc: Global, meta: Metadata) -> Result<Rc<Metadata>, NoMemory>

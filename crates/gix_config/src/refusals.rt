@@ -130,6 +130,7 @@ impl Refusal for set_raw_value::Error {
 
     fn number(&self) -> u8 {
         match self {
+            set_raw_value::Error::Lookup(e) => e.number(),
             set_raw_value::Error::Header(e) => e.number(),
             set_raw_value::Error::ValueName(e) => e.number(),
             set_raw_value::Error::Span(e) => e.number(),

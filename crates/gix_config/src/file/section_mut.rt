@@ -20,12 +20,12 @@ pub use making::Error;
 /// An editor of one section of a file. What it writes beside names and values stays as it was when the editor was made, also while the
 /// section changes: the blanks before a name, those around `=`, and the line end, the file's.
 pub struct SectionMut<'a, B: Drop = Blanks> {
-    file: &'a mut File,
-    id: SectionId,
-    blanks: B,
-    line_end: LineEnd,
+    pub(super) file: &'a mut File,
+    pub(super) id: SectionId,
+    pub(super) blanks: B,
+    pub(super) line_end: LineEnd,
     /// Whether a line end is put behind what is pushed.
-    ends: bool,
+    pub(super) ends: bool,
     ghost stands: { has_number id file.now ≡ true } by { Bool-set (has_number id file.now) true },
 }
 

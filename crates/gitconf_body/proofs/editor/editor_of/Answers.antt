@@ -4,7 +4,7 @@ use Rattle.gitconf_state.specs.Edit.{Spacing}
 use Rattle.gitconf_write.specs.LineEnds.{bytes_of_line_end}
 use Rattle.gitconf_body.specs.Spacings.{is_stored_entry}
 use Rattle.gitconf_body.proofs.Editors.{found_blanks, found_fits, stored_put}
-use Rattle.gitconf_body.proofs.Spacings.{default_spacing, default_put, found_put, separator_fits}
+use Rattle.gitconf_body.proofs.Spacings.{default_spacing, default_put, found_put, none_put, separator_fits, some_put}
 use Rattle.gitconf_body.proofs.editor.editor_of.Goals as goal
 
 pub returns-then-not-has_entry-clause-told : goal.returns-then-not-has_entry-clause-told
@@ -31,3 +31,13 @@ pub returns-clause-blanks : goal.returns-clause-blanks
 returns-clause-blanks c = λ buffer.
     let some : list_any is_stored_entry c.args.items.now ≡ true = search rules in
     rw c.found_leading.ensures (stored_put c.args.items.now ∙ sym (found_put buffer c.args.items.now some))
+
+pub returns-then-not-has_entry-clause-around : goal.returns-then-not-has_entry-clause-around
+returns-then-not-has_entry-clause-around c = λ buffer.
+    let none : list_any is_stored_entry c.args.items.now ≡ false = search rules in
+    sym (none_put buffer c.args.items.now none)
+
+pub returns-clause-around : goal.returns-clause-around
+returns-clause-around c = λ buffer.
+    let some : list_any is_stored_entry c.args.items.now ≡ true = search rules in
+    sym (some_put buffer c.args.items.now some)

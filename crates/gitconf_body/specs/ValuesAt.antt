@@ -1,0 +1,93 @@
+-- Entries that are written at a place among items, as these are stored.
+use Rattle.std.specs.Prelude.{ℕ, zero, suc, ◌+◌, Bool, true, false, List, [], ◌∷◌, ◌++◌, length, Option, Some, None}
+use Rattle.gitconf_text.specs.Part as parts
+use Rattle.gitconf_text.specs.Value.{escaped}
+use Rattle.gitconf_parse.specs.declared.event.Span.{Span}
+use Rattle.gitconf_parse.specs.declared.items.Assigned.{Assigned}
+use Rattle.gitconf_parse.specs.declared.items.Entry.{Entry}
+use Rattle.gitconf_parse.specs.declared.items.Item.{Item}
+use Rattle.gitconf_parse.specs.declared.items.Item.TheVariants as items
+use Rattle.gitconf_parse.specs.declared.items.Piece.{Piece}
+use Rattle.gitconf_body.specs.declared.editor.Editor.{Editor}
+use Rattle.gitconf_body.specs.declared.value_at.InPlaceOf.{InPlaceOf}
+use Rattle.gitconf_body.specs.declared.value_at.InPlaceOf.TheVariants.{Nothing, EntryButLineEnd}
+use Rattle.gitconf_body.specs.declared.value_at.InPlaceOf.TheVariants as in_place_of
+use Rattle.gitconf_body.specs.declared.value_at.Way.{Way}
+use Rattle.gitconf_body.specs.declared.value_at.Way.TheVariants.{Before, Over}
+use Rattle.gitconf_body.specs.Editors.{around_bytes, value_put}
+use Rattle.gitconf_body.specs.Spacings.{nothing}
+use Rattle.gitconf_body.specs.Standing.{end_items}
+
+-- whether an entry stands there that goes, and whether the last line end of its value stays
+abbrev pub stands : InPlaceOf → Bool
+stands Nothing = false
+stands in_place_of.Entry = true
+stands EntryButLineEnd = true
+
+abbrev pub keeps_line_end : InPlaceOf → Bool
+keeps_line_end Nothing = false
+keeps_line_end in_place_of.Entry = false
+keeps_line_end EntryButLineEnd = true
+
+-- how many bytes an editor puts into the buffer for an entry that is written
+abbrev pub written_put : Editor → (key value : List ℕ) → ℕ
+written_put e key value = length key + value_put e.around (Some value)
+
+-- and the body's own editor
+abbrev pub rewritten_put : (key value : List ℕ) → List parts.Item → ℕ
+rewritten_put key value items = length key + (around_bytes items + length (escaped value))
+
+-- the span of the last line end of a value's pieces
+abbrev pub last_end : List Piece → Span
+last_end [] = nothing
+last_end (p ∷ []) = p.line_end
+last_end (p ∷ q ∷ ps) = last_end (q ∷ ps)
+
+-- a comment comes next, blanks aside
+abbrev pub is_before_comment : List Item → Bool
+is_before_comment [] = false
+is_before_comment (items.Blanks run ∷ is) = is_before_comment is
+is_before_comment (items.LineEnds run ∷ is) = false
+is_before_comment (items.Comment tag text ∷ is) = true
+is_before_comment (items.Entry e ∷ is) = false
+
+-- a span that has bytes
+abbrev pub unless_short : Span → ℕ → Option Span
+unless_short run zero = None
+unless_short run (suc n) = Some run
+
+-- the span of the line end that stays, behind a last piece of so many bytes
+abbrev pub kept_behind : (last : ℕ) → (before : Bool) → Span → Option Span
+kept_behind zero true run = unless_short run run.len
+kept_behind zero false run = None
+kept_behind (suc n) before run = None
+
+abbrev pub kept_end : Option Assigned → (behind : List Item) → Option Span
+kept_end None behind = None
+kept_end (Some a) behind = kept_behind a.value.last.len (is_before_comment behind) (last_end a.value.pieces.items)
+
+-- how an entry is put
+abbrev pub way_over : InPlaceOf → Entry → (behind : List Item) → Way
+way_over Nothing e behind = Before
+way_over in_place_of.Entry e behind = Over None
+way_over EntryButLineEnd e behind = Over (kept_end e.assigned behind)
+
+abbrev pub way_before : InPlaceOf → List Item → Way
+way_before what [] = Before
+way_before what (items.Blanks run ∷ is) = Before
+way_before what (items.LineEnds run ∷ is) = Before
+way_before what (items.Comment tag text ∷ is) = Before
+way_before what (items.Entry e ∷ is) = way_over what e is
+
+abbrev pub IfReplaces : Way → Type 0 → Type 0
+IfReplaces Before holds = Unit {0}
+IfReplaces (Over kept) holds = holds
+
+-- what stands behind the entry
+abbrev pub without_first : List Item → List Item
+without_first [] = []
+without_first (i ∷ is) = is
+
+abbrev pub behind_way : Way → List Item → List Item
+behind_way Before is = is
+behind_way (Over kept) is = end_items kept ++ without_first is

@@ -1,0 +1,209 @@
+//! Entries that are written and deleted at a place among the items of a body.
+ghost use Rattle.std.specs.Prelude.{◌≡◌, ℕ, List, ◌+◌, ◌-◌, ◌<◌, ◌≤◌, ◌^◌, ◌∷◌, ◌++◌, min, drop, take, length, true, OnOk, OnErr, IsErrOf};
+ghost use Rattle.gitconf_text.specs.Value.{escaped};
+ghost use Rattle.gitconf_parse.specs.declared.items.Item.TheVariants as kinds;
+ghost use Rattle.gitconf_parse.specs.Items.{assigned_of};
+ghost use Rattle.gitconf_parse.specs.ItemsFit.{AreItemsWithin, EntryFits};
+ghost use Rattle.gitconf_state.specs.Edit.{spacing_of};
+ghost use Rattle.gitconf_state.specs.Editors as state;
+ghost use Rattle.gitconf_write.specs.Bodies.{items_of};
+ghost use Rattle.gitconf_body.specs.Buffers.{Grows};
+ghost use Rattle.gitconf_body.specs.Editors.{editor_in, EditorFits};
+ghost use Rattle.gitconf_body.specs.Standing.{Stand, end_items};
+ghost use Rattle.gitconf_body.specs.Taken.{StayWithin};
+ghost use Rattle.gitconf_body.specs.ValuesAt as spec;
+ghost use Rattle.gitconf_body.specs.ValuesAt.{IfReplaces, behind_way, keeps_line_end, rewritten_put, stands, written_put};
+
+use crate::buffer::check_room;
+use crate::editor::{Editor, editor_of};
+use crate::push::{put_entry, value_len};
+use gitconf_parse::event::Span;
+use gitconf_parse::items::{Entry, Item, Value};
+use gitconf_text::NoMemory;
+use gitconf_text::parse::span;
+use gitconf_write::line_end::LineEnd;
+
+const NOTHING: Span = Span { start: 0, len: 0 };
+
+/// What an entry that is written at a place stands in place of.
+#[derive(Clone, Copy, Debug)]
+pub enum InPlaceOf {
+    /// Of nothing: what stands from the place on stays behind the new entry.
+    Nothing,
+    /// Of the entry there, as a whole.
+    Entry,
+    /// Of the entry there, but that the last line end of its value stays, where that value ends in an empty last piece and a comment comes
+    /// next, blanks aside: it keeps the comment off the new value.
+    EntryButLineEnd,
+}
+
+/// The line end of the last piece of a value that goes on; no bytes where none does.
+#[tactic(auto, using(crate::proofs::ValuesAt::last_of))]
+fn last_line_end(value: &Value) -> Span
+    ensures { result ≡ spec.last_end value.now.pieces.items }
+{
+    match value.pieces.split_last() {
+        Some((piece, _)) => piece.line_end,
+        None => NOTHING,
+    }
+}
+
+/// Whether a comment comes next, blanks aside.
+fn is_before_comment(items: &[Item]) -> bool
+    ensures { result ≡ spec.is_before_comment items.now }
+{
+    for item in items {
+        match item {
+            Item::Blanks(_) => {}
+            Item::Comment { .. } => return true,
+            Item::LineEnds(_) | Item::Entry(_) => return false,
+        }
+    }
+    false
+}
+
+/// The line end of an entry's value that stays where the value is written anew before these items, if one does.
+fn kept_line_end(entry: &Entry, behind: &[Item]) -> Option<Span>
+    ensures { result ≡ spec.kept_end entry.now.assigned behind.now }
+{
+    let value = match &entry.assigned {
+        Some(assigned) => &assigned.value,
+        None => return None,
+    };
+    if value.last.len != 0 || !is_before_comment(behind) {
+        return None;
+    }
+    let run = last_line_end(value);
+    if run.len == 0 {
+        return None;
+    }
+    Some(run)
+}
+
+/// How an entry is put at a place.
+#[derive(Clone, Copy)]
+enum Way {
+    /// Before what stands there.
+    Before,
+    /// In place of the item there, and before a line end that stays, if there is one.
+    Over(Option<Span>),
+}
+
+/// How an entry is put before these items, or in place of the first of them.
+fn way_before(items: &[Item], in_place_of: InPlaceOf) -> Way
+    ensures { result ≡ spec.way_before in_place_of items.now }
+{
+    let Some((Item::Entry(entry), behind)) = items.split_first() else {
+        return Way::Before;
+    };
+    match in_place_of {
+        InPlaceOf::Nothing => Way::Before,
+        InPlaceOf::Entry => Way::Over(None),
+        InPlaceOf::EntryButLineEnd => Way::Over(kept_line_end(entry, behind)),
+    }
+}
+
+/// Puts an entry at a place. Takes one growth, or none.
+fn put(items: &mut Vec<Item>, at: usize, entry: Entry, way: Way) -> Result<(), NoMemory>
+    requires within { at ≤ length items.old.items }
+    requires over { IfReplaces way (at < length items.old.items) }
+    ensures ok { OnOk result (items.new.items ≡ take at items.old.items ++ kinds.Entry entry ∷ behind_way way (drop at items.old.items)) }
+    ensures err { OnErr result (items.new.items ≡ items.old.items) }
+{
+    match way {
+        Way::Before => items.insert(at, Item::Entry(entry))?,
+        Way::Over(None) => items[at] = Item::Entry(entry),
+        Way::Over(Some(run)) => {
+            items.insert(at + 1, Item::LineEnds(run))?;
+            items[at] = Item::Entry(entry);
+        }
+    }
+    Ok(())
+}
+
+/// How many bytes an entry that is written puts into the buffer; the greatest number where they are more.
+fn written_len(editor: &Editor<'_>, key: &[u8], value: &[u8]) -> usize
+    ensures { result ≡ min (written_put editor.now key.now value.now) (2 ^ 64 - 1) }
+{
+    key.len()
+        .saturating_add(value_len(&editor.around, Some(value)))
+}
+
+/// Writes an entry at a place among the items, which is counted in items from the first one, 0; behind all of them where there are fewer.
+/// The entry has the key as it is given, and `=` with the editor's blanks around it and the value as a file spells it. It stands in place
+/// of the entry there, as it is asked for; where no entry stands there, it stands before what does. All other items stay.
+///
+/// It looks at the items from the place on up to the first that is no blanks. Takes memory for what is put into the buffer, and for at
+/// most one item more.
+///
+/// # Errors
+///
+/// A [`span::Error`]: number 3 exactly where the buffer would be longer than 4294967295 bytes, before any growth, and else 27 for want of
+/// memory. The items are then as they were, and the buffer may have grown.
+#[tactic(auto, using(crate::proofs::Buffers::extending))]
+pub fn write_at(
+    buffer: &mut Vec<u8>,
+    items: &mut Vec<Item>,
+    editor: &Editor<'_>,
+    place: usize,
+    in_place_of: InPlaceOf,
+    key: &[u8],
+    value: &[u8],
+) -> Result<(), span::Error>
+    requires room { length buffer.old.items < 2 ^ 32 }
+    requires within { AreItemsWithin (length buffer.old.items) items.old.items }
+    requires fits { EditorFits (length buffer.old.items) editor.now }
+    ensures ok { OnOk result (items_of buffer.new.items items.new.items ≡ state.written_at (editor_in buffer.old.items editor.now)
+        place (stands in_place_of) (keeps_line_end in_place_of) key.now value.now (items_of buffer.old.items items.old.items)) }
+    ensures within { AreItemsWithin (length buffer.new.items) items.new.items }
+    ensures grows { Grows result (written_put editor.now key.now value.now) buffer.old.items buffer.new.items }
+    ensures refused { 2 ^ 32 ≤ length buffer.old.items + written_put editor.now key.now value.now → IsErrOf result 3 }
+    ensures err { OnErr result (items.new.items ≡ items.old.items) }
+{
+    check_room(buffer, written_len(editor, key, value))?;
+    let entry = put_entry(buffer, &editor.around, key, Some(value))?;
+    let at = place.min(items.len());
+    let way = way_before(items.split_at(at).1, in_place_of);
+    put(items, at, entry, way)?;
+    Ok(())
+}
+
+/// As [`write_at`], with the blanks around `=` that the items have: those around their first one; none where they have entries, but no `=`;
+/// and a space and a space where they have no entry. One walk over the items more.
+///
+/// # Errors
+///
+/// Those of [`write_at`].
+pub fn rewrite_at(
+    buffer: &mut Vec<u8>,
+    items: &mut Vec<Item>,
+    place: usize,
+    in_place_of: InPlaceOf,
+    key: &[u8],
+    value: &[u8],
+) -> Result<(), span::Error>
+    requires room { length buffer.old.items < 2 ^ 32 }
+    requires within { AreItemsWithin (length buffer.old.items) items.old.items }
+    ensures ok { (line_end : List ℕ) → OnOk result (items_of buffer.new.items items.new.items
+        ≡ state.written_at (record { spacing = spacing_of (items_of buffer.old.items items.old.items); line_end = line_end; ends = true })
+        place (stands in_place_of) (keeps_line_end in_place_of) key.now value.now (items_of buffer.old.items items.old.items)) }
+    ensures within { AreItemsWithin (length buffer.new.items) items.new.items }
+    ensures grows { Grows result (rewritten_put key.now value.now (items_of buffer.old.items items.old.items)) buffer.old.items buffer.new.items }
+    ensures refused { 2 ^ 32 ≤ length buffer.old.items + rewritten_put key.now value.now (items_of buffer.old.items items.old.items) → IsErrOf result 3 }
+    ensures err { OnErr result (items.new.items ≡ items.old.items) }
+{
+    // No line end is written.
+    let editor = editor_of(items, LineEnd::Lf);
+    write_at(buffer, items, &editor, place, in_place_of, key, value)
+}
+
+/// Deletes the item at a place, which is counted in items from the first one, 0. All other items stay, also the blanks and line ends
+/// around it; where there are fewer items, all do. Is never refused, and takes no memory.
+pub fn delete_at(items: &mut Vec<Item>, place: usize)
+    ensures deleted { (buffer : List ℕ) → items_of buffer items.new.items ≡ state.deleted_at place (items_of buffer items.old.items) }
+    ensures within { StayWithin items.old.items items.new.items }
+{
+    if place < items.len() {
+        drop(items.remove(place));
+    }
+}

@@ -1,0 +1,69 @@
+-- Where the entries of a key stand: each by the number of its section, and by its place among the items of the body, counted from 0.
+use Rattle.std.specs.Prelude.{◌≡◌, ◌⊎◌, ℕ, Bool, true, false, List, Option, Some, None, Result, Ok, Err, map, filter, flat_map}
+use Rattle.std.specs.List.{enumerate_from, last_or, slice_get}
+use Rattle.gitconf_text.specs.Names.{is_value_name}
+use Rattle.gitconf_text.specs.Part.{Item, EntryItem}
+use Rattle.gitconf_text.specs.Value.{plain}
+use Rattle.gitconf_base.specs.Key.{Key}
+use Rattle.gitconf_base.specs.Metadata.{Meta}
+use Rattle.gitconf_state.specs.Edit.{is_entry_of, item_raw, spacing_of}
+use Rattle.gitconf_state.specs.Editors.{Editor}
+use Rattle.gitconf_state.specs.Edits.{items_of_numbered}
+use Rattle.gitconf_state.specs.LineEnds.{file_line_end}
+use Rattle.gitconf_state.specs.Lookup as state
+use Rattle.gitconf_state.specs.Lookup.{Miss}
+use Rattle.gitconf_state.specs.State.{SectionState, State}
+use Rattle.gitconf_store.specs.declared.lookup.existing.Error.{Error}
+use Rattle.gitconf_store.specs.declared.lookup.existing.Error.TheVariants.{SectionMissing, SubSectionMissing, KeyMissing, ValueName}
+use Rattle.gitconf_store.specs.Lookups.{miss_at, sections_named}
+use Rattle.gitconf_store.specs.SomeSections.{WithSome}
+use Rattle.gitconf_store.specs.Walks.{passing}
+
+-- the places of a key's entries among items
+abbrev pub places_among : (key : List ℕ) → List Item → List ℕ
+places_among key items = map (λ p. p.0) (filter (λ p. is_entry_of key p.1) (enumerate_from 0 items))
+
+-- each with the number of the section
+abbrev pub value_places : (key : List ℕ) → SectionState → List (ℕ × ℕ)
+value_places key s = map (λ place. (s.number, place)) (places_among key s.items)
+
+-- the last one in those of the sections that pass, in file order
+abbrev pub last_value_place : (key : List ℕ) → (keeps : Meta → Bool) → List SectionState → Option (ℕ × ℕ)
+last_value_place key keeps sections = last_or None (flat_map (value_places key) (passing keeps sections))
+
+-- the place that a value editor stands on: that of the last entry of the key, with `=` or without it, in the passing sections
+abbrev pub value_place : Key → (keeps : Meta → Bool) → State → Option (ℕ × ℕ)
+value_place key keeps state = last_value_place key.name keeps (sections_named key.section key.subsection state)
+
+-- What is refused where there is none: a section that is missing, then a name of a value that is none, then an entry that is missing.
+abbrev pub refusal_of : Miss → (is_name : Bool) → Error
+refusal_of state.SectionMissing is_name = SectionMissing
+refusal_of state.SubSectionMissing is_name = SubSectionMissing
+refusal_of state.KeyMissing true = KeyMissing
+refusal_of state.KeyMissing false = ValueName 6
+
+-- The place was found, and the key's name is one; or the refusal tells why not.
+abbrev pub IsPlace : Key → State → Option (ℕ × ℕ) → Result (ℕ × ℕ) Error → Type 0
+IsPlace key state place (Ok found) = (is_value_name key.name ≡ true) × (place ≡ Some found)
+IsPlace key state place (Err refusal) =
+    ((is_value_name key.name ≡ false) ⊎ (place ≡ None)) × (refusal ≡ refusal_of (miss_at key state) (is_value_name key.name))
+
+abbrev pub IsValuePlace : Key → (keeps : Meta → Bool) → State → Result (ℕ × ℕ) Error → Type 0
+IsValuePlace key keeps state result = IsPlace key state (value_place key keeps state) result
+
+-- whatever the filter answers: that of a state with some of the sections
+abbrev pub IsSomeValuePlace : Key → State → Result (ℕ × ℕ) Error → Type 0
+IsSomeValuePlace key state result = WithSome (λ s. IsPlace key state (value_place key (λ _. true) s) result) state
+
+-- what an entry means; no value counts as an empty one
+abbrev pub item_meaning : Item → Option (List ℕ)
+item_meaning (EntryItem e) = Some (plain (item_raw (EntryItem e)))
+item_meaning _ = None
+
+-- what the entry at a place means, where one stands there
+abbrev pub meaning_at : (place : ℕ) → List Item → Option (List ℕ)
+meaning_at place items = elim (slice_get items place) [ None ↦ None | Some i ↦ item_meaning i ]
+
+-- the editor that the section of a number has now: its blanks, and the file's line end
+abbrev pub editor_of_numbered : (number : ℕ) → State → Editor
+editor_of_numbered number state = record { spacing = spacing_of (items_of_numbered number state); line_end = file_line_end state; ends = true }

@@ -1,0 +1,205 @@
+//! Entries at a place in the section of a number, on which an editor of values stands.
+use crate::lookup::existing;
+use crate::lookup::places::last_value_place;
+use crate::section::SectionRef;
+use crate::store::Store;
+use crate::values::meaning;
+use bstr::BString;
+use gitconf_base::meta::Metadata;
+use gitconf_body::editor::Editor;
+use gitconf_body::value_at;
+use gitconf_body::value_at::InPlaceOf;
+use gitconf_parse::items::Item;
+use gitconf_table::table::SectionId;
+use gitconf_text::NoMemory;
+use gitconf_text::parse::section::ValueNameError;
+use gitconf_text::parse::section::bytes::is_value_name;
+use gitconf_text::parse::span;
+
+impl SectionRef<'_> {
+    ghost use Rattle.bstr.specs.Owned.{bstring_bytes};
+    ghost use Rattle.gitconf_store.specs.Lookups.{IsFound};
+    ghost use Rattle.gitconf_store.specs.ValuePlaces.{meaning_at};
+    ghost use Rattle.gitconf_store.specs.Views.{shown};
+
+    /// What the entry means that stands at a place among the items of the body, counted in items from the first one, 0; without `=` it is
+    /// empty. `None` where no entry stands there.
+    ///
+    /// # Errors
+    ///
+    /// Want of memory for the answer, only where there is an entry.
+    pub fn meaning_at(&self, place: usize) -> Result<Option<BString>, NoMemory>
+        ensures { IsFound bstring_bytes result (meaning_at place (shown self.now).items) }
+    {
+        let section = self.section;
+        let Some(Item::Entry(entry)) = section.items.get(place) else {
+            return Ok(None);
+        };
+        let alloc = *section.items.allocator();
+        match &entry.assigned {
+            Some(assigned) => Ok(Some(meaning(alloc, self.buffer, &assigned.value)?)),
+            None => Ok(Some(BString::new(Vec::new(alloc)))),
+        }
+    }
+}
+
+impl Store {
+    ghost use Rattle.std.specs.Fn.{ComputesKey};
+    ghost use Rattle.std.specs.Option.{option_copied};
+    ghost use Rattle.std.specs.List.{list_any};
+    ghost use Rattle.std.specs.Prelude.{◌≡◌, ◌==◌, Bool, true, IfOk, OnOk, OnErr};
+    ghost use Rattle.bstr.specs.Owned.{bstring_bytes};
+    ghost use Rattle.gitconf_text.specs.Names.{is_value_name};
+    ghost use Rattle.gitconf_base.specs.Metadata.{Meta};
+    ghost use Rattle.gitconf_state.specs.Edit.{with_used};
+    ghost use Rattle.gitconf_state.specs.Edits.{apply, items_of_numbered, told_of, DeleteAt, IsEditor, WriteAt};
+    ghost use Rattle.gitconf_body.specs.ValuesAt.{keeps_line_end, rewritten_put, stands, written_put};
+    ghost use Rattle.gitconf_store.specs.Editors.{given_editor, IsGiven, PutsIn};
+    ghost use Rattle.gitconf_store.specs.Lookups.{IsFound, key_at};
+    ghost use Rattle.gitconf_store.specs.ValuePlaces.{editor_of_numbered, meaning_at, IsSomeValuePlace, IsValuePlace};
+
+    /// Where the last entry of a key stands, with `=` or without it, in the last section that has one, of those that have the name,
+    /// without ASCII case, and exactly the subsection, and whose metadata passes the filter: the number of the section, and the entry's
+    /// place among the items of its body, counted in items from the first one, 0.
+    ///
+    /// It walks over the sections of the name from the last one on, up to that one. Takes no memory.
+    ///
+    /// # Errors
+    ///
+    /// Refusal 7 where no section has the name, 8 where none of these has the subsection; else 6 for a name of a value that is none; else 9
+    /// where none of these that pass has such an entry.
+    pub fn value_place_filter_by<F: FnMut(&Metadata) -> bool>(
+        &self,
+        section_name: &str,
+        subsection_name: Option<&[u8]>,
+        value_name: &str,
+        filter: F,
+    ) -> Result<(SectionId, usize), existing::Error>
+        requires { F.IsAlwaysCallable filter }
+        // For a filter that answers by what it is shown.
+        ensures exact { (keeps : Meta → Bool) → ComputesKey F.FnMut keeps filter
+            → IsValuePlace (key_at section_name.now (option_copied subsection_name.entry) value_name.now) keeps self.now result }
+        ensures stands { IfOk result (λ place. list_any (λ s. s.number == place.0) self.now.sections ≡ true) }
+        // Whatever the filter answers.
+        ensures some { IsSomeValuePlace (key_at section_name.now (option_copied subsection_name.entry) value_name.now) self.now result }
+    {
+        self.check_named(section_name, subsection_name)?;
+        let key = value_name.as_bytes();
+        if !is_value_name(key) {
+            return Err(existing::Error::ValueName(ValueNameError::invalid()));
+        }
+        let sections = self.sections_named(section_name, subsection_name);
+        match last_value_place(sections, key, filter) {
+            Some(place) => Ok(place),
+            None => Err(existing::Error::KeyMissing),
+        }
+    }
+
+    /// What the entry means that stands at a place in the section of a number; without `=` it is empty. `None` where no entry stands there,
+    /// or no section has the number. The section is found in constant time.
+    ///
+    /// # Errors
+    ///
+    /// Want of memory for the answer, only where there is an entry.
+    pub fn meaning_at(&self, id: SectionId, place: usize) -> Result<Option<BString>, NoMemory>
+        ensures { IsFound bstring_bytes result (told_of id (meaning_at place) self.now) }
+    {
+        match self.section_by_id(id) {
+            Some(section) => section.meaning_at(place),
+            None => Ok(None),
+        }
+    }
+
+    /// Writes an entry at a place among the items of the section of a number, which is counted in items from the first one, 0; behind all
+    /// of them where there are fewer. The entry has the key as it is given, and `=` with the editor's blanks around it and the value as a
+    /// file spells it. It stands in place of the entry there, as it is asked for; where no entry stands there, it stands before what does.
+    /// All else stays as it is; where no section has the number, all does.
+    ///
+    /// The section is found in constant time. Takes memory for what is put into the buffer, and for at most one item more.
+    ///
+    /// # Errors
+    ///
+    /// Those of [`Store::push_entry`].
+    pub fn write_entry_at(
+        &mut self,
+        id: SectionId,
+        editor: &Editor<'_>,
+        place: usize,
+        in_place_of: InPlaceOf,
+        key: &[u8],
+        value: &[u8],
+    ) -> Result<(), span::Error>
+        requires given { IsGiven editor.now }
+        requires editor { IsEditor (given_editor editor.now) }
+        requires key { is_value_name key.now ≡ true }
+        ensures ok { OnOk result (self.new ≡ with_used self.new.used
+            (apply (WriteAt id (given_editor editor.now) place (stands in_place_of) (keeps_line_end in_place_of) key.now value.now) self.old)) }
+        ensures err { OnErr result (self.new ≡ with_used self.new.used self.old) }
+        ensures used { PutsIn id result (written_put editor.now key.now value.now) self.old self.new }
+    {
+        // No number stands twice.
+        prove!(self.sections.next_id() == self.sections.next_id());
+        let Some(at) = self.sections.position(id) else {
+            return Ok(());
+        };
+        let section = self.sections.at_mut(at);
+        value_at::write_at(
+            &mut self.buffer,
+            &mut section.items,
+            editor,
+            place,
+            in_place_of,
+            key,
+            value,
+        )
+    }
+
+    /// As [`Store::write_entry_at`], with the blanks around `=` that the section has: those around its first one; none where it has
+    /// entries, but no `=`; and a space and a space where it has no entry. One walk over its items more.
+    ///
+    /// # Errors
+    ///
+    /// Those of [`Store::push_entry`].
+    pub fn rewrite_entry_at(
+        &mut self,
+        id: SectionId,
+        place: usize,
+        in_place_of: InPlaceOf,
+        key: &[u8],
+        value: &[u8],
+    ) -> Result<(), span::Error>
+        requires key { is_value_name key.now ≡ true }
+        ensures ok { OnOk result (self.new ≡ with_used self.new.used
+            (apply (WriteAt id (editor_of_numbered id self.old) place (stands in_place_of) (keeps_line_end in_place_of) key.now value.now) self.old)) }
+        ensures err { OnErr result (self.new ≡ with_used self.new.used self.old) }
+        ensures used { PutsIn id result (rewritten_put key.now value.now (items_of_numbered id self.old)) self.old self.new }
+    {
+        prove!(self.sections.next_id() == self.sections.next_id());
+        let Some(at) = self.sections.position(id) else {
+            return Ok(());
+        };
+        let section = self.sections.at_mut(at);
+        value_at::rewrite_at(
+            &mut self.buffer,
+            &mut section.items,
+            place,
+            in_place_of,
+            key,
+            value,
+        )
+    }
+
+    /// Deletes the item at a place among those of the section of a number, which is counted in items from the first one, 0. All else
+    /// stays as it is, also the blanks and line ends around it; where the section has fewer items, or no section has the number, all
+    /// does. Is never refused, and takes no memory. The section is found in constant time.
+    pub fn delete_entry_at(&mut self, id: SectionId, place: usize)
+        ensures { self.new ≡ apply (DeleteAt id place) self.old }
+    {
+        prove!(self.sections.next_id() == self.sections.next_id());
+        let Some(at) = self.sections.position(id) else {
+            return;
+        };
+        let section = self.sections.at_mut(at);
+        value_at::delete_at(&mut section.items, place);
+    }
+}

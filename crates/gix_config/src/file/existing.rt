@@ -1,0 +1,60 @@
+//! Values of entries that stand, set anew.
+ghost use Rattle.std.specs.Option.{option_copied};
+ghost use Rattle.std.specs.Prelude.{IsSome};
+ghost use Rattle.gitconf_base.specs.Key.{the_key};
+ghost use Rattle.gitconf_store.specs.Existing.{IsSetExisting};
+ghost use Rattle.gitconf_store.specs.Lookups.{key_at};
+
+use crate::file::{File, set_raw_value};
+use gitconf_base::key::AsKey;
+
+impl File {
+    /// Gives the last entry of a key such as `remote.origin.url` another value, with `=` or without it, in the last section of the key's
+    /// name and subsection that has one: the entry is written anew, by the name as it is given, with the blanks around `=` that the
+    /// section has, and the value as a file spells it. Where the old value ended in an empty last piece and a comment comes next, blanks
+    /// aside, the last line end of the old value stays before it. All else stays as it is; no entry is made. The key has to be one, which
+    /// [`AsKey::try_as_key`] tells.
+    ///
+    /// It walks over the sections of the key's name and subsection from the last one on, up to that one, and over its items. Takes memory
+    /// for what is put into the file's buffer, and for at most one item more.
+    ///
+    /// # Errors
+    ///
+    /// Refusal 7 where no section has the name, 8 where none of these has the subsection; else 6 for a name of a value that is none; else 9
+    /// where none of these has such an entry; 3 where the file would take more than 4294967295 bytes, 27 for want of memory. The file is
+    /// then as it was.
+    pub fn set_existing_raw_value<K: AsKey>(
+        &mut self,
+        key: K,
+        new_value: &[u8],
+    ) -> Result<(), set_raw_value::Error>
+        requires { IsSome (K.key key) }
+        ensures { IsSetExisting (the_key (K.key key)) new_value.now result self.old self.new }
+    {
+        let key = key.as_key();
+        self.set_existing_raw_value_by(
+            key.section_name,
+            key.subsection_name,
+            key.value_name,
+            new_value,
+        )
+    }
+
+    /// As [`File::set_existing_raw_value`], by the names of the section, the subsection and the value.
+    ///
+    /// # Errors
+    ///
+    /// Those of [`File::set_existing_raw_value`].
+    pub fn set_existing_raw_value_by(
+        &mut self,
+        section_name: &str,
+        subsection_name: Option<&[u8]>,
+        value_name: &str,
+        new_value: &[u8],
+    ) -> Result<(), set_raw_value::Error>
+        ensures { IsSetExisting (key_at section_name.now (option_copied subsection_name.entry) value_name.now) new_value.now result self.old self.new }
+    {
+        self.store
+            .set_existing_raw_value_by(section_name, subsection_name, value_name, new_value)
+    }
+}

@@ -1,0 +1,181 @@
+//! Editing the value of one entry of a file.
+ghost use Rattle.std.proofs.Math.Bool.{Bool-set};
+ghost use Rattle.std.specs.Prelude.{◌≡◌, true};
+ghost use Rattle.gix_config.specs.Edited.{has_number};
+
+mod editing;
+mod making;
+pub mod spelling;
+
+use crate::file::section_mut::SectionMut;
+use crate::file::{File, SectionId, SectionRef};
+use crate::lookup::existing;
+use bstr::BString;
+use gitconf_body::value_at::InPlaceOf;
+use gitconf_text::parse::span;
+use gitconf_write::line_end::LineEnd;
+use spelling::Spelling;
+
+/// An editor of the value of one entry of a file. It stands on the entry's place in its section. What it writes beside the value stays as
+/// it was when the editor was made: the name, as the caller spelled it, and the blanks round `=`, those of the section.
+pub struct ValueMut<'a, S: Drop = Spelling> {
+    file: &'a mut File,
+    id: SectionId,
+    place: usize,
+    /// Whether the entry stands at its place, and wasn't deleted.
+    stands: bool,
+    spelling: S,
+    line_end: LineEnd,
+    ghost there: { has_number id file.now ≡ true } by { Bool-set (has_number id file.now) true },
+}
+
+impl<S: Drop> Drop for ValueMut<'_, S> {
+    ghost use Rattle.std.specs.Prelude.{◌≡◌};
+    ghost use Rattle.gix_config.specs.ValueEditors.{edited};
+
+    // By hand, so that callers know what the file is when the editor is gone.
+    fn drop(self)
+        ensures { self.exit.0.now ≡ edited self.entry }
+    {
+        let ValueMut {
+            file,
+            id: _,
+            place: _,
+            stands: _,
+            spelling,
+            line_end: _,
+        } = self;
+        drop(spelling);
+        let _ = file;
+    }
+}
+
+impl<'a> ValueMut<'a> {
+    ghost use Rattle.std.specs.Prelude.{◌≡◌, false, true, OnErr, OnOk, Some};
+    ghost use Rattle.bstr.specs.Owned.{bstring_bytes};
+    ghost use Rattle.gitconf_state.specs.Edits.{numbered};
+    ghost use Rattle.gitconf_state.specs.Lookup.{KeyMissing};
+    ghost use Rattle.gitconf_store.specs.Misses.{IsExisting};
+    ghost use Rattle.gitconf_store.specs.Views.{shown};
+    ghost use Rattle.gix_config.specs.Edited.{IsEdited};
+    ghost use Rattle.gix_config.specs.SectionEditors as sections;
+    ghost use Rattle.gix_config.specs.ValueEditors.{edited, editor, key_of, lent, meaning_of, place_of, stands_there, without_entry, writing};
+
+    /// What the value means; no bytes where the entry has no `=`.
+    ///
+    /// # Errors
+    ///
+    /// Refusal 9 where the entry was deleted; 27 for want of memory for the answer.
+    pub fn get(&self) -> Result<BString, existing::Error>
+        ensures { IsExisting bstring_bytes result (meaning_of self.now) KeyMissing }
+    {
+        if !self.stands {
+            return Err(existing::Error::KeyMissing);
+        }
+        match self.file.meaning_at(self.id, self.place) {
+            Ok(Some(text)) => Ok(text),
+            Ok(None) => Err(existing::Error::KeyMissing),
+            Err(_) => Err(existing::Error::Memory),
+        }
+    }
+
+    /// Gives the entry another value: it is written anew, by the name as the caller spelled it, `=` with the blanks around it, and the value
+    /// as a file spells it. Where the old value ended in an empty last piece and a comment comes next, blanks aside, the last line end of
+    /// the old value stays before it. An entry that was deleted is written at its place.
+    ///
+    /// Nothing that grows with the file. Takes memory for what is put into the file's buffer, and for at most one item more.
+    ///
+    /// # Errors
+    ///
+    /// Number 3 where the file would take more than 4294967295 bytes, and 27 for want of memory. The file is then as it was.
+    pub fn set(&mut self, value: &[u8]) -> Result<(), span::Error>
+        ensures same_file { lent self.new ≡ lent self.old }
+        ensures same_place { place_of self.new ≡ place_of self.old }
+        ensures same_key { key_of self.new ≡ key_of self.old }
+        ensures same_editor { editor self.new ≡ editor self.old }
+        ensures done { IsEdited (writing self.old value.now) (λ e. e) result (edited self.old) (edited self.new) }
+        ensures stands { OnOk result (stands_there self.new ≡ true) }
+        ensures err { OnErr result (stands_there self.new ≡ stands_there self.old) }
+    {
+        let in_place_of = if self.stands {
+            InPlaceOf::EntryButLineEnd
+        } else {
+            InPlaceOf::Nothing
+        };
+        let editor = self.spelling.editor(self.line_end);
+        self.file.write_entry_at(
+            self.id,
+            &editor,
+            self.place,
+            in_place_of,
+            self.spelling.key(),
+            value,
+        )?;
+        self.stands = true;
+        Ok(())
+    }
+
+    /// As [`ValueMut::set`], the bytes of a text.
+    ///
+    /// # Errors
+    ///
+    /// Those of [`ValueMut::set`].
+    pub fn set_string(&mut self, value: &str) -> Result<(), span::Error>
+        ensures same_file { lent self.new ≡ lent self.old }
+        ensures same_place { place_of self.new ≡ place_of self.old }
+        ensures same_key { key_of self.new ≡ key_of self.old }
+        ensures same_editor { editor self.new ≡ editor self.old }
+        ensures done { IsEdited (writing self.old value.now) (λ e. e) result (edited self.old) (edited self.new) }
+        ensures stands { OnOk result (stands_there self.new ≡ true) }
+        ensures err { OnErr result (stands_there self.new ≡ stands_there self.old) }
+    {
+        self.set(value.as_bytes())
+    }
+
+    /// Deletes the entry, where it stands: its name, `=` and value, and the blanks between them. What stands around it stays, also the
+    /// blanks before its name and the line end behind its value. Is never refused, and takes no memory.
+    pub fn delete(&mut self)
+        ensures same_file { lent self.new ≡ lent self.old }
+        ensures same_place { place_of self.new ≡ place_of self.old }
+        ensures same_key { key_of self.new ≡ key_of self.old }
+        ensures same_editor { editor self.new ≡ editor self.old }
+        ensures deleted { edited self.new ≡ without_entry self.old }
+        ensures stands { stands_there self.new ≡ false }
+    {
+        if self.stands {
+            self.file.delete_entry_at(self.id, self.place);
+            self.stands = false;
+        }
+    }
+
+    /// The section as it now stands. Constant time, and no memory.
+    pub fn section(&self) -> SectionRef<'_>
+        ensures { numbered (place_of self.now).0 (edited self.now) ≡ Some (shown result) }
+    {
+        self.file.section_of(self.id)
+    }
+
+    /// An editor of the section, which writes the blanks and the line end that the section and the file had when this one was made.
+    pub fn into_section_mut(self) -> SectionMut<'a>
+        ensures same_file { sections.lent result ≡ lent self.entry }
+        ensures same_state { sections.edited result ≡ edited self.entry }
+        ensures same_section { sections.number_of result ≡ (place_of self.entry).0 }
+        ensures same_editor { sections.editor result ≡ editor self.entry }
+    {
+        let ValueMut {
+            file,
+            id,
+            place: _,
+            stands: _,
+            spelling,
+            line_end,
+        } = self;
+        SectionMut {
+            file,
+            id,
+            blanks: spelling.into_blanks(),
+            line_end,
+            ends: true,
+        }
+    }
+}

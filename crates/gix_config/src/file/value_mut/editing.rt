@@ -1,0 +1,96 @@
+//! Edits of the entry at a place, on which editors of values stand.
+use crate::file::value_mut::spelling::Spelling;
+use crate::file::{File, Metadata, SectionId};
+use crate::lookup::existing;
+use bstr::BString;
+use gitconf_body::editor::Editor;
+use gitconf_body::value_at::InPlaceOf;
+use gitconf_text::NoMemory;
+use gitconf_text::parse::span;
+
+impl File {
+    ghost use Rattle.std.specs.Fn.{ComputesKey};
+    ghost use Rattle.std.specs.Option.{option_copied};
+    ghost use Rattle.std.specs.Prelude.{◌≡◌, Bool, true, IfOk};
+    ghost use Rattle.bstr.specs.Owned.{bstring_bytes};
+    ghost use Rattle.gitconf_text.specs.Names.{is_value_name};
+    ghost use Rattle.gitconf_base.specs.Metadata.{Meta};
+    ghost use Rattle.gitconf_state.specs.Edit.{spacing_of};
+    ghost use Rattle.gitconf_state.specs.Edits.{apply, items_of_numbered, told_of, DeleteAt, IsEditor, WriteAt};
+    ghost use Rattle.gitconf_body.specs.ValuesAt.{keeps_line_end, stands};
+    ghost use Rattle.gitconf_store.specs.Editors.{given_editor, IsGiven};
+    ghost use Rattle.gitconf_store.specs.Lookups.{IsFound, key_at};
+    ghost use Rattle.gitconf_store.specs.ValuePlaces.{meaning_at, IsSomeValuePlace, IsValuePlace};
+    ghost use Rattle.gix_config.specs.Edited.{has_number, IsEdited};
+
+    /// [`Store::value_place_filter_by`](gitconf_store::store::Store::value_place_filter_by).
+    pub(crate) fn value_place<F: FnMut(&Metadata) -> bool>(
+        &self,
+        section_name: &str,
+        subsection_name: Option<&[u8]>,
+        value_name: &str,
+        filter: F,
+    ) -> Result<(SectionId, usize), existing::Error>
+        requires { F.IsAlwaysCallable filter }
+        ensures exact { (keeps : Meta → Bool) → ComputesKey F.FnMut keeps filter
+            → IsValuePlace (key_at section_name.now (option_copied subsection_name.entry) value_name.now) keeps self.now result }
+        ensures stands { IfOk result (λ place. has_number place.0 self.now ≡ true) }
+        ensures name { IfOk result (λ _. is_value_name value_name.now ≡ true) }
+        ensures some { IsSomeValuePlace (key_at section_name.now (option_copied subsection_name.entry) value_name.now) self.now result }
+    {
+        self.store
+            .value_place_filter_by(section_name, subsection_name, value_name, filter)
+    }
+
+    /// [`Store::meaning_at`](gitconf_store::store::Store::meaning_at).
+    pub(crate) fn meaning_at(
+        &self,
+        id: SectionId,
+        place: usize,
+    ) -> Result<Option<BString>, NoMemory>
+        ensures { IsFound bstring_bytes result (told_of id (meaning_at place) self.now) }
+    {
+        self.store.meaning_at(id, place)
+    }
+
+    /// [`Store::write_entry_at`](gitconf_store::store::Store::write_entry_at).
+    pub(crate) fn write_entry_at(
+        &mut self,
+        id: SectionId,
+        editor: &Editor<'_>,
+        place: usize,
+        in_place_of: InPlaceOf,
+        key: &[u8],
+        value: &[u8],
+    ) -> Result<(), span::Error>
+        requires stands { has_number id self.old ≡ true }
+        requires given { IsGiven editor.now }
+        requires editor { IsEditor (given_editor editor.now) }
+        requires key { is_value_name key.now ≡ true }
+        ensures done { IsEdited (WriteAt id (given_editor editor.now) place (stands in_place_of) (keeps_line_end in_place_of) key.now value.now)
+            (λ e. e) result self.old self.new }
+        ensures stands { has_number id self.new ≡ true }
+    {
+        self.store
+            .write_entry_at(id, editor, place, in_place_of, key, value)
+    }
+
+    /// [`Store::delete_entry_at`](gitconf_store::store::Store::delete_entry_at).
+    pub(crate) fn delete_entry_at(&mut self, id: SectionId, place: usize)
+        requires { has_number id self.old ≡ true }
+        ensures deleted { self.new ≡ apply (DeleteAt id place) self.old }
+        ensures stands { has_number id self.new ≡ true }
+    {
+        self.store.delete_entry_at(id, place);
+    }
+
+    /// A name, and the blanks that the section of a number has.
+    pub(crate) fn spelling_at(&self, id: SectionId, key: &[u8]) -> Result<Spelling, NoMemory>
+        requires stands { has_number id self.now ≡ true }
+        requires key { is_value_name key.now ≡ true }
+        ensures { IfOk result (λ s. s ≡ record { key = key.now; spacing = spacing_of (items_of_numbered id self.now) }) }
+    {
+        let blanks = self.section_of(id).blanks()?;
+        Spelling::new(key, blanks)
+    }
+}
