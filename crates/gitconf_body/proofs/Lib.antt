@@ -11,3 +11,4 @@ pub mod Editors
 pub mod Standing
 pub mod Changing
 pub mod Taken
+pub mod Moves

@@ -6,3 +6,4 @@ pub mod Copies
 pub mod Editors
 pub mod Standing
 pub mod Taken
+pub mod Moves
