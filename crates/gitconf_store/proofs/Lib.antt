@@ -29,3 +29,5 @@ pub mod Cloning
 pub mod Detaching
 pub mod Editing
 pub mod LineBytes
+pub mod Renaming
+pub mod RenamingAll

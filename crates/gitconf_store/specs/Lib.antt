@@ -21,3 +21,5 @@ pub mod Targets
 pub mod Edits
 pub mod SetErrors
 pub mod Editors
+pub mod RenameErrors
+pub mod Renamings

@@ -2,6 +2,7 @@
 mod editing;
 mod look_ups;
 mod removing;
+mod renaming;
 mod views;
 
 use crate::edit::last_place;

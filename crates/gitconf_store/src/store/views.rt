@@ -142,7 +142,11 @@ impl Store {
     }
 
     /// Whether there is a section of the name and subsection; refused as what is missing where there is none.
-    fn check_named(&self, name: &str, subsection_name: Option<&[u8]>) -> Result<(), Error>
+    pub(crate) fn check_named(
+        &self,
+        name: &str,
+        subsection_name: Option<&[u8]>,
+    ) -> Result<(), Error>
         ensures { MatchResult result (λ _. HasSection name.now (option_copied subsection_name.entry) self.now) (IsMissing name.now (option_copied subsection_name.entry) self.now) }
     {
         match self.sections_named(name, subsection_name).next() {
