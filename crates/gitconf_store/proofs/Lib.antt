@@ -31,3 +31,4 @@ pub mod Editing
 pub mod LineBytes
 pub mod Renaming
 pub mod RenamingAll
+pub mod Appending

@@ -23,3 +23,4 @@ pub mod SetErrors
 pub mod Editors
 pub mod RenameErrors
 pub mod Renamings
+pub mod Moves

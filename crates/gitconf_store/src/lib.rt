@@ -10,6 +10,7 @@ pub mod laws;
 pub mod lists;
 mod load;
 pub mod lookup;
+mod moving;
 mod print;
 pub mod rename_section;
 pub mod section;

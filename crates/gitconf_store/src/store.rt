@@ -1,4 +1,5 @@
 //! The state of a file behind one buffer.
+mod appending;
 mod editing;
 mod look_ups;
 mod removing;
