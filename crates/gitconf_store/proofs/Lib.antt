@@ -32,3 +32,4 @@ pub mod LineBytes
 pub mod Renaming
 pub mod RenamingAll
 pub mod Appending
+pub mod Trusting

@@ -2,13 +2,13 @@
 use Rattle.std.proofs.Common.{◌≡◌, ◌==◌, ◌&&◌, ◌⊎◌, ℕ, ◌+◌, ◌≤◌, ◌^◌, Bool, true, false, List, [], ◌∷◌, map, Option, Some, None, Result, Ok, Err, refl, ap, sym, subst, ◌∙◌, inl, inr}
 use Rattle.std.specs.Prelude.{◌||◌, IsErrOf, OnOk, if◌then◌else◌}
 use Rattle.std.specs.List.{list_any}
-use Rattle.std.proofs.lemmas.Bool.{eqb-true, or_left, or_parts, or_right}
+use Rattle.std.proofs.lemmas.Bool.{or_left, or_parts, or_right}
 use Rattle.gitconf_text.specs.Names.{is_made_name, is_valid_or_none}
 use Rattle.gitconf_text.specs.declared.parse.section.header.Error.{Error as HeaderError}
 use Rattle.gitconf_text.specs.declared.parse.section.header.Error.TheVariants as headers
 use Rattle.gitconf_base.specs.Metadata.{Meta}
 use Rattle.gitconf_state.specs.Edit.{header_bytes, is_target, with_used}
-use Rattle.gitconf_state.specs.Edits.{RenameAll, apply, renamed, with_sections}
+use Rattle.gitconf_state.specs.Edits.{renamed, with_sections}
 use Rattle.gitconf_state.specs.Lookup.{Miss, has_name, is_named, listed, listing, miss_of}
 use Rattle.gitconf_state.specs.Lookup as state
 use Rattle.gitconf_state.specs.State.{SectionState, State}
@@ -16,8 +16,7 @@ use Rattle.gitconf_body.specs.Places.{IsLastPlace}
 use Rattle.gitconf_store.specs.Edits.{UsedGrows}
 use Rattle.gitconf_store.specs.declared.lookup.existing.Error.{Error as LookupError}
 use Rattle.gitconf_store.specs.declared.lookup.existing.Error.TheVariants.{KeyMissing}
-use Rattle.gitconf_store.specs.declared.rename_section.Error.{Error}
-use Rattle.gitconf_store.specs.declared.rename_section.Error.TheVariants.{Lookup, Memory, Section}
+use Rattle.gitconf_store.specs.declared.rename_section.Error.TheVariants.{Lookup, Memory}
 use Rattle.gitconf_store.specs.Misses.{missing}
 use Rattle.gitconf_store.specs.RenameErrors.{of_header, of_lookup, of_span}
 use Rattle.gitconf_store.specs.Renamings.{marked_places, with_renamed, AreMarks, IsHeaderChecked, IsRenamed}

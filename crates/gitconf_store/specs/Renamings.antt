@@ -1,5 +1,5 @@
 -- What is left where sections are renamed.
-use Rattle.std.specs.Prelude.{◌≡◌, ◌⊎◌, ◌↔◌, ◌==◌, ◌&&◌, ℕ, ◌+◌, ◌≤◌, ◌^◌, Bool, true, false, List, [], ◌∷◌, Option, Result, IfErr, IfOk, IsErrOf, IsErrAnd, OnOk, if◌then◌else◌}
+use Rattle.std.specs.Prelude.{◌≡◌, ◌⊎◌, ◌↔◌, ◌==◌, ℕ, ◌+◌, ◌≤◌, ◌^◌, Bool, true, false, List, [], ◌∷◌, Option, Result, IfErr, IsErrOf, OnOk, if◌then◌else◌}
 use Rattle.std.specs.List.{list_any}
 use Rattle.gitconf_text.specs.HeaderErrors.{header_number}
 use Rattle.gitconf_text.specs.Names.{is_made_name, is_valid_or_none}

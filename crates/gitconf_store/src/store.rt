@@ -4,6 +4,7 @@ mod editing;
 mod look_ups;
 mod removing;
 mod renaming;
+mod trusting;
 mod views;
 
 use crate::edit::last_place;

@@ -2,6 +2,7 @@
 ghost use Rattle.std.specs.Prelude.{◌≡◌, IfOk};
 
 mod all_values;
+mod appending;
 mod impls;
 pub mod includes;
 pub mod init;

@@ -1,10 +1,8 @@
-use Rattle.std.proofs.Common.{rules, ◌≡◌, ◌&&◌, ◌<◌, Bool, true, false, Some, List, [], ◌∷◌, ◌++◌, length, map, refl, ap, sym, subst, ◌∙◌, arith}
+use Rattle.std.proofs.Common.{rules, ◌≡◌, ◌&&◌, ◌<◌, Bool, true, false, Some, [], ◌∷◌, ◌++◌, length, refl, ap, ◌∙◌, arith}
 use Rattle.std.specs.Option.{option_copied}
-use Rattle.std.specs.List.{list_any}
-use Rattle.gitconf_base.specs.Metadata.{Meta}
 use Rattle.gitconf_table.specs.Sections.{SectionEntry, is_named}
 use Rattle.gitconf_store.specs.declared.section.Section.{Section}
-use Rattle.gitconf_store.proofs.Renaming.{all_tested, count_more, next_mark, next_place, next_test, no_place, one_passes}
+use Rattle.gitconf_store.proofs.Renaming.{count_more, next_mark, next_place, next_test, no_place, one_passes}
 use Rattle.gitconf_store.proofs.headings.passing_places.Goals as goal
 use Rattle.gitconf_store.proofs.headings.passing_places.Goals.{then-is_passing+in_ok-put, else-is_passing}
 

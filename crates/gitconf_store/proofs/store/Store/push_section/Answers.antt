@@ -1,5 +1,4 @@
-use Rattle.std.proofs.Common.{rules, ◌≡◌, ◌+◌, ◌-◌, ◌<◌, ◌≤◌, ◌^◌, [], ◌++◌, length, ap, sym, subst, ◌∙◌, arith, append-nil, length-append}
-use Rattle.gitconf_parse.specs.ShownEvents.{IsExtended}
+use Rattle.std.proofs.Common.{rules, ◌≡◌, ◌-◌, [], ◌++◌, length, ap, sym, subst, ◌∙◌, arith, append-nil, length-append}
 use Rattle.gitconf_state.specs.Edit.{with_used}
 use Rattle.gitconf_state.specs.Edits.{with_last}
 use Rattle.gitconf_store.specs.Moves.{IsSectionMoved}

@@ -1,4 +1,4 @@
-use Rattle.std.proofs.Common.{rules, ◌≡◌, ◌+◌, ◌<◌, ◌∷◌, [], Some, None, length, ap, sym, ◌∙◌, arith}
+use Rattle.std.proofs.Common.{rules, ◌≡◌, ◌+◌, ◌∷◌, [], Some, None, length, ap, sym, ◌∙◌, arith}
 use Rattle.std.specs.Option.{option_copied}
 use Rattle.std.proofs.lemmas.List.{length-map}
 use Rattle.gitconf_table.specs.Sections.{place_of}
@@ -7,7 +7,6 @@ use Rattle.gitconf_state.specs.Edit.{with_used}
 use Rattle.gitconf_state.specs.Edits.{numbered, renamed}
 use Rattle.gitconf_state.specs.State.{State}
 use Rattle.gitconf_store.specs.Store.{section_state}
-use Rattle.gitconf_store.specs.Renamings.{marked_places}
 use Rattle.gitconf_store.proofs.Renaming.{is_numbered, marks_of, numbered_renamed, one_is, one_place, unnumbered, unnumbered_stays}
 use Rattle.gitconf_store.proofs.store.Store.rename.Goals as goal
 

@@ -1,11 +1,9 @@
-use Rattle.std.proofs.Common.{rules, ◌≡◌, ◌==◌, true, false, [], Err, Ok, length, map, ap, sym, ◌∙◌, arith}
+use Rattle.std.proofs.Common.{rules, ◌≡◌, true, Err, Ok, length, map, ap, ◌∙◌}
 use Rattle.std.specs.Option.{option_copied}
-use Rattle.gitconf_text.specs.declared.parse.section.header.Error.{Error as HeaderError}
 use Rattle.gitconf_state.specs.Edit.{is_target}
 use Rattle.gitconf_state.specs.Lookup.{is_named, listing}
 use Rattle.gitconf_state.specs.State.{SectionState}
 use Rattle.gitconf_store.specs.RenameErrors.{of_lookup, of_span}
-use Rattle.gitconf_store.specs.Renamings.{marked_places}
 use Rattle.gitconf_store.proofs.RenamingAll.{all_marks, header_refused, is_done, key_missing, memory_wanting, names_missing, no_passing, no_places, only_memory, some_marked, some_passes, target_found}
 use Rattle.gitconf_store.proofs.store.Store.rename_section_filter.Goals as goal
 
