@@ -33,3 +33,4 @@ pub mod Renaming
 pub mod RenamingAll
 pub mod Appending
 pub mod Trusting
+pub mod HeaderBytes

@@ -1,12 +1,13 @@
 //! What holds of buffers, spans and edits, for all of them: each law is a function that does nothing.
-ghost use Rattle.std.specs.Prelude.{◌≡◌, ◌≤◌, ℕ, Bool, List, ◌++◌, Option, length};
+ghost use Rattle.std.specs.Prelude.{◌≡◌, ◌≤◌, ℕ, Bool, List, ◌++◌, Option, length, true};
+ghost use Rattle.std.specs.List.{list_any};
 ghost use Rattle.gitconf_base.specs.Metadata.{Meta};
 ghost use Rattle.gitconf_parse.specs.declared.event.Header.{Header};
 ghost use Rattle.gitconf_parse.specs.declared.items.Item.{Item};
 ghost use Rattle.gitconf_parse.specs.Events.{header_of, HeaderFits};
 ghost use Rattle.gitconf_parse.specs.ItemsFit.{AreItemsWithin};
-ghost use Rattle.gitconf_state.specs.Edit.{set_raw_value_bytes};
-ghost use Rattle.gitconf_state.specs.Edits.{Push, SetRawValue, SetValue, items_of_numbered, new_bytes};
+ghost use Rattle.gitconf_state.specs.Edit.{header_bytes, is_target, set_raw_value_bytes};
+ghost use Rattle.gitconf_state.specs.Edits.{Push, Rename, RenameAll, SetRawValue, SetValue, items_of_numbered, new_bytes};
 ghost use Rattle.gitconf_state.specs.State.{State};
 ghost use Rattle.gitconf_write.specs.Bodies.{items_of};
 ghost use Rattle.gitconf_body.specs.declared.editor.Editor.{Editor};
@@ -32,4 +33,13 @@ pub fn editors_put_no_more_than_their_tokens()
         → line_put editor key value comment ≤ new_bytes (Push number (given_editor editor) key value comment) state }
     ensures set { (number : ℕ) (editor : Editor) (key value : List ℕ) (state : State)
         → set_put editor key value (items_of_numbered number state) ≤ new_bytes (SetValue number (given_editor editor) key value) state }
+{}
+
+/// What a header puts into the buffer is no longer than its tokens, for one section that is renamed and for all that pass.
+pub fn headers_put_no_more_than_their_tokens()
+    ensures one { (number : ℕ) (name : List ℕ) (subsection : Option (List ℕ)) (state : State)
+        → header_bytes name subsection ≤ new_bytes (Rename number name subsection) state }
+    ensures all { (name : List ℕ) (subsection : Option (List ℕ)) (keeps : Meta → Bool) (new_name : List ℕ) (new_subsection : Option (List ℕ)) (state : State)
+        → list_any (is_target name subsection keeps) state.sections ≡ true
+        → header_bytes new_name new_subsection ≤ new_bytes (RenameAll name subsection keeps new_name new_subsection) state }
 {}
