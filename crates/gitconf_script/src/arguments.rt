@@ -133,7 +133,7 @@ pub fn section_names_and_flag<'a>(
 
 /// Those of a section, and those that it gets.
 #[derive(Clone, Copy)]
-pub struct Renaming<'a> {
+pub struct OldAndNew<'a> {
     pub old: SectionNames<'a>,
     pub new: SectionNames<'a>,
 }
@@ -143,7 +143,7 @@ fn renaming_of<'a>(
     subsection: &'a Word<'_>,
     new_name: &'a Word<'_>,
     new_subsection: &'a Word<'_>,
-) -> Result<Renaming<'a>, NotUnderstood> {
+) -> Result<OldAndNew<'a>, NotUnderstood> {
     let old = SectionNames {
         name: name.text()?,
         subsection: subsection.optional()?,
@@ -152,11 +152,11 @@ fn renaming_of<'a>(
         name: new_name.text()?,
         subsection: new_subsection.optional()?,
     };
-    Ok(Renaming { old, new })
+    Ok(OldAndNew { old, new })
 }
 
 /// SEC2 SEC2: the names of a section, and others.
-pub fn renaming<'a>(words: &'a [Word<'_>]) -> Result<Renaming<'a>, NotUnderstood> {
+pub fn renaming<'a>(words: &'a [Word<'_>]) -> Result<OldAndNew<'a>, NotUnderstood> {
     match words {
         [name, subsection, new_name, new_subsection] => {
             renaming_of(name, subsection, new_name, new_subsection)
@@ -166,7 +166,9 @@ pub fn renaming<'a>(words: &'a [Word<'_>]) -> Result<Renaming<'a>, NotUnderstood
 }
 
 /// SEC2 SEC2 B: the same, and what a filter answers.
-pub fn renaming_and_flag<'a>(words: &'a [Word<'_>]) -> Result<(Renaming<'a>, bool), NotUnderstood> {
+pub fn renaming_and_flag<'a>(
+    words: &'a [Word<'_>],
+) -> Result<(OldAndNew<'a>, bool), NotUnderstood> {
     match words {
         [name, subsection, new_name, new_subsection, flag] => {
             let names = renaming_of(name, subsection, new_name, new_subsection)?;

@@ -1,5 +1,5 @@
 -- A section that was detached stands behind those of a store.
-use Rattle.std.proofs.Common.{◌≡◌, ℕ, ◌+◌, ◌-◌, ◌<◌, ◌≤◌, ◌^◌, true, List, [], ◌∷◌, ◌++◌, length, map, Option, Some, None, refl, ap, sym, subst, ◌∙◌, arith, length-append, Result, Ok, Err}
+use Rattle.std.proofs.Common.{◌≡◌, ℕ, ◌+◌, ◌<◌, ◌≤◌, ◌^◌, List, [], ◌∷◌, ◌++◌, length, map, Option, Some, None, refl, ap, sym, subst, ◌∙◌, arith, length-append, Result, Ok, Err}
 use Rattle.std.specs.Prelude.{if◌then◌else◌, is_some, OnErr, OnOk}
 use Rattle.std.specs.List.{AllByRecursion}
 use Rattle.std.specs.Option.{option_map}
@@ -22,7 +22,7 @@ use Rattle.gitconf_parse.specs.ShownEvents.{decoded_or, shown_token, CopyFits, I
 use Rattle.gitconf_parse.proofs.Shown.{all_push}
 use Rattle.gitconf_table.specs.Sections.{Sections}
 use Rattle.gitconf_state.specs.Edit.{with_used}
-use Rattle.gitconf_state.specs.Edits.{Detached, with_last}
+use Rattle.gitconf_state.specs.Edits.{with_last}
 use Rattle.gitconf_state.specs.State.{HasItems, HasSectionItems, SectionState, State}
 use Rattle.gitconf_write.specs.Bodies.{items_of}
 use Rattle.gitconf_body.specs.Moves.{copy_of, AreItemsMoved, IsHeaderMoved}
@@ -30,7 +30,7 @@ use Rattle.gitconf_body.proofs.Buffers.{extended_fit, extended_items}
 use Rattle.gitconf_store.specs.declared.section.Section.{Section}
 use Rattle.gitconf_store.specs.Alone.{detached_of, StandsAlone}
 use Rattle.gitconf_store.specs.Moves.{IsSectionMoved}
-use Rattle.gitconf_store.specs.Store.{section_state, section_under, state_of, AllSectionsFit, SectionFits, StoreFits}
+use Rattle.gitconf_store.specs.Store.{section_state, section_under, state_of, AllSectionsFit, StoreFits}
 use Rattle.gitconf_store.proofs.Setting.{sections_in}
 
 -- What stands within fewer bytes stands within more.

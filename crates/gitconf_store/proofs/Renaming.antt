@@ -16,9 +16,8 @@ use Rattle.gitconf_parse.specs.ShownEvents.{IsExtended, IsShown}
 use Rattle.gitconf_table.specs.Renames.{with_names_at}
 use Rattle.gitconf_table.specs.Sections.{AreNumbered, SectionEntry, Sections, changed_at, with_names}
 use Rattle.gitconf_table.specs.Sections as table
-use Rattle.gitconf_state.specs.Edit.{is_target, made_header, new_section, with_used}
-use Rattle.gitconf_state.specs.Edits.{change_numbered, numbered, renamed, with_sections}
-use Rattle.gitconf_state.specs.Lookup.{is_named, listing}
+use Rattle.gitconf_state.specs.Edit.{is_target, made_header, with_used}
+use Rattle.gitconf_state.specs.Edits.{change_numbered, numbered, renamed}
 use Rattle.gitconf_state.specs.State.{HasItems, HasSectionItems, SectionState, State}
 use Rattle.gitconf_state.proofs.EditItems.{new_section_is}
 use Rattle.gitconf_state.proofs.EditValues.{made_name, made_subsection}
@@ -30,7 +29,7 @@ use Rattle.gitconf_store.specs.Store.{section_state, state_of, SectionFits, Stor
 use Rattle.gitconf_store.proofs.Editing.{missing, number_apart, others_untold}
 use Rattle.gitconf_store.proofs.Loading.{sections_fit_more}
 use Rattle.gitconf_store.proofs.Named.{named_so}
-use Rattle.gitconf_store.proofs.Setting.{section_fits_in, section_in, sections_fit_in, sections_in}
+use Rattle.gitconf_store.proofs.Setting.{section_in, sections_fit_in, sections_in}
 
 -- Marks: a change at their places is a change of what is marked.
 module _ {T : Type 0} (change : SectionEntry T → SectionEntry T) where

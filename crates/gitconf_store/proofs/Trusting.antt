@@ -5,12 +5,10 @@ use Rattle.std.specs.Option.{option_map}
 use Rattle.gitconf_base.specs.Metadata.{Meta}
 use Rattle.gitconf_base.specs.declared.source.Trust.{Trust}
 use Rattle.gitconf_parse.specs.declared.items.Item.{Item}
-use Rattle.gitconf_parse.specs.declared.event.Event.TheVariants as kinds
 use Rattle.gitconf_parse.specs.Events.{header_of}
-use Rattle.gitconf_parse.specs.ShownEvents.{IsShown}
 use Rattle.gitconf_table.specs.Sections.{AreNumbered, SectionEntry, Sections, changed_at, number_at, section_at, with_section}
 use Rattle.gitconf_state.specs.Edits.{change_numbered, with_trust}
-use Rattle.gitconf_state.specs.State.{HasItems, HasSectionItems, SectionState}
+use Rattle.gitconf_state.specs.State.{HasSectionItems, SectionState}
 use Rattle.gitconf_write.specs.Bodies.{items_of}
 use Rattle.gitconf_store.specs.declared.section.Section.{Section}
 use Rattle.gitconf_store.specs.Renamings.{marked}

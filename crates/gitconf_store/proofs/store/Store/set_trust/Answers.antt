@@ -1,9 +1,8 @@
-use Rattle.std.proofs.Common.{rules, ◌≡◌, Some, None, refl, ap, sym, ◌∙◌}
+use Rattle.std.proofs.Common.{rules, ◌≡◌, Some, None, refl, ap, ◌∙◌}
 use Rattle.gitconf_base.specs.Metadata.{Meta}
 use Rattle.gitconf_table.specs.Sections.{place_of}
 use Rattle.gitconf_table.proofs.SectionLemmas.{number_at-place}
-use Rattle.gitconf_state.specs.Edit.{with_used}
-use Rattle.gitconf_state.specs.Edits.{SetTrust, apply, with_trust}
+use Rattle.gitconf_state.specs.Edits.{with_trust}
 use Rattle.gitconf_store.specs.declared.section.Section.{Section}
 use Rattle.gitconf_store.proofs.Renaming.{is_numbered, unnumbered_stays}
 use Rattle.gitconf_store.proofs.Trusting.{IsTrusted, trusted_fits, trusted_state}
