@@ -12,3 +12,4 @@ pub mod Standing
 pub mod Changing
 pub mod Taken
 pub mod ValuesAt
+pub mod Moves

@@ -8,3 +8,4 @@ pub mod Standing
 pub mod Taken
 pub mod ValuesAt
 pub mod Blanks
+pub mod Moves

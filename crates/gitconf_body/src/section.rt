@@ -107,7 +107,7 @@ fn append_quoted(buffer: &mut Vec<u8>, name: &[u8], spelling: &[u8]) -> Result<Q
 /// A [`span::Error`]: number 3 where the buffer would be longer than 4294967295 bytes, and else 27 for want of memory. The buffer and
 /// the copies may have grown.
 #[tactic(auto, using(crate::proofs::Buffers::extending))]
-fn append_header(
+pub(crate) fn append_header(
     buffer: &mut Vec<u8>,
     copies: &mut Vec<u8>,
     name: &[u8],
@@ -150,7 +150,7 @@ fn one_line(buffer: &mut Vec<u8>, line_end: LineEnd) -> Result<Vec<Item>, span::
 }
 
 /// How many bytes the text of a header puts into a buffer; the greatest number where they are more.
-fn header_len(name: &[u8], subsection: Option<&[u8]>) -> usize
+pub(crate) fn header_len(name: &[u8], subsection: Option<&[u8]>) -> usize
     ensures { result ≡ min (header_bytes name.now (option_copied subsection.entry)) (2 ^ 64 - 1) }
 {
     match subsection {

@@ -131,6 +131,53 @@ pub fn section_names_and_flag<'a>(
     }
 }
 
+/// Those of a section, and those that it gets.
+#[derive(Clone, Copy)]
+pub struct OldAndNew<'a> {
+    pub old: SectionNames<'a>,
+    pub new: SectionNames<'a>,
+}
+
+fn renaming_of<'a>(
+    name: &'a Word<'_>,
+    subsection: &'a Word<'_>,
+    new_name: &'a Word<'_>,
+    new_subsection: &'a Word<'_>,
+) -> Result<OldAndNew<'a>, NotUnderstood> {
+    let old = SectionNames {
+        name: name.text()?,
+        subsection: subsection.optional()?,
+    };
+    let new = SectionNames {
+        name: new_name.text()?,
+        subsection: new_subsection.optional()?,
+    };
+    Ok(OldAndNew { old, new })
+}
+
+/// SEC2 SEC2: the names of a section, and others.
+pub fn renaming<'a>(words: &'a [Word<'_>]) -> Result<OldAndNew<'a>, NotUnderstood> {
+    match words {
+        [name, subsection, new_name, new_subsection] => {
+            renaming_of(name, subsection, new_name, new_subsection)
+        }
+        _ => Err(NotUnderstood),
+    }
+}
+
+/// SEC2 SEC2 B: the same, and what a filter answers.
+pub fn renaming_and_flag<'a>(
+    words: &'a [Word<'_>],
+) -> Result<(OldAndNew<'a>, bool), NotUnderstood> {
+    match words {
+        [name, subsection, new_name, new_subsection, flag] => {
+            let names = renaming_of(name, subsection, new_name, new_subsection)?;
+            Ok((names, flag.flag()?))
+        }
+        _ => Err(NotUnderstood),
+    }
+}
+
 /// SEC2 PLACE: the names of a section, and where it is put.
 pub fn section_names_and_place<'a>(
     words: &'a [Word<'_>],

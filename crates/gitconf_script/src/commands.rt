@@ -182,6 +182,10 @@ pub enum EditCommand {
     RemovePassing,
     /// `removeid`
     RemoveNumbered,
+    /// `rename`
+    Rename,
+    /// `renameif`
+    RenamePassing,
 }
 
 /// Commands on whole files, and on the state of the script.
@@ -358,6 +362,8 @@ fn edit_command(word: &[u8]) -> Option<EditCommand> {
         b"remove" => Some(EditCommand::Remove),
         b"removeif" => Some(EditCommand::RemovePassing),
         b"removeid" => Some(EditCommand::RemoveNumbered),
+        b"rename" => Some(EditCommand::Rename),
+        b"renameif" => Some(EditCommand::RenamePassing),
         _ => None,
     }
 }

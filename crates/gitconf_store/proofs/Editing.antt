@@ -39,13 +39,13 @@ others_stay : (b : List ℕ) (id : ℕ) (change : List parts.Item → List parts
 others_stay b id change [] apart = refl
 others_stay b id change (e ∷ es) apart = rw apart.0 (ap (λ t. section_state b e ∷ t) (others_stay b id change es apart.1))
 
-others_untold : (b : List ℕ) (id : ℕ) (o : Option SectionState) (es : List (SectionEntry Section))
+pub others_untold : (b : List ℕ) (id : ℕ) (o : Option SectionState) (es : List (SectionEntry Section))
     → AllByRecursion (λ (e : SectionEntry Section). (e.number == id) ≡ false) es → last_or o (filter (λ (s : SectionState). s.number == id) (map (section_state b) es)) ≡ o
 others_untold b id o [] apart = refl
 others_untold b id o (e ∷ es) apart = rw apart.0 (others_untold b id o es apart.1)
 
 -- one of these numbers is none of the others
-number_apart : (n id at : ℕ) (es : List (SectionEntry Section)) → AllByRecursion (λ (f : SectionEntry Section). (f.number == n) ≡ false) es
+pub number_apart : (n id at : ℕ) (es : List (SectionEntry Section)) → AllByRecursion (λ (f : SectionEntry Section). (f.number == n) ≡ false) es
     → option_map (λ (e : SectionEntry Section). e.number) (slice_get es at) ≡ Some id → (n == id) ≡ false
 number_apart n id at [] apart here = absurd (cc)
 number_apart n id zero (e ∷ es) apart here =
@@ -135,7 +135,7 @@ no_number_there id (e ∷ es) past = go (e.number == id) refl (no_number_there i
     go true h later = absurd (let p : suc (length es) ≤ 0 = rw h at past in omega (arith, p))
     go false h later = (h, later (let p : suc (length es) ≤ 1 + position_or_len (has_number id) es = rw h at past in omega (arith, p)))
 
-missing : (id : ℕ) (es : List (SectionEntry Section)) → position (has_number id) es ≡ None → AllByRecursion (λ (e : SectionEntry Section). (e.number == id) ≡ false) es
+pub missing : (id : ℕ) (es : List (SectionEntry Section)) → position (has_number id) es ≡ None → AllByRecursion (λ (e : SectionEntry Section). (e.number == id) ≡ false) es
 missing id es none = go (nat_lt (position_or_len (has_number id) es) (length es)) refl
   where
     go : (t : Bool) → nat_lt (position_or_len (has_number id) es) (length es) ≡ t → AllByRecursion (λ (e : SectionEntry Section). (e.number == id) ≡ false) es

@@ -32,3 +32,8 @@ pub mod Editing
 pub mod LineBytes
 pub mod ValuePlaces
 pub mod Existing
+pub mod Renaming
+pub mod RenamingAll
+pub mod Appending
+pub mod Trusting
+pub mod HeaderBytes

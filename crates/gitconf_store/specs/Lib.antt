@@ -25,3 +25,6 @@ pub mod ValueErrors
 pub mod AloneEditors
 pub mod ValuePlaces
 pub mod Existing
+pub mod RenameErrors
+pub mod Renamings
+pub mod Moves

@@ -94,11 +94,11 @@ fn owned_section(
 /// A section that stands in no file: its header and its body, in a buffer of its own, and the number under which it stood in one.
 #[derive(Drop)]
 pub struct Section {
-    buffer: Vec<u8>,
+    pub(crate) buffer: Vec<u8>,
     /// The decoded subsection of its header, where it needs one.
-    copies: Vec<u8>,
-    id: SectionId,
-    section: section::Section,
+    pub(crate) copies: Vec<u8>,
+    pub(crate) id: SectionId,
+    pub(crate) section: section::Section,
 }
 
 impl Model for Section {

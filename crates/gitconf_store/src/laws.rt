@@ -1,15 +1,16 @@
 //! What holds of buffers, spans and edits, for all of them: each law is a function that does nothing.
-ghost use Rattle.std.specs.Prelude.{◌≡◌, ◌≤◌, ℕ, Bool, List, ◌++◌, Option, Some, length};
+ghost use Rattle.std.specs.Prelude.{◌≡◌, ◌≤◌, ℕ, Bool, List, ◌++◌, Option, Some, length, true};
 ghost use Rattle.gitconf_text.specs.Part as parts;
+ghost use Rattle.std.specs.List.{list_any};
 ghost use Rattle.gitconf_base.specs.Metadata.{Meta};
 ghost use Rattle.gitconf_parse.specs.declared.event.Header.{Header};
 ghost use Rattle.gitconf_parse.specs.declared.items.Item.{Item};
 ghost use Rattle.gitconf_parse.specs.Events.{header_of, HeaderFits};
 ghost use Rattle.gitconf_parse.specs.ItemsFit.{AreItemsWithin};
-ghost use Rattle.gitconf_state.specs.Edit.{set_raw_value_bytes};
-ghost use Rattle.gitconf_state.specs.Edits.{Push, SetRawValue, SetValue, WriteAt, items_of_numbered, new_bytes};
 ghost use Rattle.gitconf_state.specs.Editors as states;
 ghost use Rattle.gitconf_state.specs.Editors.{written_at};
+ghost use Rattle.gitconf_state.specs.Edit.{header_bytes, is_target, set_raw_value_bytes};
+ghost use Rattle.gitconf_state.specs.Edits.{Push, Rename, RenameAll, SetRawValue, SetValue, WriteAt, items_of_numbered, new_bytes};
 ghost use Rattle.gitconf_state.specs.State.{State};
 ghost use Rattle.gitconf_write.specs.Bodies.{items_of};
 ghost use Rattle.gitconf_body.specs.declared.editor.Editor.{Editor};
@@ -49,4 +50,13 @@ pub fn editors_put_no_more_than_their_tokens()
 pub fn written_values_are_read()
     ensures { (editor : states.Editor) (place : ℕ) (stands keeps_line_end : Bool) (key value : List ℕ) (items : List parts.Item) → place ≤ length items
         → meaning_at place (written_at editor place stands keeps_line_end key value items) ≡ Some value }
+{}
+
+/// What a header puts into the buffer is no longer than its tokens, for one section that is renamed and for all that pass.
+pub fn headers_put_no_more_than_their_tokens()
+    ensures one { (number : ℕ) (name : List ℕ) (subsection : Option (List ℕ)) (state : State)
+        → header_bytes name subsection ≤ new_bytes (Rename number name subsection) state }
+    ensures all { (name : List ℕ) (subsection : Option (List ℕ)) (keeps : Meta → Bool) (new_name : List ℕ) (new_subsection : Option (List ℕ)) (state : State)
+        → list_any (is_target name subsection keeps) state.sections ≡ true
+        → header_bytes new_name new_subsection ≤ new_bytes (RenameAll name subsection keeps new_name new_subsection) state }
 {}

@@ -1,10 +1,13 @@
 //! The state of a file behind one buffer.
+mod appending;
 mod editing;
 mod existing;
 mod look_ups;
 mod making;
 mod removing;
 mod values_at;
+mod renaming;
+mod trusting;
 mod views;
 
 use crate::edit::last_place;

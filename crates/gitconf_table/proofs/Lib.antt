@@ -5,3 +5,4 @@ pub mod LinkLemmas
 pub mod Walks
 pub mod TableLemmas
 pub mod RowLemmas
+pub mod RenamingLemmas

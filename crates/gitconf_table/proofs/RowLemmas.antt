@@ -277,7 +277,7 @@ module _ {T : Type 0} where
     pub rows_placed : (rows : List (Row T)) (places : List ℕ) → ArePlaced (numbers_in rows) places → ArePlaced (numbers_of (entries_of letters rows)) places
     rows_placed rows places placed = subst (λ (ns : List ℕ). ArePlaced ns places) (sym (numbers_shown rows)) placed
 
-longer : (letters letters2 name : List ℕ) (s : Option (List ℕ)) (names : Names) → ArePut name s letters letters2 names → length letters ≤ length letters2
+pub longer : (letters letters2 name : List ℕ) (s : Option (List ℕ)) (names : Names) → ArePut name s letters letters2 names → length letters ≤ length letters2
 longer letters letters2 name s names put = let count : length letters2 ≡ length letters + length put.more = ap length put.new_is ∙ rw length-append refl in omega (arith, count)
 
 -- a row that is put among others, with names that were put behind the letters

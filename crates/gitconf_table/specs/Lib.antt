@@ -9,3 +9,4 @@ pub mod Walk
 pub mod WordIndexes
 pub mod Word
 pub mod Tables
+pub mod Renames

@@ -1,7 +1,9 @@
 //! An index over a list of words: the places of a word without a walk over the others.
 ghost use Rattle.std.specs.Prelude.{◌≡◌, ◌+◌, ◌<◌, ◌≤◌, [], ◌∷◌, ◌++◌, drop, insert, length, remove, slice_set, take, vec_capacity, vec_len, IfOk, OnOk};
 ghost use Rattle.std.specs.Iterator.{item_count, YieldsFirst, YieldsLast};
+ghost use Rattle.std.specs.List.{AllByRecursion};
 ghost use Rattle.gitconf_table.specs.Links.{bucket_of, words_of, AreLinked, IsLed};
+ghost use Rattle.gitconf_table.specs.Renames.{set_each};
 ghost use Rattle.gitconf_table.specs.Words.{places_of};
 
 use crate::lists::put_at;
@@ -195,6 +197,18 @@ impl WordIndex {
         relink_all(&mut self.links, &mut self.buckets);
     }
 
+    /// Puts another word at all these places. Takes time for all words, once.
+    pub fn set_each(&mut self, places: &[usize], word: u64)
+        requires { AllByRecursion (λ at. at < length self.old.words) places.now }
+        ensures { self.new.words ≡ set_each self.old.words places.now word }
+    {
+        if self.links.is_empty() {
+            return;
+        }
+        put_each(&mut self.links, places, word);
+        relink_all(&mut self.links, &mut self.buckets);
+    }
+
     /// Puts all words of another list behind the first `at` ones. Takes time for all words.
     pub fn insert_all(&mut self, at: usize, other: WordIndex)
         requires room { length other.words ≤ self.old.room }
@@ -249,6 +263,19 @@ impl WordIndex {
             front: bucket.first,
             behind: bucket.behind,
         }
+    }
+}
+
+// Puts the word at all these places, in no chain.
+fn put_each(links: &mut Vec<Link>, places: &[usize], word: u64)
+    requires { AllByRecursion (λ at. at < length (words_of links.old.items)) places.now }
+    ensures words { words_of links.new.items ≡ set_each (words_of links.old.items) places.now word }
+    ensures room { (vec_len links.new ≡ vec_len links.old) × (vec_capacity links.new ≡ vec_capacity links.old) }
+{
+    let mut rest = places;
+    while let Some((at, behind)) = rest.split_first() {
+        links[*at] = unlinked(word);
+        rest = behind;
     }
 }
 

@@ -25,6 +25,7 @@ use std::alloc::{AllocError, Global};
 use std::marker::Model;
 
 mod by_name;
+mod renaming;
 
 pub use by_name::{Named, WithName};
 

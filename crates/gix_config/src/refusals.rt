@@ -1,7 +1,7 @@
 //! The numbers of refusals, E1 to E28, as programs tell them. They stand here alone: no crate below asks for a number.
 ghost use Rattle.std.specs.Prelude.{◌≡◌};
 
-use crate::file::{includes, init, set_raw_value};
+use crate::file::{includes, init, rename_section, set_raw_value};
 use crate::lookup;
 use crate::lookup::existing;
 use gitconf_parse::error as parse;
@@ -135,6 +135,20 @@ impl Refusal for set_raw_value::Error {
             set_raw_value::Error::ValueName(e) => e.number(),
             set_raw_value::Error::Span(e) => e.number(),
             set_raw_value::Error::Memory => 27,
+        }
+    }
+}
+
+impl Refusal for rename_section::Error {
+    ghost use Rattle.gitconf_store.specs.RenameErrors.{rename_number};
+
+    ghost number_of = { rename_number };
+
+    fn number(&self) -> u8 {
+        match self {
+            rename_section::Error::Lookup(e) => e.number(),
+            rename_section::Error::Section(e) => e.number(),
+            rename_section::Error::Memory => 27,
         }
     }
 }

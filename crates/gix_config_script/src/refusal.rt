@@ -1,7 +1,7 @@
 //! Why a command was not done.
 
 use gitconf_script::words::NotUnderstood;
-use gix_config::file::{init, set_raw_value};
+use gix_config::file::{init, rename_section, set_raw_value};
 use gix_config::lookup::existing;
 use gix_config::parse::section::{NameError, ValueNameError};
 use gix_config::parse::{Error, SinkFault};
@@ -51,6 +51,12 @@ impl From<init::Error> for Refusal {
 
 impl From<set_raw_value::Error> for Refusal {
     fn from(refusal: set_raw_value::Error) -> Refusal {
+        Refusal::Numbered(refusal.number())
+    }
+}
+
+impl From<rename_section::Error> for Refusal {
+    fn from(refusal: rename_section::Error) -> Refusal {
         Refusal::Numbered(refusal.number())
     }
 }

@@ -4,8 +4,8 @@ use crate::answer::{Answer, Outcome};
 use crate::refusal::Refusal;
 use crate::rendering::put_id;
 use gitconf_script::arguments::{
-    names_and_bytes, number_and_place, section_names_and_place, section_names_place_and_flag,
-    two_texts,
+    names_and_bytes, number_and_place, renaming, renaming_and_flag, section_names_and_place,
+    section_names_place_and_flag, two_texts,
 };
 use gitconf_script::words::Word;
 use gix_config::file::{Section, SectionId};
@@ -46,6 +46,31 @@ pub fn removeid<'a>(alloc: Global, file: &mut File, words: &[Word<'_>]) -> Outco
     let number = number_and_place(words)?;
     let id = id_of(alloc, file, number)?;
     Ok(taken_out(file.remove_section_by_id(id)?))
+}
+
+/// `rename SEC2 SEC2`: gives all sections of a name and subsection another name and subsection.
+pub fn rename<'a>(file: &mut File, words: &[Word<'_>]) -> Outcome<'a> {
+    let names = renaming(words)?;
+    file.rename_section(
+        names.old.name,
+        names.old.subsection,
+        names.new.name,
+        names.new.subsection,
+    )?;
+    Ok(Answer::Done)
+}
+
+/// `renameif SEC2 SEC2 B`: the same with a filter that answers so for all.
+pub fn renameif<'a>(file: &mut File, words: &[Word<'_>]) -> Outcome<'a> {
+    let (names, passes) = renaming_and_flag(words)?;
+    file.rename_section_filter(
+        names.old.name,
+        names.old.subsection,
+        names.new.name,
+        names.new.subsection,
+        |_| passes,
+    )?;
+    Ok(Answer::Done)
 }
 
 fn taken_out<'a>(section: Option<Section>) -> Answer<'a> {

@@ -1,0 +1,20 @@
+use Rattle.std.proofs.Common.{rules, ◌≡◌, ◌∷◌, length, ap, refl, ◌∙◌}
+use Rattle.gitconf_table.proofs.SectionLemmas.{section_edited}
+use Rattle.gitconf_table.proofs.RenamingLemmas.{first_within}
+use Rattle.gitconf_store.specs.declared.section.Section.{Section}
+use Rattle.gitconf_store.proofs.Renaming.{edited_length, header_step}
+use Rattle.gitconf_store.proofs.headings.set_headers.Goals as goal
+
+pub loop-at-preserved : goal.loop-at-preserved
+loop-at-preserved c =
+    let table = c.loop-at.table in
+    let at = c.in-Some.at.now in
+    let first : c.loop-at.rest.now ≡ at ∷ c.in-Some.behind.now = search rules in
+    let put : Section → Section = λ s. record s { header = c.args.header } in
+    let s = c.at_mut-section.result.now in
+    let edited = section_edited put table at s (put s) c.at_mut-section.ensures.value refl in
+    record {
+      headed = header_step c.args.header c.loop-at.rest.now c.in-Some.behind.now at table _ first edited ∙ c.loop-at.invariant.headed;
+      within = (first_within (length c.args.table.now.entries) at c.loop-at.rest.now c.in-Some.behind.now first c.loop-at.invariant.within).1;
+      len = ap (λ t. length t.entries) edited ∙ edited_length put at table.entries ∙ c.loop-at.invariant.len;
+    }

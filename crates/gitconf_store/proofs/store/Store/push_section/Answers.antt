@@ -1,0 +1,169 @@
+use Rattle.std.proofs.Common.{rules, ◌≡◌, ◌-◌, [], ◌++◌, length, ap, sym, subst, ◌∙◌, arith, append-nil, length-append}
+use Rattle.gitconf_state.specs.Edit.{with_used}
+use Rattle.gitconf_state.specs.Edits.{with_last}
+use Rattle.gitconf_store.specs.Moves.{IsSectionMoved}
+use Rattle.gitconf_store.specs.Store.{state_of}
+use Rattle.gitconf_store.proofs.Appending.{items_up, none_there, ok_or_err, pushed_fits, pushed_state, shown_there, two_ok, within_there}
+use Rattle.gitconf_store.proofs.Loading.{sections_fit_more}
+use Rattle.gitconf_store.proofs.Making.{longer_fits, longer_state}
+use Rattle.gitconf_store.proofs.Setting.{if_err_at_all, on_err, sections_fit_in}
+use Rattle.gitconf_store.proofs.store.Store.push_section.Goals as goal
+
+pub invariant_of-self : goal.invariant_of-self
+invariant_of-self c =
+    let inside = c.self.inside in
+    let b = inside.buffer.items in
+    let copies = inside.copies.items in
+    let new = c.append.new.buffer.items in
+    longer_fits b new copies copies inside.front.items inside.meta.value inside.sections c.append.ensures.grows.extended ([], sym (append-nil copies)) c.append.ensures.grows.room c.self.invariant
+
+pub invariant_of-self-in_err-extend_from_slice : goal.invariant_of-self-in_err-extend_from_slice
+invariant_of-self-in_err-extend_from_slice c =
+    let inside = c.self.inside in
+    let b = inside.buffer.items in
+    let copies = inside.copies.items in
+    let new = c.append.new.buffer.items in
+    let same : c.extend_from_slice.new.self.items ≡ copies = search rules in
+    longer_fits b new copies c.extend_from_slice.new.self.items inside.front.items inside.meta.value inside.sections c.append.ensures.grows.extended ([], same ∙ sym (append-nil copies)) c.append.ensures.grows.room c.self.invariant
+
+pub returns-in_err-extend_from_slice-clause-err : goal.returns-in_err-extend_from_slice-clause-err
+returns-in_err-extend_from_slice-clause-err c =
+    let inside = c.self.inside in
+    let b = inside.buffer.items in
+    let copies = inside.copies.items in
+    let new = c.append.new.buffer.items in
+    rw (← c.self.view_is) (if_err_at_all c.from_residual-in_err-extend_from_slice.result
+    (longer_state b new copies inside.front.items inside.meta.value inside.sections c.append.ensures.grows.extended c.self.invariant))
+
+pub move_section-requires-clause-items : goal.move_section-requires-clause-items
+move_section-requires-clause-items c =
+    let inside = c.self.inside in
+    let b = inside.buffer.items in
+    let copies = inside.copies.items in
+    let new = c.append.new.buffer.items in
+    let theirs = c.section.inside.buffer.items in
+    let is : new ≡ b ++ theirs = search rules in
+    let by : c.len-by.result ≡ length b = search rules in
+    let room = c.append.ensures.grows.room in
+    items_up (length theirs) (4294967295 - c.len-by.result) (let l = ap length is in let k = length-append b theirs in omega (arith, l, k, by, room)) c.section.inside.section.items.items c.section.invariant.within
+
+pub put_last-requires-clause-header : goal.put_last-requires-clause-header
+put_last-requires-clause-header c =
+    let inside = c.self.inside in
+    let b = inside.buffer.items in
+    let copies = inside.copies.items in
+    let new = c.append.new.buffer.items in
+    let more = c.extend_from_slice.new.self.items in
+    let theirs = c.section.inside.buffer.items in
+    let others = c.section.inside.copies.items in
+    let s = c.section.inside.section in
+    let is : new ≡ b ++ theirs = search rules in
+    let are : more ≡ copies ++ others = search rules in
+    let t = c.move_section.new.section in
+    let by : c.len-by.result ≡ length b = search rules in
+    let copies_by : c.len-copies_by.result ≡ length copies = search rules in
+    let moved : IsSectionMoved (length b) (length copies) s t = subst (λ n. IsSectionMoved n (length copies) s t) by (subst (λ m. IsSectionMoved c.len-by.result m s t) copies_by c.move_section.ensures) in
+    rw (c.deref-4.ensures.value, c.deref-5.ensures.value) (shown_there b theirs copies others new more inside.front.items inside.meta.value inside.sections inside.sections c.section.inside.id s t is are c.self.invariant c.section.invariant moved)
+
+pub put_last-requires-clause-items : goal.put_last-requires-clause-items
+put_last-requires-clause-items c =
+    let inside = c.self.inside in
+    let b = inside.buffer.items in
+    let copies = inside.copies.items in
+    let new = c.append.new.buffer.items in
+    let more = c.extend_from_slice.new.self.items in
+    let theirs = c.section.inside.buffer.items in
+    let others = c.section.inside.copies.items in
+    let s = c.section.inside.section in
+    let is : new ≡ b ++ theirs = search rules in
+    let are : more ≡ copies ++ others = search rules in
+    let t = c.move_section.new.section in
+    let by : c.len-by.result ≡ length b = search rules in
+    let copies_by : c.len-copies_by.result ≡ length copies = search rules in
+    let moved : IsSectionMoved (length b) (length copies) s t = subst (λ n. IsSectionMoved n (length copies) s t) by (subst (λ m. IsSectionMoved c.len-by.result m s t) copies_by c.move_section.ensures) in
+    rw c.deref-4.ensures.value (within_there b theirs copies others new more inside.front.items inside.meta.value inside.sections inside.sections c.section.inside.id s t is are c.self.invariant c.section.invariant moved)
+
+pub put_last-requires-clause-held : goal.put_last-requires-clause-held
+put_last-requires-clause-held c =
+    let inside = c.self.inside in
+    let b = inside.buffer.items in
+    let copies = inside.copies.items in
+    let new = c.append.new.buffer.items in
+    let more = c.extend_from_slice.new.self.items in
+    let theirs = c.section.inside.buffer.items in
+    let others = c.section.inside.copies.items in
+    let s = c.section.inside.section in
+    let is : new ≡ b ++ theirs = search rules in
+    let are : more ≡ copies ++ others = search rules in
+    let t = c.move_section.new.section in
+    let by : c.len-by.result ≡ length b = search rules in
+    let copies_by : c.len-copies_by.result ≡ length copies = search rules in
+    let moved : IsSectionMoved (length b) (length copies) s t = subst (λ n. IsSectionMoved n (length copies) s t) by (subst (λ m. IsSectionMoved c.len-by.result m s t) copies_by c.move_section.ensures) in
+    none_there b theirs copies others new more inside.front.items inside.meta.value inside.sections inside.sections c.section.inside.id s t is are c.self.invariant c.section.invariant moved
+
+pub put_last-requires-clause-fits : goal.put_last-requires-clause-fits
+put_last-requires-clause-fits c =
+    let inside = c.self.inside in
+    let b = inside.buffer.items in
+    let copies = inside.copies.items in
+    let new = c.append.new.buffer.items in
+    let more = c.extend_from_slice.new.self.items in
+    let theirs = c.section.inside.buffer.items in
+    let others = c.section.inside.copies.items in
+    let s = c.section.inside.section in
+    let is : new ≡ b ++ theirs = search rules in
+    let are : more ≡ copies ++ others = search rules in
+    rw (c.deref-4.ensures.value, c.deref-5.ensures.value) (sections_fit_more new copies more inside.sections.entries (others, are)
+    (sections_fit_in b new copies inside.sections.entries c.append.ensures.grows.extended c.self.invariant.sections_within))
+
+pub invariant_of-self-2 : goal.invariant_of-self-2
+invariant_of-self-2 c =
+    let inside = c.self.inside in
+    let b = inside.buffer.items in
+    let copies = inside.copies.items in
+    let new = c.append.new.buffer.items in
+    let more = c.extend_from_slice.new.self.items in
+    let theirs = c.section.inside.buffer.items in
+    let others = c.section.inside.copies.items in
+    let s = c.section.inside.section in
+    let is : new ≡ b ++ theirs = search rules in
+    let are : more ≡ copies ++ others = search rules in
+    let t = c.move_section.new.section in
+    let by : c.len-by.result ≡ length b = search rules in
+    let copies_by : c.len-copies_by.result ≡ length copies = search rules in
+    let moved : IsSectionMoved (length b) (length copies) s t = subst (λ n. IsSectionMoved n (length copies) s t) by (subst (λ m. IsSectionMoved c.len-by.result m s t) copies_by c.move_section.ensures) in
+    ok_or_err c.put_last.result
+    (λ within put next. pushed_fits b theirs copies others new more inside.front.items inside.meta.value inside.sections c.put_last.new.table c.section.inside.id s t is are c.self.invariant c.section.invariant moved c.append.ensures.grows.room within put next)
+    (λ same. rw same (longer_fits b new copies more inside.front.items inside.meta.value inside.sections c.append.ensures.grows.extended (others, are) c.append.ensures.grows.room c.self.invariant))
+    (rw (c.deref-4.ensures.value, c.deref-5.ensures.value) at c.put_last.ensures.fits) (rw c.deref-4.ensures.value at c.put_last.ensures.sections) c.put_last.ensures.next c.put_last.ensures.err
+
+pub returns-clause-ok : goal.returns-clause-ok
+returns-clause-ok c =
+    let inside = c.self.inside in
+    let b = inside.buffer.items in
+    let copies = inside.copies.items in
+    let new = c.append.new.buffer.items in
+    let more = c.extend_from_slice.new.self.items in
+    let theirs = c.section.inside.buffer.items in
+    let others = c.section.inside.copies.items in
+    let s = c.section.inside.section in
+    let is : new ≡ b ++ theirs = search rules in
+    let are : more ≡ copies ++ others = search rules in
+    let t = c.move_section.new.section in
+    let by : c.len-by.result ≡ length b = search rules in
+    let copies_by : c.len-copies_by.result ≡ length copies = search rules in
+    let moved : IsSectionMoved (length b) (length copies) s t = subst (λ n. IsSectionMoved n (length copies) s t) by (subst (λ m. IsSectionMoved c.len-by.result m s t) copies_by c.move_section.ensures) in
+    two_ok c.put_last.result
+    (λ put next. pushed_state b theirs copies others new more inside.front.items inside.meta.value inside.sections c.put_last.new.table c.section.inside.id s t is are c.self.invariant c.section.invariant moved put next
+    ∙ (λ i. with_used (length new) (with_last (c.section.view_is i).section (c.self.view_is i))))
+    (rw c.deref-4.ensures.value at c.put_last.ensures.sections) c.put_last.ensures.next
+
+pub returns-clause-err : goal.returns-clause-err
+returns-clause-err c =
+    let inside = c.self.inside in
+    let b = inside.buffer.items in
+    let copies = inside.copies.items in
+    let new = c.append.new.buffer.items in
+    rw (← c.self.view_is) (on_err c.put_last.result
+    (λ same. ap (state_of new inside.front.items inside.meta.value) same
+    ∙ longer_state b new copies inside.front.items inside.meta.value inside.sections c.append.ensures.grows.extended c.self.invariant) c.put_last.ensures.err)

@@ -1,0 +1,92 @@
+use Rattle.std.proofs.Common.{rules, ◌≡◌, ◌<◌, length, sym, ap, subst, ◌∙◌}
+use Rattle.std.specs.List.{AllByRecursion}
+use Rattle.std.specs.Option.{option_copied}
+use Rattle.gitconf_parse.specs.Events.{header_of}
+use Rattle.gitconf_table.specs.Renames.{with_names_at}
+use Rattle.gitconf_state.specs.Edit.{made_header}
+use Rattle.gitconf_store.specs.Store.{state_of}
+use Rattle.gitconf_store.proofs.Making.{longer_fits, longer_state}
+use Rattle.gitconf_store.proofs.Renaming.{IsHeaded, both_at, named_length, places_there, renamed_fits, renamed_state}
+use Rattle.gitconf_store.proofs.Setting.{if_err_at_all}
+use Rattle.gitconf_store.proofs.store.Store.put_header.Goals as goal
+
+pub invariant_of-self : goal.invariant_of-self
+invariant_of-self c =
+    let inside = c.self.inside in
+    longer_fits inside.buffer.items c.put_header.new.buffer.items inside.copies.items c.put_header.new.copies.items inside.front.items inside.meta.value inside.sections
+    c.put_header.ensures.grows.extended c.put_header.ensures.extended c.put_header.ensures.grows.room c.self.invariant
+
+pub returns-in_err-header-clause-err : goal.returns-in_err-header-clause-err
+returns-in_err-header-clause-err c =
+    let inside = c.self.inside in
+    rw (← c.self.view_is) (if_err_at_all c.from_residual.result
+    (longer_state inside.buffer.items c.put_header.new.buffer.items inside.copies.items inside.front.items inside.meta.value inside.sections
+    c.put_header.ensures.grows.extended c.self.invariant))
+
+pub rename_each-requires : goal.rename_each-requires
+rename_each-requires c =
+    let inside = c.self.inside in
+    let marks = c.requires.marks in
+    places_there inside.buffer.items inside.front.items inside.meta.value inside.sections c.args.self.now marks.0 c.args.places.now c.self.view_is marks.1 marks.2
+
+pub invariant_of-self-in_err-rename_each : goal.invariant_of-self-in_err-rename_each
+invariant_of-self-in_err-rename_each c =
+    let inside = c.self.inside in
+    let same : c.rename_each.new.self ≡ inside.sections = search rules in
+    rw same (longer_fits inside.buffer.items c.put_header.new.buffer.items inside.copies.items c.put_header.new.copies.items inside.front.items inside.meta.value inside.sections
+    c.put_header.ensures.grows.extended c.put_header.ensures.extended c.put_header.ensures.grows.room c.self.invariant)
+
+pub returns-in_err-rename_each-clause-err : goal.returns-in_err-rename_each-clause-err
+returns-in_err-rename_each-clause-err c =
+    let inside = c.self.inside in
+    let same : c.rename_each.new.self ≡ inside.sections = search rules in
+    rw (← c.self.view_is) (if_err_at_all c.from_residual-in_err-rename_each.result
+    (ap (state_of c.put_header.new.buffer.items inside.front.items inside.meta.value) same
+    ∙ longer_state inside.buffer.items c.put_header.new.buffer.items inside.copies.items inside.front.items inside.meta.value inside.sections
+    c.put_header.ensures.grows.extended c.self.invariant))
+
+pub set_headers-requires : goal.set_headers-requires
+set_headers-requires c =
+    let inside = c.self.inside in
+    let marks = c.requires.marks in
+    let named : c.rename_each.new.self ≡ with_names_at inside.sections c.args.places.now c.args.name.now (option_copied c.args.subsection_name) = search rules in
+    let count = ap (λ t. length t.entries) named ∙ named_length c.args.places.now c.args.name.now (option_copied c.args.subsection_name) inside.sections in
+    subst (λ n. AllByRecursion (λ at. at < n) c.args.places.now) (sym count)
+    (places_there inside.buffer.items inside.front.items inside.meta.value inside.sections c.args.self.now marks.0 c.args.places.now c.self.view_is marks.1 marks.2)
+
+pub invariant_of-self-2 : goal.invariant_of-self-2
+invariant_of-self-2 c =
+    let inside = c.self.inside in
+    let name = c.args.name.now in
+    let subsection = option_copied c.args.subsection_name in
+    let h = c.in_ok-header.header in
+    let named : c.rename_each.new.self ≡ with_names_at inside.sections c.args.places.now name subsection = search rules in
+    let header : header_of c.put_header.new.buffer.items h ≡ made_header name subsection = search rules in
+    let made : IsHeaded c.put_header.new.buffer.items c.put_header.new.copies.items h name subsection = record {
+      header = header;
+      shown = c.in_ok-header.ensures.shown;
+      named = c.requires.name;
+      valid = c.requires.subsection;
+    } in
+    renamed_fits inside.buffer.items c.put_header.new.buffer.items inside.copies.items c.put_header.new.copies.items h name subsection
+    c.put_header.ensures.grows.extended c.put_header.ensures.extended made c.requires.marks.0 inside.front.items inside.meta.value inside.sections c.set_headers.new.table c.self.invariant
+    c.put_header.ensures.grows.room
+    (both_at c.args.places.now c.requires.marks.0 h name subsection inside.sections c.rename_each.new.self c.set_headers.new.table c.requires.marks.1 named c.set_headers.ensures)
+
+pub returns-clause-ok : goal.returns-clause-ok
+returns-clause-ok c = λ marks is.
+    let inside = c.self.inside in
+    let name = c.args.name.now in
+    let subsection = option_copied c.args.subsection_name in
+    let h = c.in_ok-header.header in
+    let named : c.rename_each.new.self ≡ with_names_at inside.sections c.args.places.now name subsection = search rules in
+    let header : header_of c.put_header.new.buffer.items h ≡ made_header name subsection = search rules in
+    let made : IsHeaded c.put_header.new.buffer.items c.put_header.new.copies.items h name subsection = record {
+      header = header;
+      shown = c.in_ok-header.ensures.shown;
+      named = c.requires.name;
+      valid = c.requires.subsection;
+    } in
+    rw (← c.self.view_is) (renamed_state inside.buffer.items c.put_header.new.buffer.items inside.copies.items c.put_header.new.copies.items h name subsection
+    c.put_header.ensures.grows.extended c.put_header.ensures.extended made marks inside.front.items inside.meta.value inside.sections c.set_headers.new.table c.self.invariant
+    (both_at c.args.places.now marks h name subsection inside.sections c.rename_each.new.self c.set_headers.new.table is named c.set_headers.ensures))

@@ -1,0 +1,29 @@
+-- What the refusals of renaming sections are.
+use Rattle.std.specs.Prelude.{ℕ, ◌==◌, if◌then◌else◌}
+use Rattle.gitconf_text.specs.HeaderErrors.{header_number}
+use Rattle.gitconf_text.specs.declared.parse.section.header.Error.{Error as HeaderError}
+use Rattle.gitconf_text.specs.declared.parse.section.header.Error.TheVariants as headers
+use Rattle.gitconf_store.specs.declared.lookup.existing.Error.{Error as LookupError}
+use Rattle.gitconf_store.specs.declared.lookup.existing.Error.TheVariants as lookups
+use Rattle.gitconf_store.specs.declared.rename_section.Error.{Error}
+use Rattle.gitconf_store.specs.declared.rename_section.Error.TheVariants.{Lookup, Section, Memory}
+use Rattle.gitconf_store.specs.Misses.{existing_number}
+
+-- the number of each
+abbrev pub rename_number : Error → ℕ
+rename_number (Lookup e) = existing_number e
+rename_number (Section e) = header_number e
+rename_number Memory = 27
+
+-- what a refusal of a look-up is, and of a header: want of memory has a case of its own
+abbrev pub of_lookup : LookupError → Error
+of_lookup lookups.Memory = Memory
+of_lookup e = Lookup e
+
+abbrev pub of_header : HeaderError → Error
+of_header headers.Memory = Memory
+of_header e = Section e
+
+-- and of a place
+abbrev pub of_span : (number : ℕ) → Error
+of_span number = if number == 27 then Memory else Section (headers.Span number)

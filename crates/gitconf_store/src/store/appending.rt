@@ -1,0 +1,49 @@
+//! Sections put behind those of a store.
+ghost use Rattle.std.specs.Prelude.{◌≡◌, ◌⊎◌, ◌↔◌, ◌+◌, ◌≤◌, ◌^◌, IfErr, IfOk, IsErrOf, OnErr, OnOk};
+ghost use Rattle.gitconf_table.specs.Sections.{no_number};
+ghost use Rattle.gitconf_state.specs.Edit.{with_used};
+ghost use Rattle.gitconf_state.specs.Edits.{Number, PushSection, answer, apply};
+
+use crate::detached;
+use crate::moving::{move_section, put_last};
+use crate::store::Store;
+use gitconf_body::buffer::{append, check_room};
+use gitconf_table::table::SectionId;
+use gitconf_text::parse::span;
+
+impl Store {
+    /// Puts a section that stands alone behind all others, under the next number, which is the answer. Its header, its body and where it
+    /// comes from stay. Its bytes go behind the buffer's, and its spans are moved in one pass.
+    ///
+    /// Takes memory for the bytes, for the names, and constant memory on average for its place.
+    ///
+    /// # Errors
+    ///
+    /// A [`span::Error`]: number 3 exactly where the buffer would be longer than 4294967295 bytes or no number is left, before any growth,
+    /// and else 27 for want of memory. The section is then dropped, and the file as it was, but that its buffer may have grown.
+    pub fn push_section(&mut self, section: detached::Section) -> Result<SectionId, span::Error>
+        ensures ok { OnOk result (self.new ≡ with_used self.new.used (apply (PushSection section) self.old)) }
+        ensures answer { IfOk result (λ id. Number id ≡ answer (PushSection section) self.old) }
+        ensures err { OnErr result (self.new ≡ with_used self.new.used self.old) }
+        ensures too_large { IsErrOf result 3 ↔ ((2 ^ 32 ≤ self.old.used + section.used) ⊎ (self.old.next ≡ no_number)) }
+        ensures grown { self.new.used ≤ self.old.used + section.used }
+        ensures known { IfErr result (λ e. (e ≡ 3) ⊎ (e ≡ 27)) }
+    {
+        if self.sections.numbers_left() == 0 {
+            return Err(span::Error::too_large());
+        }
+        let detached::Section {
+            buffer,
+            copies,
+            id: _,
+            mut section,
+        } = section;
+        check_room(&self.buffer, buffer.len())?;
+        let by = self.buffer.len() as u32;
+        let copies_by = self.copies.len();
+        append(&mut self.buffer, &buffer)?;
+        self.copies.extend_from_slice(&copies)?;
+        move_section(&mut section, by, copies_by);
+        put_last(&self.buffer, &self.copies, &mut self.sections, section)
+    }
+}

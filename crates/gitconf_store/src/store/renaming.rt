@@ -1,0 +1,168 @@
+//! Sections of a store that are renamed.
+ghost use Rattle.std.specs.Fn.{ComputesKey};
+ghost use Rattle.std.specs.List.{list_any};
+ghost use Rattle.std.specs.Option.{option_copied};
+ghost use Rattle.std.specs.Prelude.{◌≡◌, ◌==◌, ◌<◌, ◌↔◌, ◌≤◌, ◌+◌, ◌^◌, Bool, List, false, map, true, IfErr, IfOk, IfSome, IsErrOf, IsOk, None, OnErr, OnOk};
+ghost use Rattle.gitconf_text.specs.HeaderErrors.{header_number};
+ghost use Rattle.gitconf_text.specs.Names.{is_made_name, is_valid_or_none};
+ghost use Rattle.gitconf_base.specs.Metadata.{Meta};
+ghost use Rattle.gitconf_state.specs.Edit.{header_bytes, is_target, with_used};
+ghost use Rattle.gitconf_state.specs.Edits.{Rename, apply, numbered};
+ghost use Rattle.gitconf_state.specs.Lookup.{is_named, listing};
+ghost use Rattle.gitconf_store.specs.Edits.{UsedGrows};
+ghost use Rattle.gitconf_store.specs.declared.lookup.existing.Error.TheVariants.{KeyMissing};
+ghost use Rattle.gitconf_store.specs.declared.rename_section.Error.TheVariants.{Lookup};
+ghost use Rattle.gitconf_store.specs.Renamings.{header_numbers, marked_places, with_renamed, AreMarks, AreSomeRenamed, HeaderGrows, IsHeaderChecked, IsRenamed};
+
+use crate::headings::{passing_places, set_headers};
+use crate::lookup::existing;
+use crate::rename_section;
+use crate::store::Store;
+use gitconf_base::meta::Metadata;
+use gitconf_body::heading::{check_header, put_header};
+use gitconf_table::table::SectionId;
+use gitconf_text::NoMemory;
+use gitconf_text::parse::section::header::{Error as HeaderError, validate};
+use gitconf_text::parse::span;
+
+impl Store {
+    /// Gives the sections at these places one header that is made. All growth comes before any change.
+    fn put_header(
+        &mut self,
+        places: &[usize],
+        name: &str,
+        subsection_name: Option<&[u8]>,
+    ) -> Result<(), span::Error>
+        requires marks { (marks : List Bool) × (places.now ≡ marked_places 0 marks) × AreMarks (λ _. true) marks self.old.sections }
+        requires name { is_made_name name.now ≡ true }
+        requires subsection { is_valid_or_none (option_copied subsection_name) ≡ true }
+        ensures ok { (marks : List Bool) → places.now ≡ marked_places 0 marks
+            → OnOk result (self.new ≡ with_used self.new.used (with_renamed marks name.now (option_copied subsection_name.entry) self.old)) }
+        ensures err { OnErr result (self.new ≡ with_used self.new.used self.old) }
+        ensures used { UsedGrows result (header_bytes name.now (option_copied subsection_name.entry)) self.old.used self.new.used }
+    {
+        let header = put_header(
+            &mut self.buffer,
+            &mut self.copies,
+            name.as_bytes(),
+            subsection_name,
+        )?;
+        self.sections
+            .rename_each(places, name.as_bytes(), subsection_name)?;
+        set_headers(&mut self.sections, places, header);
+        Ok(())
+    }
+
+    /// Gives the section of a number another name and subsection, by a header that is made: the name as given, and a subsection in quotes
+    /// behind a space. All else stays as it is; where no section has the number, all does. Later look-ups find it by its new names.
+    ///
+    /// A walk over the index of all sections. Takes memory for the header and the names.
+    ///
+    /// # Errors
+    ///
+    /// Refusal 4 exactly where a byte of the name is no letter, digit or dash, else 5 exactly where the subsection has LF or NUL; both
+    /// also where no section has the number. Then 3 exactly where the buffer would be longer than 4294967295 bytes, before any growth;
+    /// 27 for want of memory. The file is then as it was, but that its buffer may have grown.
+    pub fn rename(
+        &mut self,
+        id: SectionId,
+        name: &str,
+        subsection_name: Option<&[u8]>,
+    ) -> Result<(), HeaderError>
+        ensures invalid_name { IsErrOf result HeaderError.InvalidName ↔ (is_made_name name.now ≡ false) }
+        ensures invalid_subsection { IsErrOf result HeaderError.InvalidSubSection
+            ↔ ((is_made_name name.now ≡ true) × (is_valid_or_none (option_copied subsection_name.entry) ≡ false)) }
+        ensures ok { OnOk result (self.new ≡ with_used self.new.used (apply (Rename id name.now (option_copied subsection_name.entry)) self.old)) }
+        ensures err { OnErr result (self.new ≡ with_used self.new.used self.old) }
+        ensures used { IfSome (numbered id self.old) (λ _. HeaderGrows name.now (option_copied subsection_name.entry) result self.old.used self.new.used) }
+        ensures missing { numbered id self.old ≡ None → self.new ≡ self.old }
+        ensures known { IfErr result (λ e. list_any (λ number. number == header_number e) header_numbers ≡ true) }
+    {
+        validate(name.as_bytes(), subsection_name)?;
+        // No number was given twice.
+        prove!(self.sections.next_id() == self.sections.next_id());
+        let Some(at) = self.sections.position(id) else {
+            return Ok(());
+        };
+        self.put_header(&[at], name, subsection_name)?;
+        Ok(())
+    }
+
+    /// Asks whether a header may be made of a name and a subsection, and put into the buffer. Takes no memory.
+    fn check_header(&self, name: &str, subsection_name: Option<&[u8]>) -> Result<(), HeaderError>
+        ensures { IsHeaderChecked name.now (option_copied subsection_name.entry) self.now.used result }
+    {
+        validate(name.as_bytes(), subsection_name)?;
+        check_header(&self.buffer, name.as_bytes(), subsection_name)?;
+        Ok(())
+    }
+
+    /// The places of the sections of the name and subsection whose metadata passes, in file order.
+    fn passing_places<F: FnMut(&Metadata) -> bool>(
+        &self,
+        name: &str,
+        subsection_name: Option<&[u8]>,
+        filter: F,
+    ) -> Result<Vec<usize>, NoMemory>
+        requires { F.IsAlwaysCallable filter }
+        ensures some { IfOk result (λ places. (marks : List Bool) × (places.items ≡ marked_places 0 marks)
+            × AreMarks (λ s. is_named name.now (option_copied subsection_name.entry) (listing s)) marks self.now.sections) }
+        ensures exact { (keeps : Meta → Bool) → ComputesKey F.FnMut keeps filter
+            → IfOk result (λ places. places.items ≡ marked_places 0 (map (is_target name.now (option_copied subsection_name.entry) keeps) self.now.sections)) }
+        ensures refused { (keeps : Meta → Bool) → ComputesKey F.FnMut keeps filter
+            → OnErr result (list_any (is_target name.now (option_copied subsection_name.entry) keeps) self.now.sections ≡ true) }
+    {
+        let alloc = *self.buffer.allocator();
+        passing_places(alloc, &self.sections, name, subsection_name, filter)
+    }
+
+    /// Gives all sections that have the name, without ASCII case, and exactly the subsection, and whose metadata passes the filter, another
+    /// name and subsection, as [`Store::rename`] does. The filter is asked of the sections of these names, in file order; where the new
+    /// names are refused, from the last one on, up to the first that passes.
+    ///
+    /// A walk over all sections, and one over the index. The new header stands in the buffer once; memory is taken for it, for the names
+    /// and for the places of the sections.
+    ///
+    /// # Errors
+    ///
+    /// Refusal 7 where no section has the name, 8 where none of these has the subsection, 9 where none passes; then those of
+    /// [`Store::rename`]. The file is then as it was, but that its buffer may have grown.
+    pub fn rename_section_filter<F: FnMut(&Metadata) -> bool>(
+        &mut self,
+        name: &str,
+        subsection_name: Option<&[u8]>,
+        new_name: &str,
+        new_subsection_name: Option<&[u8]>,
+        filter: F,
+    ) -> Result<(), rename_section::Error>
+        requires { F.IsAlwaysCallable filter }
+        // For a filter that answers by what it is shown.
+        ensures exact { (keeps : Meta → Bool) → ComputesKey F.FnMut keeps filter
+            → IsRenamed name.now (option_copied subsection_name.entry) keeps new_name.now (option_copied new_subsection_name.entry) result self.old self.new }
+        // Whatever the filter answers.
+        ensures some { OnOk result (AreSomeRenamed name.now (option_copied subsection_name.entry) new_name.now (option_copied new_subsection_name.entry) self.old self.new) }
+        ensures err { OnErr result (self.new ≡ with_used self.new.used self.old) }
+        ensures grown { self.new.used ≤ self.old.used + header_bytes new_name.now (option_copied new_subsection_name.entry) }
+    {
+        self.check_named(name, subsection_name)?;
+        if let Err(refusal) = self.check_header(new_name, new_subsection_name) {
+            return match self.last_target(name, subsection_name, filter) {
+                Some(_) => Err(rename_section::Error::from(refusal)),
+                None => Err(missing()),
+            };
+        }
+        let places = self.passing_places(name, subsection_name, filter)?;
+        if places.is_empty() {
+            return Err(missing());
+        }
+        self.put_header(&places, new_name, new_subsection_name)?;
+        Ok(())
+    }
+}
+
+/// Sections have the names, and none of them passes.
+fn missing() -> rename_section::Error
+    ensures { result ≡ Lookup KeyMissing }
+{
+    rename_section::Error::Lookup(existing::Error::KeyMissing)
+}

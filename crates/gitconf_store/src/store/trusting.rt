@@ -1,0 +1,47 @@
+//! How far a section of a store is trusted.
+ghost use Rattle.std.specs.Prelude.{◌≡◌, IfOk, IsOk, None, OnErr, OnOk};
+ghost use Rattle.gitconf_state.specs.Edits.{SetTrust, apply, numbered};
+
+use crate::store::Store;
+use gitconf_base::meta::Metadata;
+use gitconf_base::source::Trust;
+use gitconf_table::table::SectionId;
+use gitconf_text::NoMemory;
+use std::alloc::Global;
+use std::rc::Rc;
+
+/// The same metadata with another trust, with one owner.
+fn trusted(alloc: Global, meta: &Metadata, trust: Trust) -> Result<Rc<Metadata>, NoMemory>
+    ensures { IfOk result (λ owned. owned.value ≡ record meta.now { trust = trust }) }
+{
+    let meta = meta.try_clone()?.with(trust);
+    Ok(Rc::new(alloc, meta)?)
+}
+
+impl Store {
+    /// Says how far the section of a number is trusted. Its metadata is its own from then on; those of other sections and of the file stay,
+    /// also where they were shared with it. Where no section has the number, nothing is changed.
+    ///
+    /// Constant time but for the path of the metadata, which is copied.
+    ///
+    /// # Errors
+    ///
+    /// Want of memory, only where a section has the number. The file is then as it was.
+    pub fn set_trust(&mut self, id: SectionId, trust: Trust) -> Result<(), NoMemory>
+        ensures ok { OnOk result (self.new ≡ apply (SetTrust id trust) self.old) }
+        ensures none { numbered id self.old ≡ None → IsOk result }
+        ensures err { OnErr result (self.new ≡ self.old) }
+    {
+        // No number was given twice.
+        prove!(self.sections.next_id() == self.sections.next_id());
+        let Some(at) = self.sections.position(id) else {
+            return Ok(());
+        };
+        let alloc = *self.buffer.allocator();
+        let section = self.sections.at(at);
+        let meta = trusted(alloc, &section.meta, trust)?;
+        let section = self.sections.at_mut(at);
+        section.meta = meta;
+        Ok(())
+    }
+}

@@ -1,0 +1,99 @@
+-- Several sections of a table under other names.
+use Rattle.std.proofs.Common.{◌≡◌, ℕ, zero, suc, ◌<◌, List, [], ◌∷◌, length, get_or, set, arith, Option, refl, ap, sym, subst, ◌∙◌}
+use Rattle.std.specs.Option.{option_map}
+use Rattle.std.specs.List.{AllByRecursion}
+use Rattle.gitconf_text.specs.Bytes.{fold}
+use Rattle.gitconf_table.specs.declared.letters.Names.{Names}
+use Rattle.gitconf_table.specs.declared.table.Row.{Row}
+use Rattle.gitconf_table.specs.declared.index.Link.{Link}
+use Rattle.gitconf_table.specs.Letters.{part_of, ArePut, NamesFit}
+use Rattle.gitconf_table.specs.Links.{words_of}
+use Rattle.gitconf_table.specs.Renames.{named_at, named_each, set_each, with_names_at}
+use Rattle.gitconf_table.specs.Rows.{entries_of, entry_of_row, RowsFit}
+use Rattle.gitconf_table.specs.Sections.{SectionEntry, Sections, changed_at}
+use Rattle.gitconf_table.specs.Tables.{IsTable}
+use Rattle.gitconf_table.specs.Word.{full_word, name_word}
+use Rattle.gitconf_table.proofs.RowLemmas.{entries_same, longer, rows_fit}
+use Rattle.gitconf_table.proofs.TableLemmas.{table_renamed}
+
+-- places stay within a list as long
+pub places_within : (m n : ℕ) (places : List ℕ) → n ≡ m → AllByRecursion (λ at. at < m) places → AllByRecursion (λ at. at < n) places
+places_within m n places same all = subst (λ k. AllByRecursion (λ at. at < k) places) (sym same) all
+
+pub first_within : (n at : ℕ) (places rest : List ℕ) → places ≡ at ∷ rest → AllByRecursion (λ at. at < n) places → (at < n) × AllByRecursion (λ at. at < n) rest
+first_within n at places rest is all = let both : AllByRecursion (λ at. at < n) (at ∷ rest) = rw is at all in (both.0, both.1)
+
+-- a step of the loop over words
+pub word_set : (words places rest : List ℕ) (at word : ℕ) → places ≡ at ∷ rest → set_each words places word ≡ set_each (set words at word) rest word
+word_set words places rest at word is = ap (λ ps. set_each words ps word) is
+
+-- where there is no word, none is set
+none_each : (places : List ℕ) (word : ℕ) → [] ≡ set_each [] places word
+none_each [] word = refl
+none_each (at ∷ places) word = none_each places word
+
+pub none_set : (links : List Link) (places : List ℕ) (word : ℕ) → length links ≡ 0 → words_of links ≡ set_each (words_of links) places word
+none_set [] places word none = none_each places word
+none_set (l ∷ links) places word none = absurd (omega (arith, none))
+
+module _ {T : Type 0} where
+  -- a step of the loop over rows
+  row_named : (names : Names) (rows : List (Row T)) (at : ℕ) (r : Row T) → r ≡ get_or rows at r → set rows at (record r { names = names }) ≡ named_at names rows at
+  row_named names [] at r is = refl
+  row_named names (x ∷ rows) zero r is = ap (λ (y : Row T). record y { names = names } ∷ rows) is
+  row_named names (x ∷ rows) (suc at) r is = ap (λ ys. x ∷ ys) (row_named names rows at r is)
+
+  pub row_step : (names : Names) (rows : List (Row T)) (places rest : List ℕ) (at : ℕ) (r : Row T) → places ≡ at ∷ rest → r ≡ get_or rows at r
+      → named_each names (set rows at (record r { names = names })) rest ≡ named_each names rows places
+  row_step names rows places rest at r first is = ap (λ ys. named_each names ys rest) (row_named names rows at r is) ∙ sym (ap (named_each names rows) first)
+
+  -- rows under other names are entries under them
+  entry_named : (letters name : List ℕ) (s : Option (List ℕ)) (names : Names) (rows : List (Row T)) (at : ℕ) → part_of letters names.name ≡ fold name → option_map (part_of letters) names.subsection ≡ s
+      → entries_of letters (named_at names rows at) ≡ changed_at (λ e. record e { name = fold name; subsection = s }) (entries_of letters rows) at
+  entry_named letters name s names [] at is has = refl
+  entry_named letters name s names (r ∷ rows) zero is has = λ j. record { number = r.id; name = is j; subsection = has j; section = r.section } ∷ entries_of letters rows
+  entry_named letters name s names (r ∷ rows) (suc at) is has = ap (λ ys. entry_of_row letters r ∷ ys) (entry_named letters name s names rows at is has)
+
+  entries_named : (letters name : List ℕ) (s : Option (List ℕ)) (names : Names) (next : ℕ) (rows : List (Row T)) (places : List ℕ) → part_of letters names.name ≡ fold name → option_map (part_of letters) names.subsection ≡ s
+      → (record { entries = entries_of letters (named_each names rows places); next = next }) ≡ with_names_at (record { entries = entries_of letters rows; next = next }) places name s
+  entries_named letters name s names next rows [] is has = refl
+  entries_named letters name s names next rows (at ∷ places) is has =
+      entries_named letters name s names next (named_at names rows at) places is has
+      ∙ ap (λ es. with_names_at (record { entries = es; next = next }) places name s) (entry_named letters name s names rows at is has)
+
+  fit_named : (n : ℕ) (names : Names) (rows : List (Row T)) (at : ℕ) → NamesFit n names → RowsFit n rows → RowsFit n (named_at names rows at)
+  fit_named n names [] at new fit = tt
+  fit_named n names (r ∷ rows) zero new fit = (new, fit.1)
+  fit_named n names (r ∷ rows) (suc at) new fit = (fit.0, fit_named n names rows at new fit.1)
+
+  fit_each : (n : ℕ) (names : Names) (rows : List (Row T)) (places : List ℕ) → NamesFit n names → RowsFit n rows → RowsFit n (named_each names rows places)
+  fit_each n names rows [] new fit = fit
+  fit_each n names rows (at ∷ places) new fit = fit_each n names (named_at names rows at) places new (fit_named n names rows at new fit)
+
+  -- what the table keeps beside them
+  table_each : (next : ℕ) (es : List (SectionEntry T)) (at places names full : List ℕ) (name : List ℕ) (s : Option (List ℕ)) → IsTable next es places names full
+      → IsTable next (with_names_at (record { entries = es; next = next }) at name s).entries places (set_each names at (name_word name)) (set_each full at (full_word name s))
+  table_each next es [] places names full name s h = h
+  table_each next es (i ∷ at) places names full name s h =
+      table_each next (changed_at (λ e. record e { name = fold name; subsection = s }) es i) at places (set names i (name_word name)) (set full i (full_word name s)) name s
+      (table_renamed next i es _ places names _ full _ name s refl refl refl h)
+
+  -- the table with names that were put behind the letters
+  pub each_renamed : (letters letters2 name : List ℕ) (s : Option (List ℕ)) (names : Names) → ArePut (fold name) s letters letters2 names → (next : ℕ) (rows : List (Row T)) (at : List ℕ) → RowsFit (length letters) rows
+      → (record { entries = entries_of letters2 (named_each names rows at); next = next }) ≡ with_names_at (record { entries = entries_of letters rows; next = next }) at name s
+  each_renamed letters letters2 name s names put next rows at fit =
+      entries_named letters2 name s names next rows at put.name_is put.subsection_is
+      ∙ ap (λ es. with_names_at (record { entries = es; next = next }) at name s) (entries_same letters letters2 name s names put rows fit)
+
+  pub each_kept : (letters letters2 name : List ℕ) (s : Option (List ℕ)) (names : Names) → ArePut (fold name) s letters letters2 names → (next : ℕ) (rows : List (Row T)) (at places words words2 full full2 : List ℕ)
+      → words2 ≡ set_each words at (name_word name) → full2 ≡ set_each full at (full_word name s) → RowsFit (length letters) rows → IsTable next (entries_of letters rows) places words full
+      → IsTable next (entries_of letters2 (named_each names rows at)) places words2 full2
+  each_kept letters letters2 name s names put next rows at places words words2 full full2 one two fit h =
+      rw (one, two)
+      (subst (λ (all : Sections T). IsTable next all.entries places (set_each words at (name_word name)) (set_each full at (full_word name s)))
+      (sym (each_renamed letters letters2 name s names put next rows at fit)) (table_each next (entries_of letters rows) at places words full name s h))
+
+  pub each_fits : (letters letters2 name : List ℕ) (s : Option (List ℕ)) (names : Names) → ArePut (fold name) s letters letters2 names → (rows : List (Row T)) (at : List ℕ) → RowsFit (length letters) rows
+      → RowsFit (length letters2) (named_each names rows at)
+  each_fits letters letters2 name s names put rows at fit =
+      fit_each (length letters2) names rows at put.fit (rows_fit (length letters) (length letters2) rows (longer letters letters2 (fold name) s names put) fit)

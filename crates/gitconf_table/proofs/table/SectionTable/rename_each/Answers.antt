@@ -1,0 +1,27 @@
+use Rattle.std.proofs.Common.{ap, ◌∙◌}
+use Rattle.std.specs.Option.{option_copied}
+use Rattle.gitconf_table.specs.Renames.{set_each, named_each}
+use Rattle.gitconf_table.specs.Rows.{entries_of}
+use Rattle.gitconf_table.specs.Tables.{IsKept}
+use Rattle.gitconf_table.proofs.RenamingLemmas.{each_fits, each_kept, each_renamed}
+use Rattle.gitconf_table.proofs.table.SectionTable.rename_each.Goals as goal
+
+pub invariant_of-self-2 : goal.invariant_of-self-2
+invariant_of-self-2 g c =
+    let old = c.self.inside in
+    let letters = old.letters.items in
+    let at = c.args.places.now in
+    let kept : IsKept old.next c.put_names.new.letters.items (named_each c.in_ok-names.names old.rows.items at) old.places.items c.set_each.new.self.words c.set_each-2.new.self.words = record {
+      table = each_kept letters _ c.args.name.now (option_copied c.args.subsection) c.in_ok-names.names c.in_ok-names.ensures.ok old.next old.rows.items at old.places.items old.names.words _ old.full.words _
+          (c.set_each.ensures ∙ ap (set_each old.names.words at) c.name_word-word.ensures)
+          (c.set_each-2.ensures ∙ ap (set_each old.full.words at) c.full_word.ensures)
+          c.self.invariant.fit c.self.invariant.table;
+      fit = each_fits letters _ c.args.name.now (option_copied c.args.subsection) c.in_ok-names.names c.in_ok-names.ensures.ok old.rows.items at c.self.invariant.fit;
+    } in
+    rw c.name_each.ensures kept
+
+pub returns-clause-ok : goal.returns-clause-ok
+returns-clause-ok g c =
+    rw (← c.self.view_is)
+    ((λ i. record { entries = entries_of c.put_names.new.letters.items (c.name_each.ensures i); next = c.self.inside.next })
+    ∙ each_renamed c.self.inside.letters.items _ c.args.name.now (option_copied c.args.subsection) c.in_ok-names.names c.in_ok-names.ensures.ok c.self.inside.next c.self.inside.rows.items c.args.places.now c.self.invariant.fit)

@@ -1,0 +1,47 @@
+//! Other names for several sections at once.
+ghost use Rattle.std.specs.Prelude.{◌≡◌, ◌<◌, length, OnOk, OnErr};
+ghost use Rattle.std.specs.List.{AllByRecursion};
+ghost use Rattle.std.specs.Option.{option_copied};
+ghost use Rattle.gitconf_table.specs.Renames.{named_each, with_names_at};
+
+use crate::letters::{Names, put_names};
+use crate::table::{Row, SectionTable};
+use crate::word::{full_word, name_word};
+use gitconf_text::NoMemory;
+
+impl<T> SectionTable<T> {
+    /// Gives the sections at all these places other names, `name` in ASCII lower case; their numbers, their places and what
+    /// they hold stay. Takes memory for the names once, and links all sections anew, once. For want of memory the table is
+    /// as it was.
+    pub fn rename_each(
+        &mut self,
+        places: &[usize],
+        name: &[u8],
+        subsection: Option<&[u8]>,
+    ) -> Result<(), NoMemory>
+        requires { AllByRecursion (λ at. at < length self.old.entries) places.now }
+        ensures ok { OnOk result (self.new ≡ with_names_at self.old places.now name.now (option_copied subsection.entry)) }
+        ensures err { OnErr result (self.new ≡ self.old) }
+    {
+        let names = put_names(&mut self.letters, name, subsection)?;
+        let word = name_word(name);
+        self.names.set_each(places, word);
+        self.full
+            .set_each(places, full_word(name, word, subsection));
+        name_each(&mut self.rows, places, names);
+        Ok(())
+    }
+}
+
+// Gives the rows at these places the names.
+fn name_each<T>(rows: &mut Vec<Row<T>>, places: &[usize], names: Names)
+    requires { AllByRecursion (λ at. at < length rows.old.items) places.now }
+    ensures { rows.new.items ≡ named_each names rows.old.items places.now }
+{
+    let mut rest = places;
+    while let Some((at, behind)) = rest.split_first() {
+        let row = &mut rows[*at];
+        row.names = names;
+        rest = behind;
+    }
+}

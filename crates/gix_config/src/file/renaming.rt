@@ -1,0 +1,71 @@
+//! Sections of a file that are renamed.
+ghost use Rattle.std.specs.Fn.{ComputesKey};
+ghost use Rattle.std.specs.Option.{option_copied};
+ghost use Rattle.std.specs.Prelude.{◌≡◌, ◌+◌, ◌≤◌, Bool, OnErr, OnOk, true};
+ghost use Rattle.gitconf_base.specs.Metadata.{Meta};
+ghost use Rattle.gitconf_state.specs.Edit.{header_bytes, with_used};
+ghost use Rattle.gitconf_store.specs.Renamings.{AreSomeRenamed, IsRenamed};
+
+use crate::file::{File, Metadata, rename_section};
+
+impl File {
+    /// Gives all sections that have the name, without ASCII case, and exactly the subsection, another name and subsection: their headers
+    /// are made anew, the name as given, and a subsection in quotes behind a space. What else they have stays, and they are found by their
+    /// new names from then on.
+    ///
+    /// A walk over all sections, and one over the index. The new header stands in the buffer once; memory is taken for it, for the names
+    /// and for the places of the sections.
+    ///
+    /// # Errors
+    ///
+    /// Refusal 7 where no section has the name, 8 where none of these has the subsection; then 4 where a byte of the new name is no letter,
+    /// digit or dash, 5 where the new subsection has LF or NUL, and 3 where the buffer would be longer than 4294967295 bytes, before any
+    /// growth; 27 for want of memory. The file is then as it was, but that its buffer may have grown.
+    #[tactic(auto, using(std::proofs::lemmas::Fn::always_returns_same))]
+    pub fn rename_section(
+        &mut self,
+        name: &str,
+        subsection_name: Option<&[u8]>,
+        new_name: &str,
+        new_subsection_name: Option<&[u8]>,
+    ) -> Result<(), rename_section::Error>
+        ensures exact { IsRenamed name.now (option_copied subsection_name.entry) (λ _. true) new_name.now (option_copied new_subsection_name.entry) result self.old self.new }
+        ensures err { OnErr result (self.new ≡ with_used self.new.used self.old) }
+        ensures grown { self.new.used ≤ self.old.used + header_bytes new_name.now (option_copied new_subsection_name.entry) }
+    {
+        self.rename_section_filter(name, subsection_name, new_name, new_subsection_name, |_| {
+            true
+        })
+    }
+
+    /// As [`File::rename_section`], those sections whose metadata passes the filter, which is asked of the sections of these names.
+    ///
+    /// # Errors
+    ///
+    /// Those of [`File::rename_section`]; and refusal 9 where sections have the names and none passes, before those of the new names.
+    pub fn rename_section_filter<F: FnMut(&Metadata) -> bool>(
+        &mut self,
+        name: &str,
+        subsection_name: Option<&[u8]>,
+        new_name: &str,
+        new_subsection_name: Option<&[u8]>,
+        filter: F,
+    ) -> Result<(), rename_section::Error>
+        requires { F.IsAlwaysCallable filter }
+        // For a filter that answers by what it is shown.
+        ensures exact { (keeps : Meta → Bool) → ComputesKey F.FnMut keeps filter
+            → IsRenamed name.now (option_copied subsection_name.entry) keeps new_name.now (option_copied new_subsection_name.entry) result self.old self.new }
+        // Whatever the filter answers.
+        ensures some { OnOk result (AreSomeRenamed name.now (option_copied subsection_name.entry) new_name.now (option_copied new_subsection_name.entry) self.old self.new) }
+        ensures err { OnErr result (self.new ≡ with_used self.new.used self.old) }
+        ensures grown { self.new.used ≤ self.old.used + header_bytes new_name.now (option_copied new_subsection_name.entry) }
+    {
+        self.store.rename_section_filter(
+            name,
+            subsection_name,
+            new_name,
+            new_subsection_name,
+            filter,
+        )
+    }
+}
