@@ -1,5 +1,5 @@
 //! Headers that are made, in a buffer.
-ghost use Rattle.std.specs.Prelude.{◌≡◌, ◌↔◌, ◌+◌, ◌<◌, ◌≤◌, ◌^◌, true, length, IfErr, IfOk, IsErrOf};
+ghost use Rattle.std.specs.Prelude.{◌≡◌, ◌↔◌, ◌+◌, ◌<◌, ◌≤◌, ◌^◌, true, length, IfErr, IfOk, IsErrOf, OnOk};
 ghost use Rattle.std.specs.Option.{option_copied};
 ghost use Rattle.gitconf_text.specs.Names.{is_valid_or_none};
 ghost use Rattle.gitconf_parse.specs.declared.event.Event.TheVariants as events;
@@ -46,6 +46,7 @@ pub fn put_header(
     requires valid { is_valid_or_none (option_copied subsection) ≡ true }
     ensures header { IfOk result (λ h. header_of buffer.new.items h ≡ made_header name.now (option_copied subsection.entry)) }
     ensures shown { IfOk result (λ h. IsShown buffer.new.items copies.new.items (events.SectionHeader h)) }
+    ensures put { OnOk result (length buffer.new.items ≡ length buffer.old.items + header_bytes name.now (option_copied subsection.entry)) }
     ensures grows { Grows result (header_bytes name.now (option_copied subsection.entry)) buffer.old.items buffer.new.items }
     ensures refused { 2 ^ 32 ≤ length buffer.old.items + header_bytes name.now (option_copied subsection.entry) → IsErrOf result 3 }
     ensures extended { IsExtended copies.old.items copies.new.items }

@@ -162,33 +162,6 @@ pub(crate) fn header_len(name: &[u8], subsection: Option<&[u8]>) -> usize
     }
 }
 
-/// A header that is made of these names. Takes memory for its text in the buffer, and for a copy of its subsection, where that isn't what
-/// is spelled, behind the others.
-///
-/// # Errors
-///
-/// A [`span::Error`]: number 3 exactly where the buffer would be longer than 4294967295 bytes, before any growth, and else 27 for want of
-/// memory. The buffer and the copies may have grown.
-#[tactic(auto, using(crate::proofs::Buffers::extending))]
-pub fn make_header(
-    buffer: &mut Vec<u8>,
-    copies: &mut Vec<u8>,
-    name: &[u8],
-    subsection: Option<&[u8]>,
-) -> Result<Header, span::Error>
-    requires room { length buffer.old.items < 2 ^ 32 }
-    requires valid { is_valid_or_none (option_copied subsection) ≡ true }
-    ensures header { IfOk result (λ h. header_of buffer.new.items h ≡ made_header name.now (option_copied subsection.entry)) }
-    ensures shown { IfOk result (λ h. IsShown buffer.new.items copies.new.items (events.SectionHeader h)) }
-    ensures put { OnOk result (length buffer.new.items ≡ length buffer.old.items + header_bytes name.now (option_copied subsection.entry)) }
-    ensures grows { Grows result (header_bytes name.now (option_copied subsection.entry)) buffer.old.items buffer.new.items }
-    ensures refused { 2 ^ 32 ≤ length buffer.old.items + header_bytes name.now (option_copied subsection.entry) → IsErrOf result 3 }
-    ensures extended { IsExtended copies.old.items copies.new.items }
-{
-    check_room(buffer, header_len(name, subsection))?;
-    append_header(buffer, copies, name, subsection)
-}
-
 /// How many bytes [`section_with`] puts into a buffer; the greatest number where they are more.
 fn section_len(
     line_end: LineEnd,

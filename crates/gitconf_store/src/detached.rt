@@ -25,7 +25,7 @@ use crate::section::{SectionRef, shared};
 use bstr::BString;
 use gitconf_base::meta::Metadata;
 use gitconf_body::copying::{copied_header, copied_items};
-use gitconf_body::section::make_header;
+use gitconf_body::heading::put_header;
 use gitconf_parse::event::Header;
 use gitconf_parse::events::decoded_header;
 use gitconf_parse::items::Item;
@@ -182,7 +182,7 @@ impl Section {
         header::validate(name, subsection)?;
         let mut buffer = Vec::new(alloc);
         let mut copies = Vec::new(alloc);
-        let header = make_header(&mut buffer, &mut copies, name, subsection)?;
+        let header = put_header(&mut buffer, &mut copies, name, subsection)?;
         Ok(Section {
             buffer,
             copies,

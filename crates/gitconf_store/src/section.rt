@@ -8,6 +8,7 @@ pub mod value;
 use crate::events::ItemEvents;
 use bstr::BString;
 use gitconf_base::meta::Metadata;
+use gitconf_base::source::Trust;
 use gitconf_body::blanks::Blanks;
 use gitconf_parse::event::Header;
 use gitconf_parse::items::Item;
@@ -17,6 +18,7 @@ use gitconf_text::NoMemory;
 use gitconf_write::line_end as items;
 use gitconf_write::line_end::LineEnd;
 use gitconf_write::sections::{write_held, write_section};
+use std::alloc::Global;
 use std::rc::Rc;
 
 /// A section: its header, where it comes from, its body, and the items held behind it.
@@ -37,6 +39,18 @@ pub(crate) fn shared(meta: &Rc<Metadata>) -> Result<Rc<Metadata>, NoMemory>
     ensures { IfOk result (λ owned. owned.value ≡ meta.now.value) }
 {
     Ok(meta.clone()?)
+}
+
+/// The same metadata with another trust, with one owner.
+pub(crate) fn trusted(
+    alloc: Global,
+    meta: &Metadata,
+    trust: Trust,
+) -> Result<Rc<Metadata>, NoMemory>
+    ensures { IfOk result (λ owned. owned.value ≡ record meta.now { trust = trust }) }
+{
+    let meta = meta.try_clone()?.with(trust);
+    Ok(Rc::new(alloc, meta)?)
 }
 
 /// A view of a section.

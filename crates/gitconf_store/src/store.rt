@@ -5,9 +5,9 @@ mod existing;
 mod look_ups;
 mod making;
 mod removing;
-mod values_at;
 mod renaming;
 mod trusting;
+mod values_at;
 mod views;
 
 use crate::edit::last_place;

@@ -2,24 +2,15 @@
 ghost use Rattle.std.specs.Prelude.{◌≡◌, IfOk};
 
 use crate::detached::Section;
-use gitconf_base::meta::Metadata;
+use crate::section::trusted;
 use gitconf_base::source::Trust;
 use gitconf_body::editor::Editor;
-use gitconf_body::section::make_header;
+use gitconf_body::heading::put_header;
 use gitconf_body::{push, set, take_out};
 use gitconf_text::NoMemory;
 use gitconf_text::parse::section::header;
 use gitconf_text::parse::span;
 use gitconf_write::line_end::{LineEnd, body_line_end};
-use std::alloc::Global;
-use std::rc::Rc;
-
-/// The same metadata with another trust, with memory of its own.
-fn with_trust(alloc: Global, meta: &Metadata, trust: Trust) -> Result<Rc<Metadata>, NoMemory>
-    ensures { IfOk result (λ owned. owned.value ≡ record meta.now { trust = trust }) }
-{
-    Ok(Rc::new(alloc, meta.try_clone()?.with(trust))?)
-}
 
 impl Section {
     ghost use Rattle.std.specs.Option.{option_copied};
@@ -28,7 +19,7 @@ impl Section {
     ghost use Rattle.gitconf_text.specs.declared.parse.section.header.Error.TheVariants.{InvalidName, InvalidSubSection, Span};
     ghost use Rattle.gitconf_state.specs.Edit.{header_bytes, old_value};
     ghost use Rattle.gitconf_state.specs.Editors.{line_end_pushed, popped, popped_entry, pushed, removed, value_set};
-    ghost use Rattle.gitconf_state.specs.Edits.{renamed, with_trust as trusted, IsEditor};
+    ghost use Rattle.gitconf_state.specs.Edits.{renamed, with_trust, IsEditor};
     ghost use Rattle.gitconf_state.specs.LineEnds.{section_line_end};
     ghost use Rattle.gitconf_write.specs.LineEnds.{bytes_of_line_end};
     ghost use Rattle.gitconf_body.specs.Editors.{line_put, set_put};
@@ -184,7 +175,7 @@ impl Section {
     {
         let name = name.as_bytes();
         header::validate(name, subsection)?;
-        self.section.header = make_header(&mut self.buffer, &mut self.copies, name, subsection)?;
+        self.section.header = put_header(&mut self.buffer, &mut self.copies, name, subsection)?;
         Ok(())
     }
 
@@ -194,11 +185,11 @@ impl Section {
     ///
     /// Want of memory. The section is then as it was.
     pub fn set_trust(&mut self, trust: Trust) -> Result<(), NoMemory>
-        ensures ok { OnOk result (self.new ≡ record { section = trusted trust self.old.section; used = self.old.used }) }
+        ensures ok { OnOk result (self.new ≡ record { section = with_trust trust self.old.section; used = self.old.used }) }
         ensures err { OnErr result (self.new ≡ self.old) }
     {
         let alloc = *self.buffer.allocator();
-        self.section.meta = with_trust(alloc, &self.section.meta, trust)?;
+        self.section.meta = trusted(alloc, &self.section.meta, trust)?;
         Ok(())
     }
 }

@@ -2,21 +2,11 @@
 ghost use Rattle.std.specs.Prelude.{◌≡◌, IfOk, IsOk, None, OnErr, OnOk};
 ghost use Rattle.gitconf_state.specs.Edits.{SetTrust, apply, numbered};
 
+use crate::section::trusted;
 use crate::store::Store;
-use gitconf_base::meta::Metadata;
 use gitconf_base::source::Trust;
 use gitconf_table::table::SectionId;
 use gitconf_text::NoMemory;
-use std::alloc::Global;
-use std::rc::Rc;
-
-/// The same metadata with another trust, with one owner.
-fn trusted(alloc: Global, meta: &Metadata, trust: Trust) -> Result<Rc<Metadata>, NoMemory>
-    ensures { IfOk result (λ owned. owned.value ≡ record meta.now { trust = trust }) }
-{
-    let meta = meta.try_clone()?.with(trust);
-    Ok(Rc::new(alloc, meta)?)
-}
 
 impl Store {
     /// Says how far the section of a number is trusted. Its metadata is its own from then on; those of other sections and of the file stay,

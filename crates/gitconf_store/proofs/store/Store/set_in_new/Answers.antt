@@ -76,8 +76,8 @@ invariant_of-self-2 c =
     let state : State = state_of c.self.inside.buffer.items c.self.inside.front.items c.self.inside.meta.value c.self.inside.sections in
     let line_end : bytes_of_line_end c.line_end-line_end.result ≡ file_line_end state = c.line_end-line_end.ensures ∙ ap file_line_end (sym c.self.view_is) in
     let all : list_all is_item items ≡ true =
-      subst (λ l. list_all is_item (set_value l c.args.key.now c.args.value.now (LineEndsItem l ∷ [])) ≡ true) (sym line_end)
-      (section_with_is (file_line_end state) c.args.key.now c.args.value.now (new_section name subsection state) c.requires.key (file_line_end_is state) (new_section_is name subsection state named valid)).items in
+    subst (λ l. list_all is_item (set_value l c.args.key.now c.args.value.now (LineEndsItem l ∷ [])) ≡ true) (sym line_end)
+    (section_with_is (file_line_end state) c.args.key.now c.args.value.now (new_section name subsection state) c.requires.key (file_line_end_is state) (new_section_is name subsection state named valid)).items in
     made_fits c.self.inside.buffer.items c.section_with.new.buffer.items c.self.inside.copies.items c.section_with.new.copies.items c.self.inside.front.items c.self.inside.meta.value c.self.inside.sections c.push.new.self
     s name subsection items
     c.section_with.ensures.grows.extended c.section_with.ensures.extended c.section_with.ensures.grows.room c.self.invariant made after named valid all
