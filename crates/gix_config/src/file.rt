@@ -2,9 +2,9 @@
 ghost use Rattle.std.specs.Prelude.{◌≡◌, IfOk};
 
 mod all_values;
+mod appending;
 mod editing;
 mod existing;
-mod appending;
 mod impls;
 pub mod includes;
 pub mod init;
@@ -37,8 +37,8 @@ pub use section_mut::SectionMut;
 use std::alloc::Global;
 use std::marker::Model;
 use std::rc::Rc;
-pub use white_space::is_whitespace;
 pub use value_mut::ValueMut;
+pub use white_space::is_whitespace;
 
 /// The metadata with one owner, who may share it.
 fn shared(alloc: Global, meta: Metadata) -> Result<Rc<Metadata>, NoMemory>
