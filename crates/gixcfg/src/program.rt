@@ -4,8 +4,9 @@ ghost use Rattle.gixcfg.specs.Status.{status_of};
 
 use crate::output::Output;
 use bstr::BString;
-use gix_config::file::{SectionRef, set_raw_value};
+use gix_config::file::{SectionId, SectionRef, section_mut, set_raw_value};
 use gix_config::format::{Options, normalize};
+use gix_config::lookup::existing;
 use gix_config::parse::{Error, SinkFault};
 use gix_config::refusals::Refusal;
 use gix_config::{File, KeyRef, NoMemory, value};
@@ -28,6 +29,8 @@ enum Command<'a> {
     Int(KeyRef<'a>),
     /// Gives a key a value, and prints the file.
     Set(KeyRef<'a>, &'a str),
+    /// Takes a key's last entry out of the last section that has one, and prints the file.
+    Unset(KeyRef<'a>),
     /// Prints the entries of all sections.
     List,
     /// Prints the file.
@@ -133,7 +136,8 @@ impl From<value::Error> for Fault {
 /// its exit status: 0 done, 1 missing, 2 usage, 3 refused, 4 input or output, 5 memory.
 ///
 /// `get KEY` prints the last value of a key and a line feed, `all KEY` each of its values and a line feed, `bool KEY` and `int KEY` its
-/// boolean and its integer and a line feed, `set KEY VALUE` the file with that value, `list` a line for each entry of a section, `print`
+/// boolean and its integer and a line feed, `set KEY VALUE` the file with that value, `unset KEY` the file without the
+/// key's last entry in the last section that has one, `list` a line for each entry of a section, `print`
 /// the file that standard input is, `fmt` that file laid out by the default options. Standard input is read whole, and only where the
 /// words are understood.
 pub fn run<R: Read + Drop, W: Write + Drop, E: Write + Drop>(
@@ -169,6 +173,7 @@ fn execute<R: Read, W: Write>(
         Command::Bool(key) => put(boolean(&load(alloc, &text)?, key)?, out),
         Command::Int(key) => put(&integer(alloc, &load(alloc, &text)?, key)?, out),
         Command::Set(key, value) => put_edited(alloc, &text, key, value, out),
+        Command::Unset(key) => put_without(alloc, &text, key, out),
         Command::List => put(&list(alloc, &load(alloc, &text)?)?, out),
         Command::Print => put_file(alloc, &load(alloc, &text)?, out),
         Command::Fmt => put(&laid_out(alloc, &text)?, out),
@@ -194,6 +199,7 @@ fn key_command<'a>(word: &str, key: &'a str) -> Result<Command<'a>, Fault> {
         "all" => Ok(Command::All(key_of(key)?)),
         "bool" => Ok(Command::Bool(key_of(key)?)),
         "int" => Ok(Command::Int(key_of(key)?)),
+        "unset" => Ok(Command::Unset(key_of(key)?)),
         _ => Err(Fault::Usage),
     }
 }
@@ -315,6 +321,30 @@ fn set(file: &mut File, key: KeyRef<'_>, value: &str) -> Result<(), Fault> {
     Ok(())
 }
 
+/// The number of the last section that has an entry of a key.
+fn last_with(file: &File, key: KeyRef<'_>) -> Result<SectionId, Fault> {
+    match file.raw_values_with_sections(key) {
+        Ok(found) => match found.last() {
+            Some(found) => Ok(found.1.id()),
+            None => Err(Fault::Missing),
+        },
+        Err(existing::Error::Memory) => Err(Fault::Memory),
+        Err(_) => Err(Fault::Missing),
+    }
+}
+
+/// Takes the last entry of a key out of the section of a number.
+fn remove(file: &mut File, id: SectionId, key: KeyRef<'_>) -> Result<(), Fault> {
+    match file.section_mut_by_id(id) {
+        Ok(mut section) => {
+            let _ = section.remove(key.value_name)?;
+            Ok(())
+        }
+        Err(section_mut::Error::NonePasses) => Err(Fault::Missing),
+        Err(section_mut::Error::Lookup(_)) => Err(Fault::Memory),
+    }
+}
+
 /// The text, laid out by the default options.
 fn laid_out(alloc: Global, text: &[u8]) -> Result<BString, Fault> {
     Ok(normalize(alloc, text, Options::default())?)
@@ -338,6 +368,19 @@ fn put_edited<W: Write>(
 ) -> Result<(), Fault> {
     let mut file = load(alloc, text)?;
     set(&mut file, key, value)?;
+    put_file(alloc, &file, out)
+}
+
+/// Writes the text as a file without a key's last entry in the last section that has one.
+fn put_without<W: Write>(
+    alloc: Global,
+    text: &[u8],
+    key: KeyRef<'_>,
+    out: &mut W,
+) -> Result<(), Fault> {
+    let mut file = load(alloc, text)?;
+    let id = last_with(&file, key)?;
+    remove(&mut file, id, key)?;
     put_file(alloc, &file, out)
 }
 
