@@ -4,7 +4,7 @@ use Rattle.std.specs.Prelude.{if◌then◌else◌, IfErr, IfSome, OnErr, OnOk}
 use Rattle.std.specs.List.{last_or, list_any}
 use Rattle.gitconf_text.specs.Part.{Item}
 use Rattle.gitconf_state.specs.Edit.{with_used}
-use Rattle.gitconf_state.specs.Edits.{Edit, SetValue, apply, change_items, new_bytes, numbered}
+use Rattle.gitconf_state.specs.Edits.{Edit, SetValue, apply, change_items, change_numbered, new_bytes, numbered}
 use Rattle.gitconf_state.specs.Editors.{Editor}
 use Rattle.gitconf_state.specs.State.{SectionState, State}
 use Rattle.gitconf_state.proofs.EditLists.{last_at, last_passing}
@@ -34,6 +34,14 @@ items_keep_numbers id number change state = numbers_kept id _ (λ s. go s (s.num
     go : (s : SectionState) (t : Bool)
         → (if t then record { number = s.number; header = s.header; meta = s.meta; items = change s.items; held = s.held } else s).number ≡ s.number
     go s true = refl
+    go s false = refl
+
+pub sections_keep_numbers : (id number : ℕ) (change : SectionState → SectionState) → ((s : SectionState) → (change s).number ≡ s.number) → (state : State)
+    → has_number id (change_numbered number change state) ≡ has_number id state
+sections_keep_numbers id number change same state = numbers_kept id _ (λ s. go s (s.number == number)) state.sections
+  where
+    go : (s : SectionState) (t : Bool) → (if t then change s else s).number ≡ s.number
+    go s true = same s
     go s false = refl
 
 -- an edit, from what a store says of it
@@ -76,3 +84,16 @@ pub set_again : {T E : Type 0} (id : ℕ) (value : List ℕ) (number : E → ℕ
     → IsEdited (SetValue id editor key value) number result old new → IsEdited (SetValue id other name value) number result old new
 set_again id value number result old new editor other key name same alike e =
     subst (λ k. IsEdited (SetValue id other k value) number result old new) alike (subst (λ d. IsEdited (SetValue id d key value) number result old new) same e)
+
+pub used_stands : {T E : Type 0} (result : Result T E) (old new after : State) (id : ℕ) → has_number id after ≡ has_number id old
+    → has_number id old ≡ true → OnOk result (new ≡ with_used new.used after) → OnErr result (new ≡ with_used new.used old) → has_number id new ≡ true
+used_stands (Ok t) old new after id keeps stands ok err = ap (has_number id) ok ∙ keeps ∙ stands
+used_stands (Err t) old new after id keeps stands ok err = ap (has_number id) err ∙ stands
+
+-- what holds where a section has the number
+pub if_numbered : {P : Type 0} (id : ℕ) (state : State) → has_number id state ≡ true → IfSome (numbered id state) (λ _. P) → P
+if_numbered {P} id state stands there = go (numbered id state) (numbered_stands id state stands) there
+  where
+    go : (o : Option SectionState) → ((s : SectionState) × (o ≡ Some s)) → IfSome o (λ _. P) → P
+    go None some there = absurd (let h = some.1 in cc)
+    go (Some s) some there = there

@@ -1,5 +1,6 @@
 //! Edits of the section of a number, on which editors stand.
 use crate::file::{File, SectionId, SectionRef};
+use gitconf_base::source::Trust;
 use gitconf_body::blanks::Blanks;
 use gitconf_body::editor::Editor;
 use gitconf_text::NoMemory;
@@ -13,11 +14,12 @@ impl File {
     ghost use Rattle.gitconf_text.specs.declared.parse.section.header.Error.TheVariants.{InvalidName, InvalidSubSection};
     ghost use Rattle.gitconf_text.specs.Names.{is_made_name, is_valid_or_none, is_value_name};
     ghost use Rattle.gitconf_state.specs.Edit.{header_bytes, spacing_of, with_used};
-    ghost use Rattle.gitconf_state.specs.Edits.{answer, apply, numbered, Entry, IsEditor, NewSection, Pop, Push, PushLineEnd, Raw, Remove, SetValue};
+    ghost use Rattle.gitconf_state.specs.Edits.{answer, apply, numbered, Entry, IsEditor, NewSection, Pop, Push, PushLineEnd, Raw, Remove, Rename, SetTrust, SetValue};
     ghost use Rattle.gitconf_state.specs.LineEnds.{file_line_end};
     ghost use Rattle.gitconf_write.specs.LineEnds.{bytes_of_line_end};
     ghost use Rattle.gitconf_text.specs.HeaderErrors.{header_number};
     ghost use Rattle.gitconf_store.specs.Edits.{EditGrows};
+    ghost use Rattle.gitconf_store.specs.Renamings.{HeaderGrows};
     ghost use Rattle.gitconf_store.specs.Editors.{given_editor, IsGiven};
     ghost use Rattle.gitconf_store.specs.Views.{shown};
     ghost use Rattle.gix_config.specs.Edited.{has_number, IsEdited};
@@ -143,5 +145,34 @@ impl File {
         let blanks = self.store.fresh_blanks()?;
         let id = self.store.new_section(name, subsection_name)?;
         Ok((id, blanks))
+    }
+
+    /// [`Store::rename`](gitconf_store::store::Store::rename).
+    pub(crate) fn rename_numbered(
+        &mut self,
+        id: SectionId,
+        name: &str,
+        subsection_name: Option<&[u8]>,
+    ) -> Result<(), header::Error>
+        requires stands { has_number id self.old ≡ true }
+        ensures invalid_name { IsErrOf result InvalidName ↔ (is_made_name name.now ≡ false) }
+        ensures invalid_subsection { IsErrOf result InvalidSubSection
+            ↔ ((is_made_name name.now ≡ true) × (is_valid_or_none (option_copied subsection_name.entry) ≡ false)) }
+        ensures ok { OnOk result (self.new ≡ with_used self.new.used (apply (Rename id name.now (option_copied subsection_name.entry)) self.old)) }
+        ensures err { OnErr result (self.new ≡ with_used self.new.used self.old) }
+        ensures used { HeaderGrows name.now (option_copied subsection_name.entry) result self.old.used self.new.used }
+        ensures stands { has_number id self.new ≡ true }
+    {
+        self.store.rename(id, name, subsection_name)
+    }
+
+    /// [`Store::set_trust`](gitconf_store::store::Store::set_trust).
+    pub(crate) fn set_trust_of(&mut self, id: SectionId, trust: Trust) -> Result<(), NoMemory>
+        requires stands { has_number id self.old ≡ true }
+        ensures ok { OnOk result (self.new ≡ apply (SetTrust id trust) self.old) }
+        ensures err { OnErr result (self.new ≡ self.old) }
+        ensures stands { has_number id self.new ≡ true }
+    {
+        self.store.set_trust(id, trust)
     }
 }

@@ -9,10 +9,11 @@ mod reading;
 use crate::file::section::value;
 use crate::file::{File, SectionId};
 use bstr::BString;
+use gitconf_base::source::Trust;
 use gitconf_body::blanks::Blanks;
 use gitconf_text::NoMemory;
-use gitconf_text::parse::section::ValueNameError;
 use gitconf_text::parse::section::bytes::is_value_name;
+use gitconf_text::parse::section::{ValueNameError, header};
 use gitconf_text::parse::span;
 use gitconf_write::line_end::LineEnd;
 pub use making::Error;
@@ -53,10 +54,13 @@ impl<'a> SectionMut<'a> {
     ghost use Rattle.std.specs.List.{list_all};
     ghost use Rattle.std.specs.Option.{option_copied};
     ghost use Rattle.gitconf_text.specs.Bytes.{is_whitespace};
-    ghost use Rattle.std.specs.Prelude.{◌≡◌, ◌↔◌, false, true, IfOk, IfSome, IsErrAnd, IsOk, None, OnErr, OnOk, Some, option_map};
+    ghost use Rattle.std.specs.Prelude.{◌≡◌, ◌↔◌, false, true, IfOk, IfSome, IsErrAnd, IsErrOf, IsOk, None, OnErr, OnOk, Some, option_map};
     ghost use Rattle.bstr.specs.Owned.{bstring_bytes};
-    ghost use Rattle.gitconf_text.specs.Names.{is_value_name};
-    ghost use Rattle.gitconf_state.specs.Edits.{answer, apply, Entry, Pop, Push, PushLineEnd, Raw, Remove, SetValue};
+    ghost use Rattle.gitconf_text.specs.Names.{is_made_name, is_valid_or_none, is_value_name};
+    ghost use Rattle.gitconf_text.specs.declared.parse.section.header.Error.TheVariants.{InvalidName, InvalidSubSection};
+    ghost use Rattle.gitconf_state.specs.Edit.{with_used};
+    ghost use Rattle.gitconf_store.specs.Renamings.{HeaderGrows};
+    ghost use Rattle.gitconf_state.specs.Edits.{answer, apply, Entry, Pop, Push, PushLineEnd, Raw, Remove, Rename, SetTrust, SetValue};
     ghost use Rattle.gix_config.specs.Edited.{IsEdited, value_number};
     ghost use Rattle.gix_config.specs.SectionEditors.{edited, editor, lent, number_of, with_leading};
 
@@ -192,6 +196,48 @@ impl<'a> SectionMut<'a> {
             Some(old) => Ok(Some(BString::new(old))),
             None => Ok(None),
         }
+    }
+
+    /// Gives the section another name and subsection, by a header that is made: the name as given, and a subsection in quotes behind a
+    /// space. All else stays as it is, and later look-ups find the section by its new names.
+    ///
+    /// A walk over the index of all sections. Takes memory for the header and the names.
+    ///
+    /// # Errors
+    ///
+    /// Refusal 4 where a byte of the name is no letter, digit or dash, else 5 where the subsection has LF or NUL; then 3 where the file
+    /// would take more than 4294967295 bytes, and 27 for want of memory. The file is then as it was.
+    pub fn rename(
+        &mut self,
+        name: &str,
+        subsection_name: Option<&[u8]>,
+    ) -> Result<(), header::Error>
+        ensures same_file { lent self.new ≡ lent self.old }
+        ensures same_section { number_of self.new ≡ number_of self.old }
+        ensures same_editor { editor self.new ≡ editor self.old }
+        ensures invalid_name { IsErrOf result InvalidName ↔ (is_made_name name.now ≡ false) }
+        ensures invalid_subsection { IsErrOf result InvalidSubSection
+            ↔ ((is_made_name name.now ≡ true) × (is_valid_or_none (option_copied subsection_name.entry) ≡ false)) }
+        ensures ok { OnOk result (edited self.new ≡ with_used (edited self.new).used (apply (Rename (number_of self.old) name.now (option_copied subsection_name.entry)) (edited self.old))) }
+        ensures err { OnErr result (edited self.new ≡ with_used (edited self.new).used (edited self.old)) }
+        ensures used { HeaderGrows name.now (option_copied subsection_name.entry) result (edited self.old).used (edited self.new).used }
+    {
+        self.file.rename_numbered(self.id, name, subsection_name)
+    }
+
+    /// Says how far the section is trusted. Metadata that it shared with others is its own from then on. Takes memory for that.
+    ///
+    /// # Errors
+    ///
+    /// Want of memory. The file is then as it was.
+    pub fn set_trust(&mut self, trust: Trust) -> Result<(), NoMemory>
+        ensures same_file { lent self.new ≡ lent self.old }
+        ensures same_section { number_of self.new ≡ number_of self.old }
+        ensures same_editor { editor self.new ≡ editor self.old }
+        ensures ok { OnOk result (edited self.new ≡ apply (SetTrust (number_of self.old) trust) (edited self.old)) }
+        ensures err { OnErr result (edited self.new ≡ edited self.old) }
+    {
+        self.file.set_trust_of(self.id, trust)
     }
 
     /// Puts other blanks before names, or none. Only white space may be given ([`is_whitespace`](crate::file::is_whitespace)).
