@@ -1,8 +1,9 @@
 -- Where the entries of a key stand, and what entries mean.
 use Rattle.std.proofs.Common.{◌≡◌, ℕ, zero, suc, ◌+◌, Bool, true, false, List, [], ◌∷◌, ◌++◌, ◌≤◌, length, map, take, Option, Some, None, Result, Ok, Err, refl, ap, sym, subst, ◌∙◌, arith, append-nil, inl, inr}
-use Rattle.std.specs.Prelude.{◌≢◌, ◌⊎◌, ◌==◌, ◌||◌, filter, flat_map, IfErr, IfSome, IsErr}
+use Rattle.std.specs.Prelude.{◌≢◌, ◌⊎◌, ◌==◌, ◌||◌, filter, flat_map, IfErr, IfSome, IsErr, OnErr}
 use Rattle.std.specs.List.{AllByRecursion, enumerate_from, last_or, list_all, list_any, slice_get}
 use Rattle.std.specs.Option.{option_map}
+use Rattle.std.specs.declared.vec.Vec.{Vec}
 use Rattle.std.proofs.lemmas.Bool.{eq-eqb, or_left, or_parts, or_right}
 use Rattle.std.proofs.lemmas.Grind.{flat_map-append}
 use Rattle.gitconf_text.specs.Names.{is_value_name}
@@ -29,14 +30,47 @@ use Rattle.gitconf_store.specs.Lookups.{sections_named}
 use Rattle.gitconf_store.specs.Misses.{missing}
 use Rattle.gitconf_store.specs.Picks.{HasSection, IsMissing}
 use Rattle.gitconf_store.specs.SomeSections.{AreSome}
-use Rattle.gitconf_store.specs.ValuePlaces.{IsPlace, IsSomeValuePlace, editor_of_numbered, item_meaning, last_value_place, meaning_at, places_among, refusal_of, value_place, value_places}
+use Rattle.gitconf_store.specs.ValuePlaces.{AreAll, IsPlace, IsSomeValuePlace, all_value_places, editor_of_numbered, item_meaning, last_value_place, meaning_at, places_among, refusal_of, value_place, value_places}
 use Rattle.gitconf_store.specs.Walks.{passing}
+use Rattle.gitconf_store.proofs.Placing.{IsTaken}
 use Rattle.gitconf_store.proofs.SectionsKept.{any_listed, none_kept}
 use Rattle.gitconf_store.proofs.SomeSections.{none_of}
 
 -- places counted from a number on
-abbrev places_from : (key : List ℕ) → (from : ℕ) → List parts.Item → List ℕ
+abbrev pub places_from : (key : List ℕ) → (from : ℕ) → List parts.Item → List ℕ
 places_from key from items = map (λ p. p.0) (filter (λ (p : ℕ × parts.Item). is_entry_of key p.1) (enumerate_from from items))
+
+-- and with the number of their section
+abbrev pub placed_from : (key : List ℕ) → (number from : ℕ) → List parts.Item → List (ℕ × ℕ)
+placed_from key number from items = map (λ place. (number, place)) (places_from key from items)
+
+-- The first item is an entry of the key; it is none.
+pub placed_first : (buffer key : List ℕ) (number from : ℕ) (all behind : List Item) (i : Item) → all ≡ i ∷ behind → is_entry_of key (item_of buffer i) ≡ true
+    → placed_from key number from (items_of buffer all) ≡ (number, from) ∷ placed_from key number (from + 1) (items_of buffer behind)
+placed_first buffer key number from all behind i is passes = ap (λ (is : List Item). placed_from key number from (items_of buffer is)) is ∙ rw passes refl
+
+pub placed_other : (buffer key : List ℕ) (number from : ℕ) (all behind : List Item) (i : Item) → all ≡ i ∷ behind → is_entry_of key (item_of buffer i) ≡ false
+    → placed_from key number from (items_of buffer all) ≡ placed_from key number (from + 1) (items_of buffer behind)
+placed_other buffer key number from all behind i is other = ap (λ (is : List Item). placed_from key number from (items_of buffer is)) is ∙ rw other refl
+
+-- what is left is told otherwise
+pub same_taken : {A : Type 0} (before found left next all : List A) → IsTaken before found left all → left ≡ next → IsTaken before found next all
+same_taken before found left next all t is = subst (λ xs. IsTaken before found xs all) is t
+
+-- whatever was answered
+pub err_always : {T E P : Type 0} (r : Result T E) → P → OnErr r P
+err_always (Ok t) p = tt
+err_always (Err e) p = p
+
+-- a refusal where there are some
+pub refused_all : {Z E : Type 0} (result : Result (Vec (ℕ × ℕ) Z) E) (places : List (ℕ × ℕ)) → IsErr result → places ≢ [] → AreAll result places
+refused_all (Ok found) places fault some = absurd (cc)
+refused_all (Err refusal) places fault some = some
+
+-- the first section passes
+pub first_placed : (key : List ℕ) (keeps : Meta → Bool) (all behind : List SectionState) (s : SectionState)
+    → all ≡ s ∷ behind → keeps s.meta ≡ true → all_value_places key keeps all ≡ value_places key s ++ all_value_places key keeps behind
+first_placed key keeps all behind s is kept = ap (all_value_places key keeps) is ∙ rw kept refl
 
 -- where none is an entry of the key
 none_from : (key : List ℕ) (from : ℕ) (items : List parts.Item) → list_any (is_entry_of key) items ≡ false → places_from key from items ≡ []
