@@ -54,11 +54,15 @@ refusal_of state.SubSectionMissing is_name = SubSectionMissing
 refusal_of state.KeyMissing true = KeyMissing
 refusal_of state.KeyMissing false = ValueName 6
 
+-- The key's name is none, or there is nothing; and the refusal tells which.
+abbrev pub IsRefused : Key → State → (nothing : Type 0) → Error → Type 0
+IsRefused key state nothing refusal =
+    ((is_value_name key.name ≡ false) ⊎ nothing) × (refusal ≡ refusal_of (miss_at key state) (is_value_name key.name))
+
 -- The place was found, and the key's name is one; or the refusal tells why not.
 abbrev pub IsPlace : Key → State → Option (ℕ × ℕ) → Result (ℕ × ℕ) Error → Type 0
 IsPlace key state place (Ok found) = (is_value_name key.name ≡ true) × (place ≡ Some found)
-IsPlace key state place (Err refusal) =
-    ((is_value_name key.name ≡ false) ⊎ (place ≡ None)) × (refusal ≡ refusal_of (miss_at key state) (is_value_name key.name))
+IsPlace key state place (Err refusal) = IsRefused key state (place ≡ None) refusal
 
 abbrev pub IsValuePlace : Key → (keeps : Meta → Bool) → State → Result (ℕ × ℕ) Error → Type 0
 IsValuePlace key keeps state result = IsPlace key state (value_place key keeps state) result
@@ -86,8 +90,7 @@ key_places key keeps state = all_value_places key.name keeps (sections_named key
 abbrev pub ArePlaces : {Z : Type 0} → Key → State → List (ℕ × ℕ) → Result (Vec (ℕ × ℕ) Z) Error → Type 0
 ArePlaces key state places (Ok found) = (is_value_name key.name ≡ true) × (places ≢ []) × AreInOrder places found.items
 ArePlaces key state places (Err Memory) = (is_value_name key.name ≡ true) × (places ≢ [])
-ArePlaces key state places (Err refusal) =
-    ((is_value_name key.name ≡ false) ⊎ (places ≡ [])) × (refusal ≡ refusal_of (miss_at key state) (is_value_name key.name))
+ArePlaces key state places (Err refusal) = IsRefused key state (places ≡ []) refusal
 
 abbrev pub AreValuePlaces : {Z : Type 0} → Key → (keeps : Meta → Bool) → State → Result (Vec (ℕ × ℕ) Z) Error → Type 0
 AreValuePlaces key keeps state result = ArePlaces key state (key_places key keeps state) result
