@@ -117,6 +117,7 @@ impl Store {
         ensures exact { (keeps : Meta → Bool) → ComputesKey F.FnMut keeps filter
             → AreValuePlaces (key_at section_name.now (option_copied subsection_name.entry) value_name.now) keeps self.now result }
         ensures stand { IfOk result (λ places. all_stand places.items self.now ≡ true) }
+        ensures name { IfOk result (λ _. is_value_name value_name.now ≡ true) }
         // Whatever the filter answers.
         ensures some { AreSomeValuePlaces (key_at section_name.now (option_copied subsection_name.entry) value_name.now) self.now result }
     {
