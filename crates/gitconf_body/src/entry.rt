@@ -18,7 +18,7 @@ use gitconf_text::value::escaped_len;
 use gitconf_write::line_end::LineEnd;
 
 /// Whether the item is an entry of the key.
-fn is_entry_of(buffer: &[u8], item: &Item, key: &[u8]) -> bool
+pub fn is_entry_of(buffer: &[u8], item: &Item, key: &[u8]) -> bool
     ensures { result ≡ state.is_entry_of key.now (item_of buffer.now item.now) }
 {
     matches!(item, Item::Entry(entry) if is_same_name(key, entry.name.bytes_in(buffer)))

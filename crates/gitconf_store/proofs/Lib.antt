@@ -22,6 +22,7 @@ pub mod Walking
 pub mod Numbering
 pub mod Answering
 pub mod Targets
+pub mod Several
 pub mod Setting
 pub mod Making
 pub mod Sets

@@ -20,16 +20,16 @@ abbrev pub places_left : (buffer key : List ℕ) → SectionState → List Item 
 places_left buffer key s items = map (λ (e : DocumentEntry). (s, e)) (entries_left buffer key items)
 
 -- Some places were found, and those that are left are the others.
-pub record IsTaken (before found left all : List Place) : Type 0 where
-  pub taken : List Place
+pub record IsTaken {A : Type 0} (before found left all : List A) : Type 0 where
+  pub taken : List A
   pub put : found ≡ before ++ taken
   pub rest : taken ++ left ≡ all
 
-pub taken_none : (before all : List Place) → IsTaken before before all all
+pub taken_none : {A : Type 0} (before all : List A) → IsTaken before before all all
 taken_none before all = record { taken = []; put = sym (append-nil before); rest = refl }
 
 -- one more
-pub taken_more : (before found more left next all : List Place) (x : Place) → IsTaken before found left all → left ≡ x ∷ next → more ≡ found ++ x ∷ [] → IsTaken before more next all
+pub taken_more : {A : Type 0} (before found more left next all : List A) (x : A) → IsTaken before found left all → left ≡ x ∷ next → more ≡ found ++ x ∷ [] → IsTaken before more next all
 taken_more before found more left next all x t is put = record {
   taken = t.taken ++ x ∷ [];
   put = put ∙ ap (λ xs. xs ++ x ∷ []) t.put ∙ append_assoc before t.taken (x ∷ []);
@@ -37,14 +37,14 @@ taken_more before found more left next all x t is put = record {
 }
 
 -- all
-pub taken_all : (before found all : List Place) → IsTaken before found [] all → found ≡ before ++ all
+pub taken_all : {A : Type 0} (before found all : List A) → IsTaken before found [] all → found ≡ before ++ all
 taken_all before found all t = t.put ∙ ap (λ xs. before ++ xs) (sym (append-nil t.taken) ∙ t.rest)
 
 -- there are some, where one is left
-pub taken_some : (before found left next all : List Place) (x : Place) → IsTaken before found left all → left ≡ x ∷ next → all ≢ []
-taken_some before found left next all x t is none = go t.taken (ap (λ xs. t.taken ++ xs) (sym is) ∙ t.rest ∙ none)
+pub taken_some : {A : Type 0} (before found left next all : List A) (x : A) → IsTaken before found left all → left ≡ x ∷ next → all ≢ []
+taken_some {A} before found left next all x t is none = go t.taken (ap (λ xs. t.taken ++ xs) (sym is) ∙ t.rest ∙ none)
   where
-    go : (xs : List Place) → xs ++ x ∷ next ≡ [] → ⊥
+    go : (xs : List A) → xs ++ x ∷ next ≡ [] → ⊥
     go [] e = absurd (cc)
     go (y ∷ ys) e = absurd (cc)
 

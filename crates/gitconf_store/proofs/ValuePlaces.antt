@@ -1,10 +1,13 @@
 -- Where the entries of a key stand, and what entries mean.
-use Rattle.std.proofs.Common.{◌≡◌, ℕ, zero, suc, ◌+◌, Bool, true, false, List, [], ◌∷◌, ◌++◌, ◌≤◌, length, map, take, Option, Some, None, Result, Ok, Err, refl, ap, sym, subst, ◌∙◌, arith, append-nil, inl, inr}
-use Rattle.std.specs.Prelude.{◌≢◌, ◌⊎◌, ◌==◌, ◌||◌, filter, flat_map, IfErr, IfSome, IsErr}
+use Rattle.std.proofs.Common.{◌≡◌, ℕ, zero, suc, ◌+◌, Bool, true, false, List, [], ◌∷◌, ◌++◌, ◌≤◌, length, map, take, Option, Some, None, Result, Ok, Err, refl, ap, sym, subst, ◌∙◌, arith, append-nil, append_assoc, inl, inr}
+use Rattle.std.specs.Prelude.{◌≢◌, ◌⊎◌, ◌==◌, ◌||◌, filter, flat_map, not, IfErr, IfSome, IsErr, OnErr}
 use Rattle.std.specs.List.{AllByRecursion, enumerate_from, last_or, list_all, list_any, slice_get}
 use Rattle.std.specs.Option.{option_map}
-use Rattle.std.proofs.lemmas.Bool.{eq-eqb, or_left, or_parts, or_right}
+use Rattle.std.specs.declared.vec.Vec.{Vec}
+use Rattle.std.proofs.lemmas.Bool.{and_parts, eq-eqb, or_left, or_parts, or_right}
 use Rattle.std.proofs.lemmas.Grind.{flat_map-append}
+use Rattle.std.proofs.lemmas.List.Folds.{list_all-append}
+use Rattle.std.proofs.lemmas.List.Sorted.{list_any-IsPermutation}
 use Rattle.gitconf_text.specs.Names.{is_value_name}
 use Rattle.gitconf_text.specs.Part as parts
 use Rattle.gitconf_text.proofs.ValuesEscaped.{plain-escaped}
@@ -15,7 +18,8 @@ use Rattle.gitconf_parse.specs.Items.{item_of}
 use Rattle.gitconf_state.specs.Edit.{is_entry_of, spacing_of}
 use Rattle.gitconf_state.specs.Editors.{Editor, entry_made, written_at}
 use Rattle.gitconf_state.specs.Edits.{WriteAt, apply, items_of_numbered, numbered, with_sections}
-use Rattle.gitconf_state.specs.Lookup.{KeyMissing, Listed, has_name, is_named, listed, listing, miss_of}
+use Rattle.gitconf_state.specs.Lookup as lookup
+use Rattle.gitconf_state.specs.Lookup.{KeyMissing, Listed, Miss, has_name, is_named, listed, listing, miss_of}
 use Rattle.gitconf_state.specs.State.{HasItems, HasSectionItems, SectionState, State, is_item}
 use Rattle.gitconf_state.proofs.EditItems.{spacing_fits}
 use Rattle.gitconf_state.proofs.EditsKeep.{apply_items}
@@ -25,18 +29,51 @@ use Rattle.gitconf_body.proofs.Entries.{last_shown}
 use Rattle.gitconf_body.proofs.Places.{any_shown}
 use Rattle.gitconf_store.specs.declared.lookup.existing.Error.{Error}
 use Rattle.gitconf_store.specs.declared.lookup.existing.Error.TheVariants as errors
-use Rattle.gitconf_store.specs.Lookups.{sections_named}
+use Rattle.gitconf_store.specs.Lookups.{miss_at, sections_named}
 use Rattle.gitconf_store.specs.Misses.{missing}
 use Rattle.gitconf_store.specs.Picks.{HasSection, IsMissing}
 use Rattle.gitconf_store.specs.SomeSections.{AreSome}
-use Rattle.gitconf_store.specs.ValuePlaces.{IsPlace, IsSomeValuePlace, editor_of_numbered, item_meaning, last_value_place, meaning_at, places_among, refusal_of, value_place, value_places}
+use Rattle.gitconf_store.specs.ValuePlaces.{AreAll, AreInOrder, ArePlaces, AreSomeValuePlaces, AreValuePlaces, IsPlace, IsRefused, IsSomeValuePlace, all_stand, all_value_places, key_places, editor_of_numbered, item_meaning, last_value_place, meaning_at, places_among, refusal_of, value_place, value_places}
 use Rattle.gitconf_store.specs.Walks.{passing}
+use Rattle.gitconf_store.proofs.Placing.{IsTaken}
 use Rattle.gitconf_store.proofs.SectionsKept.{any_listed, none_kept}
 use Rattle.gitconf_store.proofs.SomeSections.{none_of}
 
 -- places counted from a number on
-abbrev places_from : (key : List ℕ) → (from : ℕ) → List parts.Item → List ℕ
+abbrev pub places_from : (key : List ℕ) → (from : ℕ) → List parts.Item → List ℕ
 places_from key from items = map (λ p. p.0) (filter (λ (p : ℕ × parts.Item). is_entry_of key p.1) (enumerate_from from items))
+
+-- and with the number of their section
+abbrev pub placed_from : (key : List ℕ) → (number from : ℕ) → List parts.Item → List (ℕ × ℕ)
+placed_from key number from items = map (λ place. (number, place)) (places_from key from items)
+
+-- The first item is an entry of the key; it is none.
+pub placed_first : (buffer key : List ℕ) (number from : ℕ) (all behind : List Item) (i : Item) → all ≡ i ∷ behind → is_entry_of key (item_of buffer i) ≡ true
+    → placed_from key number from (items_of buffer all) ≡ (number, from) ∷ placed_from key number (from + 1) (items_of buffer behind)
+placed_first buffer key number from all behind i is passes = ap (λ (is : List Item). placed_from key number from (items_of buffer is)) is ∙ rw passes refl
+
+pub placed_other : (buffer key : List ℕ) (number from : ℕ) (all behind : List Item) (i : Item) → all ≡ i ∷ behind → is_entry_of key (item_of buffer i) ≡ false
+    → placed_from key number from (items_of buffer all) ≡ placed_from key number (from + 1) (items_of buffer behind)
+placed_other buffer key number from all behind i is other = ap (λ (is : List Item). placed_from key number from (items_of buffer is)) is ∙ rw other refl
+
+-- what is left is told otherwise
+pub same_taken : {A : Type 0} (before found left next all : List A) → IsTaken before found left all → left ≡ next → IsTaken before found next all
+same_taken before found left next all t is = subst (λ xs. IsTaken before found xs all) is t
+
+-- whatever was answered
+pub err_always : {T E P : Type 0} (r : Result T E) → P → OnErr r P
+err_always (Ok t) p = tt
+err_always (Err e) p = p
+
+-- a refusal where there are some
+pub refused_all : {Z E : Type 0} (result : Result (Vec (ℕ × ℕ) Z) E) (places : List (ℕ × ℕ)) → IsErr result → places ≢ [] → AreAll result places
+refused_all (Ok found) places fault some = absurd (cc)
+refused_all (Err refusal) places fault some = some
+
+-- the first section passes
+pub first_placed : (key : List ℕ) (keeps : Meta → Bool) (all behind : List SectionState) (s : SectionState)
+    → all ≡ s ∷ behind → keeps s.meta ≡ true → all_value_places key keeps all ≡ value_places key s ++ all_value_places key keeps behind
+first_placed key keeps all behind s is kept = ap (all_value_places key keeps) is ∙ rw kept refl
 
 -- where none is an entry of the key
 none_from : (key : List ℕ) (from : ℕ) (items : List parts.Item) → list_any (is_entry_of key) items ≡ false → places_from key from items ≡ []
@@ -253,15 +290,23 @@ only_key_missing name subsection sections some = go (list_any (has_name name) se
     go true is = rw (is, some) refl
 
 -- Where they stand, it is that of a name that is none, or of an entry that is missing.
+pub invalid_refused : (key : Key) (state : State) (nothing : Type 0) (number : ℕ) → HasSection key.section key.subsection state → is_value_name key.name ≡ false → number ≡ 6
+    → IsRefused key state nothing (errors.ValueName number)
+invalid_refused key state nothing number has invalid six =
+    (inl invalid, ap errors.ValueName six ∙ sym ((λ i. refusal_of (only_key_missing key.section key.subsection (listed state) has i) (invalid i))))
+
 pub invalid_placed : (key : Key) (state : State) (place : Option (ℕ × ℕ)) (number : ℕ) → HasSection key.section key.subsection state → is_value_name key.name ≡ false → number ≡ 6
     → IsPlace key state place (Err (errors.ValueName number))
-invalid_placed key state place number has invalid six =
-    (inl invalid, ap errors.ValueName six ∙ sym ((λ i. refusal_of (only_key_missing key.section key.subsection (listed state) has i) (invalid i))))
+invalid_placed key state place number has invalid six = invalid_refused key state (place ≡ None) number has invalid six
+
+pub absent_refused : (key : Key) (state : State) (nothing : Type 0) → HasSection key.section key.subsection state → is_value_name key.name ≡ true → nothing
+    → IsRefused key state nothing errors.KeyMissing
+absent_refused key state nothing has valid none =
+    (inr none, sym ((λ i. refusal_of (only_key_missing key.section key.subsection (listed state) has i) (valid i))))
 
 pub absent_placed : (key : Key) (state : State) (place : Option (ℕ × ℕ)) → HasSection key.section key.subsection state → is_value_name key.name ≡ true → place ≡ None
     → IsPlace key state place (Err errors.KeyMissing)
-absent_placed key state place has valid none =
-    (inr none, sym ((λ i. refusal_of (only_key_missing key.section key.subsection (listed state) has i) (valid i))))
+absent_placed key state place has valid none = absent_refused key state (place ≡ None) has valid none
 
 -- a refusal of the look-up of the section
 pub refused_placed : (key : Key) (keeps : Meta → Bool) (state : State) (result : Result (ℕ × ℕ) Error) → IsErr result → IfErr result (IsMissing key.section key.subsection state)
@@ -273,6 +318,115 @@ pub refused_anyway : (key : Key) (state : State) (result : Result (ℕ × ℕ) E
     → IsSomeValuePlace key state result
 refused_anyway key state (Ok place) fault m = absurd (cc)
 refused_anyway key state (Err refusal) fault m = ([], none_of state.sections, missing_placed key (λ _. true) (with_sections [] state) state refusal refl m)
+
+-- The same of several places: those of sections that are missing are none.
+none_placed : (key : Key) (keeps : Meta → Bool) (state : State) → list_any (is_named key.section key.subsection) (listed state) ≡ false → key_places key keeps state ≡ []
+none_placed key keeps state none =
+    ap (all_value_places key.name keeps) (none_kept (λ s. is_named key.section key.subsection (listing s)) state.sections (sym (any_listed (is_named key.section key.subsection) state.sections) ∙ none))
+
+-- A refusal of a look-up that is none for want of memory.
+no_memory : (miss : Miss) (is_name : Bool) → errors.Memory ≢ refusal_of miss is_name
+no_memory lookup.SectionMissing is_name is = absurd (cc)
+no_memory lookup.SubSectionMissing is_name is = absurd (cc)
+no_memory lookup.KeyMissing true is = absurd (cc)
+no_memory lookup.KeyMissing false is = absurd (cc)
+
+pub refused_places : (Z : Type 0) (key : Key) (state : State) (places : List (ℕ × ℕ)) (refusal : Error) → IsRefused key state (places ≡ []) refusal
+    → ArePlaces {Z = Z} key state places (Err refusal)
+refused_places Z key state places errors.SectionMissing r = r
+refused_places Z key state places errors.SubSectionMissing r = r
+refused_places Z key state places errors.KeyMissing r = r
+refused_places Z key state places (errors.ValueName number) r = r
+refused_places Z key state places errors.Memory r = absurd (no_memory (miss_at key state) (is_value_name key.name) r.1)
+
+-- a refusal of the look-up of the sections
+pub missing_places : {Z : Type 0} (key : Key) (keeps : Meta → Bool) (state : State) (result : Result (Vec (ℕ × ℕ) Z) Error) → IsErr result
+    → IfErr result (IsMissing key.section key.subsection state) → AreValuePlaces key keeps state result
+missing_places {Z} key keeps state (Ok places) fault m = absurd (cc)
+missing_places {Z} key keeps state (Err refusal) fault m =
+    refused_places Z key state (key_places key keeps state) refusal
+    (inr (none_placed key keeps state m.0), m.1 ∙ missing_refusal key.section key.subsection (listed state) (is_value_name key.name) m.0)
+
+pub missing_anyway : {Z : Type 0} (key : Key) (state : State) (result : Result (Vec (ℕ × ℕ) Z) Error) → IsErr result
+    → IfErr result (IsMissing key.section key.subsection state) → AreSomeValuePlaces key state result
+missing_anyway {Z} key state (Ok places) fault m = absurd (cc)
+missing_anyway {Z} key state (Err refusal) fault m = (
+  [],
+  none_of state.sections,
+  refused_places Z key state [] refusal (inr refl, m.1 ∙ missing_refusal key.section key.subsection (listed state) (is_value_name key.name) m.0),
+)
+
+-- No memory was there for them.
+pub wanting_places : {Z : Type 0} (key : Key) (state : State) (places : List (ℕ × ℕ)) (result : Result (Vec (ℕ × ℕ) Z) Error) → IsErr result
+    → IfErr result (λ e. e ≡ errors.Memory) → is_value_name key.name ≡ true → places ≢ [] → ArePlaces key state places result
+wanting_places key state places (Ok found) fault is named some = absurd (cc)
+wanting_places {Z} key state places (Err refusal) fault is named some = subst (λ e. ArePlaces {Z = Z} key state places (Err e)) (sym is) (named, some)
+
+-- a list of no length
+pub none_long : {A : Type 0} (xs : List A) → length xs ≡ 0 → xs ≡ []
+none_long [] none = refl
+none_long (x ∷ xs) none = absurd (omega (arith, none))
+
+-- The sections of places stand: of those that are found in some of them, in whatever order.
+all_filtered : {A : Type 0} (p test : A → Bool) (xs : List A) → list_all p xs ≡ true → list_all p (filter test xs) ≡ true
+all_filtered p test [] all = refl
+all_filtered {A} p test (x ∷ xs) all = go (test x) refl (all_filtered p test xs)
+  where
+    go : (b : Bool) → test x ≡ b → (list_all p xs ≡ true → list_all p (filter test xs) ≡ true) → list_all p (filter test (x ∷ xs)) ≡ true
+    go true is later = let parts = and_parts (p x) (list_all p xs) all in rw (is, parts.0) (later parts.1)
+    go false is later = let parts = and_parts (p x) (list_all p xs) all in rw is (later parts.1)
+
+all_of_some : {A : Type 0} (p : A → Bool) (xs some : List A) → AreSome xs some → list_all p xs ≡ true → list_all p some ≡ true
+all_of_some p [] some are all = rw are refl
+all_of_some p (x ∷ xs) some (inr r) all = all_of_some p xs some r (and_parts (p x) (list_all p xs) all).1
+all_of_some p (x ∷ xs) some (inl l) all =
+    let parts = and_parts (p x) (list_all p xs) all in
+    ap (list_all p) l.1 ∙ rw parts.0 (all_of_some p xs l.0 l.2 parts.1)
+
+number_stands : (before behind : List SectionState) → list_all (λ (s : SectionState). list_any (λ (t : SectionState). t.number == s.number) (before ++ behind)) behind ≡ true
+number_stands before [] = refl
+number_stands before (s ∷ behind) =
+    rw (here before) (subst (λ ss. list_all (λ (s : SectionState). list_any (λ (t : SectionState). t.number == s.number) ss) behind ≡ true)
+    (append_assoc before (s ∷ []) behind) (number_stands (before ++ s ∷ []) behind))
+  where
+    here : (bs : List SectionState) → list_any (λ (t : SectionState). t.number == s.number) (bs ++ s ∷ behind) ≡ true
+    here [] = rw (eq-eqb s.number s.number refl) refl
+    here (b ∷ bs) = or_right (b.number == s.number) (list_any (λ (t : SectionState). t.number == s.number) (bs ++ s ∷ behind)) (here bs)
+
+all_at_numbers : (test : ℕ → Bool) (n : ℕ) (ats : List ℕ) → test n ≡ true → list_all (λ (p : ℕ × ℕ). test p.0) (map (λ at. (n, at)) ats) ≡ true
+all_at_numbers test n [] is = refl
+all_at_numbers test n (at ∷ ats) is = rw is (all_at_numbers test n ats is)
+
+all_placed : (test : ℕ → Bool) (key : List ℕ) (ss : List SectionState) → list_all (λ (s : SectionState). test s.number) ss ≡ true
+    → list_all (λ (p : ℕ × ℕ). test p.0) (flat_map (value_places key) ss) ≡ true
+all_placed test key [] all = refl
+all_placed test key (s ∷ ss) all =
+    let parts = and_parts (test s.number) (list_all (λ (s : SectionState). test s.number) ss) all in
+    list_all-append (λ (p : ℕ × ℕ). test p.0) (value_places key s) (flat_map (value_places key) ss)
+    ∙ rw (all_at_numbers test s.number (places_among key s.items) parts.0) (all_placed test key ss parts.1)
+
+not_any : {A : Type 0} (p : A → Bool) (xs : List A) → list_all p xs ≡ not (list_any (λ x. not (p x)) xs)
+not_any p [] = refl
+not_any {A} p (x ∷ xs) = go (p x) refl (not_any p xs)
+  where
+    go : (b : Bool) → p x ≡ b → list_all p xs ≡ not (list_any (λ x. not (p x)) xs) → list_all p (x ∷ xs) ≡ not (list_any (λ x. not (p x)) (x ∷ xs))
+    go true is later = rw is later
+    go false is later = rw is refl
+
+pub all_places_stand : (name : List ℕ) (subsection : Option (List ℕ)) (key : List ℕ) (state : State) (left some : List SectionState) (found ordered : List (ℕ × ℕ))
+    → left ≡ sections_named name subsection state → AreSome left some → found ≡ all_value_places key (λ _. true) some → AreInOrder found ordered
+    → all_stand ordered state ≡ true
+all_places_stand name subsection key state left some found ordered is are told order =
+    not_any stands ordered ∙ ap not (sym (list_any-IsPermutation (λ p. not (stands p)) found ordered order.same)) ∙ sym (not_any stands found)
+    ∙ ap (list_all stands) told ∙ all_placed there key (passing (λ _. true) some) (all_filtered (λ (s : SectionState). there s.number) (λ s. true) some
+    (all_of_some (λ (s : SectionState). there s.number) (sections_named name subsection state) some (subst (λ ss. AreSome ss some) is are)
+    (all_filtered (λ (s : SectionState). there s.number) (λ s. is_named name subsection (listing s)) state.sections (number_stands [] state.sections))))
+  where
+    there : ℕ → Bool
+    there n = list_any (λ (s : SectionState). s.number == n) state.sections
+
+    stands : ℕ × ℕ → Bool
+    stands p = there p.0
 
 -- What was written at a place is what is read there.
 there : (items : List parts.Item) (place : ℕ) (i : parts.Item) (behind : List parts.Item) → place ≤ length items → slice_get (take place items ++ i ∷ behind) place ≡ Some i

@@ -1,6 +1,6 @@
 -- The sections of a name, from the last one on and from the first.
 use Rattle.std.proofs.Common.{◌≡◌, ℕ, Bool, true, false, List, [], ◌∷◌, ◌++◌, Option, Some, None, Result, Ok, Err, refl, ap, sym, subst, ◌∙◌, append_assoc, append-nil, inr}
-use Rattle.std.specs.Prelude.{◌≢◌, filter, IsErr}
+use Rattle.std.specs.Prelude.{◌≢◌, filter, flat_map, IsErr}
 use Rattle.std.specs.List.{last_or, filter_map}
 use Rattle.std.specs.Option.{option_map}
 use Rattle.std.specs.declared.vec.Vec.{Vec}
@@ -70,10 +70,10 @@ pub first_skipped : (key : List ℕ) (keeps : Meta → Bool) (all behind : List 
 first_skipped key keeps all behind s is kept = ap (all_places key keeps) is ∙ rw kept refl
 
 -- places are left in the first section
-pub some_left : (found here behind all : List Place) → (found ++ here) ++ behind ≡ all → here ≢ [] → all ≢ []
-some_left found here behind all is some none = go found here some (is ∙ none)
+pub some_left : {A : Type 0} (found here behind all : List A) → (found ++ here) ++ behind ≡ all → here ≢ [] → all ≢ []
+some_left {A} found here behind all is some none = go found here some (is ∙ none)
   where
-    go : (xs ys : List Place) → ys ≢ [] → (xs ++ ys) ++ behind ≡ [] → ⊥
+    go : (xs ys : List A) → ys ≢ [] → (xs ++ ys) ++ behind ≡ [] → ⊥
     go [] [] some' e = some' refl
     go [] (y ∷ ys) some' e = absurd (cc)
     go (x ∷ xs) ys some' e = absurd (cc)
@@ -92,56 +92,58 @@ pub last_of : {A : Type 0} (all left next : List A) (x : A) → left ≡ next ++
 last_of all left next x is h =
     subst (λ xs. AreSome xs (x ∷ [])) (sym (h.1 ∙ ap (λ xs. xs ++ h.0) is ∙ append_assoc next (x ∷ []) h.0)) (one_of next h.0 x)
 
--- the places in one section more
-places_more : (key : List ℕ) (kept : List SectionState) (s : SectionState) → all_places key (λ _. true) (kept ++ s ∷ []) ≡ all_places key (λ _. true) kept ++ places_in key s
-places_more key [] s = append-nil (places_in key s)
-places_more key (k ∷ kept) s =
-    ap (λ ps. places_in key k ++ ps) (places_more key kept s) ∙ sym (append_assoc (places_in key k) (all_places key (λ _. true) kept) (places_in key s))
+-- what one section more gives
+gives_more : {A : Type 0} (f : SectionState → List A) (kept : List SectionState) (s : SectionState)
+    → flat_map f (passing (λ _. true) (kept ++ s ∷ [])) ≡ flat_map f (passing (λ _. true) kept) ++ f s
+gives_more f [] s = append-nil (f s)
+gives_more f (k ∷ kept) s = ap (λ ps. f k ++ ps) (gives_more f kept s) ∙ sym (append_assoc (f k) (flat_map f (passing (λ _. true) kept)) (f s))
 
--- the places that were found are all in some of the sections that are passed
-pub record AreSomeFound (key : List ℕ) (all left : List SectionState) (places : List Place) : Type 0 where
+-- what was found is all that some of the sections that are passed give
+pub record AreSomeFound {A : Type 0} (f : SectionState → List A) (all left : List SectionState) (places : List A) : Type 0 where
   pub kept : List SectionState
   pub rest : (some : List SectionState) → AreSome left some → AreSome all (kept ++ some)
-  pub told : places ≡ all_places key (λ _. true) kept
+  pub told : places ≡ flat_map f (passing (λ _. true) kept)
 
-pub some_begun : (key : List ℕ) (all : List SectionState) → AreSomeFound key all all []
-some_begun key all = record { kept = []; rest = λ some h. h; told = refl }
+pub some_begun : {A : Type 0} (f : SectionState → List A) (all : List SectionState) → AreSomeFound f all all []
+some_begun f all = record { kept = []; rest = λ some h. h; told = refl }
 
 -- behind a section that was kept
-pub some_added : (key : List ℕ) (all left next : List SectionState) (s : SectionState) (places more : List Place)
-    → left ≡ s ∷ next → more ≡ places ++ places_in key s → AreSomeFound key all left places → AreSomeFound key all next more
-some_added key all left next s places more is added h = record {
+pub some_added : {A : Type 0} (f : SectionState → List A) (all left next : List SectionState) (s : SectionState) (places more : List A)
+    → left ≡ s ∷ next → more ≡ places ++ f s → AreSomeFound f all left places → AreSomeFound f all next more
+some_added f all left next s places more is added h = record {
   kept = h.kept ++ s ∷ [];
   rest = λ some are.
       subst (AreSome all) (sym (append_assoc h.kept (s ∷ []) some)) (h.rest (s ∷ some) (subst (λ ss. AreSome ss (s ∷ some)) (sym is) (next_of s next some are)));
-  told = added ∙ ap (λ ps. ps ++ places_in key s) h.told ∙ sym (places_more key h.kept s);
+  told = added ∙ ap (λ ps. ps ++ f s) h.told ∙ sym (gives_more f h.kept s);
 }
 
 -- behind one that was not
-pub some_skipped : (key : List ℕ) (all left next : List SectionState) (s : SectionState) (places : List Place)
-    → left ≡ s ∷ next → AreSomeFound key all left places → AreSomeFound key all next places
-some_skipped key all left next s places is h = record {
+pub some_skipped : {A : Type 0} (f : SectionState → List A) (all left next : List SectionState) (s : SectionState) (places : List A)
+    → left ≡ s ∷ next → AreSomeFound f all left places → AreSomeFound f all next places
+some_skipped f all left next s places is h = record {
   kept = h.kept;
   rest = λ some are. h.rest some (subst (λ ss. AreSome ss some) (sym is) (inr are));
   told = h.told;
 }
 
 -- behind the last one
-pub some_found : (key : List ℕ) (all left : List SectionState) (places : List Place)
-    → AreSomeFound key all left places → (some : List SectionState) × AreSome all some × (places ≡ all_places key (λ _. true) some)
-some_found key all left places h = (h.kept, subst (AreSome all) (append-nil h.kept) (h.rest [] (none_of left)), h.told)
+pub some_found : {A : Type 0} (f : SectionState → List A) (all left : List SectionState) (places : List A)
+    → AreSomeFound f all left places → (some : List SectionState) × AreSome all some × (places ≡ flat_map f (passing (λ _. true) some))
+some_found f all left places h = (h.kept, subst (AreSome all) (append-nil h.kept) (h.rest [] (none_of left)), h.told)
 
--- where a growth was refused for places in one that was kept
+-- where a growth was refused for what one that was kept gives
+pub some_given : {A : Type 0} (f : SectionState → List A) (all left next : List SectionState) (s : SectionState) (places : List A)
+    → f s ≢ [] → left ≡ s ∷ next → AreSomeFound f all left places → (some : List SectionState) × AreSome all some × (flat_map f (passing (λ _. true) some) ≢ [])
+some_given f all left next s places some is h =
+    let more = some_found f all next (places ++ f s) (some_added f all left next s places (places ++ f s) is refl h) in
+    (more.0, more.1, some_left places (f s) [] (flat_map f (passing (λ _. true) more.0)) (append-nil (places ++ f s) ∙ more.2) some)
+
 pub some_refused : {Z E : Type 0} (result : Result (Vec Found Z) E) (key : List ℕ) (all left next : List SectionState) (s : SectionState) (places : List Place)
-    → IsErr result → places_in key s ≢ [] → left ≡ s ∷ next → AreSomeFound key all left places
+    → IsErr result → places_in key s ≢ [] → left ≡ s ∷ next → AreSomeFound (places_in key) all left places
     → (some : List SectionState) × AreSome all some × AreFound result (all_places key (λ _. true) some)
 some_refused result key all left next s places fault some is h =
-    let more = some_found key all next (places ++ places_in key s) (some_added key all left next s places (places ++ places_in key s) is refl h) in (
-      more.0,
-      more.1,
-      refused_found result (all_places key (λ _. true) more.0) fault
-          (some_left places (places_in key s) [] (all_places key (λ _. true) more.0) (append-nil (places ++ places_in key s) ∙ more.2) some),
-    )
+    let given = some_given (places_in key) all left next s places some is h in
+    (given.0, given.1, refused_found result (all_places key (λ _. true) given.0) fault given.2)
 
 -- one more is skipped
 pub skipped_more : {A : Type 0} (all left next : List A) (x : A) → left ≡ x ∷ next → (skipped : List A) × (all ≡ skipped ++ left) → (skipped : List A) × (all ≡ skipped ++ next)

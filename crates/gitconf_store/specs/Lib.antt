@@ -20,6 +20,7 @@ pub mod Lookups
 pub mod Targets
 pub mod Edits
 pub mod SetErrors
+pub mod Several
 pub mod Editors
 pub mod ValueErrors
 pub mod AloneEditors

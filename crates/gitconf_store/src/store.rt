@@ -6,6 +6,7 @@ mod look_ups;
 mod making;
 mod removing;
 mod renaming;
+mod several;
 mod trusting;
 mod values_at;
 mod views;

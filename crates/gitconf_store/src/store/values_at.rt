@@ -1,6 +1,6 @@
 //! Entries at a place in the section of a number, on which an editor of values stands.
 use crate::lookup::existing;
-use crate::lookup::places::last_value_place;
+use crate::lookup::places::{all_value_places, last_value_place, put_in_order};
 use crate::section::SectionRef;
 use crate::store::Store;
 use crate::values::meaning;
@@ -56,7 +56,7 @@ impl Store {
     ghost use Rattle.gitconf_body.specs.ValuesAt.{keeps_line_end, rewritten_put, stands, written_put};
     ghost use Rattle.gitconf_store.specs.Editors.{given_editor, IsGiven, PutsIn};
     ghost use Rattle.gitconf_store.specs.Lookups.{IsFound, key_at};
-    ghost use Rattle.gitconf_store.specs.ValuePlaces.{editor_of_numbered, meaning_at, IsSomeValuePlace, IsValuePlace};
+    ghost use Rattle.gitconf_store.specs.ValuePlaces.{all_stand, editor_of_numbered, meaning_at, AreSomeValuePlaces, AreValuePlaces, IsSomeValuePlace, IsValuePlace};
 
     /// Where the last entry of a key stands, with `=` or without it, in the last section that has one, of those that have the name,
     /// without ASCII case, and exactly the subsection, and whose metadata passes the filter: the number of the section, and the entry's
@@ -93,6 +93,47 @@ impl Store {
             Some(place) => Ok(place),
             None => Err(existing::Error::KeyMissing),
         }
+    }
+
+    /// Where all entries of a key stand, with `=` or without it, in the sections that have the name, without ASCII case, and exactly the
+    /// subsection, and whose metadata passes the filter: of each the number of the section, and the entry's place among the items of its
+    /// body, counted in items from the first one, 0. They are in the order of the numbers, and in each section in that of the places.
+    ///
+    /// It walks over the sections of the name and over their items, and puts the places in order. Takes memory for them.
+    ///
+    /// # Errors
+    ///
+    /// Refusal 7 where no section has the name, 8 where none of these has the subsection; else 6 for a name of a value that is none; else 9
+    /// where none of these that pass has such an entry; else 27 for want of memory.
+    pub fn value_places_filter_by<F: FnMut(&Metadata) -> bool>(
+        &self,
+        section_name: &str,
+        subsection_name: Option<&[u8]>,
+        value_name: &str,
+        filter: F,
+    ) -> Result<Vec<(SectionId, usize)>, existing::Error>
+        requires { F.IsAlwaysCallable filter }
+        // For a filter that answers by what it is shown.
+        ensures exact { (keeps : Meta → Bool) → ComputesKey F.FnMut keeps filter
+            → AreValuePlaces (key_at section_name.now (option_copied subsection_name.entry) value_name.now) keeps self.now result }
+        ensures stand { IfOk result (λ places. all_stand places.items self.now ≡ true) }
+        ensures name { IfOk result (λ _. is_value_name value_name.now ≡ true) }
+        // Whatever the filter answers.
+        ensures some { AreSomeValuePlaces (key_at section_name.now (option_copied subsection_name.entry) value_name.now) self.now result }
+    {
+        self.check_named(section_name, subsection_name)?;
+        let key = value_name.as_bytes();
+        if !is_value_name(key) {
+            return Err(existing::Error::ValueName(ValueNameError::invalid()));
+        }
+        let alloc = *self.buffer.allocator();
+        let sections = self.sections_named(section_name, subsection_name);
+        let mut places = all_value_places(alloc, sections, key, filter)?;
+        if places.is_empty() {
+            return Err(existing::Error::KeyMissing);
+        }
+        put_in_order(&mut places);
+        Ok(places)
     }
 
     /// What the entry means that stands at a place in the section of a number; without `=` it is empty. `None` where no entry stands there,

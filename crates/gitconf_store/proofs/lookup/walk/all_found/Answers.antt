@@ -31,7 +31,7 @@ returns-in_err-push_entries-clause-some g c =
 
 pub returns-clause-some : goal.returns-clause-some
 returns-clause-some g c =
-    some_found c.args.key.now (named_left c.args.sections) (named_left c.loop-section.left) (map place_of c.loop-section.found.items) c.loop-section.invariant.some
+    some_found (places_in c.args.key.now) (named_left c.args.sections) (named_left c.loop-section.left) (map place_of c.loop-section.found.items) c.loop-section.invariant.some
 
 pub loop-section-preserved-in-Continue-1 : goal.loop-section-preserved-in-Continue-1
 loop-section-preserved-in-Continue-1 g c =
@@ -43,7 +43,7 @@ loop-section-preserved-in-Continue-1 g c =
     let added : map place_of c.push_entries.new.found.items ≡ places ++ places_in key s = search rules in
     record {
       callable = c.passes.ensures.callable;
-      some = some_added key (named_left c.args.sections) left next s places (map place_of c.push_entries.new.found.items) c.in-Some.ensures.steps added c.loop-section.invariant.some;
+      some = some_added (places_in key) (named_left c.args.sections) left next s places (map place_of c.push_entries.new.found.items) c.in-Some.ensures.steps added c.loop-section.invariant.some;
       told = λ keeps h.
           let told = c.loop-section.invariant.told keeps h in
           let passed = c.passes.ensures.exact keeps told.0 in

@@ -1,0 +1,59 @@
+-- Several values of entries that stand, set anew.
+use Rattle.std.specs.Prelude.{◌≡◌, ◌≢◌, ◌⊎◌, ◌+◌, ◌≤◌, ◌<◌, ◌^◌, ℕ, true, false, List, [], ◌∷◌, length, take, Result, Err, IfErr, OnErr, OnOk}
+use Rattle.gitconf_text.specs.Names.{is_value_name}
+use Rattle.gitconf_base.specs.Key.{Key}
+use Rattle.gitconf_state.specs.Edit.{with_used}
+use Rattle.gitconf_state.specs.Edits.{Edit, WriteAt, apply, items_of_numbered}
+use Rattle.gitconf_state.specs.State.{State}
+use Rattle.gitconf_body.specs.ValuesAt.{rewritten_put}
+use Rattle.gitconf_store.specs.declared.lookup.existing.Error.{Error as ExistingError}
+use Rattle.gitconf_store.specs.declared.set_raw_value.Error.{Error}
+use Rattle.gitconf_store.specs.SetErrors.{of_existing, set_number}
+use Rattle.gitconf_store.specs.ValuePlaces.{AreInOrder, ArePlaces, editor_of_numbered, key_places}
+
+-- one of several entries is written anew, by the name that is given, with the blanks of its section as it then stands; nothing stays of its
+-- old value
+abbrev pub one_rewriting : (key : List ℕ) → (place : ℕ × ℕ) → (value : List ℕ) → State → Edit
+one_rewriting key place value state = WriteAt place.0 (editor_of_numbered place.0 state) place.1 true false key value
+
+-- entries get values, one behind the other, up to the end of the shorter list
+abbrev pub all_rewritten : (key : List ℕ) → List (ℕ × ℕ) → List (List ℕ) → State → State
+all_rewritten key [] values state = state
+all_rewritten key (place ∷ places) [] state = state
+all_rewritten key (place ∷ places) (value ∷ values) state = all_rewritten key places values (apply (one_rewriting key place value state) state)
+
+-- how many bytes that puts behind those of the buffer
+abbrev pub all_bytes : (key : List ℕ) → List (ℕ × ℕ) → List (List ℕ) → State → ℕ
+all_bytes key [] values state = 0
+all_bytes key (place ∷ places) [] state = 0
+all_bytes key (place ∷ places) (value ∷ values) state =
+    rewritten_put key value (items_of_numbered place.0 state) + all_bytes key places values (apply (one_rewriting key place value state) state)
+
+-- Some of the first entries got their values, and one more should have: it was refused.
+abbrev pub IsStopped : (key : List ℕ) → List (ℕ × ℕ) → List (List ℕ) → (old new : State) → Type 0
+IsStopped key places values old new =
+    (done : ℕ) × (done < length places) × (done < length values) × (new ≡ with_used new.used (all_rewritten key (take done places) values old))
+
+-- How it is done: all of it, or that of the first entries.
+pub record AreRewritten {E : Type 0} (number : E → ℕ) (key : List ℕ) (places : List (ℕ × ℕ)) (values : List (List ℕ)) (result : Result (Unit {0}) E) (old new : State) : Type 0 where
+  pub ok : OnOk result (new ≡ with_used new.used (all_rewritten key places values old))
+  pub err : OnErr result (IsStopped key places values old new)
+  pub grown : new.used ≤ old.used + all_bytes key places values old
+  pub too_large : IfErr result (λ e. number e ≡ 3 → 2 ^ 32 ≤ old.used + all_bytes key places values old)
+  pub known : IfErr result (λ e. (number e ≡ 3) ⊎ (number e ≡ 27))
+
+-- The look-up of the entries was refused, and all is as it was.
+abbrev pub IsUnset : Key → List (ℕ × ℕ) → Result (Unit {0}) Error → (old new : State) → Type 0
+IsUnset key places result old new =
+    (refusal : ExistingError) × ArePlaces {Z = Unit {0}} key old places (Err refusal) × (result ≡ Err (of_existing refusal)) × (new ≡ old)
+
+-- They were found, and get values in order.
+abbrev pub AreSet : Key → List (ℕ × ℕ) → List (List ℕ) → Result (Unit {0}) Error → (old new : State) → Type 0
+AreSet key places values result old new =
+    (is_value_name key.name ≡ true) × (places ≢ []) × (ordered : List (ℕ × ℕ)) × AreInOrder places ordered
+    × AreRewritten set_number key.name ordered values result old new
+
+-- The entries of the key get the values; or the look-up's refusal tells why there is none.
+abbrev pub AreSetExisting : Key → List (List ℕ) → Result (Unit {0}) Error → (old new : State) → Type 0
+AreSetExisting key values result old new =
+    IsUnset key (key_places key (λ _. true) old) result old new ⊎ AreSet key (key_places key (λ _. true) old) values result old new

@@ -1,0 +1,78 @@
+//! Several values of entries that stand, set anew.
+use crate::set_raw_value;
+use crate::store::Store;
+use gitconf_body::value_at::InPlaceOf;
+use gitconf_table::table::SectionId;
+use gitconf_text::parse::span;
+
+impl Store {
+    ghost use Rattle.std.specs.Option.{option_copied};
+    ghost use Rattle.std.specs.Prelude.{◌≡◌, map, true};
+    ghost use Rattle.gitconf_text.specs.Names.{is_value_name};
+    ghost use Rattle.gitconf_store.specs.Lookups.{key_at};
+    ghost use Rattle.gitconf_store.specs.Several.{AreRewritten, AreSetExisting};
+    ghost use Rattle.gitconf_store.specs.ValuePlaces.{all_stand};
+
+    /// Writes the entries at places anew, the first one with the first value and so on, up to the end of the shorter list. A place is the
+    /// number of a section, and a place among the items of its body, counted in items from the first one, 0. Each entry has the key as it
+    /// is given, and `=` with the blanks around it that its section has when it is written, and the value as a file spells it; nothing
+    /// stays of its old value. All else stays as it is, and so do the places of entries.
+    ///
+    /// Each section is found in constant time, and walked over once an entry. Takes memory for what is put into the buffer.
+    ///
+    /// # Errors
+    ///
+    /// Those of [`Store::push_entry`]. The entries before the one that was refused have their values then, and no other is changed.
+    pub fn rewrite_entries_at(
+        &mut self,
+        places: &[(SectionId, usize)],
+        key: &[u8],
+        values: &[&[u8]],
+    ) -> Result<(), span::Error>
+        requires stand { all_stand places.now self.old ≡ true }
+        requires key { is_value_name key.now ≡ true }
+        ensures { AreRewritten (λ e. e) key.now places.now (map (λ v. v.now) values.now) result self.old self.new }
+    {
+        let mut left = places;
+        for value in values {
+            let Some((place, behind)) = left.split_first() else {
+                return Ok(());
+            };
+            self.rewrite_entry_at(place.0, place.1, InPlaceOf::Entry, key, value)?;
+            left = behind;
+        }
+        Ok(())
+    }
+
+    /// Gives the entries of a key other values, with `=` or without it, in the sections that have the name, without ASCII case, and exactly
+    /// the subsection: the first entry gets the first value and so on, up to the end of the shorter list, in the order of
+    /// [`Store::value_places_filter_by`]. Each is written anew, by the name that is given, with the blanks around `=` that its section has
+    /// then, and the value as a file spells it. All else stays as it is; no entry is made, and none goes.
+    ///
+    /// It walks over the sections of the names and over their items, puts the places in order, and walks over a section once more for each
+    /// entry that is written. Takes memory for the places, and for what is put into the buffer.
+    ///
+    /// # Errors
+    ///
+    /// Refusal 7 where no section has the name, 8 where none of these has the subsection; else 6 for a name of a value that is none; else 9
+    /// where none of these has such an entry; 3 where the buffer would be longer than 4294967295 bytes; 27 for want of memory. The entries
+    /// before the one that was refused have their values then, by 3 or by 27; all else is as it was, but that the buffer may have grown.
+    pub fn set_existing_raw_multi_value_by(
+        &mut self,
+        section_name: &str,
+        subsection_name: Option<&[u8]>,
+        value_name: &str,
+        new_values: &[&[u8]],
+    ) -> Result<(), set_raw_value::Error>
+        ensures { AreSetExisting (key_at section_name.now (option_copied subsection_name.entry) value_name.now) (map (λ v. v.now) new_values.now) result self.old self.new }
+    {
+        let places = self.value_places_filter_by(
+            section_name,
+            subsection_name,
+            value_name,
+            |_| true,
+        )?;
+        self.rewrite_entries_at(&places, value_name.as_bytes(), new_values)?;
+        Ok(())
+    }
+}
