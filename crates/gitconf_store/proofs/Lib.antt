@@ -35,5 +35,6 @@ pub mod Existing
 pub mod Renaming
 pub mod RenamingAll
 pub mod Appending
+pub mod MovedTables
 pub mod Trusting
 pub mod HeaderBytes

@@ -28,3 +28,4 @@ pub mod Existing
 pub mod RenameErrors
 pub mod Renamings
 pub mod Moves
+pub mod Joining
