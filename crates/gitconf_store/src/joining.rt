@@ -1,13 +1,17 @@
 //! Items of another file, behind the items of this one.
-ghost use Rattle.std.specs.Prelude.{◌≡◌, ◌+◌, ◌≤◌, ◌++◌, [], ◌∷◌, if◌then◌else◌, vec_capacity, vec_len};
+ghost use Rattle.std.specs.Prelude.{◌≡◌, ◌+◌, ◌<◌, ◌≤◌, ◌↔◌, ◌++◌, [], ◌∷◌, if◌then◌else◌, length, vec_capacity, vec_len, IfErr, IsErrOf, OnErr, OnOk};
 ghost use Rattle.gitconf_text.specs.Part as parts;
 ghost use Rattle.gitconf_state.specs.Edits as edits;
 ghost use Rattle.gitconf_write.specs.Bodies.{items_of};
 ghost use Rattle.gitconf_write.specs.LineEnds.{bytes_of_line_end};
-ghost use Rattle.gitconf_store.specs.Joining.{line_end_item};
+ghost use Rattle.gitconf_store.specs.Joining.{line_end_item, AreBehind, AreSame};
+ghost use Rattle.gitconf_table.specs.Sections.{no_number};
 
+use crate::section::Section;
 use gitconf_parse::event::Span;
 use gitconf_parse::items::Item;
+use gitconf_table::table::SectionTable;
+use gitconf_text::parse::span;
 use gitconf_write::line_end::{LineEnd, ends_line};
 
 /// Whether items begin with the line end, or there are none. Of a comment the text behind its tag is asked.
@@ -53,4 +57,34 @@ pub(crate) fn join(items: &mut Vec<Item>, line_end: Option<Span>, others: &mut V
         items.push_reserved(Item::LineEnds(run));
     }
     items.append(others).unwrap();
+}
+
+/// Puts a line end, if one is given, and others behind what is held behind the last section, and the sections of another table behind that.
+/// Takes memory for the items, the places and the indexes.
+///
+/// # Errors
+///
+/// A [`span::Error`]: number 3 where fewer numbers are left than the other table has sections, and else 27 for want of memory. All sections
+/// are then as they were.
+pub(crate) fn put_behind_last(
+    sections: &mut SectionTable<Section>,
+    line_end: Option<Span>,
+    others: Vec<Item>,
+    other: SectionTable<Section>,
+) -> Result<(), span::Error>
+    requires some { 0 < length sections.old.entries }
+    ensures ok { OnOk result (AreBehind (line_end_item line_end ++ others.items) other sections.old sections.new) }
+    ensures err { OnErr result (AreSame sections.old sections.new) }
+    ensures numbers { IsErrOf result 3 → no_number < sections.old.next + length other.entries }
+    ensures memory { IfErr result (λ e. sections.old.next + length other.entries ≤ no_number → e ≡ 27) }
+{
+    let mut others = others;
+    let last = sections.len() - 1;
+    let section = sections.at_mut(last);
+    section.held.reserve(others.len() + 1)?;
+    let count = sections.len();
+    sections.insert_all(count, other)?;
+    let section = sections.at_mut(last);
+    join(&mut section.held, line_end, &mut others);
+    Ok(())
 }
