@@ -1,5 +1,5 @@
 -- Sections of another table behind those of a table, and items held behind the last one.
-use Rattle.std.proofs.Common.{◌≡◌, ℕ, zero, suc, ◌+◌, ◌<◌, List, [], ◌∷◌, ◌++◌, length, map, take, drop, Option, Some, None, refl, ap, sym, subst, ◌∙◌, arith, append-nil, length-append}
+use Rattle.std.proofs.Common.{◌≡◌, ℕ, zero, suc, ◌+◌, ◌<◌, List, [], ◌∷◌, ◌++◌, length, map, take, drop, Some, refl, ap, sym, subst, ◌∙◌, arith, append-nil, length-append}
 use Rattle.std.specs.List.{AllByRecursion, slice_get}
 use Rattle.std.specs.Option.{option_map}
 use Rattle.gitconf_parse.specs.declared.items.Item.{Item}
@@ -12,7 +12,6 @@ use Rattle.gitconf_text.specs.Header.{name_of, subsection_of}
 use Rattle.gitconf_table.specs.Sections.{SectionEntry, Sections, changed_at}
 use Rattle.gitconf_table.specs.Sections as table
 use Rattle.gitconf_state.specs.Edits.{numbered_from}
-use Rattle.gitconf_state.specs.State.{SectionState}
 use Rattle.gitconf_write.specs.Bodies.{items_of}
 use Rattle.gitconf_store.specs.declared.section.Section.{Section}
 use Rattle.gitconf_store.specs.Joining.{held_last, AreBehind, AreSame}
@@ -162,3 +161,19 @@ module _ (old other new : Sections Section) (at count : ℕ) (s t : Section) (he
       fit = λ b copies fits theirs within. subst (λ es. AllByRecursion (SectionFits b copies) (changed_at (set_section v) es at)) (sym put_entries)
           (last_fit b copies more old.entries (table.numbered_from old.next other.entries) at s t v here more_held fits (numbered_fit b copies old.next other.entries theirs) within);
     }
+
+-- behind no section
+pub put_behind_none : (old other new : Sections Section) (more : List Item) → old.entries ≡ [] → new ≡ table.with_all 0 other old → AreBehind more other old new
+put_behind_none old other new more none put =
+    let entries : new.entries ≡ table.numbered_from old.next other.entries =
+    ap (λ (n : Sections Section). n.entries) put ∙ ap (λ es. table.numbered_from old.next other.entries ++ drop 0 es) none ∙ append-nil (table.numbered_from old.next other.entries) in
+    record {
+      next = ap (λ (n : Sections Section). n.next) put;
+      states = λ b. ap (map (section_state b)) entries
+          ∙ numbered_states b old.next other.entries
+          ∙ ap (λ es. held_last (items_of b more) (map (section_state b) es) ++ numbered_from old.next (map (section_state b) other.entries)) (sym none);
+      fit = λ b copies fits theirs within. subst (AllByRecursion (SectionFits b copies)) (sym entries) (numbered_fit b copies old.next other.entries theirs);
+    }
+
+pub same_sections : (old new : Sections Section) → new ≡ old → AreSame old new
+same_sections old new is = rw is (record { next = refl; states = λ b. refl; fit = λ b copies fits. fits })

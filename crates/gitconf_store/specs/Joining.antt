@@ -1,6 +1,5 @@
 -- Sections and items of another file, behind those of a table.
 use Rattle.std.specs.Prelude.{◌≡◌, ℕ, ◌+◌, List, [], ◌∷◌, ◌++◌, length, map, Option, Some, None}
-use Rattle.std.specs.List.{AllByRecursion}
 use Rattle.gitconf_text.specs.Part as parts
 use Rattle.gitconf_parse.specs.declared.event.Span.{Span}
 use Rattle.gitconf_parse.specs.declared.items.Item.{Item}
@@ -37,3 +36,8 @@ pub record AreSame (old new : Sections Section) : Type 0 where
   pub next : new.next ≡ old.next
   pub states : (buffer : List ℕ) → map (section_state buffer) new.entries ≡ map (section_state buffer) old.entries
   pub fit : (buffer copies : List ℕ) → AllSectionsFit buffer copies old → AllSectionsFit buffer copies new
+
+-- the front takes the items where there is no section
+abbrev pub front_then : {A : Type 0} → List A → (front more : List Item) → List Item
+front_then [] front more = front ++ more
+front_then (x ∷ xs) front more = front

@@ -4,7 +4,7 @@ ghost use Rattle.gitconf_text.specs.Part as parts;
 ghost use Rattle.gitconf_state.specs.Edits as edits;
 ghost use Rattle.gitconf_write.specs.Bodies.{items_of};
 ghost use Rattle.gitconf_write.specs.LineEnds.{bytes_of_line_end};
-ghost use Rattle.gitconf_store.specs.Joining.{line_end_item, AreBehind, AreSame};
+ghost use Rattle.gitconf_store.specs.Joining.{front_then, line_end_item, AreBehind, AreSame};
 ghost use Rattle.gitconf_table.specs.Sections.{no_number};
 
 use crate::section::Section;
@@ -59,6 +59,33 @@ pub(crate) fn join(items: &mut Vec<Item>, line_end: Option<Span>, others: &mut V
     items.append(others).unwrap();
 }
 
+/// [`put_behind_last`] where there is no section: the items go behind those of the front.
+///
+/// # Errors
+///
+/// Those of [`put_behind_last`]. The front is then as it was, too.
+fn put_behind_front(
+    front: &mut Vec<Item>,
+    sections: &mut SectionTable<Section>,
+    line_end: Option<Span>,
+    others: Vec<Item>,
+    other: SectionTable<Section>,
+) -> Result<(), span::Error>
+    requires none { sections.old.entries ≡ [] }
+    ensures front { OnOk result (front.new.items ≡ front.old.items ++ (line_end_item line_end ++ others.items)) }
+    ensures ok { OnOk result (AreBehind (line_end_item line_end ++ others.items) other sections.old sections.new) }
+    ensures err_front { OnErr result (front.new.items ≡ front.old.items) }
+    ensures err { OnErr result (AreSame sections.old sections.new) }
+    ensures numbers { IsErrOf result 3 → no_number < sections.old.next + length other.entries }
+    ensures memory { IfErr result (λ e. sections.old.next + length other.entries ≤ no_number → e ≡ 27) }
+{
+    let mut others = others;
+    front.reserve(others.len() + 1)?;
+    sections.insert_all(0, other)?;
+    join(front, line_end, &mut others);
+    Ok(())
+}
+
 /// Puts a line end, if one is given, and others behind what is held behind the last section, and the sections of another table behind that.
 /// Takes memory for the items, the places and the indexes.
 ///
@@ -87,4 +114,31 @@ pub(crate) fn put_behind_last(
     let section = sections.at_mut(last);
     join(&mut section.held, line_end, &mut others);
     Ok(())
+}
+
+/// Puts a line end, if one is given, and others behind what is held behind the last section, or behind the front where there is none; and
+/// the sections of another table behind all others. Takes memory for the items, the places and the indexes.
+///
+/// # Errors
+///
+/// Those of [`put_behind_last`]. The front is then as it was, too.
+pub(crate) fn put_behind(
+    front: &mut Vec<Item>,
+    sections: &mut SectionTable<Section>,
+    line_end: Option<Span>,
+    others: Vec<Item>,
+    other: SectionTable<Section>,
+) -> Result<(), span::Error>
+    ensures front { OnOk result (front.new.items ≡ front_then sections.old.entries front.old.items (line_end_item line_end ++ others.items)) }
+    ensures ok { OnOk result (AreBehind (line_end_item line_end ++ others.items) other sections.old sections.new) }
+    ensures err_front { OnErr result (front.new.items ≡ front.old.items) }
+    ensures err { OnErr result (AreSame sections.old sections.new) }
+    ensures numbers { IsErrOf result 3 → no_number < sections.old.next + length other.entries }
+    ensures memory { IfErr result (λ e. sections.old.next + length other.entries ≤ no_number → e ≡ 27) }
+{
+    if sections.is_empty() {
+        put_behind_front(front, sections, line_end, others, other)
+    } else {
+        put_behind_last(sections, line_end, others, other)
+    }
 }

@@ -1,4 +1,4 @@
-use Rattle.std.proofs.Common.{◌≡◌, ◌+◌, ◌-◌, ◌<◌, ◌++◌, [], suc, length, refl, ap, sym, subst, ◌∙◌, arith, append-nil, vec_len, vec_capacity, ◌≤◌}
+use Rattle.std.proofs.Common.{◌+◌, ◌-◌, ◌++◌, [], refl, ap, sym, subst, ◌∙◌, arith, append-nil, vec_len, vec_capacity, ◌≤◌}
 use Rattle.gitconf_store.specs.declared.section.Section.{Section}
 use Rattle.gitconf_store.specs.Joining.{line_end_item}
 use Rattle.gitconf_store.proofs.Joined.{HoldsMore, put_behind, room_made, same_there, still_within}
