@@ -36,5 +36,7 @@ pub mod Existing
 pub mod Renaming
 pub mod RenamingAll
 pub mod Appending
+pub mod MovedTables
+pub mod Joined
 pub mod Trusting
 pub mod HeaderBytes

@@ -29,3 +29,4 @@ pub mod Existing
 pub mod RenameErrors
 pub mod Renamings
 pub mod Moves
+pub mod Joining

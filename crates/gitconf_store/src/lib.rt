@@ -6,6 +6,7 @@ mod edit;
 mod equality;
 pub mod events;
 mod headings;
+mod joining;
 pub mod laws;
 pub mod lists;
 mod load;

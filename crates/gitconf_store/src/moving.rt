@@ -6,7 +6,7 @@ ghost use Rattle.gitconf_parse.specs.Events.{HeaderFits};
 ghost use Rattle.gitconf_parse.specs.ItemsFit.{AreItemsWithin};
 ghost use Rattle.gitconf_parse.specs.ShownEvents.{CopyFits, IsShown};
 ghost use Rattle.gitconf_table.specs.Sections.{no_number};
-ghost use Rattle.gitconf_store.specs.Moves.{IsSectionMoved};
+ghost use Rattle.gitconf_store.specs.Moves.{AreMovable, AreSectionsMoved, IsSectionMoved};
 ghost use Rattle.gitconf_store.specs.Store.{AllSectionsFit, section_state, section_under};
 
 use crate::section::Section;
@@ -27,6 +27,17 @@ pub(crate) fn move_section(section: &mut Section, by: u32, copies_by: usize)
     section.header = moved_header(section.header, by, copies_by);
     move_items(&mut section.items, by);
     move_items(&mut section.held, by);
+}
+
+/// All sections of a table, moved as [`move_section`] does. One pass over them, which takes no memory.
+pub(crate) fn move_sections(sections: &mut SectionTable<Section>, by: u32, copies_by: usize)
+    requires { AreMovable by copies_by sections.old }
+    ensures { AreSectionsMoved by copies_by sections.old sections.new }
+{
+    for at in 0..sections.len() {
+        let section = sections.at_mut(at);
+        move_section(section, by, copies_by);
+    }
 }
 
 /// Puts a section of the buffer behind the others, under the next number, and answers that.

@@ -1,0 +1,144 @@
+//! Items of another file, behind the items of this one.
+ghost use Rattle.std.specs.Prelude.{◌≡◌, ◌+◌, ◌<◌, ◌≤◌, ◌↔◌, ◌++◌, [], ◌∷◌, if◌then◌else◌, length, vec_capacity, vec_len, IfErr, IsErrOf, OnErr, OnOk};
+ghost use Rattle.gitconf_text.specs.Part as parts;
+ghost use Rattle.gitconf_state.specs.Edits as edits;
+ghost use Rattle.gitconf_write.specs.Bodies.{items_of};
+ghost use Rattle.gitconf_write.specs.LineEnds.{bytes_of_line_end};
+ghost use Rattle.gitconf_store.specs.Joining.{front_then, line_end_item, AreBehind, AreSame};
+ghost use Rattle.gitconf_table.specs.Sections.{no_number};
+
+use crate::section::Section;
+use gitconf_parse::event::Span;
+use gitconf_parse::items::Item;
+use gitconf_table::table::SectionTable;
+use gitconf_text::parse::span;
+use gitconf_write::line_end::{LineEnd, ends_line};
+
+/// Whether items begin with the line end, or there are none. Of a comment the text behind its tag is asked.
+fn begins_with(buffer: &[u8], items: &[Item], line_end: LineEnd) -> bool
+    ensures { result ≡ edits.begins_with (bytes_of_line_end line_end) (items_of buffer.now items.now) }
+{
+    match items.split_first() {
+        None => true,
+        Some((first, _)) => match first {
+            Item::Blanks(run) => run.bytes_in(buffer).starts_with(line_end.as_bytes()),
+            Item::LineEnds(run) => run.bytes_in(buffer).starts_with(line_end.as_bytes()),
+            Item::Comment { tag: _, text } => {
+                text.bytes_in(buffer).starts_with(line_end.as_bytes())
+            }
+            Item::Entry(_) => false,
+        },
+    }
+}
+
+/// Whether a line end goes between items and those of another buffer: where there are items, they don't end with one, and the others don't
+/// begin with it. A walk over the items from their end, up to an entry, a comment or a line end.
+pub(crate) fn parts_lines(
+    buffer: &[u8],
+    items: &[Item],
+    other_buffer: &[u8],
+    others: &[Item],
+    line_end: LineEnd,
+) -> bool
+    ensures { edits.between (bytes_of_line_end line_end) (items_of buffer.now items.now) (items_of other_buffer.now others.now)
+        ≡ (if result then parts.LineEndsItem (bytes_of_line_end line_end) ∷ [] else []) }
+{
+    !items.is_empty()
+        && !ends_line(buffer, items, line_end)
+        && !begins_with(other_buffer, others, line_end)
+}
+
+/// Puts a line end, if one is given, and others behind the items, within the room that there is.
+pub(crate) fn join(items: &mut Vec<Item>, line_end: Option<Span>, others: &mut Vec<Item>)
+    requires room { vec_len items.old + vec_len others.old + 1 ≤ vec_capacity items.old }
+    ensures { items.new.items ≡ items.old.items ++ (line_end_item line_end ++ others.old.items) }
+{
+    if let Some(run) = line_end {
+        items.push_reserved(Item::LineEnds(run));
+    }
+    items.append(others).unwrap();
+}
+
+/// [`put_behind_last`] where there is no section: the items go behind those of the front.
+///
+/// # Errors
+///
+/// Those of [`put_behind_last`]. The front is then as it was, too.
+fn put_behind_front(
+    front: &mut Vec<Item>,
+    sections: &mut SectionTable<Section>,
+    line_end: Option<Span>,
+    others: Vec<Item>,
+    other: SectionTable<Section>,
+) -> Result<(), span::Error>
+    requires none { sections.old.entries ≡ [] }
+    ensures front { OnOk result (front.new.items ≡ front.old.items ++ (line_end_item line_end ++ others.items)) }
+    ensures ok { OnOk result (AreBehind (line_end_item line_end ++ others.items) other sections.old sections.new) }
+    ensures err_front { OnErr result (front.new.items ≡ front.old.items) }
+    ensures err { OnErr result (AreSame sections.old sections.new) }
+    ensures numbers { IsErrOf result 3 → no_number < sections.old.next + length other.entries }
+    ensures memory { IfErr result (λ e. sections.old.next + length other.entries ≤ no_number → e ≡ 27) }
+{
+    let mut others = others;
+    front.reserve(others.len() + 1)?;
+    sections.insert_all(0, other)?;
+    join(front, line_end, &mut others);
+    Ok(())
+}
+
+/// Puts a line end, if one is given, and others behind what is held behind the last section, and the sections of another table behind that.
+/// Takes memory for the items, the places and the indexes.
+///
+/// # Errors
+///
+/// A [`span::Error`]: number 3 where fewer numbers are left than the other table has sections, and else 27 for want of memory. All sections
+/// are then as they were.
+pub(crate) fn put_behind_last(
+    sections: &mut SectionTable<Section>,
+    line_end: Option<Span>,
+    others: Vec<Item>,
+    other: SectionTable<Section>,
+) -> Result<(), span::Error>
+    requires some { 0 < length sections.old.entries }
+    ensures ok { OnOk result (AreBehind (line_end_item line_end ++ others.items) other sections.old sections.new) }
+    ensures err { OnErr result (AreSame sections.old sections.new) }
+    ensures numbers { IsErrOf result 3 → no_number < sections.old.next + length other.entries }
+    ensures memory { IfErr result (λ e. sections.old.next + length other.entries ≤ no_number → e ≡ 27) }
+{
+    let mut others = others;
+    let last = sections.len() - 1;
+    let section = sections.at_mut(last);
+    section.held.reserve(others.len() + 1)?;
+    let count = sections.len();
+    sections.insert_all(count, other)?;
+    let section = sections.at_mut(last);
+    join(&mut section.held, line_end, &mut others);
+    Ok(())
+}
+
+/// Puts a line end, if one is given, and others behind what is held behind the last section, or behind the front where there is none; and
+/// the sections of another table behind all others. Takes memory for the items, the places and the indexes.
+///
+/// # Errors
+///
+/// Those of [`put_behind_last`]. The front is then as it was, too.
+pub(crate) fn put_behind(
+    front: &mut Vec<Item>,
+    sections: &mut SectionTable<Section>,
+    line_end: Option<Span>,
+    others: Vec<Item>,
+    other: SectionTable<Section>,
+) -> Result<(), span::Error>
+    ensures front { OnOk result (front.new.items ≡ front_then sections.old.entries front.old.items (line_end_item line_end ++ others.items)) }
+    ensures ok { OnOk result (AreBehind (line_end_item line_end ++ others.items) other sections.old sections.new) }
+    ensures err_front { OnErr result (front.new.items ≡ front.old.items) }
+    ensures err { OnErr result (AreSame sections.old sections.new) }
+    ensures numbers { IsErrOf result 3 → no_number < sections.old.next + length other.entries }
+    ensures memory { IfErr result (λ e. sections.old.next + length other.entries ≤ no_number → e ≡ 27) }
+{
+    if sections.is_empty() {
+        put_behind_front(front, sections, line_end, others, other)
+    } else {
+        put_behind_last(sections, line_end, others, other)
+    }
+}
