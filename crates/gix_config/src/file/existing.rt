@@ -1,9 +1,10 @@
 //! Values of entries that stand, set anew.
 ghost use Rattle.std.specs.Option.{option_copied};
-ghost use Rattle.std.specs.Prelude.{IsSome};
+ghost use Rattle.std.specs.Prelude.{IsSome, map};
 ghost use Rattle.gitconf_base.specs.Key.{the_key};
 ghost use Rattle.gitconf_store.specs.Existing.{IsSetExisting};
 ghost use Rattle.gitconf_store.specs.Lookups.{key_at};
+ghost use Rattle.gitconf_store.specs.Several.{AreSetExisting};
 
 use crate::file::{File, set_raw_value};
 use gitconf_base::key::AsKey;
@@ -56,5 +57,49 @@ impl File {
     {
         self.store
             .set_existing_raw_value_by(section_name, subsection_name, value_name, new_value)
+    }
+
+    /// Gives the entries of a key other values, with `=` or without it, in all sections of the key's name and subsection: the first entry
+    /// gets the first value and so on, up to the end of the shorter list. The entries are in the order of their sections' numbers, and in
+    /// a section in that of the text. Each is written anew, by the name as it is given, with the blanks around `=` that its section has
+    /// then, and the value as a file spells it. All else stays as it is; no entry is made, and none goes. The key has to be one.
+    ///
+    /// # Errors
+    ///
+    /// Refusals 7, 8, 6 and 9 as of [`File::set_existing_raw_value`], with the file as it was; 3 where the file would take more than
+    /// 4294967295 bytes and 27 for want of memory, with the entries before the one that was refused done.
+    pub fn set_existing_raw_multi_value<K: AsKey>(
+        &mut self,
+        key: K,
+        new_values: &[&[u8]],
+    ) -> Result<(), set_raw_value::Error>
+        requires { IsSome (K.key key) }
+        ensures { AreSetExisting (the_key (K.key key)) (map (λ v. v.now) new_values.now) result self.old self.new }
+    {
+        let key = key.as_key();
+        self.set_existing_raw_multi_value_by(
+            key.section_name,
+            key.subsection_name,
+            key.value_name,
+            new_values,
+        )
+    }
+
+    /// As [`File::set_existing_raw_multi_value`], by the names of the section, the subsection and the value.
+    ///
+    /// # Errors
+    ///
+    /// Those of [`File::set_existing_raw_multi_value`].
+    pub fn set_existing_raw_multi_value_by(
+        &mut self,
+        section_name: &str,
+        subsection_name: Option<&[u8]>,
+        value_name: &str,
+        new_values: &[&[u8]],
+    ) -> Result<(), set_raw_value::Error>
+        ensures { AreSetExisting (key_at section_name.now (option_copied subsection_name.entry) value_name.now) (map (λ v. v.now) new_values.now) result self.old self.new }
+    {
+        self.store
+            .set_existing_raw_multi_value_by(section_name, subsection_name, value_name, new_values)
     }
 }
