@@ -21,7 +21,7 @@ OUT_OF_MEMORY = "err E27"
 WRITERS = {"printif", "printfail", "printnone"}
 
 # Commands that begin a scope, up to `end`. No command about the file may stand in it.
-SCOPES = {"edit", "editnew", "editdetached", "value", "multi"}
+SCOPES = {"edit", "editid", "editnew", "editdetached", "value", "multi"}
 
 # What is asked about the file.
 STATE = ["print", "dump", "count"]

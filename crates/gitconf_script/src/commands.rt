@@ -186,6 +186,10 @@ pub enum EditCommand {
     Rename,
     /// `renameif`
     RenamePassing,
+    /// `setexisting`
+    SetExisting,
+    /// `newsection`
+    NewSection,
 }
 
 /// Commands on whole files, and on the state of the script.
@@ -364,6 +368,8 @@ fn edit_command(word: &[u8]) -> Option<EditCommand> {
         b"removeid" => Some(EditCommand::RemoveNumbered),
         b"rename" => Some(EditCommand::Rename),
         b"renameif" => Some(EditCommand::RenamePassing),
+        b"setexisting" => Some(EditCommand::SetExisting),
+        b"newsection" => Some(EditCommand::NewSection),
         _ => None,
     }
 }

@@ -4,6 +4,7 @@
 
 pub mod answers;
 pub mod arguments;
+pub mod blocks;
 pub mod bracket;
 pub mod commands;
 pub mod editor_arguments;

@@ -7,13 +7,18 @@ use std::io::{BufReader, ErrorKind, Read, Write};
 
 /// What answers the lines of a script.
 pub trait Player {
-    /// The answer to a line that isn't empty, with its line end.
-    fn answer(&mut self, line: &[u8]) -> Result<String, AllocError>;
+    /// Answers a line. Where the line begins a block, such as the lines of an editor, it reads and answers these too, since what a block
+    /// works on lives no longer than the call.
+    fn answer<R: Read + Drop, W: Write + Drop>(
+        &mut self,
+        line: &[u8],
+        streams: &mut Streams<R, W>,
+    ) -> Result<(), Fault>;
 }
 
 /// Why the program ended before its script did.
 #[derive(Drop)]
-enum Fault {
+pub enum Fault {
     /// Standard input can't be read.
     Input,
     /// Standard output failed.
@@ -50,7 +55,7 @@ pub fn play<R: Read + Drop, W: Write + Drop, P: Player>(
 
 /// What is read, and what is answered.
 #[derive(Drop)]
-struct Streams<R: Read + Drop, W: Write + Drop> {
+pub struct Streams<R: Read + Drop, W: Write + Drop> {
     lines: ByteLines<BufReader<R>>,
     out: W,
 }
@@ -66,8 +71,21 @@ impl<R: Read + Drop, W: Write + Drop> Streams<R, W> {
         }
     }
 
-    /// The next line, without its end; `None` behind the last one.
-    fn next_line(&mut self) -> Result<Option<Vec<u8>>, Fault> {
+    /// The next line that isn't empty, without its end; `None` behind the last one.
+    pub fn next_line(&mut self) -> Result<Option<Vec<u8>>, Fault> {
+        for _ in 0..u64::MAX {
+            let Some(line) = self.read_line()? else {
+                break;
+            };
+            if !line.is_empty() {
+                return Ok(Some(line));
+            }
+        }
+        Ok(None)
+    }
+
+    /// The next line, also an empty one.
+    fn read_line(&mut self) -> Result<Option<Vec<u8>>, Fault> {
         match self.lines.next() {
             None => Ok(None),
             Some(Ok(line)) => Ok(Some(line)),
@@ -77,7 +95,7 @@ impl<R: Read + Drop, W: Write + Drop> Streams<R, W> {
     }
 
     /// Writes a line, and holds nothing back.
-    fn tell(&mut self, line: &str) -> Result<(), Fault> {
+    pub fn tell(&mut self, line: &str) -> Result<(), Fault> {
         if self.out.write_all(line.as_bytes()).is_err() || self.out.flush().is_err() {
             return Err(Fault::Output);
         }
@@ -97,10 +115,7 @@ fn answer_all<R: Read + Drop, W: Write + Drop, P: Player>(
         let Some(line) = streams.next_line()? else {
             break;
         };
-        if !line.is_empty() {
-            let answer = player.answer(&line)?;
-            streams.tell(&answer)?;
-        }
+        player.answer(&line, &mut streams)?;
     }
     Ok(())
 }

@@ -41,6 +41,8 @@ pub enum Answer<'a> {
     FlagsAt(Vec<(bool, SectionId)>),
     /// Bytes, or none.
     Optional(Option<BString>),
+    /// Words as they are written, each behind a blank.
+    Words(String),
     /// The text of a refusal.
     Message(Error),
     /// The events of a text.

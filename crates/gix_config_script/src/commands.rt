@@ -1,6 +1,6 @@
 //! The commands. Each does a call of the library, or a few, and answers what that answered.
 
-mod edits;
+pub mod edits;
 mod files;
 mod layout;
 mod lookups;
@@ -183,6 +183,8 @@ fn edit_outcome<'a>(
         EditCommand::RemoveNumbered => edits::removeid(alloc, file, words),
         EditCommand::Rename => edits::rename(file, words),
         EditCommand::RenamePassing => edits::renameif(file, words),
+        EditCommand::SetExisting => edits::setexisting(file, words),
+        EditCommand::NewSection => edits::newsection(file, words),
     }
 }
 

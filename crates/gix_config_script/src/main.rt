@@ -3,6 +3,7 @@
 #![tactic(auto)]
 
 mod answer;
+mod blocks;
 mod commands;
 mod kinds;
 mod program;

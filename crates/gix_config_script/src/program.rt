@@ -1,13 +1,15 @@
 //! What the program does with its streams, whatever these are.
 ghost use Rattle.std.specs.Prelude.{◌≡◌, ◌≤◌, false};
 
+use crate::blocks::play_block;
 use crate::commands::outcome_of;
 use crate::rendering::line_of;
 use crate::session::Session;
 use gitconf_script::bracket::Bracket;
 use gitconf_script::commands::{Command, StateCommand, command_of};
-use gitconf_script::play::{NO_MEMORY, Player, play};
-use gitconf_script::words::words_of;
+use gitconf_script::editors::opening_of;
+use gitconf_script::play::{Fault, NO_MEMORY, Player, Streams, play};
+use gitconf_script::words::{Word, words_of};
 use std::alloc::{AllocError, Global};
 use std::io::{Read, Write};
 
@@ -34,15 +36,27 @@ struct Script {
 }
 
 impl Player for Script {
-    fn answer(&mut self, line: &[u8]) -> Result<String, AllocError> {
-        answer_to(self.alloc, &mut self.session, line)
+    fn answer<R: Read + Drop, W: Write + Drop>(
+        &mut self,
+        line: &[u8],
+        streams: &mut Streams<R, W>,
+    ) -> Result<(), Fault> {
+        let words = words_of(self.alloc, line)?;
+        if let (Some(opening), words) = opening_of(&words) {
+            return play_block(self.alloc, &mut self.session, opening, words, streams);
+        }
+        let answer = answer_to(self.alloc, &mut self.session, &words)?;
+        streams.tell(&answer)
     }
 }
 
 /// The answer to a line, as a line. Only what the command does stands in the bracket.
-fn answer_to(alloc: Global, session: &mut Session, line: &[u8]) -> Result<String, AllocError> {
-    let words = words_of(alloc, line)?;
-    let (command, words) = command_of(&words);
+fn answer_to(
+    alloc: Global,
+    session: &mut Session,
+    words: &[Word<'_>],
+) -> Result<String, AllocError> {
+    let (command, words) = command_of(words);
     let bracket = Bracket::open(alloc, is_told(session, command))?;
     let outcome = outcome_of(alloc, session, command, words);
     let refused = bracket.close(alloc);

@@ -1,10 +1,10 @@
 //! Why a command was not done.
 
 use gitconf_script::words::NotUnderstood;
-use gix_config::file::{init, rename_section, set_raw_value};
+use gix_config::file::{init, rename_section, section, set_raw_value};
 use gix_config::lookup::existing;
-use gix_config::parse::section::{NameError, ValueNameError};
-use gix_config::parse::{Error, SinkFault};
+use gix_config::parse::section::{NameError, ValueNameError, header};
+use gix_config::parse::{Error, SinkFault, span};
 use gix_config::path::interpolate;
 use gix_config::refusals::Refusal as _;
 use gix_config::{NoMemory, lookup, value};
@@ -57,6 +57,27 @@ impl From<set_raw_value::Error> for Refusal {
 
 impl From<rename_section::Error> for Refusal {
     fn from(refusal: rename_section::Error) -> Refusal {
+        Refusal::Numbered(refusal.number())
+    }
+}
+
+impl From<header::Error> for Refusal {
+    fn from(refusal: header::Error) -> Refusal {
+        Refusal::Numbered(refusal.number())
+    }
+}
+
+impl From<section::value::Error> for Refusal {
+    fn from(refusal: section::value::Error) -> Refusal {
+        match refusal {
+            section::value::Error::ValueName(refusal) => Refusal::from(refusal),
+            section::value::Error::Span(refusal) => Refusal::from(refusal),
+        }
+    }
+}
+
+impl From<span::Error> for Refusal {
+    fn from(refusal: span::Error) -> Refusal {
         Refusal::Numbered(refusal.number())
     }
 }

@@ -58,6 +58,7 @@ fn put_answer(alloc: Global, line: &mut String, answer: &Answer<'_>) -> Result<(
         Answer::FlagsAt(found) => put_flags_at(alloc, line, found),
         Answer::Optional(Some(bytes)) => put_bytes(alloc, line, bytes),
         Answer::Optional(None) => put_optional(alloc, line, None),
+        Answer::Words(words) => line.push_str(words),
         Answer::Message(refusal) => put_message(alloc, line, refusal),
         Answer::Events(events) => put_events(alloc, line, events.iter()),
         Answer::Kept(events) => {

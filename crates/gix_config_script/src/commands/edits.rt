@@ -4,8 +4,8 @@ use crate::answer::{Answer, Outcome};
 use crate::refusal::Refusal;
 use crate::rendering::put_id;
 use gitconf_script::arguments::{
-    names_and_bytes, number_and_place, renaming, renaming_and_flag, section_names_and_place,
-    section_names_place_and_flag, two_texts,
+    names_and_bytes, number_and_place, renaming, renaming_and_flag, section_names,
+    section_names_and_place, section_names_place_and_flag, two_texts,
 };
 use gitconf_script::words::Word;
 use gix_config::file::{Section, SectionId};
@@ -26,6 +26,24 @@ pub fn setkey<'a>(file: &mut File, words: &[Word<'_>]) -> Outcome<'a> {
         return Err(Refusal::Line);
     };
     Ok(Answer::Optional(file.set_raw_value(key, value)?))
+}
+
+/// `setexisting KEY3 BYTES`: sets the value of an entry that stands.
+pub fn setexisting<'a>(file: &mut File, words: &[Word<'_>]) -> Outcome<'a> {
+    let (names, value) = names_and_bytes(words)?;
+    match file.set_existing_raw_value_by(names.section, names.subsection, names.value, value) {
+        Ok(()) => Ok(Answer::Done),
+        Err(refusal) => Err(Refusal::from(refusal)),
+    }
+}
+
+/// `newsection SEC2`: makes a section behind all others, and answers its number.
+pub fn newsection<'a>(file: &mut File, words: &[Word<'_>]) -> Outcome<'a> {
+    let names = section_names(words)?;
+    match file.new_section(names.name, names.subsection) {
+        Ok(section) => Ok(Answer::Id(section.id())),
+        Err(refusal) => Err(Refusal::from(refusal)),
+    }
 }
 
 /// `remove SEC2 PLACE`: takes the last section of the name and subsection out, and answers its text.
@@ -51,26 +69,32 @@ pub fn removeid<'a>(alloc: Global, file: &mut File, words: &[Word<'_>]) -> Outco
 /// `rename SEC2 SEC2`: gives all sections of a name and subsection another name and subsection.
 pub fn rename<'a>(file: &mut File, words: &[Word<'_>]) -> Outcome<'a> {
     let names = renaming(words)?;
-    file.rename_section(
+    let renamed = file.rename_section(
         names.old.name,
         names.old.subsection,
         names.new.name,
         names.new.subsection,
-    )?;
-    Ok(Answer::Done)
+    );
+    match renamed {
+        Ok(()) => Ok(Answer::Done),
+        Err(refusal) => Err(Refusal::from(refusal)),
+    }
 }
 
 /// `renameif SEC2 SEC2 B`: the same with a filter that answers so for all.
 pub fn renameif<'a>(file: &mut File, words: &[Word<'_>]) -> Outcome<'a> {
     let (names, passes) = renaming_and_flag(words)?;
-    file.rename_section_filter(
+    let renamed = file.rename_section_filter(
         names.old.name,
         names.old.subsection,
         names.new.name,
         names.new.subsection,
         |_| passes,
-    )?;
-    Ok(Answer::Done)
+    );
+    match renamed {
+        Ok(()) => Ok(Answer::Done),
+        Err(refusal) => Err(Refusal::from(refusal)),
+    }
 }
 
 fn taken_out<'a>(section: Option<Section>) -> Answer<'a> {
@@ -81,7 +105,7 @@ fn taken_out<'a>(section: Option<Section>) -> Answer<'a> {
 }
 
 /// The section's number that reads so; that of no section where none does.
-fn id_of(alloc: Global, file: &File, number: usize) -> Result<SectionId, Refusal> {
+pub fn id_of(alloc: Global, file: &File, number: usize) -> Result<SectionId, Refusal> {
     let wanted = format!(in alloc; "{number}")?;
     for id in file.section_ids() {
         let mut shown = String::new(alloc);

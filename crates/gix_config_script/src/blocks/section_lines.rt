@@ -1,0 +1,211 @@
+//! The lines of the editor of a section.
+ghost use Rattle.std.specs.Prelude.{◌≡◌};
+ghost use Rattle.gix_config.specs.SectionEditors.{lent};
+
+use super::tell;
+use crate::answer::{Answer, Outcome};
+use crate::refusal::Refusal;
+use crate::rendering::line_of;
+use gitconf_script::answers::{put_bytes, put_optional};
+use gitconf_script::arguments::{no_words, text};
+use gitconf_script::blocks::next_asked;
+use gitconf_script::bracket::Bracket;
+use gitconf_script::editor_arguments::{
+    PushedLine, commented_line, flag, optional, pushed_line, text_and_bytes,
+};
+use gitconf_script::editors::{
+    SectionChange, SectionLine, SectionStyle, SectionView, section_line_of,
+};
+use gitconf_script::play::{Fault, Streams};
+use gitconf_script::words::{Word, words_of};
+use gix_config::file::{SectionMut, is_whitespace};
+use std::alloc::{AllocError, Global};
+use std::io::{Read, Write};
+
+/// Tells that the editor stands, and answers its lines.
+pub fn play<R: Read + Drop, W: Write + Drop>(
+    alloc: Global,
+    bracket: Bracket,
+    editor: &mut SectionMut<'_>,
+    streams: &mut Streams<R, W>,
+    tells: &mut bool,
+) -> Result<(), Fault>
+    ensures { lent editor.new ≡ lent editor.old }
+{
+    tell(alloc, bracket, &Ok(Answer::Done), streams)?;
+    for _ in 0..u64::MAX {
+        let Some(line) = next_asked(alloc, streams, tells)? else {
+            break;
+        };
+        let answer = answer_to(alloc, editor, &line, *tells)?;
+        streams.tell(&answer)?;
+    }
+    Ok(())
+}
+
+/// The answer to a line, as a line. Only what the editor does stands in the bracket.
+fn answer_to(
+    alloc: Global,
+    editor: &mut SectionMut<'_>,
+    line: &[u8],
+    tells: bool,
+) -> Result<String, AllocError>
+    ensures { lent editor.new ≡ lent editor.old }
+{
+    let words = words_of(alloc, line)?;
+    let (line, words) = section_line_of(&words);
+    let bracket = Bracket::open(alloc, tells)?;
+    let outcome = outcome_of(alloc, editor, line, words);
+    let refused = bracket.close(alloc);
+    let answer = line_of(alloc, refused, &outcome);
+    drop(outcome);
+    answer
+}
+
+fn outcome_of<'a>(
+    alloc: Global,
+    editor: &mut SectionMut<'_>,
+    line: Option<SectionLine>,
+    words: &[Word<'_>],
+) -> Outcome<'a>
+    ensures { lent editor.new ≡ lent editor.old }
+{
+    match line {
+        None => Ok(Answer::Unknown),
+        Some(SectionLine::Change(change)) => change_outcome(editor, change, words),
+        Some(SectionLine::Style(style)) => style_outcome(editor, style, words),
+        Some(SectionLine::View(view)) => view_outcome(alloc, editor, view, words),
+        // It has words behind it, which it must not have.
+        Some(SectionLine::End) => Err(Refusal::Line),
+    }
+}
+
+fn change_outcome<'a>(
+    editor: &mut SectionMut<'_>,
+    change: SectionChange,
+    words: &[Word<'_>],
+) -> Outcome<'a>
+    ensures { lent editor.new ≡ lent editor.old }
+{
+    match change {
+        SectionChange::Push => push(editor, pushed_line(words)?),
+        SectionChange::PushWithComment => push(editor, commented_line(words)?),
+        SectionChange::Set => set(editor, words),
+        SectionChange::Remove => remove(editor, words),
+        SectionChange::LineEnd => nl(editor, words),
+        // No call of the library stands for these yet.
+        SectionChange::Pop | SectionChange::Header => Ok(Answer::Unknown),
+    }
+}
+
+fn style_outcome<'a>(
+    editor: &mut SectionMut<'_>,
+    style: SectionStyle,
+    words: &[Word<'_>],
+) -> Outcome<'a>
+    ensures { lent editor.new ≡ lent editor.old }
+{
+    match style {
+        SectionStyle::ImplicitLineEnd => implicit(editor, words),
+        SectionStyle::LeadingBlanks => leading(editor, words),
+    }
+}
+
+fn view_outcome<'a>(
+    alloc: Global,
+    editor: &SectionMut<'_>,
+    view: SectionView,
+    words: &[Word<'_>],
+) -> Outcome<'a> {
+    match view {
+        SectionView::Blanks => blanks(alloc, editor, words),
+        SectionView::Value => Ok(Answer::found(editor.value(text(words)?)?)),
+        SectionView::ImplicitValue => implicitvalue(editor, words),
+        SectionView::Values => Ok(Answer::Texts(editor.values(text(words)?)?)),
+        SectionView::Text => {
+            no_words(words)?;
+            Ok(Answer::text(editor.to_bstring()?))
+        }
+    }
+}
+
+/// `push BYTES OPT`, `pushc BYTES OPT BYTES`: a line behind the others, with a comment or without one.
+fn push<'a>(editor: &mut SectionMut<'_>, line: PushedLine<'_>) -> Outcome<'a>
+    ensures { lent editor.new ≡ lent editor.old }
+{
+    match line.comment {
+        Some(comment) => editor.push_with_comment(line.name, line.value, comment)?,
+        None => editor.push(line.name, line.value)?,
+    }
+    Ok(Answer::Done)
+}
+
+/// `set BYTES BYTES`: gives the last entry of the name a value, or pushes one; the old raw value.
+fn set<'a>(editor: &mut SectionMut<'_>, words: &[Word<'_>]) -> Outcome<'a>
+    ensures { lent editor.new ≡ lent editor.old }
+{
+    let (name, value) = text_and_bytes(words)?;
+    Ok(Answer::found(editor.set(name, value)?))
+}
+
+/// `remove BYTES`: takes the last entry of the name out; its raw value.
+fn remove<'a>(editor: &mut SectionMut<'_>, words: &[Word<'_>]) -> Outcome<'a>
+    ensures { lent editor.new ≡ lent editor.old }
+{
+    let name = text(words)?;
+    Ok(Answer::found(editor.remove(name)?))
+}
+
+/// `nl`: a line end behind all.
+fn nl<'a>(editor: &mut SectionMut<'_>, words: &[Word<'_>]) -> Outcome<'a>
+    ensures { lent editor.new ≡ lent editor.old }
+{
+    no_words(words)?;
+    editor.push_newline()?;
+    Ok(Answer::Done)
+}
+
+/// `implicit B`: whether a line end is put behind what is pushed.
+fn implicit<'a>(editor: &mut SectionMut<'_>, words: &[Word<'_>]) -> Outcome<'a>
+    ensures { lent editor.new ≡ lent editor.old }
+{
+    let on = flag(words)?;
+    let _ = editor.set_implicit_newline(on);
+    Ok(Answer::Done)
+}
+
+/// `leading OPT`: the blanks before names, of white space alone.
+fn leading<'a>(editor: &mut SectionMut<'_>, words: &[Word<'_>]) -> Outcome<'a>
+    ensures { lent editor.new ≡ lent editor.old }
+{
+    match optional(words)? {
+        None => editor.set_leading_whitespace(None)?,
+        Some(run) => {
+            if !is_whitespace(run) {
+                return Err(Refusal::Line);
+            }
+            editor.set_leading_whitespace(Some(run))?;
+        }
+    }
+    Ok(Answer::Done)
+}
+
+/// `blanks`: what the editor writes before a name, before and behind `=`, and as a line end.
+fn blanks<'a>(alloc: Global, editor: &SectionMut<'_>, words: &[Word<'_>]) -> Outcome<'a> {
+    no_words(words)?;
+    let (before, behind) = editor.separator_whitespace();
+    let mut told = String::new(alloc);
+    put_optional(alloc, &mut told, editor.leading_whitespace())?;
+    put_optional(alloc, &mut told, before)?;
+    put_optional(alloc, &mut told, behind)?;
+    put_bytes(alloc, &mut told, editor.newline())?;
+    Ok(Answer::Words(told))
+}
+
+/// `implicitvalue BYTES`: the meaning of the last entry of the name, and an entry without `=` told.
+fn implicitvalue<'a>(editor: &SectionMut<'_>, words: &[Word<'_>]) -> Outcome<'a> {
+    match editor.value_implicit(text(words)?)? {
+        Some(value) => Ok(Answer::Optional(value)),
+        None => Ok(Answer::Absent),
+    }
+}
