@@ -16,10 +16,10 @@ from words import Malformed, hex_word, to_transcript
 BEYOND = {"name", "valuename", "keeps", "loadkept", "setkey", "stringkey", "printfail", "printnone", "refusals", "reset",
           "sectionkey", "sectionif", "bynameif", "headerof", "valueof", "implicitof", "valuesof", "namesof", "hasname",
           "countof", "entriesof", "display", "rawwith", "rawswith", "flag", "tryflag", "flags", "flagwith", "flagswith",
-          "removeif", "editid"}
+          "removeif", "renameif", "editid"}
 
 # Of these, the ones that change the file.
-CHANGES = {"loadkept", "removeif", "editid"}
+CHANGES = {"loadkept", "removeif", "renameif", "editid"}
 
 # Commands by a key, and the one by names that stands for each.
 BY_NAMES = {"stringkey": "string", "setkey": "setraw"}
