@@ -62,7 +62,10 @@ EDITS = {
     "setkey": as_before,
     "setexisting": as_before,
     "remove": as_before,
+    "removeif": as_before,
     "removeid": as_before,
+    "rename": as_before,
+    "renameif": as_before,
     # These drop what they were given; the file is as before.
     "append": as_before,
     "pushsection": as_before,
@@ -70,7 +73,6 @@ EDITS = {
     "setmulti": first_done,
     "setvalues": first_done,
     "setall": first_done,
-    "rename": first_done,
     # These may leave a new section without entries.
     "newsection": new_section_at_most,
     "editnew": new_section_at_most,
