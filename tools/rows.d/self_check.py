@@ -239,8 +239,12 @@ STATES = [
     ("append", _state(A), _state(A, B), _state(A, B), False),
     ("newsection", _state(A, B), _state(A, B, C), _state(A, B, C), True),
     ("newsection", _state(A), _state(A, B), _state(A, B), False),
-    ("rename", _state("[0 x61 - ]", "[1 x61 - ]"), _state("[0 x62 - ]", "[1 x62 - ]"), _state("[0 x62 - ]", "[1 x61 - ]"), True),
+    ("rename", _state("[0 x61 - ]", "[1 x61 - ]"), _state("[0 x62 - ]", "[1 x62 - ]"), _state("[0 x62 - ]", "[1 x61 - ]"), False),
     ("rename", _state("[0 x61 - ]", "[1 x61 - ]"), _state("[0 x62 - ]", "[1 x62 - ]"), _state("[0 x61 - ]", "[1 x62 - ]"), False),
+    ("setall", _state("[0 x61 - x6b x31 ]", "[1 x61 - x6b x31 ]"), _state("[0 x61 - x6b x32 ]", "[1 x61 - x6b x32 ]"),
+     _state("[0 x61 - x6b x32 ]", "[1 x61 - x6b x31 ]"), True),
+    ("setall", _state("[0 x61 - x6b x31 ]", "[1 x61 - x6b x31 ]"), _state("[0 x61 - x6b x32 ]", "[1 x61 - x6b x32 ]"),
+     _state("[0 x61 - x6b x31 ]", "[1 x61 - x6b x32 ]"), False),
     ("resolve", _state(A, B), _state(A, C, B), _state(A, C, B), True),
     ("resolve", _state(A, B), _state(A, C, B), _state(A, C), False),
 ]
