@@ -190,6 +190,7 @@ impl<'a> DetachedSectionMut<'a> {
         self.ends = on;
         self
     }
+
     /// Gives the section a header that is made of a name and a subsection, as [`Section::new`] makes it. All else stays as it is.
     ///
     /// # Errors

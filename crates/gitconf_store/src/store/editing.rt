@@ -21,7 +21,7 @@ impl Store {
     /// before a first byte that is no white space, and each LF turned to a space; then the editor's line end, unless it is switched off. All
     /// else stays as it is; where no section has the number, all does.
     ///
-    /// A walk over the numbers up to that of the section. Takes memory for what is put into the buffer, and for the new items.
+    /// The section is found in constant time. Takes memory for what is put into the buffer, and for the new items.
     ///
     /// # Errors
     ///
@@ -61,7 +61,7 @@ impl Store {
     /// Pushes the editor's line end behind the items of the section of a number, also where it is switched off behind lines. All else stays
     /// as it is; where no section has the number, all does.
     ///
-    /// A walk over the numbers up to that of the section. Takes memory for the line end in the buffer, and for the new item.
+    /// The section is found in constant time. Takes memory for the line end in the buffer, and for the new item.
     ///
     /// # Errors
     ///
@@ -85,7 +85,7 @@ impl Store {
     /// [`Store::push_entry`] does. All else stays as it is; where no section has the number, all does. Answers the raw text of the old
     /// value: its pieces joined, not decoded; nothing for an entry without `=`; `None` where there was no entry, or no section.
     ///
-    /// A walk over the numbers up to that of the section, and one over its items. Takes memory for the old value, for what is put into the
+    /// One walk over the section's items, which is found in constant time. Takes memory for the old value, for what is put into the
     /// buffer, and for new items.
     ///
     /// # Errors
@@ -118,7 +118,7 @@ impl Store {
     /// it. All else stays as it is. Answers the raw text of its value: its pieces joined, not decoded; nothing for an entry without `=`.
     /// Where the section has no entry of the key, or no section has the number, nothing is changed, and the answer is `None`.
     ///
-    /// A walk over the numbers up to that of the section, and one over its items. Takes memory for the answer alone; no byte is put into
+    /// One walk over the section's items, which is found in constant time. Takes memory for the answer alone; no byte is put into
     /// the buffer.
     ///
     /// # Errors
@@ -144,7 +144,7 @@ impl Store {
     /// entry without `=`. Where the section has no entry, or no section has the number, the answer is `None`; in the second case nothing is
     /// changed.
     ///
-    /// A walk over the numbers up to that of the section, and one over its items. Takes memory for the answer and the raw text of the
+    /// One walk over the section's items, which is found in constant time. Takes memory for the answer and the raw text of the
     /// value; no byte is put into the buffer.
     ///
     /// # Errors

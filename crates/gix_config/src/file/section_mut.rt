@@ -90,7 +90,7 @@ impl<'a> SectionMut<'a> {
     /// Pushes a line behind the section's others: the blanks before a name, the name, and where a value is given `=` with the blanks
     /// around it and the value, spelled as a file has it; then the line end, unless it is switched off.
     ///
-    /// A walk over the numbers of sections up to this one's, and nothing that grows with the section. Takes memory for what is put into
+    /// Nothing that grows with the file or the section. Takes memory for what is put into
     /// the file's buffer, and for the new items.
     ///
     /// # Errors
@@ -149,7 +149,7 @@ impl<'a> SectionMut<'a> {
     /// the editor's blanks around it. Where no entry has the name, a line with it is pushed, as [`SectionMut::push`] does. Answers the
     /// raw text of the old value: its pieces joined, not decoded; nothing for an entry without `=`; `None` where there was no entry.
     ///
-    /// A walk over the numbers of sections up to this one's, and one over its items. Takes memory for the old value, for what is put
+    /// One walk over its items. Takes memory for the old value, for what is put
     /// into the file's buffer, and for new items.
     ///
     /// # Errors
@@ -178,7 +178,7 @@ impl<'a> SectionMut<'a> {
     /// Takes out the last entry of the name, with the blanks directly before it and the line ends directly behind it. Answers the raw
     /// text of its value, as [`SectionMut::set`] does; `None` where there is no such entry.
     ///
-    /// A walk over the numbers of sections up to this one's, and one over its items. Takes memory for the answer alone.
+    /// One walk over its items. Takes memory for the answer alone.
     ///
     /// # Errors
     ///
