@@ -12,7 +12,7 @@ use Rattle.gitconf_parse.proofs.ValueAgain.{both_true}
 use Rattle.gitconf_state.specs.State.{is_item, is_piece, is_value, is_assigned, is_entry, Cut, cut_last}
 use Rattle.gitconf_state.specs.Clean.{has_blanks}
 use Rattle.gitconf_state.specs.Edit.{Spacing, leading_item, with_value, is_entry_of}
-use Rattle.gitconf_state.specs.Editors.{Editor, entry_made, comment_text, comment_made, end_made, line_made, pushed, line_end_pushed, value_set, without_last_blanks, without_first_line_ends, removed, popped, last_line_end, is_before_comment, line_end_item, kept_line_end, behind_old, written_at, deleted_at}
+use Rattle.gitconf_state.specs.Editors.{Editor, entry_made, comment_text, comment_made, end_made, line_made, pushed, line_end_pushed, value_set, without_last_blanks, without_first_line_ends, removed, popped, popped_entry, entry_told, last_line_end, is_before_comment, line_end_item, kept_line_end, behind_old, written_at, deleted_at}
 use Rattle.gitconf_state.specs.Edits.{IsEditor, has_blank_leading}
 use Rattle.gitconf_state.proofs.LoadingFilters.{both_hold}
 use Rattle.gitconf_state.proofs.EditLists.{update_last_all}
@@ -89,6 +89,22 @@ popped_all p items all = go (cut_last is_entry items) refl
     go : (o : Cut) → cut_last is_entry items ≡ o → list_all p (popped items) ≡ true
     go None e = rw (e, popped) refl
     go (Some c) e = rw (e, popped) (last_blanks_all p c.0 (cut_passes p is_entry items all c e).before)
+
+-- the key of the entry that is taken out is a name
+told_named : (told : List ℕ × List ℕ) (i : Item) → is_item i ≡ true → entry_told i ≡ Some told → is_value_name told.0 ≡ true
+told_named told (BlanksItem run) is same = absurd (cc)
+told_named told (LineEndsItem run) is same = absurd (cc)
+told_named told (CommentItem tag text) is same = absurd (cc)
+told_named told (EntryItem e) is same =
+    let name : e.name ≡ told.0 = cc in
+    subst (λ key. is_value_name key ≡ true) name (entry_parts e is).name
+
+pub popped_named : (items : List Item) (told : List ℕ × List ℕ) → list_all is_item items ≡ true → popped_entry items ≡ Some told → is_value_name told.0 ≡ true
+popped_named items told all is = go (cut_last is_entry items) refl
+  where
+    go : (o : Cut) → cut_last is_entry items ≡ o → is_value_name told.0 ≡ true
+    go None e = absurd (let none = rw (e, popped_entry) at is in cc)
+    go (Some c) e = told_named told c.1.0 (cut_passes is_item is_entry items all c e).found (rw (e, popped_entry) at is)
 
 pub deleted_all : (p : Item → Bool) (place : ℕ) (items : List Item) → list_all p items ≡ true → list_all p (deleted_at place items) ≡ true
 deleted_all p place items all = all_append p (take place items) (drop (place + 1) items) (take_all p place items all) (drop_all p (place + 1) items all)

@@ -39,4 +39,5 @@ pub mod Appending
 pub mod MovedTables
 pub mod Joined
 pub mod Trusting
+pub mod PoppedKeys
 pub mod HeaderBytes

@@ -20,6 +20,7 @@ pub mod editor;
 mod editor_views;
 mod writing;
 
+use crate::lists::bytes_of;
 use crate::section;
 use crate::section::{SectionRef, shared};
 use bstr::BString;
@@ -136,16 +137,6 @@ impl SectionRef<'_> {
             id: self.id,
             section,
         })
-    }
-}
-
-/// The bytes of a text, if there is one.
-pub(crate) fn bytes_of(text: &Option<BString>) -> Option<&[u8]>
-    ensures { option_copied result ≡ option_map bstring_bytes text.now }
-{
-    match text {
-        Some(text) => Some(text.as_bytes()),
-        None => None,
     }
 }
 

@@ -12,6 +12,7 @@ pub mod lists;
 mod load;
 pub mod lookup;
 mod moving;
+pub mod popped;
 mod print;
 pub mod rename_section;
 pub mod section;

@@ -1,6 +1,10 @@
-//! Lists that grow, with one refusal for want of memory.
-ghost use Rattle.std.specs.Prelude.{◌≡◌, [], ◌∷◌, ◌++◌, IfOk, OnOk, OnErr};
+//! Lists that grow, with one refusal for want of memory; and bytes where there are any.
+ghost use Rattle.std.specs.Option.{option_copied};
+ghost use Rattle.std.specs.Prelude.{◌≡◌, [], ◌∷◌, ◌++◌, option_map, IfOk, OnOk, OnErr};
+ghost use Rattle.bstr.specs.Owned.{bstring_bytes};
+ghost use Rattle.gitconf_store.specs.Lookups as spec;
 
+use bstr::BString;
 use gitconf_text::NoMemory;
 use std::alloc::Global;
 
@@ -26,4 +30,21 @@ pub fn put<T: Drop>(list: &mut Vec<T>, item: T) -> Result<(), NoMemory>
 {
     list.push(item)?;
     Ok(())
+}
+
+/// Bytes, where there are any.
+pub fn unless_empty(bytes: &[u8]) -> Option<&[u8]>
+    ensures { option_copied result ≡ spec.unless_empty bytes.now }
+{
+    if bytes.is_empty() { None } else { Some(bytes) }
+}
+
+/// The bytes of a text, if there is one.
+pub fn bytes_of(text: &Option<BString>) -> Option<&[u8]>
+    ensures { option_copied result ≡ option_map bstring_bytes text.now }
+{
+    match text {
+        Some(text) => Some(text.as_bytes()),
+        None => None,
+    }
 }

@@ -17,8 +17,3 @@ pub record IsEdited {T E : Type 0} (edit : Edit) (number : E → ℕ) (result : 
   pub err : OnErr result (new ≡ with_used new.used old)
   pub grown : new.used ≤ old.used + new_bytes edit old
   pub too_large : IfErr result (λ e. number e ≡ 3 → 2 ^ 32 ≤ old.used + new_bytes edit old)
-
--- bytes, where there are any
-abbrev pub unless_none : List ℕ → Option (List ℕ)
-unless_none [] = None
-unless_none (b ∷ bytes) = Some (b ∷ bytes)

@@ -181,8 +181,8 @@ fn edit_outcome<'a>(
         EditCommand::Remove => edits::remove(file, words),
         EditCommand::RemovePassing => edits::removeif(file, words),
         EditCommand::RemoveNumbered => edits::removeid(alloc, file, words),
-        EditCommand::Rename => edits::rename(file, words),
-        EditCommand::RenamePassing => edits::renameif(file, words),
+        EditCommand::Rename => edits::rename(alloc, file, words),
+        EditCommand::RenamePassing => edits::renameif(alloc, file, words),
         EditCommand::SetExisting => edits::setexisting(file, words),
         EditCommand::NewSection => edits::newsection(file, words),
     }

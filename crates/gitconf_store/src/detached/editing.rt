@@ -14,7 +14,7 @@ use gitconf_write::line_end::{LineEnd, body_line_end};
 
 impl Section {
     ghost use Rattle.std.specs.Option.{option_copied};
-    ghost use Rattle.std.specs.Prelude.{◌≡◌, ◌≤◌, ◌+◌, ◌^◌, ◌↔◌, true, false, IfErr, IfOk, IsErrOf, IsOk, None, OnOk, OnErr, length, option_map};
+    ghost use Rattle.std.specs.Prelude.{◌≡◌, ◌≤◌, ◌+◌, ◌^◌, ◌↔◌, true, false, IfErr, IfOk, IfSome, IsErrOf, IsOk, None, OnOk, OnErr, length, option_map};
     ghost use Rattle.gitconf_text.specs.Names.{is_made_name, is_valid_or_none, is_value_name};
     ghost use Rattle.gitconf_text.specs.declared.parse.section.header.Error.TheVariants.{InvalidName, InvalidSubSection, Span};
     ghost use Rattle.gitconf_state.specs.Edit.{header_bytes, old_value};
@@ -149,6 +149,7 @@ impl Section {
         ensures ok { OnOk result (self.new ≡ record { section = with_items popped self.old.section; used = self.old.used }) }
         ensures answer { IfOk result (λ o. option_map (λ t. (t.0.items, t.1.items)) o ≡ popped_entry self.old.section.items) }
         ensures none { popped_entry self.old.section.items ≡ None → IsOk result }
+        ensures name { IfOk result (λ o. IfSome o (λ t. is_value_name t.0.items ≡ true)) }
         ensures err { OnErr result (self.new ≡ self.old) }
     {
         take_out::pop(&self.buffer, &mut self.section.items)

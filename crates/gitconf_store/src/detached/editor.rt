@@ -1,6 +1,8 @@
 //! The editor of a section that stands in no file.
 use crate::detached::writing::text_of;
-use crate::detached::{Section, bytes_of};
+use crate::detached::Section;
+use crate::lists::bytes_of;
+use crate::popped::texts_of;
 use crate::section::value;
 use bstr::BString;
 use gitconf_base::source::Trust;
@@ -70,7 +72,7 @@ impl Section {
 
 impl<'a> DetachedSectionMut<'a> {
     ghost use Rattle.std.specs.Option.{option_copied};
-    ghost use Rattle.std.specs.Prelude.{◌≡◌, ◌↔◌, ◌+◌, ◌≤◌, ◌^◌, true, false, flat_map, length, IfErr, IfOk, IfSome, IsErrAnd, IsErrOf, IsOk, None, OnErr, OnOk, Some, option_map};
+    ghost use Rattle.std.specs.Prelude.{◌≡◌, ◌↔◌, ◌+◌, ◌≤◌, ◌^◌, true, false, flat_map, length, IfErr, IfOk, IfSome, IsErrAnd, IsErrOf, IsOk, None, OnErr, OnOk, Some, option_map, string_bytes};
     ghost use Rattle.gitconf_text.specs.Token.{item_tokens};
     ghost use Rattle.bstr.specs.Owned.{bstring_bytes};
     ghost use Rattle.std.specs.List.{list_all};
@@ -78,7 +80,7 @@ impl<'a> DetachedSectionMut<'a> {
     ghost use Rattle.gitconf_text.specs.Names.{is_made_name, is_valid_or_none, is_value_name};
     ghost use Rattle.gitconf_text.specs.declared.parse.section.header.Error.TheVariants.{InvalidName, InvalidSubSection, Span};
     ghost use Rattle.gitconf_state.specs.Edit.{header_bytes, old_value, token_bytes};
-    ghost use Rattle.gitconf_state.specs.Editors.{line_end_pushed, line_made, pushed, removed, value_set};
+    ghost use Rattle.gitconf_state.specs.Editors.{line_end_pushed, line_made, popped, popped_entry, pushed, removed, value_set};
     ghost use Rattle.gitconf_state.specs.Edits.{renamed, value_set_tokens, with_trust};
     ghost use Rattle.gitconf_store.specs.Alone.{is_refusal_of_header, with_items, IsEditedAlone};
     ghost use Rattle.gitconf_store.specs.AloneEditors.{edited, editor, lent};
@@ -178,6 +180,25 @@ impl<'a> DetachedSectionMut<'a> {
     {
         let old = self.section.remove_entry(value_name.as_bytes())?;
         Ok(text_of(old))
+    }
+
+    /// Takes out the last entry, whatever its name, with the blanks directly before it and all that stands behind it; all that the body has,
+    /// where it has no entry. Answers the name as it is spelled and what the value means; an empty text for an entry without `=`; `None`
+    /// where there is no entry. One walk over the items. Takes memory for the answer and the raw text of the value.
+    ///
+    /// # Errors
+    ///
+    /// Want of memory, only where there is an entry. The section is then as it was.
+    pub fn pop(&mut self) -> Result<Option<(String, BString)>, NoMemory>
+        ensures same_section { lent self.new ≡ lent self.old }
+        ensures same_editor { editor self.new ≡ editor self.old }
+        ensures ok { OnOk result (edited self.new ≡ record { section = with_items popped (edited self.old).section; used = (edited self.old).used }) }
+        ensures answer { IfOk result (λ o. option_map (λ t. (string_bytes t.0, bstring_bytes t.1)) o ≡ popped_entry (edited self.old).section.items) }
+        ensures none { popped_entry (edited self.old).section.items ≡ None → IsOk result }
+        ensures err { OnErr result (edited self.new ≡ edited self.old) }
+    {
+        let popped = self.section.pop_entry()?;
+        Ok(texts_of(popped))
     }
 
     /// Whether a line end is put behind what is pushed from now on; it is, unless this says otherwise.

@@ -1,5 +1,6 @@
 //! What the editor of a section that stands in no file shows of it, and of what it writes.
 use crate::detached::editor::DetachedSectionMut;
+use crate::lists::unless_empty;
 use crate::section::SectionRef;
 use crate::views::{BodyRef, HeaderRef, ValueNames};
 use bstr::BString;
@@ -16,7 +17,7 @@ impl<'a> DetachedSectionMut<'a> {
     ghost use Rattle.gitconf_store.specs.AloneEditors.{edited, editor};
     ghost use Rattle.gitconf_store.specs.Bodies.{has_key, implicit_value_in, value_in, values_in, AreFound, IsFoundImplicit};
     ghost use Rattle.gitconf_store.specs.Counts.{is_empty_body};
-    ghost use Rattle.gitconf_store.specs.Lookups.{IsFound};
+    ghost use Rattle.gitconf_store.specs.Lookups.{unless_empty, IsFound};
     ghost use Rattle.gitconf_store.specs.Views.{names_left, shown, shown_body, shown_header};
 
     /// The section as it now stands. Constant time, and no memory.
@@ -138,5 +139,14 @@ impl<'a> DetachedSectionMut<'a> {
         ensures { option_copied result ≡ (editor self.now).spacing.leading }
     {
         self.blanks.leading()
+    }
+
+    /// The blanks that it writes before and behind `=`; `None` where it writes none there.
+    pub fn separator_whitespace(&self) -> (Option<&[u8]>, Option<&[u8]>)
+        ensures before { option_copied result.0 ≡ unless_empty (editor self.now).spacing.before }
+        ensures behind { option_copied result.1 ≡ unless_empty (editor self.now).spacing.behind }
+    {
+        let (before, behind) = self.blanks.around();
+        (unless_empty(before), unless_empty(behind))
     }
 }

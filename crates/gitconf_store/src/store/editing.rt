@@ -8,7 +8,7 @@ use gitconf_text::parse::span;
 
 impl Store {
     ghost use Rattle.std.specs.Option.{option_copied};
-    ghost use Rattle.std.specs.Prelude.{◌≡◌, true, IfOk, IsOk, None, OnOk, OnErr, length, option_map};
+    ghost use Rattle.std.specs.Prelude.{◌≡◌, true, IfOk, IfSome, IsOk, None, OnOk, OnErr, length, option_map};
     ghost use Rattle.gitconf_text.specs.Names.{is_value_name};
     ghost use Rattle.gitconf_state.specs.Edit.{with_used};
     ghost use Rattle.gitconf_state.specs.Edits.{answer, apply, items_of_numbered, Entry, IsEditor, Pop, Push, PushLineEnd, Raw, Remove, SetValue};
@@ -154,6 +154,7 @@ impl Store {
         ensures ok { OnOk result (self.new ≡ apply (Pop id) self.old) }
         ensures answer { IfOk result (λ o. Entry (option_map (λ t. (t.0.items, t.1.items)) o) ≡ answer (Pop id) self.old) }
         ensures none { answer (Pop id) self.old ≡ Entry None → IsOk result }
+        ensures name { IfOk result (λ o. IfSome o (λ t. is_value_name t.0.items ≡ true)) }
         ensures err { OnErr result (self.new ≡ self.old) }
     {
         prove!(self.sections.next_id() == self.sections.next_id());

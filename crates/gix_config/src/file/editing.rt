@@ -101,6 +101,7 @@ impl File {
         ensures ok { OnOk result (self.new ≡ apply (Pop id) self.old) }
         ensures answer { IfOk result (λ o. Entry (option_map (λ t. (t.0.items, t.1.items)) o) ≡ answer (Pop id) self.old) }
         ensures none { answer (Pop id) self.old ≡ Entry None → IsOk result }
+        ensures name { IfOk result (λ o. IfSome o (λ t. is_value_name t.0.items ≡ true)) }
         ensures err { OnErr result (self.new ≡ self.old) }
         ensures stands { has_number id self.new ≡ true }
     {

@@ -1,12 +1,15 @@
 //! Sections of a file that are renamed.
 ghost use Rattle.std.specs.Fn.{ComputesKey};
 ghost use Rattle.std.specs.Option.{option_copied};
-ghost use Rattle.std.specs.Prelude.{◌≡◌, ◌+◌, ◌≤◌, Bool, OnErr, OnOk, true};
+ghost use Rattle.std.specs.Prelude.{◌≡◌, ◌+◌, ◌≤◌, option_map, Bool, OnErr, OnOk, true};
+ghost use Rattle.bstr.specs.Owned.{bstring_bytes};
 ghost use Rattle.gitconf_base.specs.Metadata.{Meta};
 ghost use Rattle.gitconf_state.specs.Edit.{header_bytes, with_used};
 ghost use Rattle.gitconf_store.specs.Renamings.{AreSomeRenamed, IsRenamed};
 
 use crate::file::{File, Metadata, rename_section};
+use bstr::BString;
+use gitconf_store::lists::bytes_of;
 
 impl File {
     /// Gives all sections that have the name, without ASCII case, and exactly the subsection, another name and subsection: their headers
@@ -27,11 +30,11 @@ impl File {
         name: &str,
         subsection_name: Option<&[u8]>,
         new_name: &str,
-        new_subsection_name: Option<&[u8]>,
+        new_subsection_name: Option<BString>,
     ) -> Result<(), rename_section::Error>
-        ensures exact { IsRenamed name.now (option_copied subsection_name.entry) (λ _. true) new_name.now (option_copied new_subsection_name.entry) result self.old self.new }
+        ensures exact { IsRenamed name.now (option_copied subsection_name.entry) (λ _. true) new_name.now (option_map bstring_bytes new_subsection_name) result self.old self.new }
         ensures err { OnErr result (self.new ≡ with_used self.new.used self.old) }
-        ensures grown { self.new.used ≤ self.old.used + header_bytes new_name.now (option_copied new_subsection_name.entry) }
+        ensures grown { self.new.used ≤ self.old.used + header_bytes new_name.now (option_map bstring_bytes new_subsection_name) }
     {
         self.rename_section_filter(name, subsection_name, new_name, new_subsection_name, |_| {
             true
@@ -48,23 +51,23 @@ impl File {
         name: &str,
         subsection_name: Option<&[u8]>,
         new_name: &str,
-        new_subsection_name: Option<&[u8]>,
+        new_subsection_name: Option<BString>,
         filter: F,
     ) -> Result<(), rename_section::Error>
         requires { F.IsAlwaysCallable filter }
         // For a filter that answers by what it is shown.
         ensures exact { (keeps : Meta → Bool) → ComputesKey F.FnMut keeps filter
-            → IsRenamed name.now (option_copied subsection_name.entry) keeps new_name.now (option_copied new_subsection_name.entry) result self.old self.new }
+            → IsRenamed name.now (option_copied subsection_name.entry) keeps new_name.now (option_map bstring_bytes new_subsection_name) result self.old self.new }
         // Whatever the filter answers.
-        ensures some { OnOk result (AreSomeRenamed name.now (option_copied subsection_name.entry) new_name.now (option_copied new_subsection_name.entry) self.old self.new) }
+        ensures some { OnOk result (AreSomeRenamed name.now (option_copied subsection_name.entry) new_name.now (option_map bstring_bytes new_subsection_name) self.old self.new) }
         ensures err { OnErr result (self.new ≡ with_used self.new.used self.old) }
-        ensures grown { self.new.used ≤ self.old.used + header_bytes new_name.now (option_copied new_subsection_name.entry) }
+        ensures grown { self.new.used ≤ self.old.used + header_bytes new_name.now (option_map bstring_bytes new_subsection_name) }
     {
         self.store.rename_section_filter(
             name,
             subsection_name,
             new_name,
-            new_subsection_name,
+            bytes_of(&new_subsection_name),
             filter,
         )
     }

@@ -11,6 +11,8 @@ use crate::file::{File, SectionId};
 use bstr::BString;
 use gitconf_base::source::Trust;
 use gitconf_body::blanks::Blanks;
+use gitconf_store::lists::bytes_of;
+use gitconf_store::popped::texts_of;
 use gitconf_text::NoMemory;
 use gitconf_text::parse::section::bytes::is_value_name;
 use gitconf_text::parse::section::{ValueNameError, header};
@@ -54,7 +56,7 @@ impl<'a> SectionMut<'a> {
     ghost use Rattle.std.specs.List.{list_all};
     ghost use Rattle.std.specs.Option.{option_copied};
     ghost use Rattle.gitconf_text.specs.Bytes.{is_whitespace};
-    ghost use Rattle.std.specs.Prelude.{◌≡◌, ◌↔◌, false, true, IfOk, IfSome, IsErrAnd, IsErrOf, IsOk, None, OnErr, OnOk, Some, option_map};
+    ghost use Rattle.std.specs.Prelude.{◌≡◌, ◌↔◌, false, true, IfOk, IfSome, IsErrAnd, IsErrOf, IsOk, None, OnErr, OnOk, Some, option_map, string_bytes};
     ghost use Rattle.bstr.specs.Owned.{bstring_bytes};
     ghost use Rattle.gitconf_text.specs.Names.{is_made_name, is_valid_or_none, is_value_name};
     ghost use Rattle.gitconf_text.specs.declared.parse.section.header.Error.TheVariants.{InvalidName, InvalidSubSection};
@@ -198,6 +200,28 @@ impl<'a> SectionMut<'a> {
         }
     }
 
+    /// Takes out the last entry, whatever its name, with the blanks directly before it and all that stands behind it; all that the section
+    /// has, where it has no entry. Answers the name as it is spelled and what the value means; an empty text for an entry without `=`;
+    /// `None` where there is no entry.
+    ///
+    /// One walk over its items. Takes memory for the answer and the raw text of the value.
+    ///
+    /// # Errors
+    ///
+    /// Want of memory, only where there is an entry. The file is then as it was.
+    pub fn pop(&mut self) -> Result<Option<(String, BString)>, NoMemory>
+        ensures same_file { lent self.new ≡ lent self.old }
+        ensures same_section { number_of self.new ≡ number_of self.old }
+        ensures same_editor { editor self.new ≡ editor self.old }
+        ensures ok { OnOk result (edited self.new ≡ apply (Pop (number_of self.old)) (edited self.old)) }
+        ensures answer { IfOk result (λ o. Entry (option_map (λ t. (string_bytes t.0, bstring_bytes t.1)) o) ≡ answer (Pop (number_of self.old)) (edited self.old)) }
+        ensures none { answer (Pop (number_of self.old)) (edited self.old) ≡ Entry None → IsOk result }
+        ensures err { OnErr result (edited self.new ≡ edited self.old) }
+    {
+        let popped = self.file.pop_entry(self.id)?;
+        Ok(texts_of(popped))
+    }
+
     /// Gives the section another name and subsection, by a header that is made: the name as given, and a subsection in quotes behind a
     /// space. All else stays as it is, and later look-ups find the section by its new names.
     ///
@@ -210,19 +234,20 @@ impl<'a> SectionMut<'a> {
     pub fn rename(
         &mut self,
         name: &str,
-        subsection_name: Option<&[u8]>,
+        subsection_name: Option<BString>,
     ) -> Result<(), header::Error>
         ensures same_file { lent self.new ≡ lent self.old }
         ensures same_section { number_of self.new ≡ number_of self.old }
         ensures same_editor { editor self.new ≡ editor self.old }
         ensures invalid_name { IsErrOf result InvalidName ↔ (is_made_name name.now ≡ false) }
         ensures invalid_subsection { IsErrOf result InvalidSubSection
-            ↔ ((is_made_name name.now ≡ true) × (is_valid_or_none (option_copied subsection_name.entry) ≡ false)) }
-        ensures ok { OnOk result (edited self.new ≡ with_used (edited self.new).used (apply (Rename (number_of self.old) name.now (option_copied subsection_name.entry)) (edited self.old))) }
+            ↔ ((is_made_name name.now ≡ true) × (is_valid_or_none (option_map bstring_bytes subsection_name) ≡ false)) }
+        ensures ok { OnOk result (edited self.new ≡ with_used (edited self.new).used (apply (Rename (number_of self.old) name.now (option_map bstring_bytes subsection_name)) (edited self.old))) }
         ensures err { OnErr result (edited self.new ≡ with_used (edited self.new).used (edited self.old)) }
-        ensures used { HeaderGrows name.now (option_copied subsection_name.entry) result (edited self.old).used (edited self.new).used }
+        ensures used { HeaderGrows name.now (option_map bstring_bytes subsection_name) result (edited self.old).used (edited self.new).used }
     {
-        self.file.rename_numbered(self.id, name, subsection_name)
+        self.file
+            .rename_numbered(self.id, name, bytes_of(&subsection_name))
     }
 
     /// Says how far the section is trusted. Metadata that it shared with others is its own from then on. Takes memory for that.
@@ -245,15 +270,15 @@ impl<'a> SectionMut<'a> {
     /// # Errors
     ///
     /// Want of memory. The editor is then as it was.
-    pub fn set_leading_whitespace(&mut self, whitespace: Option<&[u8]>) -> Result<(), NoMemory>
-        requires { IfSome (option_copied whitespace) (λ run. list_all is_whitespace run ≡ true) }
+    pub fn set_leading_whitespace(&mut self, whitespace: Option<BString>) -> Result<(), NoMemory>
+        requires { IfSome whitespace (λ run. list_all is_whitespace (bstring_bytes run) ≡ true) }
         ensures same_file { lent self.new ≡ lent self.old }
         ensures same_state { edited self.new ≡ edited self.old }
         ensures same_section { number_of self.new ≡ number_of self.old }
-        ensures ok { OnOk result (editor self.new ≡ with_leading (option_copied whitespace.entry) (editor self.old)) }
+        ensures ok { OnOk result (editor self.new ≡ with_leading (option_map bstring_bytes whitespace) (editor self.old)) }
         ensures err { OnErr result (editor self.new ≡ editor self.old) }
     {
-        self.blanks.set_leading(whitespace)
+        self.blanks.set_leading(bytes_of(&whitespace))
     }
 
     /// Whether a line end is put behind what is pushed from now on; it is, unless this says otherwise.

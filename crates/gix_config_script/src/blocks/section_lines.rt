@@ -4,10 +4,12 @@ ghost use Rattle.gix_config.specs.SectionEditors.{lent};
 
 use super::tell;
 use crate::answer::{Answer, Outcome};
+use crate::commands::edits::owned;
 use crate::refusal::Refusal;
 use crate::rendering::line_of;
+use bstr::BString;
 use gitconf_script::answers::{put_bytes, put_optional};
-use gitconf_script::arguments::{no_words, text};
+use gitconf_script::arguments::{no_words, section_names, text};
 use gitconf_script::blocks::next_asked;
 use gitconf_script::bracket::Bracket;
 use gitconf_script::editor_arguments::{
@@ -72,8 +74,8 @@ fn outcome_of<'a>(
 {
     match line {
         None => Ok(Answer::Unknown),
-        Some(SectionLine::Change(change)) => change_outcome(editor, change, words),
-        Some(SectionLine::Style(style)) => style_outcome(editor, style, words),
+        Some(SectionLine::Change(change)) => change_outcome(alloc, editor, change, words),
+        Some(SectionLine::Style(style)) => style_outcome(alloc, editor, style, words),
         Some(SectionLine::View(view)) => view_outcome(alloc, editor, view, words),
         // It has words behind it, which it must not have.
         Some(SectionLine::End) => Err(Refusal::Line),
@@ -81,6 +83,7 @@ fn outcome_of<'a>(
 }
 
 fn change_outcome<'a>(
+    alloc: Global,
     editor: &mut SectionMut<'_>,
     change: SectionChange,
     words: &[Word<'_>],
@@ -93,12 +96,13 @@ fn change_outcome<'a>(
         SectionChange::Set => set(editor, words),
         SectionChange::Remove => remove(editor, words),
         SectionChange::LineEnd => nl(editor, words),
-        // No call of the library stands for these yet.
-        SectionChange::Pop | SectionChange::Header => Ok(Answer::Unknown),
+        SectionChange::Pop => pop(alloc, editor, words),
+        SectionChange::Header => header(alloc, editor, words),
     }
 }
 
 fn style_outcome<'a>(
+    alloc: Global,
     editor: &mut SectionMut<'_>,
     style: SectionStyle,
     words: &[Word<'_>],
@@ -107,7 +111,7 @@ fn style_outcome<'a>(
 {
     match style {
         SectionStyle::ImplicitLineEnd => implicit(editor, words),
-        SectionStyle::LeadingBlanks => leading(editor, words),
+        SectionStyle::LeadingBlanks => leading(alloc, editor, words),
     }
 }
 
@@ -156,6 +160,30 @@ fn remove<'a>(editor: &mut SectionMut<'_>, words: &[Word<'_>]) -> Outcome<'a>
     Ok(Answer::found(editor.remove(name)?))
 }
 
+/// `pop`: takes the last entry out with all behind it; its name and what it means.
+fn pop<'a>(alloc: Global, editor: &mut SectionMut<'_>, words: &[Word<'_>]) -> Outcome<'a>
+    ensures { lent editor.new ≡ lent editor.old }
+{
+    no_words(words)?;
+    let Some((name, meaning)) = editor.pop()? else {
+        return Ok(Answer::Absent);
+    };
+    let mut told = String::new(alloc);
+    put_bytes(alloc, &mut told, name.as_bytes())?;
+    put_bytes(alloc, &mut told, meaning.as_bytes())?;
+    Ok(Answer::Words(told))
+}
+
+/// `header SEC2`: gives the section another name and subsection.
+fn header<'a>(alloc: Global, editor: &mut SectionMut<'_>, words: &[Word<'_>]) -> Outcome<'a>
+    ensures { lent editor.new ≡ lent editor.old }
+{
+    let names = section_names(words)?;
+    let subsection = owned(alloc, names.subsection)?;
+    editor.rename(names.name, subsection)?;
+    Ok(Answer::Done)
+}
+
 /// `nl`: a line end behind all.
 fn nl<'a>(editor: &mut SectionMut<'_>, words: &[Word<'_>]) -> Outcome<'a>
     ensures { lent editor.new ≡ lent editor.old }
@@ -175,7 +203,7 @@ fn implicit<'a>(editor: &mut SectionMut<'_>, words: &[Word<'_>]) -> Outcome<'a>
 }
 
 /// `leading OPT`: the blanks before names, of white space alone.
-fn leading<'a>(editor: &mut SectionMut<'_>, words: &[Word<'_>]) -> Outcome<'a>
+fn leading<'a>(alloc: Global, editor: &mut SectionMut<'_>, words: &[Word<'_>]) -> Outcome<'a>
     ensures { lent editor.new ≡ lent editor.old }
 {
     match optional(words)? {
@@ -184,6 +212,7 @@ fn leading<'a>(editor: &mut SectionMut<'_>, words: &[Word<'_>]) -> Outcome<'a>
             if !is_whitespace(run) {
                 return Err(Refusal::Line);
             }
+            let run = BString::from_slice(alloc, run)?;
             editor.set_leading_whitespace(Some(run))?;
         }
     }

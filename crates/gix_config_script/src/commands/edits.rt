@@ -3,6 +3,7 @@
 use crate::answer::{Answer, Outcome};
 use crate::refusal::Refusal;
 use crate::rendering::put_id;
+use bstr::BString;
 use gitconf_script::arguments::{
     names_and_bytes, number_and_place, renaming, renaming_and_flag, section_names,
     section_names_and_place, section_names_place_and_flag, two_texts,
@@ -66,14 +67,23 @@ pub fn removeid<'a>(alloc: Global, file: &mut File, words: &[Word<'_>]) -> Outco
     Ok(taken_out(file.remove_section_by_id(id)?))
 }
 
+/// A subsection, or blanks, with memory of their own.
+pub fn owned(alloc: Global, bytes: Option<&[u8]>) -> Result<Option<BString>, Refusal> {
+    match bytes {
+        Some(bytes) => Ok(Some(BString::from_slice(alloc, bytes)?)),
+        None => Ok(None),
+    }
+}
+
 /// `rename SEC2 SEC2`: gives all sections of a name and subsection another name and subsection.
-pub fn rename<'a>(file: &mut File, words: &[Word<'_>]) -> Outcome<'a> {
+pub fn rename<'a>(alloc: Global, file: &mut File, words: &[Word<'_>]) -> Outcome<'a> {
     let names = renaming(words)?;
+    let subsection = owned(alloc, names.new.subsection)?;
     let renamed = file.rename_section(
         names.old.name,
         names.old.subsection,
         names.new.name,
-        names.new.subsection,
+        subsection,
     );
     match renamed {
         Ok(()) => Ok(Answer::Done),
@@ -82,13 +92,14 @@ pub fn rename<'a>(file: &mut File, words: &[Word<'_>]) -> Outcome<'a> {
 }
 
 /// `renameif SEC2 SEC2 B`: the same with a filter that answers so for all.
-pub fn renameif<'a>(file: &mut File, words: &[Word<'_>]) -> Outcome<'a> {
+pub fn renameif<'a>(alloc: Global, file: &mut File, words: &[Word<'_>]) -> Outcome<'a> {
     let (names, passes) = renaming_and_flag(words)?;
+    let subsection = owned(alloc, names.new.subsection)?;
     let renamed = file.rename_section_filter(
         names.old.name,
         names.old.subsection,
         names.new.name,
-        names.new.subsection,
+        subsection,
         |_| passes,
     );
     match renamed {

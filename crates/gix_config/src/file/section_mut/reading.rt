@@ -1,12 +1,9 @@
 //! What an editor shows of its section, and of what it writes.
-ghost use Rattle.std.specs.Option.{option_copied};
-ghost use Rattle.std.specs.Prelude.{◌≡◌};
-ghost use Rattle.gix_config.specs.Edited.{unless_none};
-
 use crate::file::section::{BodyRef, HeaderRef, ValueNames};
 use crate::file::section_mut::SectionMut;
 use crate::file::{Metadata, SectionId, SectionRef};
 use bstr::BString;
+use gitconf_store::lists::unless_empty;
 use gitconf_text::NoMemory;
 
 impl<'a> SectionMut<'a> {
@@ -19,9 +16,8 @@ impl<'a> SectionMut<'a> {
     ghost use Rattle.gitconf_state.specs.State.{entries_of};
     ghost use Rattle.gitconf_store.specs.Bodies.{has_key, implicit_value_in, value_in, values_in, AreFound, IsFoundImplicit};
     ghost use Rattle.gitconf_store.specs.Counts.{is_empty_body};
-    ghost use Rattle.gitconf_store.specs.Lookups.{IsFound};
+    ghost use Rattle.gitconf_store.specs.Lookups.{unless_empty, IsFound};
     ghost use Rattle.gitconf_store.specs.Views.{names_left, shown, shown_body, shown_header};
-    ghost use Rattle.gix_config.specs.Edited.{unless_none};
     ghost use Rattle.gix_config.specs.SectionEditors.{edited, editor, number_of};
 
     /// The number of the section.
@@ -148,17 +144,10 @@ impl<'a> SectionMut<'a> {
 
     /// The blanks that the editor writes before and behind `=`; `None` where it writes none there.
     pub fn separator_whitespace(&self) -> (Option<&[u8]>, Option<&[u8]>)
-        ensures before { option_copied result.0 ≡ unless_none (editor self.now).spacing.before }
-        ensures behind { option_copied result.1 ≡ unless_none (editor self.now).spacing.behind }
+        ensures before { option_copied result.0 ≡ unless_empty (editor self.now).spacing.before }
+        ensures behind { option_copied result.1 ≡ unless_empty (editor self.now).spacing.behind }
     {
         let (before, behind) = self.blanks.around();
         (unless_empty(before), unless_empty(behind))
     }
-}
-
-/// Bytes, where there are any.
-fn unless_empty(bytes: &[u8]) -> Option<&[u8]>
-    ensures { option_copied result ≡ unless_none bytes.now }
-{
-    if bytes.is_empty() { None } else { Some(bytes) }
 }

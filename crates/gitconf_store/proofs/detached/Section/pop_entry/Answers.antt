@@ -7,6 +7,7 @@ use Rattle.gitconf_write.specs.Bodies.{items_of}
 use Rattle.gitconf_body.proofs.Buffers.{same_extended}
 use Rattle.gitconf_store.specs.declared.section.Section.{Section}
 use Rattle.gitconf_store.proofs.AloneEdits.{edited_alone, kept_alone, stands_still}
+use Rattle.gitconf_store.proofs.PoppedKeys.{key_named}
 use Rattle.gitconf_store.proofs.Setting.{HasOthers, on_ok, on_err, either_way}
 use Rattle.gitconf_store.proofs.detached.Section.pop_entry.Goals as goal
 
@@ -37,6 +38,12 @@ returns-clause-answer c =
 pub returns-clause-none : goal.returns-clause-none
 returns-clause-none c =
     rw (← c.self.view_is) (subst (λ buffer. popped_entry (items_of buffer c.self.inside.section.items.items) ≡ None → IsOk c.pop.result) c.deref.ensures.value c.pop.ensures.none)
+
+pub returns-clause-name : goal.returns-clause-name
+returns-clause-name c =
+    let items = items_of c.self.inside.buffer.items c.self.inside.section.items.items in
+    key_named items c.pop.result c.self.invariant.items
+    (subst (λ buffer. IfOk c.pop.result (λ o. option_map (λ t. (t.0.items, t.1.items)) o ≡ popped_entry (items_of buffer c.self.inside.section.items.items))) c.deref.ensures.value c.pop.ensures.answer)
 
 pub invariant_of-self : goal.invariant_of-self
 invariant_of-self c =

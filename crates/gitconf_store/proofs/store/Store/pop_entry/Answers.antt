@@ -10,6 +10,7 @@ use Rattle.gitconf_body.proofs.Buffers.{same_extended}
 use Rattle.gitconf_store.specs.declared.section.Section.{Section}
 use Rattle.gitconf_store.specs.Store.{state_of}
 use Rattle.gitconf_store.proofs.Editing.{items_within_at, missing_stays, missing_told, numbered_kept, numbered_told, numbered_view, entry_inside}
+use Rattle.gitconf_store.proofs.PoppedKeys.{items_at, key_named}
 use Rattle.gitconf_store.proofs.Setting.{HasOthers, kept_view, on_ok, on_err, either_way, if_ok}
 use Rattle.gitconf_store.proofs.store.Store.pop_entry.Goals as goal
 
@@ -73,6 +74,15 @@ returns-clause-none c =
     let told = numbered_told b c.self.inside.front.items c.self.inside.meta.value c.self.inside.sections c.args.id c.in-Some.at s popped_entry c.next_id.ensures.numbered.once here number in
     let fine = subst (λ buffer. popped_entry (items_of buffer s.items.items) ≡ None → IsOk c.pop.result) c.deref.ensures.value c.pop.ensures.none in
     rw (← c.self.view_is) (λ none. fine (sym told ∙ entry_inside none))
+
+pub returns-clause-name : goal.returns-clause-name
+returns-clause-name c =
+    let b = c.self.inside.buffer.items in
+    let s = c.at_mut-section.result.now in
+    let here = c.at_mut-section.ensures.value in
+    let answer = subst (λ buffer. IfOk c.pop.result (λ o. option_map (λ t. (t.0.items, t.1.items)) o ≡ popped_entry (items_of buffer s.items.items)))
+    c.deref.ensures.value c.pop.ensures.answer in
+    key_named (items_of b s.items.items) c.pop.result (items_at b s c.self.inside.sections.entries c.in-Some.at c.self.invariant.items.sections here) answer
 
 pub invariant_of-self : goal.invariant_of-self
 invariant_of-self c =
