@@ -10,6 +10,7 @@ use gix_config::{
 };
 
 const LOOKUPS: u32 = 256;
+const PUSHES: u32 = 100_000;
 
 fn load(text: &[u8]) -> File {
     File::from_bytes_no_includes(black_box(text), Metadata::api(), init::Options::default())
@@ -30,6 +31,16 @@ fn events(text: &[u8]) -> u128 {
 fn set(text: &[u8], key: &str) -> u128 {
     let mut file = load(text);
     nanos(|| drop(black_box(file.set_raw_value(key, "a new value"))))
+}
+
+fn push(text: &[u8], key: &str) -> u128 {
+    let mut file = load(text);
+    let (section, name) = key.rsplit_once('.').expect("a key has a dot");
+    let taken = nanos(|| {
+        let mut editor = file.section_mut_by_key(section).expect("the section is there");
+        (0..PUSHES).for_each(|_| drop(black_box(editor.push(black_box(name), "a new value").is_ok())));
+    });
+    taken / u128::from(PUSHES)
 }
 
 fn look_ups(look_up: impl Fn()) -> u128 {
@@ -56,6 +67,7 @@ fn main() {
             "values" => nanos(|| drop(black_box(file.strings(black_box(key))))),
             "print" => nanos(|| drop(black_box(file.to_bstring()))),
             "set" => set(&text, key),
+            "push" => push(&text, key),
             "lay-out" => nanos(|| drop(black_box(format::normalize(black_box(&text), Default::default())).ok())),
             "decode" => nanos(|| drop(black_box(value::normalize(black_box(text.as_slice()))))),
             _ => panic!("{what} is no measure"),

@@ -12,9 +12,9 @@ TOP = HERE.parent.parent
 
 
 def rounds_of(what):
-    """How often a process does what is timed, of which the last counts: three times, so that it has its memory; but a value is set
-    in a file that the process has just loaded, as a program does that edits one."""
-    return 1 if what == "set" else 3
+    """How often a process does what is timed, of which the last counts: three times, so that it has its memory; but values are
+    set and pushed in a file that the process has just loaded, as a program does that edits one."""
+    return 1 if what in ("set", "push") else 3
 
 
 class Missing(Exception):

@@ -1,10 +1,13 @@
 //! Times what the library does with standard input, as often as asked: `file_bench WHAT ROUNDS KEY [times]`.
 //!
-//! WHAT is `load`, `look-up`, `raw`, `boolean`, `by-name`, `values`, `print`, `set`, `lay-out` or `decode`, or `all` for each of them
+//! WHAT is `load`, `look-up`, `raw`, `boolean`, `by-name`, `values`, `print`, `set`, `push`, `lay-out` or `decode`, or `all` for each of them
 //! in turn. `decode` takes standard input for a raw value. With `times` each round tells its nanoseconds.
 #![tactic(auto)]
+ghost use Rattle.std.specs.Prelude.{◌≡◌};
+ghost use Rattle.gix_config.specs.SectionEditors.{lent};
 
 use anyhow::{Context, Result, bail};
+use gix_config::file::SectionMut;
 use gix_config::format::{Options, normalize};
 use gix_config::{File, KeyRef, value};
 use std::alloc::Global;
@@ -16,6 +19,9 @@ use std::{env, io};
 
 /// How often a key is looked up in a round.
 const LOOKUPS: u32 = 256;
+
+/// How many lines are pushed in a round.
+const PUSHES: u32 = 100_000;
 
 /// What is looked up.
 #[derive(Clone, Copy)]
@@ -43,6 +49,8 @@ enum Measure {
     Print,
     /// Setting a value of a file that was not edited before.
     Set,
+    /// Pushing a line to a section, by an editor that pushes many.
+    Push,
     /// Laying a text out.
     LayOut,
     /// The meaning of a raw value.
@@ -211,6 +219,46 @@ fn time_set(rt: HostRuntime, task: Task<'_>) -> Result<()> {
     Ok(())
 }
 
+/// Pushes lines, each with the name and a value.
+fn push_all(editor: &mut SectionMut<'_>, name: &str) -> Result<()>
+    ensures { lent editor.new ≡ lent editor.old }
+{
+    for _ in 0..PUSHES {
+        editor.push(name, Some(b"a new value"))?;
+    }
+    Ok(())
+}
+
+/// Pushes lines to the key's section.
+fn push_to(file: &mut File, key: KeyRef<'_>) -> Result<()> {
+    match file.section_mut(key.section_name, key.subsection_name) {
+        Ok(mut editor) => push_all(&mut editor, key.value_name),
+        Err(missing) => Err(missing.into()),
+    }
+}
+
+/// Pushes lines to the key's section, and answers the nanoseconds that this took.
+fn push<R: Clock>(rt: &R, file: &mut File, key: KeyRef<'_>) -> Result<u128> {
+    let start = Instant::now(rt)?;
+    push_to(file, key)?;
+    Ok(start.elapsed(rt)?.as_nanos())
+}
+
+/// Pushes lines to the key's section in the text, and answers the nanoseconds of the edits alone.
+fn push_in<R: Clock + AllocGlobal>(rt: &R, text: &[u8], key: KeyRef<'_>) -> Result<u128> {
+    let mut file = load(rt.alloc(), text)?;
+    push(rt, &mut file, key)
+}
+
+fn time_push(rt: HostRuntime, task: Task<'_>) -> Result<()> {
+    for _ in 0..task.rounds {
+        let nanos = push_in(&rt, task.text, task.key)?;
+        tell(rt, task, nanos / PUSHES as u128)?;
+    }
+    println!(rt; "{PUSHES} lines pushed")?;
+    Ok(())
+}
+
 /// How many bytes the layout of the text has, and the nanoseconds that it took.
 fn lay_out<R: Clock + AllocGlobal>(rt: &R, text: &[u8]) -> Result<(usize, u128)> {
     let start = Instant::now(rt)?;
@@ -254,6 +302,7 @@ fn time(rt: HostRuntime, measure: Measure, task: Task<'_>) -> Result<()> {
         Measure::Values => time_values(rt, task),
         Measure::Print => time_print(rt, task),
         Measure::Set => time_set(rt, task),
+        Measure::Push => time_push(rt, task),
         Measure::LayOut => time_lay_out(rt, task),
         Measure::Decode => time_decode(rt, task),
     }
@@ -270,13 +319,14 @@ fn is_asked(word: &str, measure: Measure) -> bool {
         Measure::Values => "values",
         Measure::Print => "print",
         Measure::Set => "set",
+        Measure::Push => "push",
         Measure::LayOut => "lay-out",
         Measure::Decode => "decode",
     };
     word == name || word == "all"
 }
 
-const MEASURES: [Measure; 10] = [
+const MEASURES: [Measure; 11] = [
     Measure::Load,
     Measure::LookUp(LookUp::Value),
     Measure::LookUp(LookUp::Raw),
@@ -285,6 +335,7 @@ const MEASURES: [Measure; 10] = [
     Measure::Values,
     Measure::Print,
     Measure::Set,
+    Measure::Push,
     Measure::LayOut,
     Measure::Decode,
 ];

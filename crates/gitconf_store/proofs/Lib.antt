@@ -29,6 +29,7 @@ pub mod Sets
 pub mod Cloning
 pub mod Detaching
 pub mod AloneEdits
+pub mod AloneLaws
 pub mod Editing
 pub mod LineBytes
 pub mod ValuePlaces

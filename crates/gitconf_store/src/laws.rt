@@ -10,8 +10,10 @@ ghost use Rattle.gitconf_parse.specs.ItemsFit.{AreItemsWithin};
 ghost use Rattle.gitconf_state.specs.Editors as states;
 ghost use Rattle.gitconf_state.specs.Editors.{written_at};
 ghost use Rattle.gitconf_state.specs.Edit.{header_bytes, is_target, set_raw_value_bytes};
-ghost use Rattle.gitconf_state.specs.Edits.{Push, Rename, RenameAll, SetRawValue, SetValue, WriteAt, items_of_numbered, new_bytes};
-ghost use Rattle.gitconf_state.specs.State.{State};
+ghost use Rattle.gitconf_base.specs.declared.source.Trust.{Trust};
+ghost use Rattle.gitconf_state.specs.Edits.{Detached, Push, PushSection, Rename, RenameAll, SetRawValue, SetTrust, SetValue, WriteAt, apply, change_items, items_of_numbered, new_bytes, renamed, with_trust};
+ghost use Rattle.gitconf_state.specs.State.{AreNumbered, State};
+ghost use Rattle.gitconf_store.specs.Alone.{with_items};
 ghost use Rattle.gitconf_write.specs.Bodies.{items_of};
 ghost use Rattle.gitconf_body.specs.declared.editor.Editor.{Editor};
 ghost use Rattle.gitconf_body.specs.Editors.{line_put, set_put};
@@ -59,4 +61,15 @@ pub fn headers_put_no_more_than_their_tokens()
     ensures all { (name : List ℕ) (subsection : Option (List ℕ)) (keeps : Meta → Bool) (new_name : List ℕ) (new_subsection : Option (List ℕ)) (state : State)
         → list_any (is_target name subsection keeps) state.sections ≡ true
         → header_bytes new_name new_subsection ≤ new_bytes (RenameAll name subsection keeps new_name new_subsection) state }
+{}
+
+/// A section that is edited where it stands alone, and then put into a file, stands there as if it had been put there first, and edited by
+/// the number that it got: whatever becomes of its items, its header or its trust.
+pub fn sections_are_edited_alone_as_in_a_file()
+    ensures items { (change : List parts.Item → List parts.Item) (detached : Detached) (state : State) → AreNumbered state.next state.sections
+        → change_items state.next change (apply (PushSection detached) state) ≡ apply (PushSection (record detached { section = with_items change detached.section })) state }
+    ensures renamed { (name : List ℕ) (subsection : Option (List ℕ)) (detached : Detached) (state : State) → AreNumbered state.next state.sections
+        → apply (Rename state.next name subsection) (apply (PushSection detached) state) ≡ apply (PushSection (record detached { section = renamed name subsection detached.section })) state }
+    ensures trusted { (trust : Trust) (detached : Detached) (state : State) → AreNumbered state.next state.sections
+        → apply (SetTrust state.next trust) (apply (PushSection detached) state) ≡ apply (PushSection (record detached { section = with_trust trust detached.section })) state }
 {}

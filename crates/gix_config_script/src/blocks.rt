@@ -1,5 +1,6 @@
 //! Blocks: the lines that work on one editor, from the one that opens it up to `end`. The editor lends the current file for so long.
 
+mod section_editor;
 mod section_lines;
 mod value_lines;
 

@@ -1,7 +1,7 @@
 //! The lines of the editor of a section.
 ghost use Rattle.std.specs.Prelude.{◌≡◌};
-ghost use Rattle.gix_config.specs.SectionEditors.{lent};
 
+use super::section_editor::SectionEditor;
 use super::tell;
 use crate::answer::{Answer, Outcome};
 use crate::commands::edits::owned;
@@ -20,19 +20,19 @@ use gitconf_script::editors::{
 };
 use gitconf_script::play::{Fault, Streams};
 use gitconf_script::words::{Word, words_of};
-use gix_config::file::{SectionMut, is_whitespace};
+use gix_config::file::is_whitespace;
 use std::alloc::{AllocError, Global};
 use std::io::{Read, Write};
 
 /// Tells that the editor stands, and answers its lines.
-pub fn play<R: Read + Drop, W: Write + Drop>(
+pub fn play<R: Read + Drop, W: Write + Drop, E: SectionEditor>(
     alloc: Global,
     bracket: Bracket,
-    editor: &mut SectionMut<'_>,
+    editor: &mut E,
     streams: &mut Streams<R, W>,
     tells: &mut bool,
 ) -> Result<(), Fault>
-    ensures { lent editor.new ≡ lent editor.old }
+    ensures { E.held editor.new ≡ E.held editor.old }
 {
     tell(alloc, bracket, &Ok(Answer::Done), streams)?;
     for _ in 0..u64::MAX {
@@ -46,13 +46,13 @@ pub fn play<R: Read + Drop, W: Write + Drop>(
 }
 
 /// The answer to a line, as a line. Only what the editor does stands in the bracket.
-fn answer_to(
+fn answer_to<E: SectionEditor>(
     alloc: Global,
-    editor: &mut SectionMut<'_>,
+    editor: &mut E,
     line: &[u8],
     tells: bool,
 ) -> Result<String, AllocError>
-    ensures { lent editor.new ≡ lent editor.old }
+    ensures { E.held editor.new ≡ E.held editor.old }
 {
     let words = words_of(alloc, line)?;
     let (line, words) = section_line_of(&words);
@@ -64,13 +64,13 @@ fn answer_to(
     answer
 }
 
-fn outcome_of<'a>(
+fn outcome_of<'a, E: SectionEditor>(
     alloc: Global,
-    editor: &mut SectionMut<'_>,
+    editor: &mut E,
     line: Option<SectionLine>,
     words: &[Word<'_>],
 ) -> Outcome<'a>
-    ensures { lent editor.new ≡ lent editor.old }
+    ensures { E.held editor.new ≡ E.held editor.old }
 {
     match line {
         None => Ok(Answer::Unknown),
@@ -82,13 +82,13 @@ fn outcome_of<'a>(
     }
 }
 
-fn change_outcome<'a>(
+fn change_outcome<'a, E: SectionEditor>(
     alloc: Global,
-    editor: &mut SectionMut<'_>,
+    editor: &mut E,
     change: SectionChange,
     words: &[Word<'_>],
 ) -> Outcome<'a>
-    ensures { lent editor.new ≡ lent editor.old }
+    ensures { E.held editor.new ≡ E.held editor.old }
 {
     match change {
         SectionChange::Push => push(editor, pushed_line(words)?),
@@ -101,13 +101,13 @@ fn change_outcome<'a>(
     }
 }
 
-fn style_outcome<'a>(
+fn style_outcome<'a, E: SectionEditor>(
     alloc: Global,
-    editor: &mut SectionMut<'_>,
+    editor: &mut E,
     style: SectionStyle,
     words: &[Word<'_>],
 ) -> Outcome<'a>
-    ensures { lent editor.new ≡ lent editor.old }
+    ensures { E.held editor.new ≡ E.held editor.old }
 {
     match style {
         SectionStyle::ImplicitLineEnd => implicit(editor, words),
@@ -115,9 +115,9 @@ fn style_outcome<'a>(
     }
 }
 
-fn view_outcome<'a>(
+fn view_outcome<'a, E: SectionEditor>(
     alloc: Global,
-    editor: &SectionMut<'_>,
+    editor: &E,
     view: SectionView,
     words: &[Word<'_>],
 ) -> Outcome<'a> {
@@ -128,41 +128,38 @@ fn view_outcome<'a>(
         SectionView::Values => Ok(Answer::Texts(editor.values(text(words)?)?)),
         SectionView::Text => {
             no_words(words)?;
-            Ok(Answer::text(editor.to_bstring()?))
+            Ok(Answer::text(editor.text()?))
         }
     }
 }
 
 /// `push BYTES OPT`, `pushc BYTES OPT BYTES`: a line behind the others, with a comment or without one.
-fn push<'a>(editor: &mut SectionMut<'_>, line: PushedLine<'_>) -> Outcome<'a>
-    ensures { lent editor.new ≡ lent editor.old }
+fn push<'a, E: SectionEditor>(editor: &mut E, line: PushedLine<'_>) -> Outcome<'a>
+    ensures { E.held editor.new ≡ E.held editor.old }
 {
-    match line.comment {
-        Some(comment) => editor.push_with_comment(line.name, line.value, comment)?,
-        None => editor.push(line.name, line.value)?,
-    }
+    editor.push_line(line)?;
     Ok(Answer::Done)
 }
 
 /// `set BYTES BYTES`: gives the last entry of the name a value, or pushes one; the old raw value.
-fn set<'a>(editor: &mut SectionMut<'_>, words: &[Word<'_>]) -> Outcome<'a>
-    ensures { lent editor.new ≡ lent editor.old }
+fn set<'a, E: SectionEditor>(editor: &mut E, words: &[Word<'_>]) -> Outcome<'a>
+    ensures { E.held editor.new ≡ E.held editor.old }
 {
     let (name, value) = text_and_bytes(words)?;
     Ok(Answer::found(editor.set(name, value)?))
 }
 
 /// `remove BYTES`: takes the last entry of the name out; its raw value.
-fn remove<'a>(editor: &mut SectionMut<'_>, words: &[Word<'_>]) -> Outcome<'a>
-    ensures { lent editor.new ≡ lent editor.old }
+fn remove<'a, E: SectionEditor>(editor: &mut E, words: &[Word<'_>]) -> Outcome<'a>
+    ensures { E.held editor.new ≡ E.held editor.old }
 {
     let name = text(words)?;
     Ok(Answer::found(editor.remove(name)?))
 }
 
 /// `pop`: takes the last entry out with all behind it; its name and what it means.
-fn pop<'a>(alloc: Global, editor: &mut SectionMut<'_>, words: &[Word<'_>]) -> Outcome<'a>
-    ensures { lent editor.new ≡ lent editor.old }
+fn pop<'a, E: SectionEditor>(alloc: Global, editor: &mut E, words: &[Word<'_>]) -> Outcome<'a>
+    ensures { E.held editor.new ≡ E.held editor.old }
 {
     no_words(words)?;
     let Some((name, meaning)) = editor.pop()? else {
@@ -175,8 +172,8 @@ fn pop<'a>(alloc: Global, editor: &mut SectionMut<'_>, words: &[Word<'_>]) -> Ou
 }
 
 /// `header SEC2`: gives the section another name and subsection.
-fn header<'a>(alloc: Global, editor: &mut SectionMut<'_>, words: &[Word<'_>]) -> Outcome<'a>
-    ensures { lent editor.new ≡ lent editor.old }
+fn header<'a, E: SectionEditor>(alloc: Global, editor: &mut E, words: &[Word<'_>]) -> Outcome<'a>
+    ensures { E.held editor.new ≡ E.held editor.old }
 {
     let names = section_names(words)?;
     let subsection = owned(alloc, names.subsection)?;
@@ -185,8 +182,8 @@ fn header<'a>(alloc: Global, editor: &mut SectionMut<'_>, words: &[Word<'_>]) ->
 }
 
 /// `nl`: a line end behind all.
-fn nl<'a>(editor: &mut SectionMut<'_>, words: &[Word<'_>]) -> Outcome<'a>
-    ensures { lent editor.new ≡ lent editor.old }
+fn nl<'a, E: SectionEditor>(editor: &mut E, words: &[Word<'_>]) -> Outcome<'a>
+    ensures { E.held editor.new ≡ E.held editor.old }
 {
     no_words(words)?;
     editor.push_newline()?;
@@ -194,45 +191,44 @@ fn nl<'a>(editor: &mut SectionMut<'_>, words: &[Word<'_>]) -> Outcome<'a>
 }
 
 /// `implicit B`: whether a line end is put behind what is pushed.
-fn implicit<'a>(editor: &mut SectionMut<'_>, words: &[Word<'_>]) -> Outcome<'a>
-    ensures { lent editor.new ≡ lent editor.old }
+fn implicit<'a, E: SectionEditor>(editor: &mut E, words: &[Word<'_>]) -> Outcome<'a>
+    ensures { E.held editor.new ≡ E.held editor.old }
 {
-    let on = flag(words)?;
-    let _ = editor.set_implicit_newline(on);
+    editor.end_lines(flag(words)?);
     Ok(Answer::Done)
 }
 
 /// `leading OPT`: the blanks before names, of white space alone.
-fn leading<'a>(alloc: Global, editor: &mut SectionMut<'_>, words: &[Word<'_>]) -> Outcome<'a>
-    ensures { lent editor.new ≡ lent editor.old }
+fn leading<'a, E: SectionEditor>(alloc: Global, editor: &mut E, words: &[Word<'_>]) -> Outcome<'a>
+    ensures { E.held editor.new ≡ E.held editor.old }
 {
     match optional(words)? {
-        None => editor.set_leading_whitespace(None)?,
+        None => editor.set_leading(None)?,
         Some(run) => {
             if !is_whitespace(run) {
                 return Err(Refusal::Line);
             }
             let run = BString::from_slice(alloc, run)?;
-            editor.set_leading_whitespace(Some(run))?;
+            editor.set_leading(Some(run))?;
         }
     }
     Ok(Answer::Done)
 }
 
 /// `blanks`: what the editor writes before a name, before and behind `=`, and as a line end.
-fn blanks<'a>(alloc: Global, editor: &SectionMut<'_>, words: &[Word<'_>]) -> Outcome<'a> {
+fn blanks<'a, E: SectionEditor>(alloc: Global, editor: &E, words: &[Word<'_>]) -> Outcome<'a> {
     no_words(words)?;
-    let (before, behind) = editor.separator_whitespace();
+    let (before, behind) = editor.around();
     let mut told = String::new(alloc);
-    put_optional(alloc, &mut told, editor.leading_whitespace())?;
+    put_optional(alloc, &mut told, editor.leading())?;
     put_optional(alloc, &mut told, before)?;
     put_optional(alloc, &mut told, behind)?;
-    put_bytes(alloc, &mut told, editor.newline())?;
+    put_bytes(alloc, &mut told, editor.line_end())?;
     Ok(Answer::Words(told))
 }
 
 /// `implicitvalue BYTES`: the meaning of the last entry of the name, and an entry without `=` told.
-fn implicitvalue<'a>(editor: &SectionMut<'_>, words: &[Word<'_>]) -> Outcome<'a> {
+fn implicitvalue<'a, E: SectionEditor>(editor: &E, words: &[Word<'_>]) -> Outcome<'a> {
     match editor.value_implicit(text(words)?)? {
         Some(value) => Ok(Answer::Optional(value)),
         None => Ok(Answer::Absent),
