@@ -1,5 +1,5 @@
 -- Blanks with memory of their own, and editors whose blanks are bytes of their own.
-use Rattle.std.specs.Prelude.{◌≡◌, ℕ, Bool, true, List, []}
+use Rattle.std.specs.Prelude.{◌≡◌, ◌+◌, ℕ, Bool, true, List, [], length}
 use Rattle.std.specs.List.{list_all}
 use Rattle.gitconf_text.specs.Bytes.{is_blank}
 use Rattle.gitconf_state.specs.Edit.{Spacing}
@@ -11,7 +11,7 @@ use Rattle.gitconf_body.specs.declared.editor.Leading.{Leading}
 use Rattle.gitconf_body.specs.declared.editor.Leading.TheVariants as leadings
 use Rattle.gitconf_body.specs.declared.editor.Around.{Around}
 use Rattle.gitconf_body.specs.declared.editor.Around.TheVariants as arounds
-use Rattle.gitconf_body.specs.Editors.{editor_in}
+use Rattle.gitconf_body.specs.Editors.{around_put, editor_in}
 
 -- the blanks are no spans of a buffer
 abbrev pub IsGivenLeading : Leading → Type 0
@@ -30,6 +30,10 @@ IsGiven e = IsGivenLeading e.leading × IsGivenAround e.around
 -- what such an editor is, whatever buffer it edits
 abbrev pub given_editor : Editor → states.Editor
 given_editor e = editor_in [] e
+
+-- both blanks around its `=` are put into the buffer
+abbrev pub PutsAround : Editor → Type 0
+PutsAround e = around_put e.around ≡ length (given_editor e).spacing.before + length (given_editor e).spacing.behind
 
 -- around `=` stand spaces and tabs alone
 pub record AreBlanks (spacing : Spacing) : Type 0 where

@@ -81,7 +81,7 @@ impl Blanks {
     ghost use Rattle.std.specs.Prelude.{◌≡◌, OnErr, OnOk, Bool};
     ghost use Rattle.gitconf_state.specs.Edit.{spacing_of};
     ghost use Rattle.gitconf_state.specs.Edits.{IsEditor};
-    ghost use Rattle.gitconf_body.specs.Blanks.{editor_with, given_editor, IsGiven};
+    ghost use Rattle.gitconf_body.specs.Blanks.{editor_with, given_editor, IsGiven, PutsAround};
 
     /// The blanks that a body has: those directly before its first entry, if there are any, and those around its first `=`. Where no
     /// entry has `=`, none stand around it; where there is no entry, the blanks are a tab, a space and a space. One walk over the
@@ -107,6 +107,7 @@ impl Blanks {
     /// An editor that writes these blanks. Takes no memory.
     pub fn editor(&self, line_end: LineEnd, ends: bool) -> Editor<'_>
         ensures given { IsGiven result }
+        ensures puts { PutsAround result }
         ensures told { given_editor result ≡ editor_with self.now line_end ends }
         ensures editor { IsEditor (given_editor result) }
         ensures line_end { result.line_end ≡ line_end }

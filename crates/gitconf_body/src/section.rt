@@ -1,5 +1,5 @@
 //! Sections that are made.
-ghost use Rattle.std.specs.Prelude.{◌≡◌, ℕ, ◌+◌, ◌-◌, ◌<◌, ◌≤◌, ◌^◌, min, true, ◌∷◌, [], List, length, Some, None, IfOk, OnOk, IsErrOf};
+ghost use Rattle.std.specs.Prelude.{◌≡◌, ◌↔◌, ℕ, ◌+◌, ◌-◌, ◌<◌, ◌≤◌, ◌^◌, min, true, ◌∷◌, [], List, length, Some, None, IfErr, IfOk, OnOk, IsErrOf};
 ghost use Rattle.std.specs.Option.{option_copied};
 ghost use Rattle.gitconf_text.specs.Names.{is_valid_or_none};
 ghost use Rattle.gitconf_text.specs.Part as parts;
@@ -213,6 +213,26 @@ pub fn section_with(
     Ok(Section { header, items })
 }
 
+/// Asks whether what [`new_section`] puts may be put behind the bytes of a buffer. Takes no memory.
+///
+/// # Errors
+///
+/// A [`span::Error`], number 3, where the buffer would be longer than 4294967295 bytes.
+pub fn check_section(
+    buffer: &[u8],
+    line_end: LineEnd,
+    name: &[u8],
+    subsection: Option<&[u8]>,
+) -> Result<(), span::Error>
+    requires room { length buffer.now < 2 ^ 32 }
+    ensures too_large { IsErrOf result 3
+        ↔ (2 ^ 32 ≤ length buffer.now + (length (bytes_of_line_end line_end) + header_bytes name.now (option_copied subsection.entry))) }
+    ensures only { IfErr result (λ e. e ≡ 3) }
+{
+    let count = header_len(name, subsection).saturating_add(line_end.as_bytes().len());
+    check_room(buffer, count)
+}
+
 /// A section that is made, its body one line end. Takes memory for what is put into the buffer, and for the items.
 ///
 /// # Errors
@@ -236,8 +256,7 @@ pub fn new_section(
     ensures refused { 2 ^ 32 ≤ length buffer.old.items + (length (bytes_of_line_end line_end) + header_bytes name.now (option_copied subsection.entry)) → IsErrOf result 3 }
     ensures extended { IsExtended copies.old.items copies.new.items }
 {
-    let count = header_len(name, subsection).saturating_add(line_end.as_bytes().len());
-    check_room(buffer, count)?;
+    check_section(buffer, line_end, name, subsection)?;
     let items = one_line(buffer, line_end)?;
     let header = append_header(buffer, copies, name, subsection)?;
     Ok(Section { header, items })

@@ -179,7 +179,7 @@ leading_blank o (CommentItem tag text ∷ items) is all = leading_blank (Some (C
 leading_blank o (EntryItem e ∷ items) is all = is
 
 -- so are those before a key
-spacing_blank : (items : List Item) → list_all has_blanks items ≡ true → are_blanks (spacing_of items).leading ≡ true
+pub spacing_blank : (items : List Item) → list_all has_blanks items ≡ true → are_blanks (spacing_of items).leading ≡ true
 spacing_blank items all = go (list_any is_entry items) refl
   where
     go : (t : Bool) → list_any is_entry items ≡ t → are_blanks (spacing_of items).leading ≡ true

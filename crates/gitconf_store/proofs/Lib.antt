@@ -1,7 +1,7 @@
 pub mod Loading
 pub mod Viewing
 pub mod SectionsKept
-mod SomeSections
+pub mod SomeSections
 pub mod Meanings
 pub mod SameStates
 pub mod BodyLaws

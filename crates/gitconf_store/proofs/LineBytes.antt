@@ -19,16 +19,16 @@ use Rattle.gitconf_body.specs.declared.editor.Around.TheVariants as arounds
 use Rattle.gitconf_body.specs.Editors.{around_bytes, around_in, around_put, changed_put, comment_put, editor_in, end_put, leading_in, leading_put, line_put, set_put, spacing_in, value_put}
 use Rattle.gitconf_body.specs.ValuesAt.{rewritten_put, written_put}
 
-both_bytes : (a b : List Token) → token_bytes (a ++ b) ≡ token_bytes a + token_bytes b
+pub both_bytes : (a b : List Token) → token_bytes (a ++ b) ≡ token_bytes a + token_bytes b
 both_bytes a b = ap length (flat_map-append spelled_token a b) ∙ length-append (flat_map spelled_token a) (flat_map spelled_token b)
 
-one_bytes : (t : Token) (ts : List Token) → token_bytes (t ∷ ts) ≡ length (spelled_token t) + token_bytes ts
+pub one_bytes : (t : Token) (ts : List Token) → token_bytes (t ∷ ts) ≡ length (spelled_token t) + token_bytes ts
 one_bytes t ts = length-append (spelled_token t) (flat_map spelled_token ts)
 
-items_bytes : (is js : List Item) → token_bytes (flat_map item_tokens (is ++ js)) ≡ token_bytes (flat_map item_tokens is) + token_bytes (flat_map item_tokens js)
+pub items_bytes : (is js : List Item) → token_bytes (flat_map item_tokens (is ++ js)) ≡ token_bytes (flat_map item_tokens is) + token_bytes (flat_map item_tokens js)
 items_bytes is js = ap token_bytes (flat_map-append item_tokens is js) ∙ both_bytes (flat_map item_tokens is) (flat_map item_tokens js)
 
-run_bytes : (run : List ℕ) → token_bytes (filled WhitespaceToken run) ≡ length run
+pub run_bytes : (run : List ℕ) → token_bytes (filled WhitespaceToken run) ≡ length run
 run_bytes [] = refl
 run_bytes (b ∷ run) = ap length (append-nil (b ∷ run))
 
@@ -58,7 +58,7 @@ entry_within b e key (Some value) =
     let second = run_bytes behind in
     omega (arith, put, n, f, s, g, v, first, second)
 
-comment_within : (comment : Option (List ℕ)) → comment_put comment ≤ token_bytes (flat_map item_tokens (comment_made comment))
+pub comment_within : (comment : Option (List ℕ)) → comment_put comment ≤ token_bytes (flat_map item_tokens (comment_made comment))
 comment_within None = omega arith
 comment_within (Some text) =
     let w = one_bytes (WhitespaceToken (32 ∷ [])) (CommentToken 35 (comment_text text) ∷ []) in
@@ -113,7 +113,7 @@ set_within b e key value items = go (last_or None (filter (is_entry_of key) item
     go (Some i) at = rw (at, set_put, value_set_tokens) (changed_within b e value i)
 
 -- So does an entry that is written at a place.
-made_bytes : (s : Spacing) (key value : List ℕ)
+pub made_bytes : (s : Spacing) (key value : List ℕ)
     → token_bytes (item_tokens (entry_made s key (Some value))) ≡ length key + (length s.before + (1 + (length s.behind + length (escaped value))))
 made_bytes s key value =
     let n = one_bytes (NameToken key) (filled WhitespaceToken s.before ++ (SeparatorToken ∷ (filled WhitespaceToken s.behind ++ ValueToken (escaped value) ∷ []))) in

@@ -28,5 +28,6 @@ pub mod ValuePlaces
 pub mod Existing
 pub mod RenameErrors
 pub mod Renamings
+pub mod NewSections
 pub mod Moves
 pub mod Joining

@@ -1,5 +1,7 @@
 pub mod Integers
 pub mod Conversions
+pub mod Puts
 pub mod Numbers
 pub mod ValueEditors
 pub mod Standing
+pub mod NewEditors

@@ -1,16 +1,17 @@
 -- The section of a number stands behind each edit of it.
-use Rattle.std.proofs.Common.{◌≡◌, ℕ, ◌+◌, ◌≤◌, ◌^◌, ◌==◌, ◌||◌, Bool, true, false, List, [], ◌∷◌, map, filter, Option, Some, None, Result, Ok, Err, refl, ap, sym, subst, ◌∙◌, arith}
-use Rattle.std.specs.Prelude.{if◌then◌else◌, IfErr, IfSome, OnErr, OnOk}
+use Rattle.std.proofs.Common.{◌≡◌, ◌⊎◌, ℕ, ◌==◌, ◌||◌, Bool, true, false, List, [], ◌∷◌, map, filter, Option, Some, None, Result, Ok, Err, inl, inr, refl, ap, sym, subst, ◌∙◌, arith}
+use Rattle.std.specs.Prelude.{if◌then◌else◌, IfErr, IfSome, IsErrAnd, IsErrOf, OnErr, OnOk}
 use Rattle.std.specs.List.{last_or, list_any}
 use Rattle.gitconf_text.specs.Part.{Item}
 use Rattle.gitconf_state.specs.Edit.{with_used}
-use Rattle.gitconf_state.specs.Edits.{Edit, SetValue, apply, change_items, change_numbered, new_bytes, numbered}
+use Rattle.gitconf_state.specs.Edits.{Edit, SetValue, apply, change_items, change_numbered, numbered}
 use Rattle.gitconf_state.specs.Editors.{Editor}
 use Rattle.gitconf_state.specs.State.{SectionState, State}
 use Rattle.gitconf_state.proofs.EditLists.{last_at, last_passing}
 use Rattle.gitconf_store.specs.Edits.{UsedGrows}
 use Rattle.gitconf_store.specs.Editors.{PutsIn}
-use Rattle.gix_config.specs.Edited.{has_number, IsEdited}
+use Rattle.gix_config.specs.Edited.{edit_numbers, has_name, has_number, IsEdited}
+use Rattle.gix_config.specs.Puts.{put_bytes}
 
 -- a section of the number
 pub numbered_stands : (id : ℕ) (state : State) → has_number id state ≡ true → (s : SectionState) × (numbered id state ≡ Some s)
@@ -44,21 +45,46 @@ sections_keep_numbers id number change same state = numbers_kept id _ (λ s. go 
     go s true = same s
     go s false = refl
 
--- an edit, from what a store says of it
-pub edited_in : {T : Type 0} (edit : Edit) (id : ℕ) (result : Result T ℕ) (count : ℕ) (old new : State) → has_number id old ≡ true
-    → OnOk result (new ≡ with_used new.used (apply edit old)) → OnErr result (new ≡ with_used new.used old)
-    → PutsIn id result count old new → count ≤ new_bytes edit old → IsEdited edit (λ e. e) result old new
-edited_in {T} edit id result count old new stands ok err puts within =
-    let used = go (numbered id old) (numbered_stands id old stands) puts.there in
-    record { ok = ok; err = err; grown = (let g = used.grown in omega (arith, g, within)); too_large = large result used }
+-- what holds where a section has the number
+pub if_numbered : {P : Type 0} (id : ℕ) (state : State) → has_number id state ≡ true → IfSome (numbered id state) (λ _. P) → P
+if_numbered {P} id state stands there = go (numbered id state) (numbered_stands id state stands) there
   where
-    go : (o : Option SectionState) → ((s : SectionState) × (o ≡ Some s)) → IfSome o (λ _. UsedGrows {T = T} result count old.used new.used) → UsedGrows {T = T} result count old.used new.used
+    go : (o : Option SectionState) → ((s : SectionState) × (o ≡ Some s)) → IfSome o (λ _. P) → P
     go None some there = absurd (let h = some.1 in cc)
     go (Some s) some there = there
 
-    large : (r : Result T ℕ) → UsedGrows {T = T} r count old.used new.used → IfErr r (λ e. e ≡ 3 → 2 ^ 32 ≤ old.used + new_bytes edit old)
-    large (Ok t) used = tt
-    large (Err e) used = λ is. let g = used.too_large (ap Err is) in omega (arith, g, within)
+-- what a place is refused by: 3 or want of memory
+no_six : {T : Type 0} (r : Result T ℕ) → IfErr r (λ e. (e ≡ 3) ⊎ (e ≡ 27)) → IsErrAnd r (λ e. e ≡ 6) → ⊥
+no_six (Ok t) known is = is
+no_six (Err e) (inl three) is = omega (arith, three, is)
+no_six (Err e) (inr memory) is = omega (arith, memory, is)
+
+is_three : {T : Type 0} (r : Result T ℕ) → IsErrAnd r (λ e. e ≡ 3) → IsErrOf r 3
+is_three (Ok t) is = absurd is
+is_three (Err e) is = ap Err is
+
+of_three : {T : Type 0} (r : Result T ℕ) → IsErrOf r 3 → IsErrAnd r (λ e. e ≡ 3)
+of_three r is = subst (λ t. IsErrAnd t (λ e. e ≡ 3)) (sym is) refl
+
+place_known : {T : Type 0} (r : Result T ℕ) → IfErr r (λ e. (e ≡ 3) ⊎ (e ≡ 27)) → IfErr r (λ e. list_any (λ refusal. refusal == e) edit_numbers ≡ true)
+place_known (Ok t) known = tt
+place_known (Err e) (inl three) = rw three refl
+place_known (Err e) (inr memory) = rw memory refl
+
+-- an edit, from what a store says of it
+pub edited_in : {T : Type 0} (edit : Edit) (id : ℕ) (result : Result T ℕ) (count : ℕ) (old new : State) → has_number id old ≡ true → has_name edit ≡ true
+    → OnOk result (new ≡ with_used new.used (apply edit old)) → OnErr result (new ≡ with_used new.used old)
+    → PutsIn id result count old new → count ≡ put_bytes edit old → IsEdited edit (λ e. e) result old new
+edited_in {T} edit id result count old new stands named ok err puts same =
+    let used : UsedGrows {T = T} result (put_bytes edit old) old.used new.used = subst (λ n. UsedGrows {T = T} result n old.used new.used) same (if_numbered id old stands puts.there) in
+    record {
+      ok = ok;
+      err = err;
+      grown = used.grown;
+      invalid = (λ six. absurd (no_six result used.known six), λ none. absurd (let no = sym named ∙ none in cc));
+      too_large = (λ three. (named, used.too_large (is_three result three)), λ large. of_three result (used.refused large.1));
+      known = place_known result used.known;
+    }
 
 -- the section still stands
 pub edited_stands : {T E : Type 0} (edit : Edit) (number : E → ℕ) (result : Result T E) (old new : State) (id : ℕ) → has_number id (apply edit old) ≡ has_number id old
@@ -73,11 +99,18 @@ either_stands (Err t) old new after id keeps stands ok err = ap (has_number id) 
 
 -- the same of another answer
 pub edited_ok : {T U E F : Type 0} (edit : Edit) (number : E → ℕ) (count : F → ℕ) (t : T) (u : U) (old new : State) → IsEdited {T = T} {E = E} edit number (Ok t) old new → IsEdited {T = U} {E = F} edit count (Ok u) old new
-edited_ok edit number count t u old new e = record { ok = e.ok; err = tt; grown = e.grown; too_large = tt }
+edited_ok edit number count t u old new e = record { ok = e.ok; err = tt; grown = e.grown; invalid = e.invalid; too_large = e.too_large; known = tt }
 
 pub edited_err : {T U E F : Type 0} (edit : Edit) (number : E → ℕ) (count : F → ℕ) (e : E) (f : F) (old new : State) → count f ≡ number e
     → IsEdited {T = T} {E = E} edit number (Err e) old new → IsEdited {T = U} {E = F} edit count (Err f) old new
-edited_err edit number count e f old new same is = record { ok = tt; err = is.err; grown = is.grown; too_large = λ three. is.too_large (sym same ∙ three) }
+edited_err edit number count e f old new same is = record {
+  ok = tt;
+  err = is.err;
+  grown = is.grown;
+  invalid = (λ six. is.invalid.0 (sym same ∙ six), λ none. same ∙ is.invalid.1 none);
+  too_large = (λ three. is.too_large.0 (sym same ∙ three), λ large. same ∙ is.too_large.1 large);
+  known = subst (λ n. list_any (λ refusal. refusal == n) edit_numbers ≡ true) (sym same) is.known;
+}
 
 -- the same edit, by the editor and the key that they are
 pub set_again : {T E : Type 0} (id : ℕ) (value : List ℕ) (number : E → ℕ) (result : Result T E) (old new : State) (editor other : Editor) (key name : List ℕ) → editor ≡ other → key ≡ name
@@ -89,11 +122,3 @@ pub used_stands : {T E : Type 0} (result : Result T E) (old new after : State) (
     → has_number id old ≡ true → OnOk result (new ≡ with_used new.used after) → OnErr result (new ≡ with_used new.used old) → has_number id new ≡ true
 used_stands (Ok t) old new after id keeps stands ok err = ap (has_number id) ok ∙ keeps ∙ stands
 used_stands (Err t) old new after id keeps stands ok err = ap (has_number id) err ∙ stands
-
--- what holds where a section has the number
-pub if_numbered : {P : Type 0} (id : ℕ) (state : State) → has_number id state ≡ true → IfSome (numbered id state) (λ _. P) → P
-if_numbered {P} id state stands there = go (numbered id state) (numbered_stands id state stands) there
-  where
-    go : (o : Option SectionState) → ((s : SectionState) × (o ≡ Some s)) → IfSome o (λ _. P) → P
-    go None some there = absurd (let h = some.1 in cc)
-    go (Some s) some there = there

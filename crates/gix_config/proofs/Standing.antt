@@ -1,5 +1,5 @@
 -- Which section an editor stands on.
-use Rattle.std.proofs.Common.{◌≡◌, ◌≢◌, ◌⊎◌, ◌==◌, ◌||◌, ◌&&◌, ℕ, Bool, true, false, List, [], ◌∷◌, map, filter, Option, Some, None, Result, Ok, Err, inl, inr, refl, ap, sym, subst, ◌∙◌}
+use Rattle.std.proofs.Common.{◌≡◌, ◌≢◌, ◌⊎◌, ◌==◌, ◌||◌, ◌&&◌, ℕ, Bool, true, false, List, [], ◌∷◌, map, filter, Option, Some, None, Err, inl, inr, refl, ap, sym, subst, ◌∙◌, arith}
 use Rattle.std.specs.List.{last_or, list_any}
 use Rattle.std.specs.Option.{option_map}
 use Rattle.std.proofs.lemmas.Bool.{eq-eqb}
@@ -7,22 +7,21 @@ use Rattle.gitconf_text.specs.declared.parse.section.header.Error.TheVariants as
 use Rattle.gitconf_base.specs.Metadata.{Meta}
 use Rattle.gitconf_state.specs.Edit.{Spacing}
 use Rattle.gitconf_state.specs.Edits.{numbered, with_sections}
-use Rattle.gitconf_state.specs.Editors.{Editor}
 use Rattle.gitconf_state.specs.LineEnds.{file_line_end}
 use Rattle.gitconf_state.specs.Lookup as states
-use Rattle.gitconf_state.specs.Lookup.{Listed, Miss, is_named, listed, listing}
+use Rattle.gitconf_state.specs.Lookup.{Listed, Miss, is_named, listed, listing, miss_of}
 use Rattle.gitconf_state.specs.State.{SectionState, State}
 use Rattle.gitconf_state.proofs.EditLists.{filter_both, filter_none}
 use Rattle.gitconf_store.specs.declared.lookup.existing.Error.{Error as Existing}
 use Rattle.gitconf_store.specs.declared.lookup.existing.Error.TheVariants.{SectionMissing, SubSectionMissing, KeyMissing, ValueName, Memory}
 use Rattle.gitconf_store.specs.Misses.{IsExisting, missing}
-use Rattle.gitconf_store.specs.Picks.{picked}
+use Rattle.gitconf_store.specs.Picks.{picked, IsMissing}
 use Rattle.gitconf_store.specs.SomeSections.{AreSome, WithSome}
 use Rattle.gix_config.specs.declared.file.section_mut.making.Error.{Error}
 use Rattle.gix_config.specs.declared.file.section_mut.making.Error.TheVariants.{NonePasses, Lookup}
 use Rattle.gitconf_store.proofs.Numbering.{numbered_has}
 use Rattle.gix_config.specs.Edited.{has_number}
-use Rattle.gix_config.specs.SectionEditors.{blanks_at, editor_at, IsFoundOrMade, IsNumbered, IsPassing}
+use Rattle.gix_config.specs.SectionEditors.{blanks_at, editor_at, IsFoundOrMadeOf, IsNumbered, IsPassing, IsPickedOf}
 
 or_right : (a b : Bool) → b ≡ true → (a || b) ≡ true
 or_right true b is = refl
@@ -95,6 +94,17 @@ edited_by state (Some s) id spacing line_end is found =
     let same : blanks_at s ≡ (id, spacing) = cc in
     (λ i. Some ((same i).0, record { spacing = (same i).1; line_end = sym is i; ends = true }))
 
+-- what is missing is told as it is, whatever else would be found
+pub missing_picked : {T A : Type 0} (shown : T → A) (give : SectionState → A) (name : List ℕ) (subsection : Option (List ℕ)) (state : State) (found : Option SectionState) (refusal : Existing)
+    → IsMissing name subsection state refusal → IsPickedOf {T = T} shown give name subsection state found (Err (Lookup refusal))
+missing_picked {T} shown give name subsection state found refusal is =
+    subst (λ r. IsPickedOf {T = T} shown give name subsection state found (Err (Lookup r))) (sym is.1) (go (miss_of name subsection (listed state)) refl)
+  where
+    go : (m : Miss) → miss_of name subsection (listed state) ≡ m → IsPickedOf {T = T} shown give name subsection state found (Err (Lookup (missing m)))
+    go states.SectionMissing told = (is.0, ap missing (sym told))
+    go states.SubSectionMissing told = (is.0, ap missing (sym told))
+    go states.KeyMissing told = (is.0, ap missing (sym told))
+
 -- a refusal tells the same of an editor
 pub passing_refused : {T U A B : Type 0} (shown : T → A) (view : U → B) (give : SectionState → A) (other : SectionState → B) (name : List ℕ) (subsection : Option (List ℕ)) (keeps : Meta → Bool) (state : State) (refusal : Error)
     → IsPassing shown give name subsection keeps state (Err refusal) → IsPassing view other name subsection keeps state (Err refusal)
@@ -135,11 +145,14 @@ number_found id state s is =
     go (inl other) = absurd (cc)
     go (inr any) = any
 
--- want of memory is no refusal of a name
-pub memory_refused : {T A : Type 0} (after : T → State) (shown : T → A) (give : SectionState → A) (name : List ℕ) (subsection : Option (List ℕ)) (keeps : Meta → Bool) (old : State)
-    → picked name subsection keeps old ≢ None → IsFoundOrMade {T = T} after shown give name subsection keeps old (Err headers.Memory)
-memory_refused after shown give name subsection keeps old some = record {
+-- want of memory is no refusal of a section that is made
+pub memory_refused : {T A : Type 0} (after : T → State) (shown : T → A) (give : SectionState → A) (name : List ℕ) (subsection : Option (List ℕ)) (found : Option SectionState) (old : State)
+    → found ≢ None → IsFoundOrMadeOf {T = T} after shown give name subsection found old (Err headers.Memory)
+memory_refused after shown give name subsection found old some = record {
   ok = tt;
+  grown = tt;
   invalid_name = (λ is. absurd (cc), λ none. absurd (some none.0));
   invalid_subsection = (λ is. absurd (cc), λ none. absurd (some none.0));
+  too_large = (λ is. absurd (omega (arith, is)), λ none. absurd (some none.0));
+  known = refl;
 }

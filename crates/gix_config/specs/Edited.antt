@@ -1,19 +1,34 @@
 -- What an edit leaves of a file, and which section an editor stands on.
-use Rattle.std.specs.Prelude.{◌≡◌, ◌==◌, ◌+◌, ◌≤◌, ◌^◌, ℕ, Bool, true, List, [], ◌∷◌, Option, Some, None, Result, IfErr, OnErr, OnOk}
+use Rattle.std.specs.Prelude.{◌≡◌, ◌==◌, ◌+◌, ◌≤◌, ◌^◌, ◌↔◌, ℕ, Bool, false, true, List, [], ◌∷◌, Option, Some, None, Result, IfErr, IsErrAnd, OnErr, OnOk}
 use Rattle.std.specs.List.{list_any}
+use Rattle.gitconf_text.specs.Names.{is_value_name}
 use Rattle.gitconf_state.specs.Edit.{with_used}
-use Rattle.gitconf_state.specs.Edits.{Edit, apply, new_bytes}
+use Rattle.gitconf_state.specs.Edits.{Edit, Push, SetValue, apply}
 use Rattle.gitconf_state.specs.State.{State}
 pub use Rattle.gitconf_store.specs.ValueErrors.{value_number}
+use Rattle.gix_config.specs.Puts.{put_bytes}
 
 -- a section has the number
 abbrev pub has_number : (number : ℕ) → State → Bool
 has_number number state = list_any (λ s. s.number == number) state.sections
 
--- The edit was done, or refused, and the file is then as it was but for the bytes of its buffer. No more bytes are put there than its
--- tokens have; refusal 3 comes only where these would pass the limit.
+-- the name of a value that an edit pushes or sets may be one
+abbrev pub has_name : Edit → Bool
+has_name (Push number editor key value comment) = is_value_name key
+has_name (SetValue number editor key value) = is_value_name key
+has_name _ = true
+
+-- the refusals that an editor's edit has
+abbrev pub edit_numbers : List ℕ
+edit_numbers = 3 ∷ 6 ∷ 27 ∷ []
+
+-- The edit was done, or refused, and the file is then as it was but for the bytes of its buffer. No more bytes are put there than the edit
+-- puts (`put_bytes`). Refusal 6 comes exactly for a name that is none, and else 3 exactly where these bytes would pass the limit; any other
+-- is want of memory.
 pub record IsEdited {T E : Type 0} (edit : Edit) (number : E → ℕ) (result : Result T E) (old new : State) : Type 0 where
   pub ok : OnOk result (new ≡ with_used new.used (apply edit old))
   pub err : OnErr result (new ≡ with_used new.used old)
-  pub grown : new.used ≤ old.used + new_bytes edit old
-  pub too_large : IfErr result (λ e. number e ≡ 3 → 2 ^ 32 ≤ old.used + new_bytes edit old)
+  pub grown : new.used ≤ old.used + put_bytes edit old
+  pub invalid : IsErrAnd result (λ e. number e ≡ 6) ↔ (has_name edit ≡ false)
+  pub too_large : IsErrAnd result (λ e. number e ≡ 3) ↔ ((has_name edit ≡ true) × (2 ^ 32 ≤ old.used + put_bytes edit old))
+  pub known : IfErr result (λ e. list_any (λ refusal. refusal == number e) edit_numbers ≡ true)

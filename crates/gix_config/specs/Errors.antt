@@ -9,6 +9,8 @@ use Rattle.gix_config.specs.declared.lookup.Error.{Error as LookUp}
 use Rattle.gix_config.specs.declared.lookup.Error.TheVariants as look_up
 use Rattle.gix_config.specs.declared.file.includes.Error.{Error as Includes}
 use Rattle.gix_config.specs.declared.file.includes.Error.TheVariants as includes
+use Rattle.gix_config.specs.declared.file.section_mut.making.Error.{Error as NoEditor}
+use Rattle.gix_config.specs.declared.file.section_mut.making.Error.TheVariants as no_editor
 use Rattle.gix_config.specs.declared.file.init.Error.{Error as Init}
 use Rattle.gix_config.specs.declared.file.init.Error.TheVariants as init
 
@@ -17,6 +19,12 @@ abbrev pub look_up_number : {E : Type 0} → LookUp E → ℕ
 look_up_number (look_up.ValueMissing e) = existing_number e
 look_up_number (look_up.FailedConversion e) = 10
 look_up_number look_up.Memory = 27
+
+-- The number of why there is no editor. That none passes has no number of its own: it counts as that of a key that is missing, as where
+-- sections are renamed.
+abbrev pub section_mut_number : NoEditor → ℕ
+section_mut_number no_editor.NonePasses = 9
+section_mut_number (no_editor.Lookup e) = existing_number e
 
 -- the number of a refused include
 abbrev pub includes_number : Includes → ℕ

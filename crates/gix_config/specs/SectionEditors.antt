@@ -1,7 +1,9 @@
 -- Editors of a section: the file, the section's number, and what they write beside names and values.
-use Rattle.std.specs.Prelude.{◌≡◌, ◌≢◌, ◌↔◌, ℕ, Bool, true, false, List, IfOk, IsErrOf, Option, Some, None, Result, Ok, Err}
+use Rattle.std.specs.Prelude.{◌≡◌, ◌≢◌, ◌↔◌, ◌==◌, ◌+◌, ◌≤◌, ℕ, Bool, true, false, List, IfErr, IfOk, IsErrAnd, IsErrOf, Option, Some, None, Result, Ok, Err}
+use Rattle.std.specs.List.{list_any}
 use Rattle.std.specs.Option.{option_map}
 use Rattle.std.specs.Borrow.{GName}
+use Rattle.gitconf_text.specs.HeaderErrors.{header_number}
 use Rattle.gitconf_text.specs.Names.{is_made_name, is_valid_or_none}
 use Rattle.gitconf_text.specs.SectionKeys.{SectionKey}
 use Rattle.gitconf_text.specs.declared.parse.section.header.Error.{Error as HeaderError}
@@ -16,7 +18,11 @@ use Rattle.gitconf_body.specs.Blanks.{editor_with}
 use Rattle.gitconf_store.specs.declared.lookup.existing.Error.{Error as Existing}
 use Rattle.gitconf_store.specs.declared.lookup.existing.Error.TheVariants.{KeyMissing, Memory}
 use Rattle.gitconf_store.specs.Misses.{IsExisting}
+use Rattle.gitconf_store.specs.NewSections.{HasNoPlace}
 use Rattle.gitconf_store.specs.Picks.{picked, HasSection, IsMissing}
+use Rattle.gitconf_store.specs.Renamings.{header_numbers}
+use Rattle.gitconf_store.specs.SomeSections.{WithSome}
+use Rattle.gix_config.specs.Puts.{put_bytes}
 use Rattle.gix_config.specs.declared.file.section_mut.SectionMut.{SectionMut}
 use Rattle.gix_config.specs.declared.file.section_mut.making.Error.{Error}
 use Rattle.gix_config.specs.declared.file.section_mut.making.Error.TheVariants.{NonePasses, Lookup}
@@ -54,12 +60,22 @@ abbrev pub blanks_at : SectionState → ℕ × Spacing
 blanks_at s = (s.number, spacing_of s.items)
 
 -- What was found of the last section of the name and subsection that passes; it is told where there are some and none passes.
+abbrev pub IsPickedOf : {T A : Type 0} → (shown : T → A) → (give : SectionState → A)
+    → (name : List ℕ) → (subsection : Option (List ℕ)) → State → (found : Option SectionState) → Result T Error → Type 0
+IsPickedOf shown give name subsection state found (Ok t) = option_map give found ≡ Some (shown t)
+IsPickedOf shown give name subsection state found (Err NonePasses) = HasSection name subsection state × (found ≡ None)
+IsPickedOf shown give name subsection state found (Err (Lookup Memory)) = found ≢ None
+IsPickedOf shown give name subsection state found (Err (Lookup refusal)) = IsMissing name subsection state refusal
+
 abbrev pub IsPassing : {T A : Type 0} → (shown : T → A) → (give : SectionState → A)
     → (name : List ℕ) → (subsection : Option (List ℕ)) → (keeps : Meta → Bool) → State → Result T Error → Type 0
-IsPassing shown give name subsection keeps state (Ok found) = option_map give (picked name subsection keeps state) ≡ Some (shown found)
-IsPassing shown give name subsection keeps state (Err NonePasses) = HasSection name subsection state × (picked name subsection keeps state ≡ None)
-IsPassing shown give name subsection keeps state (Err (Lookup Memory)) = picked name subsection keeps state ≢ None
-IsPassing shown give name subsection keeps state (Err (Lookup refusal)) = IsMissing name subsection state refusal
+IsPassing shown give name subsection keeps state result = IsPickedOf shown give name subsection state (picked name subsection keeps state) result
+
+-- whatever the filter answers
+abbrev pub IsSomePassing : {T A : Type 0} → (shown : T → A) → (give : SectionState → A)
+    → (name : List ℕ) → (subsection : Option (List ℕ)) → State → Result T Error → Type 0
+IsSomePassing shown give name subsection state result =
+    WithSome (λ s. IsPickedOf shown give name subsection state (picked name subsection (λ _. true) s) result) state
 
 -- What was found of the section of the number.
 abbrev pub IsNumbered : {T A : Type 0} → (shown : T → A) → (give : SectionState → A) → (number : ℕ) → State → Result T Error → Type 0
@@ -82,13 +98,37 @@ abbrev pub IsPassingEditorOfKey : Option SectionKey → (keeps : Meta → Bool) 
 IsPassingEditorOfKey None keeps state result = result ≡ Err (Lookup KeyMissing)
 IsPassingEditorOfKey (Some key) keeps state result = IsPassing told (editor_at state) key.section key.subsection keeps state result
 
--- What was found, in a state that stays; where nothing was, a section was made, and that is told of it. Refusals of names are of a section
--- that has to be made.
+abbrev pub IsSomePassingEditorOfKey : Option SectionKey → State → Result (SectionMut Spacing) Error → Type 0
+IsSomePassingEditorOfKey None state result = result ≡ Err (Lookup KeyMissing)
+IsSomePassingEditorOfKey (Some key) state result = IsSomePassing told (editor_at state) key.section key.subsection state result
+
+-- What was found, in a state that stays; where nothing was, a section was made, and that is told of it.
 abbrev pub IsFoundOr : {A : Type 0} → (give : SectionState → A) → (name : List ℕ) → (subsection : Option (List ℕ)) → Option SectionState → (old new : State) → A → Type 0
 IsFoundOr give name subsection (Some s) old new told = (new ≡ old) × (told ≡ give s)
 IsFoundOr give name subsection None old new told = (new ≡ with_used new.used (apply (NewSection name subsection) old)) × (told ≡ give (new_section name subsection old))
 
-pub record IsFoundOrMade {T A : Type 0} (after : T → State) (shown : T → A) (give : SectionState → A) (name : List ℕ) (subsection : Option (List ℕ)) (keeps : Meta → Bool) (old : State) (result : Result T HeaderError) : Type 0 where
-  pub ok : IfOk result (λ t. IsFoundOr give name subsection (picked name subsection keeps old) old (after t) (shown t))
-  pub invalid_name : IsErrOf result InvalidName ↔ ((picked name subsection keeps old ≡ None) × (is_made_name name ≡ false))
-  pub invalid_subsection : IsErrOf result InvalidSubSection ↔ ((picked name subsection keeps old ≡ None) × (is_made_name name ≡ true) × (is_valid_or_none subsection ≡ false))
+-- What was found of a section that is made where there is none. Refusals 4, 5 and 3 are of a section that has to be made, each with its
+-- cause; any other is want of memory.
+pub record IsFoundOrMadeOf {T A : Type 0} (after : T → State) (shown : T → A) (give : SectionState → A) (name : List ℕ) (subsection : Option (List ℕ)) (found : Option SectionState) (old : State) (result : Result T HeaderError) : Type 0 where
+  pub ok : IfOk result (λ t. IsFoundOr give name subsection found old (after t) (shown t))
+  pub grown : IfOk result (λ t. (after t).used ≤ old.used + put_bytes (NewSection name subsection) old)
+  pub invalid_name : IsErrOf result InvalidName ↔ ((found ≡ None) × (is_made_name name ≡ false))
+  pub invalid_subsection : IsErrOf result InvalidSubSection ↔ ((found ≡ None) × (is_made_name name ≡ true) × (is_valid_or_none subsection ≡ false))
+  pub too_large : IsErrAnd result (λ e. header_number e ≡ 3)
+      ↔ ((found ≡ None) × (is_made_name name ≡ true) × (is_valid_or_none subsection ≡ true) × HasNoPlace name subsection old)
+  pub known : IfErr result (λ e. list_any (λ number. number == header_number e) header_numbers ≡ true)
+
+abbrev pub IsFoundOrMade : {T A : Type 0} → (after : T → State) → (shown : T → A) → (give : SectionState → A)
+    → (name : List ℕ) → (subsection : Option (List ℕ)) → (keeps : Meta → Bool) → (old : State) → Result T HeaderError → Type 0
+IsFoundOrMade after shown give name subsection keeps old result =
+    IsFoundOrMadeOf after shown give name subsection (picked name subsection keeps old) old result
+
+-- whatever the filter answers
+abbrev pub IsSomeFoundOrMade : {T A : Type 0} → (after : T → State) → (shown : T → A) → (give : SectionState → A)
+    → (name : List ℕ) → (subsection : Option (List ℕ)) → (old : State) → Result T HeaderError → Type 0
+IsSomeFoundOrMade after shown give name subsection old result =
+    WithSome (λ s. IsFoundOrMadeOf after shown give name subsection (picked name subsection (λ _. true) s) old result) old
+
+-- The file behind a section that wasn't made: as it was but for the bytes of its buffer.
+abbrev pub IsUnmade : (name : List ℕ) → (subsection : Option (List ℕ)) → (old new : State) → Type 0
+IsUnmade name subsection old new = (new ≡ with_used new.used old) × (new.used ≤ old.used + put_bytes (NewSection name subsection) old)

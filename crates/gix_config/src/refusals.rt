@@ -1,7 +1,7 @@
 //! The numbers of refusals, E1 to E28, as programs tell them. They stand here alone: no crate below asks for a number.
 ghost use Rattle.std.specs.Prelude.{◌≡◌};
 
-use crate::file::{includes, init, rename_section, set_raw_value};
+use crate::file::{includes, init, rename_section, section, section_mut, set_raw_value};
 use crate::lookup;
 use crate::lookup::existing;
 use gitconf_parse::error as parse;
@@ -119,6 +119,33 @@ impl<E> Refusal for lookup::Error<E> {
             lookup::Error::ValueMissing(e) => e.number(),
             lookup::Error::FailedConversion(_) => 10,
             lookup::Error::Memory => 27,
+        }
+    }
+}
+
+impl Refusal for section::value::Error {
+    ghost use Rattle.gitconf_store.specs.ValueErrors.{value_number};
+
+    ghost number_of = { value_number };
+
+    fn number(&self) -> u8 {
+        match self {
+            section::value::Error::ValueName(e) => e.number(),
+            section::value::Error::Span(e) => e.number(),
+        }
+    }
+}
+
+/// That no section passes has no number of its own: it counts as 9, as where sections are renamed.
+impl Refusal for section_mut::Error {
+    ghost use Rattle.gix_config.specs.Errors.{section_mut_number};
+
+    ghost number_of = { section_mut_number };
+
+    fn number(&self) -> u8 {
+        match self {
+            section_mut::Error::NonePasses => 9,
+            section_mut::Error::Lookup(e) => e.number(),
         }
     }
 }

@@ -69,10 +69,7 @@ impl From<header::Error> for Refusal {
 
 impl From<section::value::Error> for Refusal {
     fn from(refusal: section::value::Error) -> Refusal {
-        match refusal {
-            section::value::Error::ValueName(refusal) => Refusal::from(refusal),
-            section::value::Error::Span(refusal) => Refusal::from(refusal),
-        }
+        Refusal::Numbered(refusal.number())
     }
 }
 

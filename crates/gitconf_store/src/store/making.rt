@@ -6,6 +6,7 @@ use gitconf_body::section;
 use gitconf_table::table::SectionId;
 use gitconf_text::NoMemory;
 use gitconf_text::parse::section::header::{Error, validate};
+use gitconf_text::parse::span;
 
 impl Store {
     ghost use Rattle.std.specs.List.{list_any};
@@ -16,7 +17,9 @@ impl Store {
     ghost use Rattle.gitconf_state.specs.Edit.{header_bytes, spacing_of, with_used};
     ghost use Rattle.gitconf_state.specs.Edits.{answer, apply, NewSection, Number};
     ghost use Rattle.gitconf_state.specs.LineEnds.{file_line_end};
-    ghost use Rattle.gitconf_store.specs.Edits.{EditGrows, set_numbers};
+    ghost use Rattle.gitconf_store.specs.Edits.{EditGrows};
+    ghost use Rattle.gitconf_store.specs.NewSections.{IsSectionChecked};
+    ghost use Rattle.gitconf_store.specs.Renamings.{header_numbers};
 
     /// Makes a section behind all others, its body one line end, the file's; it has the file's metadata. Answers its number.
     ///
@@ -44,7 +47,7 @@ impl Store {
         ensures refused { is_made_name name.now ≡ true → is_valid_or_none (option_copied subsection_name.entry) ≡ true
             → 2 ^ 32 ≤ self.old.used + (length (file_line_end self.old) + header_bytes name.now (option_copied subsection_name.entry))
             → IsErrAnd result (λ e. header_number e ≡ 3) }
-        ensures known { IfErr result (λ e. list_any (λ number. number == header_number e) set_numbers ≡ true) }
+        ensures known { IfErr result (λ e. list_any (λ number. number == header_number e) header_numbers ≡ true) }
     {
         validate(name.as_bytes(), subsection_name)?;
         let line_end = self.line_end();
@@ -65,6 +68,24 @@ impl Store {
             .sections
             .push(name.as_bytes(), subsection_name, section)?;
         Ok(id)
+    }
+
+    /// Asks whether [`Store::new_section`] may make a section. Takes no memory; a walk over the file's items up to the first line end.
+    ///
+    /// # Errors
+    ///
+    /// Refusals 4 and 5, each exactly where [`Store::new_section`] has it; else 3 exactly where the buffer would be longer than
+    /// 4294967295 bytes or no number is left.
+    pub fn check_new_section(&self, name: &str, subsection_name: Option<&[u8]>) -> Result<(), Error>
+        ensures { IsSectionChecked name.now (option_copied subsection_name.entry) self.now result }
+    {
+        validate(name.as_bytes(), subsection_name)?;
+        if self.sections.numbers_left() == 0 {
+            return Err(Error::Span(span::Error::too_large()));
+        }
+        let line_end = self.line_end();
+        section::check_section(&self.buffer, line_end, name.as_bytes(), subsection_name)?;
+        Ok(())
     }
 
     /// The blanks that an editor of a body without entries has.

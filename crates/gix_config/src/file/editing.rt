@@ -9,20 +9,23 @@ use gitconf_text::parse::span;
 use gitconf_write::line_end::LineEnd;
 
 impl File {
+    ghost use Rattle.std.specs.List.{list_any};
     ghost use Rattle.std.specs.Option.{option_copied};
-    ghost use Rattle.std.specs.Prelude.{◌≡◌, ◌↔◌, ◌+◌, [], length, true, false, IfOk, IsErrOf, IfSome, IsOk, None, Some, OnOk, OnErr, option_map};
+    ghost use Rattle.std.specs.Prelude.{◌≡◌, ◌↔◌, ◌==◌, ◌+◌, ◌≤◌, [], true, false, IfErr, IfOk, IsErrAnd, IsErrOf, IfSome, IsOk, None, Some, OnOk, OnErr, option_map};
     ghost use Rattle.gitconf_text.specs.declared.parse.section.header.Error.TheVariants.{InvalidName, InvalidSubSection};
     ghost use Rattle.gitconf_text.specs.Names.{is_made_name, is_valid_or_none, is_value_name};
-    ghost use Rattle.gitconf_state.specs.Edit.{header_bytes, spacing_of, with_used};
+    ghost use Rattle.gitconf_state.specs.Edit.{spacing_of, with_used};
     ghost use Rattle.gitconf_state.specs.Edits.{answer, apply, numbered, Entry, IsEditor, NewSection, Pop, Push, PushLineEnd, Raw, Remove, Rename, SetTrust, SetValue};
     ghost use Rattle.gitconf_state.specs.LineEnds.{file_line_end};
     ghost use Rattle.gitconf_write.specs.LineEnds.{bytes_of_line_end};
     ghost use Rattle.gitconf_text.specs.HeaderErrors.{header_number};
-    ghost use Rattle.gitconf_store.specs.Edits.{EditGrows};
-    ghost use Rattle.gitconf_store.specs.Renamings.{HeaderGrows};
+    ghost use Rattle.gitconf_store.specs.NewSections.{HasNoPlace};
+    ghost use Rattle.gitconf_store.specs.Renamings.{header_numbers, HeaderGrows};
+    ghost use Rattle.gitconf_body.specs.Blanks.{PutsAround};
     ghost use Rattle.gitconf_store.specs.Editors.{given_editor, IsGiven};
     ghost use Rattle.gitconf_store.specs.Views.{shown};
     ghost use Rattle.gix_config.specs.Edited.{has_number, IsEdited};
+    ghost use Rattle.gix_config.specs.Puts.{put_bytes};
 
     /// [`Store::push_entry`](gitconf_store::store::Store::push_entry).
     pub(crate) fn push_entry(
@@ -35,6 +38,7 @@ impl File {
     ) -> Result<(), span::Error>
         requires stands { has_number id self.old ≡ true }
         requires given { IsGiven editor.now }
+        requires puts { PutsAround editor.now }
         requires editor { IsEditor (given_editor editor.now) }
         requires key { is_value_name key.now ≡ true }
         ensures done { IsEdited (Push id (given_editor editor.now) key.now (option_copied value.entry) (option_copied comment.entry)) (λ e. e) result self.old self.new }
@@ -67,6 +71,7 @@ impl File {
     ) -> Result<Option<Vec<u8>>, span::Error>
         requires stands { has_number id self.old ≡ true }
         requires given { IsGiven editor.now }
+        requires puts { PutsAround editor.now }
         requires editor { IsEditor (given_editor editor.now) }
         requires key { is_value_name key.now ≡ true }
         ensures done { IsEdited (SetValue id (given_editor editor.now) key.now value.now) (λ e. e) result self.old self.new }
@@ -126,7 +131,7 @@ impl File {
         self.store.line_end()
     }
 
-    /// Makes a section, and answers its number and the blanks of an editor of it. The names are looked at first.
+    /// Makes a section, and answers its number and the blanks of an editor of it. The names and the room are looked at first.
     pub(crate) fn make_section(
         &mut self,
         name: &str,
@@ -139,10 +144,14 @@ impl File {
         ensures made { IfOk result (λ f. f ≡ (self.old.next, spacing_of [])) }
         ensures stands { IfOk result (λ f. has_number f.0 self.new ≡ true) }
         ensures err { OnErr result (self.new ≡ with_used self.new.used self.old) }
-        ensures used { EditGrows result header_number
-            (length (file_line_end self.old) + header_bytes name.now (option_copied subsection_name.entry)) self.old self.new }
+        ensures grown { self.new.used ≤ self.old.used + put_bytes (NewSection name.now (option_copied subsection_name.entry)) self.old }
+        ensures too_large { IsErrAnd result (λ e. header_number e ≡ 3)
+            ↔ ((is_made_name name.now ≡ true) × (is_valid_or_none (option_copied subsection_name.entry) ≡ true)
+            × HasNoPlace name.now (option_copied subsection_name.entry) self.old) }
+        ensures known { IfErr result (λ e. list_any (λ number. number == header_number e) header_numbers ≡ true) }
     {
-        header::validate(name.as_bytes(), subsection_name)?;
+        // All other refusals come before any growth.
+        self.store.check_new_section(name, subsection_name)?;
         let blanks = self.store.fresh_blanks()?;
         let id = self.store.new_section(name, subsection_name)?;
         Ok((id, blanks))

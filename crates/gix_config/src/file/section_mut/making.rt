@@ -11,7 +11,8 @@ use thiserror::Error;
 /// Why there is no editor.
 #[derive(Debug, Drop, Error)]
 pub enum Error {
-    /// There are such sections, and none passes the filter; or no section has the number.
+    /// There are such sections, and none passes the filter; or no section has the number. It has no number among the refusals of its own,
+    /// and counts as 9 ([`Refusal`](crate::refusals::Refusal)).
     #[error("No section passes")]
     NonePasses,
     /// What is missing, or a growth was refused: refusals 7, 8, 9 and 27.
@@ -45,9 +46,11 @@ impl From<NoMemory> for Error {
 impl File {
     ghost use Rattle.std.specs.Borrow.{sem, RestsIfErr};
     ghost use Rattle.std.specs.Fn.{ComputesKey};
+    ghost use Rattle.std.specs.List.{list_any};
     ghost use Rattle.std.specs.Option.{option_copied, option_map};
-    ghost use Rattle.std.specs.Prelude.{◌≡◌, ◌≢◌, ◌↔◌, Bool, false, true, IfOk, IfSome, IsErrOf, MatchResult, None, OnErr};
+    ghost use Rattle.std.specs.Prelude.{◌≡◌, ◌≢◌, ◌↔◌, ◌==◌, ◌+◌, ◌≤◌, Bool, false, true, IfErr, IfOk, IfSome, IsErrAnd, IsErrOf, MatchResult, None, OnErr};
     ghost use Rattle.gitconf_text.specs.declared.parse.section.header.Error.TheVariants.{InvalidName, InvalidSubSection};
+    ghost use Rattle.gitconf_text.specs.HeaderErrors.{header_number};
     ghost use Rattle.gitconf_text.specs.Names.{is_made_name, is_valid_or_none};
     ghost use Rattle.gitconf_text.specs.SectionKeys.{parsed_section_key};
     ghost use Rattle.gitconf_base.specs.Metadata.{Meta};
@@ -55,10 +58,14 @@ impl File {
     ghost use Rattle.gitconf_state.specs.Edits.{NewSection, apply};
     ghost use Rattle.gitconf_state.specs.Lookup.{listed, miss_of};
     ghost use Rattle.gitconf_store.specs.Misses.{IsExisting};
+    ghost use Rattle.gitconf_store.specs.NewSections.{HasNoPlace};
     ghost use Rattle.gitconf_store.specs.Picks.{picked};
+    ghost use Rattle.gitconf_store.specs.Renamings.{header_numbers};
+    ghost use Rattle.gitconf_store.specs.SomeSections.{WithSome};
     ghost use Rattle.gix_config.specs.contracts.file.File.{the_row};
     ghost use Rattle.gix_config.specs.Edited.{has_number};
-    ghost use Rattle.gix_config.specs.SectionEditors.{blanks_at, edited, editor_at, lent, told, IsEditorOfKey, IsFoundOrMade, IsNumbered, IsPassing, IsPassingEditorOfKey};
+    ghost use Rattle.gix_config.specs.Puts.{put_bytes};
+    ghost use Rattle.gix_config.specs.SectionEditors.{blanks_at, edited, editor_at, lent, told, IsEditorOfKey, IsFoundOrMade, IsNumbered, IsPassing, IsPassingEditorOfKey, IsSomeFoundOrMade, IsSomePassing, IsSomePassingEditorOfKey, IsUnmade};
 
     /// The number and the blanks of the last section that has the name and subsection.
     fn blanks_by_names(
@@ -89,6 +96,7 @@ impl File {
         requires { F.IsAlwaysCallable filter }
         ensures exact { (keeps : Meta → Bool) → ComputesKey F.FnMut keeps filter
             → IsPassing (λ f. f) blanks_at name.now (option_copied subsection_name.entry) keeps self.now result }
+        ensures some { IsSomePassing (λ f. f) blanks_at name.now (option_copied subsection_name.entry) self.now result }
         ensures stands { IfOk result (λ f. has_number f.0 self.now ≡ true) }
     {
         let (id, blanks) = match self.section_filter(name, subsection_name, filter) {
@@ -111,6 +119,8 @@ impl File {
         ensures exact { (keeps : Meta → Bool) → ComputesKey F.FnMut keeps filter
             → MatchResult result (λ found. found ≡ option_map blanks_at (picked name.now (option_copied subsection_name.entry) keeps self.now))
             (λ _. picked name.now (option_copied subsection_name.entry) keeps self.now ≢ None) }
+        ensures some { WithSome (λ s. MatchResult result (λ found. found ≡ option_map blanks_at (picked name.now (option_copied subsection_name.entry) (λ _. true) s))
+            (λ _. picked name.now (option_copied subsection_name.entry) (λ _. true) s ≢ None)) self.now }
         ensures stands { IfOk result (λ found. IfSome found (λ f. has_number f.0 self.now ≡ true)) }
     {
         let (id, blanks) = match self.section_filter(name, subsection_name, filter) {
@@ -132,8 +142,9 @@ impl File {
         requires { F.IsAlwaysCallable filter }
         ensures exact { (keeps : Meta → Bool) → ComputesKey F.FnMut keeps filter
             → IsFoundOrMade (λ _. self.new) (λ f. f) blanks_at name.now (option_copied subsection_name.entry) keeps self.old result }
+        ensures some { IsSomeFoundOrMade (λ _. self.new) (λ f. f) blanks_at name.now (option_copied subsection_name.entry) self.old result }
         ensures stands { IfOk result (λ f. has_number f.0 self.new ≡ true) }
-        ensures err { OnErr result (self.new ≡ with_used self.new.used self.old) }
+        ensures err { OnErr result (IsUnmade name.now (option_copied subsection_name.entry) self.old self.new) }
     {
         match self.blanks_if_passing(name, subsection_name, filter) {
             Ok(Some(found)) => Ok(found),
@@ -150,7 +161,7 @@ impl File {
     ) -> Result<(SectionId, Blanks), header::Error>
         ensures exact { IsFoundOrMade (λ _. self.new) (λ f. f) blanks_at name.now (option_copied subsection_name.entry) (λ _. true) self.old result }
         ensures stands { IfOk result (λ f. has_number f.0 self.new ≡ true) }
-        ensures err { OnErr result (self.new ≡ with_used self.new.used self.old) }
+        ensures err { OnErr result (IsUnmade name.now (option_copied subsection_name.entry) self.old self.new) }
     {
         self.find_or_make(name, subsection_name, |_| true)
     }
@@ -235,6 +246,8 @@ impl File {
         // For a filter that answers by what it is shown.
         ensures exact { (keeps : Meta → Bool) → ComputesKey F.FnMut keeps filter
             → IsPassing told (editor_at self.old) name.now (option_copied subsection_name.entry) keeps self.old result }
+        // Whatever the filter answers.
+        ensures some { IsSomePassing told (editor_at self.old) name.now (option_copied subsection_name.entry) self.old result }
         ensures* refused { sem 𝓛 (RestsIfErr the_row self.entry lent result (λ n. n ≡ self.old)) }
     {
         let (id, blanks) = self.blanks_of_passing(name, subsection_name, filter)?;
@@ -264,6 +277,8 @@ impl File {
         // For a filter that answers by what it is shown.
         ensures exact { (keeps : Meta → Bool) → ComputesKey F.FnMut keeps filter
             → IsPassingEditorOfKey (parsed_section_key section_key.now) keeps self.old result }
+        // Whatever the filter answers.
+        ensures some { IsSomePassingEditorOfKey (parsed_section_key section_key.now) self.old result }
         ensures* refused { sem 𝓛 (RestsIfErr the_row self.entry lent result (λ n. n ≡ self.old)) }
     {
         let Some(key) = KeyRef::parse(section_key) else {
@@ -297,13 +312,14 @@ impl File {
     /// Makes a section behind all others, its body one line end, the file's, with the file's metadata; and answers an editor of it, which
     /// writes a tab before names and a space on both sides of `=`.
     ///
-    /// A walk over the file's items up to the first line end. Takes memory for what is put into the buffer, for the items, and for the
+    /// Three walks over the file's items up to the first line end. Takes memory for what is put into the buffer, for the items, and for the
     /// section's place.
     ///
     /// # Errors
     ///
-    /// Refusal 4 for a name that a section can't be made of, else 5 for a subsection that it can't be made of; 3 where the file would
-    /// take more than 4294967295 bytes, or there is no number left; 27 for want of memory. The file is then as it was.
+    /// Refusal 4 for a name that a section can't be made of, else 5 for a subsection that it can't be made of; else 3 where the file would
+    /// take more than 4294967295 bytes, or there is no number left, before any growth; else 27 for want of memory. The file is then as it
+    /// was, but that its buffer may have grown.
     pub fn new_section(
         &mut self,
         name: &str,
@@ -315,7 +331,12 @@ impl File {
         ensures name { IsErrOf result InvalidName ↔ (is_made_name name.now ≡ false) }
         ensures subsection { IsErrOf result InvalidSubSection
             ↔ ((is_made_name name.now ≡ true) × (is_valid_or_none (option_copied subsection_name.entry) ≡ false)) }
-        ensures* refused { sem 𝓛 (RestsIfErr the_row self.entry lent result (λ n. n ≡ with_used n.used self.old)) }
+        ensures too_large { IsErrAnd result (λ e. header_number e ≡ 3)
+            ↔ ((is_made_name name.now ≡ true) × (is_valid_or_none (option_copied subsection_name.entry) ≡ true)
+            × HasNoPlace name.now (option_copied subsection_name.entry) self.old) }
+        ensures known { IfErr result (λ e. list_any (λ number. number == header_number e) header_numbers ≡ true) }
+        ensures grown { IfOk result (λ e. (edited e).used ≤ self.old.used + put_bytes (NewSection name.now (option_copied subsection_name.entry)) self.old) }
+        ensures* refused { sem 𝓛 (RestsIfErr the_row self.entry lent result (IsUnmade name.now (option_copied subsection_name.entry) self.old)) }
     {
         let line_end = self.line_end();
         let (id, blanks) = self.make_section(name, subsection_name)?;
@@ -340,7 +361,7 @@ impl File {
     ) -> Result<SectionMut<'_>, header::Error>
         ensures same_file { IfOk result (λ e. lent e ≡ self.entry.ghost_name) }
         ensures exact { IsFoundOrMade edited told (editor_at self.old) name.now (option_copied subsection_name.entry) (λ _. true) self.old result }
-        ensures* refused { sem 𝓛 (RestsIfErr the_row self.entry lent result (λ n. n ≡ with_used n.used self.old)) }
+        ensures* refused { sem 𝓛 (RestsIfErr the_row self.entry lent result (IsUnmade name.now (option_copied subsection_name.entry) self.old)) }
     {
         let line_end = self.line_end();
         let (id, blanks) = self.find_any_or_make(name, subsection_name)?;
@@ -370,7 +391,9 @@ impl File {
         // For a filter that answers by what it is shown.
         ensures exact { (keeps : Meta → Bool) → ComputesKey F.FnMut keeps filter
             → IsFoundOrMade edited told (editor_at self.old) name.now (option_copied subsection_name.entry) keeps self.old result }
-        ensures* refused { sem 𝓛 (RestsIfErr the_row self.entry lent result (λ n. n ≡ with_used n.used self.old)) }
+        // Whatever the filter answers.
+        ensures some { IsSomeFoundOrMade edited told (editor_at self.old) name.now (option_copied subsection_name.entry) self.old result }
+        ensures* refused { sem 𝓛 (RestsIfErr the_row self.entry lent result (IsUnmade name.now (option_copied subsection_name.entry) self.old)) }
     {
         let line_end = self.line_end();
         let (id, blanks) = self.find_or_make(name, subsection_name, filter)?;

@@ -17,6 +17,7 @@ impl File {
     ghost use Rattle.gitconf_base.specs.Metadata.{Meta};
     ghost use Rattle.gitconf_state.specs.Edit.{spacing_of};
     ghost use Rattle.gitconf_state.specs.Edits.{apply, items_of_numbered, told_of, DeleteAt, IsEditor, WriteAt};
+    ghost use Rattle.gitconf_body.specs.Blanks.{PutsAround};
     ghost use Rattle.gitconf_body.specs.ValuesAt.{keeps_line_end, stands};
     ghost use Rattle.gitconf_store.specs.Editors.{given_editor, IsGiven};
     ghost use Rattle.gitconf_store.specs.Lookups.{IsFound, key_at};
@@ -65,6 +66,7 @@ impl File {
     ) -> Result<(), span::Error>
         requires stands { has_number id self.old ≡ true }
         requires given { IsGiven editor.now }
+        requires puts { PutsAround editor.now }
         requires editor { IsEditor (given_editor editor.now) }
         requires key { is_value_name key.now ≡ true }
         ensures done { IsEdited (WriteAt id (given_editor editor.now) place (stands in_place_of) (keeps_line_end in_place_of) key.now value.now)

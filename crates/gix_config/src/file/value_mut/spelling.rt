@@ -33,7 +33,7 @@ impl Spelling {
     ghost use Rattle.std.specs.Prelude.{◌≡◌, IfOk, true};
     ghost use Rattle.gitconf_text.specs.Names.{is_value_name};
     ghost use Rattle.gitconf_state.specs.Edits.{IsEditor};
-    ghost use Rattle.gitconf_body.specs.Blanks.{editor_with, given_editor, IsGiven};
+    ghost use Rattle.gitconf_body.specs.Blanks.{editor_with, given_editor, IsGiven, PutsAround};
 
     /// A copy of a name, and blanks.
     ///
@@ -60,6 +60,7 @@ impl Spelling {
     /// An editor that writes the blanks. Takes no memory.
     pub(crate) fn editor(&self, line_end: LineEnd) -> Editor<'_>
         ensures given { IsGiven result }
+        ensures puts { PutsAround result }
         ensures told { given_editor result ≡ editor_with self.now.spacing line_end true }
         ensures editor { IsEditor (given_editor result) }
     {

@@ -1,6 +1,7 @@
-use Rattle.std.proofs.Common.{◌≡◌, true, ap, sym, subst}
+use Rattle.std.proofs.Common.{◌≡◌, true, [], refl, ap, sym, subst}
 use Rattle.std.specs.Option.{option_copied, option_map}
 use Rattle.gitconf_store.specs.Views.{shown}
+use Rattle.gitconf_store.proofs.SomeSections.{none_of}
 use Rattle.gix_config.specs.Edited.{has_number}
 use Rattle.gix_config.specs.SectionEditors.{blanks_at}
 use Rattle.gix_config.proofs.Standing.{named_none, some_stands}
@@ -9,6 +10,9 @@ use Rattle.gix_config.proofs.file.File.blanks_if_passing.Goals as goal
 pub returns-in-Err-clause-exact : goal.returns-in-Err-clause-exact
 returns-in-Err-clause-exact g c = λ keeps h.
     sym (ap (option_map blanks_at) (named_none c.args.name.now (option_copied c.args.subsection_name) keeps c.args.self.now c.in-Err.ensures.refused.0))
+
+pub returns-in-Err-clause-some : goal.returns-in-Err-clause-some
+returns-in-Err-clause-some g c = ([], none_of c.args.self.now.sections, refl)
 
 pub returns-clause-stands : goal.returns-clause-stands
 returns-clause-stands g c =

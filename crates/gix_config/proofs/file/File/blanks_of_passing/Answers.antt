@@ -1,9 +1,18 @@
-use Rattle.std.proofs.Common.{◌≡◌, true, ap, sym, subst}
+use Rattle.std.proofs.Common.{◌≡◌, true, [], None, ap, sym, subst}
 use Rattle.std.specs.Option.{option_copied, option_map}
 use Rattle.gitconf_store.specs.Views.{shown}
 use Rattle.gix_config.specs.Edited.{has_number}
-use Rattle.gix_config.proofs.Standing.{some_stands}
+use Rattle.gitconf_store.proofs.SomeSections.{none_of}
+use Rattle.gix_config.specs.SectionEditors.{blanks_at}
+use Rattle.gix_config.proofs.Standing.{missing_picked, some_stands}
 use Rattle.gix_config.proofs.file.File.blanks_of_passing.Goals as goal
+
+pub returns-in-Err-clause-some : goal.returns-in-Err-clause-some
+returns-in-Err-clause-some g c = (
+  [],
+  none_of c.args.self.now.sections,
+  missing_picked (λ f. f) blanks_at c.args.name.now (option_copied c.args.subsection_name) c.args.self.now None c.in-Err.missing c.in-Err.ensures.refused,
+)
 
 pub returns-clause-stands : goal.returns-clause-stands
 returns-clause-stands g c =

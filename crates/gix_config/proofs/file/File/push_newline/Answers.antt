@@ -1,4 +1,4 @@
-use Rattle.std.proofs.Common.{rules, [], length, ap, ◌∙◌, arith}
+use Rattle.std.proofs.Common.{length, refl, ap, ◌∙◌}
 use Rattle.gitconf_state.specs.Edits.{PushLineEnd}
 use Rattle.gitconf_state.specs.Editors.{line_end_pushed}
 use Rattle.gitconf_write.specs.LineEnds.{bytes_of_line_end}
@@ -8,8 +8,8 @@ use Rattle.gix_config.proofs.Numbers.{edited_in, edited_stands, items_keep_numbe
 use Rattle.gix_config.proofs.file.File.push_newline.Goals as goal
 
 pub returns-clause-done : goal.returns-clause-done
-returns-clause-done c = rw (← c.self.view_is) (edited_in (PushLineEnd c.args.id (given_editor c.args.editor.now)) c.args.id c.push_newline.result (length (bytes_of_line_end c.args.editor.now.line_end)) c.self.inside.store c.push_newline.new.self (ap (has_number c.args.id) c.self.view_is ∙ c.requires.stands)
-    c.push_newline.ensures.ok c.push_newline.ensures.err c.push_newline.ensures.used (omega arith))
+returns-clause-done c = rw (← c.self.view_is) (edited_in (PushLineEnd c.args.id (given_editor c.args.editor.now)) c.args.id c.push_newline.result (length (bytes_of_line_end c.args.editor.now.line_end)) c.self.inside.store c.push_newline.new.self (ap (has_number c.args.id) c.self.view_is ∙ c.requires.stands) refl
+    c.push_newline.ensures.ok c.push_newline.ensures.err c.push_newline.ensures.used refl)
 
 pub returns-clause-stands : goal.returns-clause-stands
 returns-clause-stands c =

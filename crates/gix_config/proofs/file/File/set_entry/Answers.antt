@@ -1,16 +1,16 @@
-use Rattle.std.proofs.Common.{rules, [], length, ap, ◌∙◌}
+use Rattle.std.proofs.Common.{ap, ◌∙◌}
 use Rattle.gitconf_state.specs.Edits.{SetValue, items_of_numbered}
 use Rattle.gitconf_state.specs.Editors.{value_set}
 use Rattle.gitconf_body.specs.Editors.{set_put}
 use Rattle.gitconf_store.specs.Editors.{given_editor}
-use Rattle.gitconf_store.proofs.LineBytes.{set_within}
 use Rattle.gix_config.specs.Edited.{has_number}
+use Rattle.gix_config.proofs.Puts.{set_is}
 use Rattle.gix_config.proofs.Numbers.{edited_in, edited_stands, items_keep_numbers}
 use Rattle.gix_config.proofs.file.File.set_entry.Goals as goal
 
 pub returns-clause-done : goal.returns-clause-done
-returns-clause-done c = rw (← c.self.view_is) (edited_in (SetValue c.args.id (given_editor c.args.editor.now) c.args.key.now c.args.value.now) c.args.id c.set_entry.result (set_put c.args.editor.now c.args.key.now c.args.value.now (items_of_numbered c.args.id c.self.inside.store)) c.self.inside.store c.set_entry.new.self (ap (has_number c.args.id) c.self.view_is ∙ c.requires.stands)
-    c.set_entry.ensures.ok c.set_entry.ensures.err c.set_entry.ensures.used (set_within [] c.args.editor.now c.args.key.now c.args.value.now (items_of_numbered c.args.id c.self.inside.store)))
+returns-clause-done c = rw (← c.self.view_is) (edited_in (SetValue c.args.id (given_editor c.args.editor.now) c.args.key.now c.args.value.now) c.args.id c.set_entry.result (set_put c.args.editor.now c.args.key.now c.args.value.now (items_of_numbered c.args.id c.self.inside.store)) c.self.inside.store c.set_entry.new.self (ap (has_number c.args.id) c.self.view_is ∙ c.requires.stands) c.requires.key
+    c.set_entry.ensures.ok c.set_entry.ensures.err c.set_entry.ensures.used (set_is c.args.editor.now c.args.key.now c.args.value.now (items_of_numbered c.args.id c.self.inside.store) c.requires.given c.requires.puts))
 
 pub returns-clause-stands : goal.returns-clause-stands
 returns-clause-stands c =

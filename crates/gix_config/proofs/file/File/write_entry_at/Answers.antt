@@ -1,10 +1,10 @@
-use Rattle.std.proofs.Common.{rules, [], length, ap, ◌∙◌}
+use Rattle.std.proofs.Common.{refl, ap, ◌∙◌}
 use Rattle.gitconf_state.specs.Edits.{WriteAt}
 use Rattle.gitconf_state.specs.Editors.{written_at}
 use Rattle.gitconf_body.specs.ValuesAt.{keeps_line_end, stands, written_put}
 use Rattle.gitconf_store.specs.Editors.{given_editor}
-use Rattle.gitconf_store.proofs.LineBytes.{written_within}
 use Rattle.gix_config.specs.Edited.{has_number}
+use Rattle.gix_config.proofs.Puts.{written_is}
 use Rattle.gix_config.proofs.Numbers.{edited_in, edited_stands, items_keep_numbers}
 use Rattle.gix_config.proofs.file.File.write_entry_at.Goals as goal
 
@@ -12,8 +12,8 @@ pub returns-clause-done : goal.returns-clause-done
 returns-clause-done c = rw (← c.self.view_is) (edited_in
     (WriteAt c.args.id (given_editor c.args.editor.now) c.args.place (stands c.args.in_place_of) (keeps_line_end c.args.in_place_of) c.args.key.now c.args.value.now)
     c.args.id c.write_entry_at.result (written_put c.args.editor.now c.args.key.now c.args.value.now) c.self.inside.store c.write_entry_at.new.self
-    (ap (has_number c.args.id) c.self.view_is ∙ c.requires.stands)
-    c.write_entry_at.ensures.ok c.write_entry_at.ensures.err c.write_entry_at.ensures.used (written_within [] c.args.editor.now c.args.key.now c.args.value.now))
+    (ap (has_number c.args.id) c.self.view_is ∙ c.requires.stands) refl
+    c.write_entry_at.ensures.ok c.write_entry_at.ensures.err c.write_entry_at.ensures.used (written_is c.args.editor.now c.args.key.now c.args.value.now c.requires.puts))
 
 pub returns-clause-stands : goal.returns-clause-stands
 returns-clause-stands c =

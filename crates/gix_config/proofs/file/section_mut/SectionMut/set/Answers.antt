@@ -12,3 +12,8 @@ pub returns-in-Ok-Some-clause-done : goal.returns-in-Ok-Some-clause-done
 returns-in-Ok-Some-clause-done c =
     edited_ok _ (λ e. e) value_number _ _ _ _
     (set_again _ _ _ _ _ _ _ _ _ _ c.editor-editor.ensures.told c.as_bytes-key.ensures.value c.in-Ok-Some.ensures.done)
+
+pub returns-in-Ok-None-clause-done : goal.returns-in-Ok-None-clause-done
+returns-in-Ok-None-clause-done c =
+    edited_ok _ (λ e. e) value_number _ _ _ _
+    (set_again _ _ _ _ _ _ _ _ _ _ c.editor-editor.ensures.told c.as_bytes-key.ensures.value c.in-Ok-None.ensures.done)

@@ -1,0 +1,129 @@
+-- What editors put into the buffer is counted by their edits alone, and is no more than the tokens that they make.
+use Rattle.std.proofs.Common.{◌≡◌, ℕ, ◌+◌, ◌≤◌, Bool, true, false, List, [], ◌∷◌, ◌++◌, length, filter, Option, Some, None, refl, ap, arith}
+use Rattle.std.specs.Prelude.{flat_map, if◌then◌else◌}
+use Rattle.std.specs.List.{last_or}
+use Rattle.gitconf_text.specs.Part.{Assigned, Item, BlanksItem, LineEndsItem, CommentItem, EntryItem}
+use Rattle.gitconf_text.specs.Token.{WhitespaceToken, NewlineToken, ValueToken, NameToken, SeparatorToken, item_tokens, filled}
+use Rattle.gitconf_text.specs.Value.{escaped}
+use Rattle.gitconf_state.specs.Edit.{Spacing, is_entry_of, leading_item, token_bytes, value_tokens_of}
+use Rattle.gitconf_state.specs.Edits as edits
+use Rattle.gitconf_state.specs.Edits.{Edit, items_of_numbered, new_bytes, value_set_tokens}
+use Rattle.gitconf_state.specs.Editors as states
+use Rattle.gitconf_state.specs.Editors.{comment_made, end_made, entry_made, line_made}
+use Rattle.gitconf_state.specs.State.{State}
+use Rattle.gitconf_body.specs.declared.editor.Editor.{Editor}
+use Rattle.gitconf_body.specs.declared.editor.Leading.{Leading}
+use Rattle.gitconf_body.specs.declared.editor.Leading.TheVariants as leadings
+use Rattle.gitconf_body.specs.Blanks.{given_editor, IsGiven, IsGivenLeading, PutsAround}
+use Rattle.gitconf_body.specs.Editors.{changed_put, comment_put, end_put, leading_in, leading_put, line_put, set_put, value_put}
+use Rattle.gitconf_store.proofs.HeaderBytes.{header_tokens}
+use Rattle.gitconf_store.proofs.LineBytes.{both_bytes, comment_within, items_bytes, made_bytes, one_bytes, run_bytes}
+use Rattle.gix_config.specs.Puts as puts
+use Rattle.gix_config.specs.Puts.{assigned_bytes, changed_bytes, line_bytes, put_bytes, value_set_bytes}
+
+-- blanks that are bytes are put as they are
+leading_is : (l : Leading) → IsGivenLeading l → leading_put l ≡ puts.run_bytes (leading_in [] l)
+leading_is leadings.Nothing given = refl
+leading_is (leadings.Stored run) given = absurd given
+leading_is (leadings.Given bytes) given = refl
+
+value_is : (e : Editor) (value : Option (List ℕ)) → PutsAround e → value_put e.around value ≡ assigned_bytes (given_editor e).spacing value
+value_is e None around = refl
+value_is e (Some value) around = ap (λ n. n + length (escaped value)) around
+
+pub line_is : (e : Editor) (key : List ℕ) (value comment : Option (List ℕ)) → IsGiven e → PutsAround e
+    → line_put e key value comment ≡ line_bytes (given_editor e) key value comment
+line_is e key value comment given around =
+    λ i. leading_is e.leading given.0 i + (length key + (value_is e value around i + (comment_put comment + end_put e)))
+
+changed_is : (e : Editor) (value : List ℕ) (i : Item) → PutsAround e → changed_put e.around value i ≡ changed_bytes (given_editor e).spacing value i
+changed_is e value (BlanksItem run) around = refl
+changed_is e value (LineEndsItem run) around = refl
+changed_is e value (CommentItem tag text) around = refl
+changed_is e value (EntryItem entry) around = go entry.assigned refl
+  where
+    go : (o : Option Assigned) → entry.assigned ≡ o → changed_put e.around value (EntryItem entry) ≡ changed_bytes (given_editor e).spacing value (EntryItem entry)
+    go (Some a) at = rw at refl
+    go None at = rw at (value_is e (Some value) around)
+
+pub set_is : (e : Editor) (key value : List ℕ) (items : List Item) → IsGiven e → PutsAround e → set_put e key value items ≡ value_set_bytes (given_editor e) key value items
+set_is e key value items given around = go (last_or None (filter (is_entry_of key) items)) refl
+  where
+    go : (o : Option Item) → last_or None (filter (is_entry_of key) items) ≡ o → set_put e key value items ≡ value_set_bytes (given_editor e) key value items
+    go None at = rw (at, set_put, value_set_bytes) (line_is e key (Some value) None given around)
+    go (Some i) at = rw (at, set_put, value_set_bytes) (changed_is e value i around)
+
+pub written_is : (e : Editor) (key value : List ℕ) → PutsAround e → length key + value_put e.around (Some value) ≡ length key + assigned_bytes (given_editor e).spacing (Some value)
+written_is e key value around = ap (λ n. length key + n) (value_is e (Some value) around)
+
+-- The tokens of a line that is pushed have these bytes, and more.
+leading_fits : (o : Option (List ℕ)) → puts.run_bytes o ≤ token_bytes (flat_map item_tokens (leading_item o))
+leading_fits None = omega arith
+leading_fits (Some run) = let l = one_bytes (WhitespaceToken run) [] in omega (arith, l)
+
+entry_fits : (spacing : Spacing) (key : List ℕ) (value : Option (List ℕ)) → length key + assigned_bytes spacing value ≤ token_bytes (item_tokens (entry_made spacing key value))
+entry_fits spacing key None = let l = one_bytes (NameToken key) (ValueToken [] ∷ []) in omega (arith, l)
+entry_fits spacing key (Some value) = let made = made_bytes spacing key value in omega (arith, made)
+
+end_fits : (e : states.Editor) → (if e.ends then length e.line_end else 0) ≤ token_bytes (flat_map item_tokens (end_made e))
+end_fits e = go e.ends
+  where
+    go : (t : Bool) → (if t then length e.line_end else 0) ≤ token_bytes (flat_map item_tokens (if t then LineEndsItem e.line_end ∷ [] else []))
+    go true = let l = one_bytes (NewlineToken e.line_end) [] in omega (arith, l)
+    go false = omega arith
+
+line_fits : (e : states.Editor) (key : List ℕ) (value comment : Option (List ℕ)) → line_bytes e key value comment ≤ token_bytes (flat_map item_tokens (line_made e key value comment))
+line_fits e key value comment =
+    let lead = leading_fits e.spacing.leading in
+    let entry = entry_fits e.spacing key value in
+    let text = comment_within comment in
+    let ended = end_fits e in
+    let all = items_bytes (leading_item e.spacing.leading) (entry_made e.spacing key value ∷ (comment_made comment ++ end_made e)) in
+    let line = both_bytes (item_tokens (entry_made e.spacing key value)) (flat_map item_tokens (comment_made comment ++ end_made e)) in
+    let behind = items_bytes (comment_made comment) (end_made e) in
+    omega (arith, lead, entry, text, ended, all, line, behind)
+
+-- So do those of a value that is set.
+changed_fits : (spacing : Spacing) (value : List ℕ) (i : Item) → changed_bytes spacing value i ≤ token_bytes (value_tokens_of spacing value i)
+changed_fits spacing value (BlanksItem run) = omega arith
+changed_fits spacing value (LineEndsItem run) = omega arith
+changed_fits spacing value (CommentItem tag text) = omega arith
+changed_fits spacing value (EntryItem entry) = go entry.assigned refl
+  where
+    go : (o : Option Assigned) → entry.assigned ≡ o → changed_bytes spacing value (EntryItem entry) ≤ token_bytes (value_tokens_of spacing value (EntryItem entry))
+    go (Some a) at = rw at (let v = one_bytes (ValueToken (escaped value)) [] in omega (arith, v))
+    go None at =
+        let f = both_bytes (filled WhitespaceToken spacing.before) (SeparatorToken ∷ (filled WhitespaceToken spacing.behind ++ ValueToken (escaped value) ∷ [])) in
+        let s = one_bytes SeparatorToken (filled WhitespaceToken spacing.behind ++ ValueToken (escaped value) ∷ []) in
+        let g = both_bytes (filled WhitespaceToken spacing.behind) (ValueToken (escaped value) ∷ []) in
+        let v = one_bytes (ValueToken (escaped value)) [] in
+        let first = run_bytes spacing.before in
+        let second = run_bytes spacing.behind in
+        rw at (omega (arith, f, s, g, v, first, second))
+
+set_fits : (e : states.Editor) (key value : List ℕ) (items : List Item) → value_set_bytes e key value items ≤ token_bytes (value_set_tokens e key value items)
+set_fits e key value items = go (last_or None (filter (is_entry_of key) items)) refl
+  where
+    go : (o : Option Item) → last_or None (filter (is_entry_of key) items) ≡ o → value_set_bytes e key value items ≤ token_bytes (value_set_tokens e key value items)
+    go None at = rw (at, value_set_bytes, value_set_tokens) (line_fits e key (Some value) None)
+    go (Some i) at = rw (at, value_set_bytes, value_set_tokens) (changed_fits e.spacing value i)
+
+-- What an edit of an editor puts is no more than its tokens have.
+pub puts_within : (edit : Edit) (state : State) → put_bytes edit state ≤ new_bytes edit state
+puts_within (edits.SetRawValue name subsection key keeps value) state = omega arith
+puts_within (edits.Push number editor key value comment) state = line_fits editor key value comment
+puts_within (edits.PushLineEnd number editor) state = omega arith
+puts_within (edits.SetValue number editor key value) state = set_fits editor key value (items_of_numbered number state)
+puts_within (edits.Remove number key) state = omega arith
+puts_within (edits.Pop number) state = omega arith
+puts_within (edits.WriteAt number editor place stands keeps_line_end key value) state = entry_fits editor.spacing key (Some value)
+puts_within (edits.DeleteAt number place) state = omega arith
+puts_within (edits.Rename number name subsection) state = header_tokens name subsection
+puts_within (edits.RenameAll name subsection keeps new_name new_subsection) state = omega arith
+puts_within (edits.NewSection name subsection) state = let h = header_tokens name subsection in omega (arith, h)
+puts_within (edits.PushSection detached) state = omega arith
+puts_within (edits.RemoveSection name subsection keeps) state = omega arith
+puts_within (edits.RemoveNumbered number) state = omega arith
+puts_within (edits.Append other) state = omega arith
+puts_within (edits.SetTrust number trust) state = omega arith
+puts_within (edits.SetMeta meta) state = omega arith

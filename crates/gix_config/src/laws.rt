@@ -1,0 +1,40 @@
+//! What holds of editors, for all of them: each law is a function that does nothing.
+ghost use Rattle.std.specs.Prelude.{◌≡◌, ◌≤◌, ℕ, Bool, true, List, Option, Some};
+ghost use Rattle.gitconf_base.specs.Metadata.{Meta};
+ghost use Rattle.gitconf_state.specs.Clean.{IsClean};
+ghost use Rattle.gitconf_state.specs.Edit.{new_section};
+ghost use Rattle.gitconf_state.specs.Edits.{Edit, has_blank_leading, new_bytes, numbered, IsEditor};
+ghost use Rattle.gitconf_state.specs.Editors.{Editor, editor_of};
+ghost use Rattle.gitconf_state.specs.State.{HasItems, SectionState, State};
+ghost use Rattle.gitconf_store.specs.Picks.{picked};
+ghost use Rattle.gitconf_store.specs.ValuePlaces.{editor_of_numbered};
+ghost use Rattle.gix_config.specs.Puts.{put_bytes};
+ghost use Rattle.gix_config.specs.SectionEditors.{with_leading};
+
+/// A new editor is an editor, as edits ask for one: of a section that is found by its names or its number, of one that is made, and of a
+/// value in the section of a number. It stays one with other blanks before names, and with line ends switched on or off. What it asks of
+/// the state holds of every file (`state` of [`File::sections`](crate::file::File::sections)).
+pub fn new_editors_are_editors()
+    ensures found { (name : List ℕ) (subsection : Option (List ℕ)) (keeps : Meta → Bool) (state : State) (s : SectionState) → HasItems state
+        → picked name subsection keeps state ≡ Some s → IsEditor (editor_of state s) }
+    ensures of_number { (number : ℕ) (state : State) (s : SectionState) → HasItems state → numbered number state ≡ Some s → IsEditor (editor_of state s) }
+    ensures made { (name : List ℕ) (subsection : Option (List ℕ)) (state : State) → IsEditor (editor_of state (new_section name subsection state)) }
+    ensures value { (number : ℕ) (state : State) → HasItems state → IsEditor (editor_of_numbered number state) }
+    ensures leading { (leading : Option (List ℕ)) (editor : Editor) → IsEditor editor → IsEditor (with_leading leading editor) }
+    ensures ends { (on : Bool) (editor : Editor) → IsEditor editor → IsEditor (record editor { ends = on }) }
+{}
+
+/// A new editor of a section of a clean file puts spaces and tabs alone before names: so its edits leave the file clean.
+pub fn new_editors_of_clean_files_put_blanks()
+    ensures found { (name : List ℕ) (subsection : Option (List ℕ)) (keeps : Meta → Bool) (state : State) (s : SectionState) → IsClean state
+        → picked name subsection keeps state ≡ Some s → has_blank_leading (editor_of state s) ≡ true }
+    ensures of_number { (number : ℕ) (state : State) (s : SectionState) → IsClean state → numbered number state ≡ Some s
+        → has_blank_leading (editor_of state s) ≡ true }
+    ensures made { (name : List ℕ) (subsection : Option (List ℕ)) (state : State)
+        → has_blank_leading (editor_of state (new_section name subsection state)) ≡ true }
+{}
+
+/// What an editor's edit puts into the buffer, and what a new section does, is no longer than the tokens that it makes.
+pub fn edits_put_no_more_than_their_tokens()
+    ensures { (edit : Edit) (state : State) → put_bytes edit state ≤ new_bytes edit state }
+{}
