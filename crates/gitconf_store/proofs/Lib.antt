@@ -38,5 +38,6 @@ pub mod RenamingAll
 pub mod Appending
 pub mod MovedTables
 pub mod Joined
+pub mod AppendedFiles
 pub mod Trusting
 pub mod HeaderBytes

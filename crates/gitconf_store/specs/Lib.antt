@@ -30,3 +30,4 @@ pub mod RenameErrors
 pub mod Renamings
 pub mod Moves
 pub mod Joining
+pub mod Appends
