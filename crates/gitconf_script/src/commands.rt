@@ -207,6 +207,8 @@ pub enum StateCommand {
     New,
     /// `clone`
     Clone,
+    /// `append`
+    Append,
     /// `reset`
     Reset,
     /// `refusals`
@@ -382,6 +384,7 @@ fn state_command(word: &[u8]) -> Option<StateCommand> {
         b"loadkept" => Some(StateCommand::LoadKept),
         b"new" => Some(StateCommand::New),
         b"clone" => Some(StateCommand::Clone),
+        b"append" => Some(StateCommand::Append),
         b"reset" => Some(StateCommand::Reset),
         b"refusals" => Some(StateCommand::Refusals),
         _ => None,

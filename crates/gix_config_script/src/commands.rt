@@ -201,6 +201,7 @@ fn state_outcome<'a>(
         StateCommand::LoadKept => files::loadkept(alloc, session, words),
         StateCommand::New => files::new(alloc, session, words),
         StateCommand::Clone => files::clone(session, words),
+        StateCommand::Append => files::append(alloc, session, words),
         StateCommand::Reset => files::reset(alloc, session, words),
         StateCommand::Refusals => files::refusals(session, words),
     }

@@ -1,6 +1,6 @@
 //! What commands work on: four files, one of which is the current one.
 
-ghost use Rattle.std.specs.Prelude.{◌≡◌};
+ghost use Rattle.std.specs.Prelude.{◌≡◌, OnErr, OnOk};
 ghost use Rattle.gix_config_script.specs.Session.{ChangesFile};
 
 use gitconf_script::words::Slot;
@@ -89,6 +89,20 @@ impl Session {
             Slot::H => replace(&mut self.h, file),
             Slot::I => replace(&mut self.i, file),
         });
+    }
+
+    /// Takes the file out of that place, and leaves an empty one there.
+    pub fn take(&mut self, alloc: Global, slot: Slot) -> Result<File, AllocError>
+        ensures ok { OnOk result (ChangesFile slot self.old self.new) }
+        ensures err { OnErr result (self.new ≡ self.old) }
+    {
+        let empty = File::new(alloc, self.meta.clone()?);
+        Ok(match slot {
+            Slot::F => replace(&mut self.f, empty),
+            Slot::G => replace(&mut self.g, empty),
+            Slot::H => replace(&mut self.h, empty),
+            Slot::I => replace(&mut self.i, empty),
+        })
     }
 
     /// The metadata of what is loaded or made.
