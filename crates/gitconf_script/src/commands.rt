@@ -190,6 +190,8 @@ pub enum EditCommand {
     SetExisting,
     /// `newsection`
     NewSection,
+    /// `pushsection`
+    PushSection,
 }
 
 /// Commands on whole files, and on the state of the script.
@@ -372,6 +374,7 @@ fn edit_command(word: &[u8]) -> Option<EditCommand> {
         b"renameif" => Some(EditCommand::RenamePassing),
         b"setexisting" => Some(EditCommand::SetExisting),
         b"newsection" => Some(EditCommand::NewSection),
+        b"pushsection" => Some(EditCommand::PushSection),
         _ => None,
     }
 }
