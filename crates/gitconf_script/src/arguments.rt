@@ -1,6 +1,6 @@
 //! What the words behind a command tell, a function for each form of words.
 
-use crate::words::{NotUnderstood, Slot, Word};
+use crate::words::{NotUnderstood, Place, Slot, Word};
 
 /// Refuses further words.
 pub fn no_words(words: &[Word<'_>]) -> Result<(), NotUnderstood> {
@@ -181,14 +181,14 @@ pub fn renaming_and_flag<'a>(
 /// SEC2 PLACE: the names of a section, and where it is put.
 pub fn section_names_and_place<'a>(
     words: &'a [Word<'_>],
-) -> Result<SectionNames<'a>, NotUnderstood> {
+) -> Result<(SectionNames<'a>, Place), NotUnderstood> {
     match words {
         [name, subsection, place] => {
-            let _ = place.place()?;
-            Ok(SectionNames {
+            let names = SectionNames {
                 name: name.text()?,
                 subsection: subsection.optional()?,
-            })
+            };
+            Ok((names, place.place()?))
         }
         _ => Err(NotUnderstood),
     }
@@ -197,27 +197,23 @@ pub fn section_names_and_place<'a>(
 /// SEC2 PLACE B: the same, and what a filter answers.
 pub fn section_names_place_and_flag<'a>(
     words: &'a [Word<'_>],
-) -> Result<(SectionNames<'a>, bool), NotUnderstood> {
+) -> Result<(SectionNames<'a>, Place, bool), NotUnderstood> {
     match words {
         [name, subsection, place, flag] => {
-            let _ = place.place()?;
             let names = SectionNames {
                 name: name.text()?,
                 subsection: subsection.optional()?,
             };
-            Ok((names, flag.flag()?))
+            Ok((names, place.place()?, flag.flag()?))
         }
         _ => Err(NotUnderstood),
     }
 }
 
 /// N PLACE: the number of a section, and where it is put.
-pub fn number_and_place(words: &[Word<'_>]) -> Result<usize, NotUnderstood> {
+pub fn number_and_place(words: &[Word<'_>]) -> Result<(usize, Place), NotUnderstood> {
     match words {
-        [number, place] => {
-            let _ = place.place()?;
-            number.number()
-        }
+        [number, place] => Ok((number.number()?, place.place()?)),
         _ => Err(NotUnderstood),
     }
 }

@@ -190,6 +190,8 @@ pub enum EditCommand {
     SetExisting,
     /// `newsection`
     NewSection,
+    /// `pushsection`
+    PushSection,
 }
 
 /// Commands on whole files, and on the state of the script.
@@ -207,6 +209,8 @@ pub enum StateCommand {
     New,
     /// `clone`
     Clone,
+    /// `append`
+    Append,
     /// `reset`
     Reset,
     /// `refusals`
@@ -370,6 +374,7 @@ fn edit_command(word: &[u8]) -> Option<EditCommand> {
         b"renameif" => Some(EditCommand::RenamePassing),
         b"setexisting" => Some(EditCommand::SetExisting),
         b"newsection" => Some(EditCommand::NewSection),
+        b"pushsection" => Some(EditCommand::PushSection),
         _ => None,
     }
 }
@@ -382,6 +387,7 @@ fn state_command(word: &[u8]) -> Option<StateCommand> {
         b"loadkept" => Some(StateCommand::LoadKept),
         b"new" => Some(StateCommand::New),
         b"clone" => Some(StateCommand::Clone),
+        b"append" => Some(StateCommand::Append),
         b"reset" => Some(StateCommand::Reset),
         b"refusals" => Some(StateCommand::Refusals),
         _ => None,

@@ -35,7 +35,7 @@ pub items_both : (b : List ℕ) (xs ys : List Item) → items_of b (xs ++ ys) �
 items_both b [] ys = refl
 items_both b (x ∷ xs) ys = λ i. Rattle.gitconf_parse.specs.Items.item_of b x ∷ items_both b xs ys i
 
-within_both : (n : ℕ) (xs ys : List Item) → AreItemsWithin n xs → AreItemsWithin n ys → AreItemsWithin n (xs ++ ys)
+pub within_both : (n : ℕ) (xs ys : List Item) → AreItemsWithin n xs → AreItemsWithin n ys → AreItemsWithin n (xs ++ ys)
 within_both n [] ys first second = second
 within_both n (x ∷ xs) ys first second = (first.0, within_both n xs ys first.1 second)
 

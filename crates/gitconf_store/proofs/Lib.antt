@@ -39,6 +39,7 @@ pub mod RenamingAll
 pub mod Appending
 pub mod MovedTables
 pub mod Joined
+pub mod AppendedFiles
 pub mod Trusting
 pub mod PoppedKeys
 pub mod HeaderBytes

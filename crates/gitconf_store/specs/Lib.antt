@@ -31,3 +31,4 @@ pub mod Renamings
 pub mod NewSections
 pub mod Moves
 pub mod Joining
+pub mod Appends

@@ -2,6 +2,7 @@
 mod appending;
 mod editing;
 mod existing;
+mod joined;
 mod look_ups;
 mod making;
 mod removing;

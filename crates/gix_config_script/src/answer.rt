@@ -56,7 +56,7 @@ pub enum Answer<'a> {
     /// The events of what is held behind a section.
     Held(SectionRef<'a>),
     /// A section that stands alone.
-    Alone(Section),
+    Alone(&'a Section),
     /// The number of a section.
     Id(SectionId),
     /// Numbers of sections.

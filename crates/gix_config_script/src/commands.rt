@@ -42,7 +42,7 @@ pub fn outcome_of<'a>(
         Command::Section(command) => section_outcome(alloc, session, command, words),
         Command::Part(command) => part_outcome(alloc, session.file(), command, words),
         Command::Print(command) => print_outcome(alloc, session.file(), command, words),
-        Command::Edit(command) => edit_outcome(alloc, session.file_mut(), command, words),
+        Command::Edit(command) => edit_outcome(alloc, session, command, words),
         Command::State(command) => state_outcome(alloc, session, command, words),
     }
 }
@@ -171,20 +171,21 @@ fn print_outcome<'a>(
 
 fn edit_outcome<'a>(
     alloc: Global,
-    file: &mut File,
+    session: &'a mut Session,
     command: EditCommand,
     words: &[Word<'_>],
 ) -> Outcome<'a> {
     match command {
-        EditCommand::SetRaw => edits::setraw(file, words),
-        EditCommand::SetByKey => edits::setkey(file, words),
-        EditCommand::Remove => edits::remove(file, words),
-        EditCommand::RemovePassing => edits::removeif(file, words),
-        EditCommand::RemoveNumbered => edits::removeid(alloc, file, words),
-        EditCommand::Rename => edits::rename(alloc, file, words),
-        EditCommand::RenamePassing => edits::renameif(alloc, file, words),
-        EditCommand::SetExisting => edits::setexisting(file, words),
-        EditCommand::NewSection => edits::newsection(file, words),
+        EditCommand::SetRaw => edits::setraw(session.file_mut(), words),
+        EditCommand::SetByKey => edits::setkey(session.file_mut(), words),
+        EditCommand::Remove => edits::remove(session, words),
+        EditCommand::RemovePassing => edits::removeif(session, words),
+        EditCommand::RemoveNumbered => edits::removeid(alloc, session, words),
+        EditCommand::Rename => edits::rename(alloc, session.file_mut(), words),
+        EditCommand::RenamePassing => edits::renameif(alloc, session.file_mut(), words),
+        EditCommand::SetExisting => edits::setexisting(session.file_mut(), words),
+        EditCommand::NewSection => edits::newsection(session.file_mut(), words),
+        EditCommand::PushSection => edits::pushsection(session, words),
     }
 }
 
@@ -201,6 +202,7 @@ fn state_outcome<'a>(
         StateCommand::LoadKept => files::loadkept(alloc, session, words),
         StateCommand::New => files::new(alloc, session, words),
         StateCommand::Clone => files::clone(session, words),
+        StateCommand::Append => files::append(alloc, session, words),
         StateCommand::Reset => files::reset(alloc, session, words),
         StateCommand::Refusals => files::refusals(session, words),
     }

@@ -1,11 +1,11 @@
-//! What commands work on: four files, one of which is the current one.
+//! What commands work on: four files, one of which is the current one, and two sections that stand alone.
 
-ghost use Rattle.std.specs.Prelude.{◌≡◌};
+ghost use Rattle.std.specs.Prelude.{◌≡◌, OnErr, OnOk};
 ghost use Rattle.gix_config_script.specs.Session.{ChangesFile};
 
-use gitconf_script::words::Slot;
+use gitconf_script::words::{Place, Slot};
 use gix_config::File;
-use gix_config::file::Metadata;
+use gix_config::file::{Metadata, Section};
 use std::alloc::{AllocError, Global};
 use std::mem::replace;
 use std::rc::Rc;
@@ -17,6 +17,8 @@ pub struct Session {
     g: File,
     h: File,
     i: File,
+    s: Option<Section>,
+    t: Option<Section>,
     current: Slot,
     /// Of what is loaded or made.
     meta: Rc<Metadata>,
@@ -24,7 +26,7 @@ pub struct Session {
 }
 
 impl Session {
-    /// Four empty files, the first of them the current one.
+    /// Four empty files, the first of them the current one, and no section.
     pub fn new(alloc: Global) -> Result<Session, AllocError> {
         let meta = Rc::new(alloc, Metadata::api())?;
         // All shares are taken before a file is made, so that no file stands where one is refused.
@@ -34,6 +36,8 @@ impl Session {
             g: File::new(alloc, g),
             h: File::new(alloc, h),
             i: File::new(alloc, i),
+            s: None,
+            t: None,
             current: Slot::F,
             meta,
             tells_refusals: false,
@@ -89,6 +93,36 @@ impl Session {
             Slot::H => replace(&mut self.h, file),
             Slot::I => replace(&mut self.i, file),
         });
+    }
+
+    /// Takes the file out of that place, and leaves an empty one there.
+    pub fn take(&mut self, alloc: Global, slot: Slot) -> Result<File, AllocError>
+        ensures ok { OnOk result (ChangesFile slot self.old self.new) }
+        ensures err { OnErr result (self.new ≡ self.old) }
+    {
+        let empty = File::new(alloc, self.meta.clone()?);
+        Ok(match slot {
+            Slot::F => replace(&mut self.f, empty),
+            Slot::G => replace(&mut self.g, empty),
+            Slot::H => replace(&mut self.h, empty),
+            Slot::I => replace(&mut self.i, empty),
+        })
+    }
+
+    /// The section at that place, if there is one.
+    pub fn section_at(&self, place: Place) -> Option<&Section> {
+        match place {
+            Place::S => self.s.as_ref(),
+            Place::T => self.t.as_ref(),
+        }
+    }
+
+    /// Puts a section into that place, or empties it; and answers what stood there.
+    pub fn replace_section(&mut self, place: Place, section: Option<Section>) -> Option<Section> {
+        match place {
+            Place::S => replace(&mut self.s, section),
+            Place::T => replace(&mut self.t, section),
+        }
     }
 
     /// The metadata of what is loaded or made.

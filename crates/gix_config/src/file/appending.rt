@@ -1,8 +1,9 @@
-//! Sections put into a file.
-ghost use Rattle.std.specs.Prelude.{◌≡◌, ◌⊎◌, ◌↔◌, ◌+◌, ◌≤◌, ◌^◌, IfErr, IfOk, IsErrOf, OnErr, OnOk};
+//! Sections and files put into a file.
+ghost use Rattle.std.specs.Prelude.{◌≡◌, ◌⊎◌, ◌↔◌, ◌+◌, ◌<◌, ◌≤◌, ◌^◌, length, IfErr, IfOk, IsErrOf, OnErr, OnOk};
 ghost use Rattle.gitconf_table.specs.Sections.{no_number};
 ghost use Rattle.gitconf_state.specs.Edit.{with_used};
-ghost use Rattle.gitconf_state.specs.Edits.{Number, PushSection, answer, apply};
+ghost use Rattle.gitconf_state.specs.Edits.{Append, Number, PushSection, answer, apply};
+ghost use Rattle.gitconf_store.specs.Appends.{appended_bytes};
 
 use crate::file::{File, Section, SectionId};
 use gitconf_text::parse::span;
@@ -24,5 +25,27 @@ impl File {
         ensures known { IfErr result (λ e. (e ≡ 3) ⊎ (e ≡ 27)) }
     {
         self.store.push_section(section)
+    }
+
+    /// Puts the sections of another file behind all others, in their order and under the next numbers; each keeps where it comes from. What
+    /// stands before the other's first section is held behind our last section, or joins what stands before our first where we have none; a
+    /// line end goes between where there is something that doesn't end with one, and what comes doesn't begin with one.
+    ///
+    /// The other's bytes are copied once, and its parts are moved in one pass: the time is linear in the other file, but for a walk up to our
+    /// first line end and the places of our sections, which are told anew. Takes memory for the bytes, the names and the places.
+    ///
+    /// # Errors
+    ///
+    /// A [`span::Error`]: number 3 exactly where the buffer would be longer than 4294967295 bytes or fewer numbers are left than the other
+    /// has sections, before any growth, and else 27 for want of memory. The other is then dropped, and the file as it was, but that its
+    /// buffer may have grown.
+    pub fn append(&mut self, other: File) -> Result<(), span::Error>
+        ensures ok { OnOk result (self.new ≡ with_used self.new.used (apply (Append other) self.old)) }
+        ensures err { OnErr result (self.new ≡ with_used self.new.used self.old) }
+        ensures too_large { IsErrOf result 3 ↔ ((2 ^ 32 ≤ self.old.used + appended_bytes other self.old) ⊎ (no_number < self.old.next + length other.sections)) }
+        ensures grown { self.new.used ≤ self.old.used + appended_bytes other self.old }
+        ensures known { IfErr result (λ e. (e ≡ 3) ⊎ (e ≡ 27)) }
+    {
+        self.store.append(other.store)
     }
 }

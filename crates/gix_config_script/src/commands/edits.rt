@@ -3,12 +3,14 @@
 use crate::answer::{Answer, Outcome};
 use crate::refusal::Refusal;
 use crate::rendering::put_id;
+use crate::session::Session;
 use bstr::BString;
 use gitconf_script::arguments::{
     names_and_bytes, number_and_place, renaming, renaming_and_flag, section_names,
     section_names_and_place, section_names_place_and_flag, two_texts,
 };
-use gitconf_script::words::Word;
+use gitconf_script::editor_arguments::place;
+use gitconf_script::words::{Place, Word};
 use gix_config::file::{Section, SectionId};
 use gix_config::{File, KeyRef};
 use std::alloc::Global;
@@ -47,24 +49,37 @@ pub fn newsection<'a>(file: &mut File, words: &[Word<'_>]) -> Outcome<'a> {
     }
 }
 
-/// `remove SEC2 PLACE`: takes the last section of the name and subsection out, and answers its text.
-pub fn remove<'a>(file: &mut File, words: &[Word<'_>]) -> Outcome<'a> {
-    let names = section_names_and_place(words)?;
-    Ok(taken_out(file.remove_section(names.name, names.subsection)?))
+/// `pushsection PLACE`: puts the section of that place behind all others, and answers its number. The place is empty then.
+pub fn pushsection<'a>(session: &mut Session, words: &[Word<'_>]) -> Outcome<'a> {
+    match session.replace_section(place(words)?, None) {
+        Some(section) => Ok(Answer::Id(session.file_mut().push_section(section)?)),
+        None => Ok(Answer::Absent),
+    }
+}
+
+/// `remove SEC2 PLACE`: takes the last section of the name and subsection out, puts it into that place, and answers its text.
+pub fn remove<'a>(session: &'a mut Session, words: &[Word<'_>]) -> Outcome<'a> {
+    let (names, place) = section_names_and_place(words)?;
+    let section = session
+        .file_mut()
+        .remove_section(names.name, names.subsection)?;
+    Ok(taken_out(session, place, section))
 }
 
 /// `removeif SEC2 PLACE B`: the same with a filter that answers so for all.
-pub fn removeif<'a>(file: &mut File, words: &[Word<'_>]) -> Outcome<'a> {
-    let (names, passes) = section_names_place_and_flag(words)?;
+pub fn removeif<'a>(session: &'a mut Session, words: &[Word<'_>]) -> Outcome<'a> {
+    let (names, place, passes) = section_names_place_and_flag(words)?;
+    let file = session.file_mut();
     let section = file.remove_section_filter(names.name, names.subsection, |_| passes)?;
-    Ok(taken_out(section))
+    Ok(taken_out(session, place, section))
 }
 
 /// `removeid N PLACE`: the same, the section of a number.
-pub fn removeid<'a>(alloc: Global, file: &mut File, words: &[Word<'_>]) -> Outcome<'a> {
-    let number = number_and_place(words)?;
-    let id = id_of(alloc, file, number)?;
-    Ok(taken_out(file.remove_section_by_id(id)?))
+pub fn removeid<'a>(alloc: Global, session: &'a mut Session, words: &[Word<'_>]) -> Outcome<'a> {
+    let (number, place) = number_and_place(words)?;
+    let id = id_of(alloc, session.file(), number)?;
+    let section = session.file_mut().remove_section_by_id(id)?;
+    Ok(taken_out(session, place, section))
 }
 
 /// A subsection, or blanks, with memory of their own.
@@ -108,8 +123,13 @@ pub fn renameif<'a>(alloc: Global, file: &mut File, words: &[Word<'_>]) -> Outco
     }
 }
 
-fn taken_out<'a>(section: Option<Section>) -> Answer<'a> {
-    match section {
+/// Puts a section that was taken out into that place, from where it is shown.
+fn taken_out<'a>(session: &'a mut Session, place: Place, section: Option<Section>) -> Answer<'a> {
+    if section.is_none() {
+        return Answer::Absent;
+    }
+    drop(session.replace_section(place, section));
+    match session.section_at(place) {
         Some(section) => Answer::Alone(section),
         None => Answer::Absent,
     }

@@ -1,6 +1,6 @@
 //! Commands on whole files, and on the state of the script.
 //!
-//! A command that is refused leaves that state as it was, and one that loads changes no other file.
+//! A command that is refused leaves that state as it was, but that `append` takes a file; and one that loads changes no other file.
 ghost use Rattle.std.specs.Prelude.{◌≡◌, OnErr};
 ghost use Rattle.gix_config_script.specs.Session.{ChangesFile};
 
@@ -75,6 +75,14 @@ pub fn clone<'a>(session: &mut Session, words: &[Word<'_>]) -> Outcome<'a>
     let slot = slot(words)?;
     let copy = session.file().try_clone()?;
     session.put_at(slot, copy);
+    Ok(Answer::Done)
+}
+
+/// `append SLOT`: puts that file behind the current one, and leaves an empty one there, also where the current one refuses it.
+pub fn append<'a>(alloc: Global, session: &mut Session, words: &[Word<'_>]) -> Outcome<'a> {
+    let slot = slot(words)?;
+    let other = session.take(alloc, slot)?;
+    session.file_mut().append(other)?;
     Ok(Answer::Done)
 }
 

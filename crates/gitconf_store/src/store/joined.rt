@@ -1,0 +1,135 @@
+//! Another store's sections and items put behind those of a store.
+ghost use Rattle.std.specs.Prelude.{◌≡◌, ◌⊎◌, ◌↔◌, ◌+◌, ◌<◌, ◌≤◌, ◌^◌, ◌++◌, length, IfErr, IfOk, IsErrOf, OnErr, OnOk};
+ghost use Rattle.gitconf_body.specs.Buffers.{Grows};
+ghost use Rattle.gitconf_table.specs.Sections.{no_number};
+ghost use Rattle.gitconf_state.specs.Edit.{with_used};
+ghost use Rattle.gitconf_state.specs.Edits.{Append, apply};
+ghost use Rattle.gitconf_store.specs.Appends.{appended_bytes, last_items, line_between, IsLineAt};
+
+use crate::joining::{parts_lines, put_behind};
+use crate::moving::move_sections;
+use crate::section::Section;
+use crate::store::Store;
+use gitconf_body::buffer::{append, check_room};
+use gitconf_body::moving::move_items;
+use gitconf_parse::event::Span;
+use gitconf_parse::items::Item;
+use gitconf_table::table::SectionTable;
+use gitconf_text::parse::span;
+
+/// The items that others are put behind: what is held behind the last section, or the front where there is none.
+fn last_items<'a>(front: &'a [Item], sections: &'a SectionTable<Section>) -> &'a [Item]
+    ensures { result.now ≡ last_items front.now sections.now.entries }
+{
+    if sections.is_empty() {
+        front
+    } else {
+        &sections.at(sections.len() - 1).held
+    }
+}
+
+/// Puts a line end behind the bytes of a buffer, or nothing where it has no bytes, and answers where it stands.
+///
+/// # Errors
+///
+/// Those of [`append`].
+#[tactic(auto, using(gitconf_body::proofs::Buffers::extending))]
+fn put_line_end(buffer: &mut Vec<u8>, line_end: &[u8]) -> Result<Option<Span>, span::Error>
+    requires room { length buffer.old.items < 2 ^ 32 }
+    ensures ok { OnOk result (buffer.new.items ≡ buffer.old.items ++ line_end.now) }
+    ensures line { IfOk result (IsLineAt buffer.new.items line_end.now) }
+    ensures grows { Grows result (length line_end.now) buffer.old.items buffer.new.items }
+{
+    if line_end.is_empty() {
+        Ok(None)
+    } else {
+        Ok(Some(append(buffer, line_end)?))
+    }
+}
+
+/// Puts a line end and other bytes behind those of a buffer, and copies behind copies; and answers where the line end stands.
+///
+/// # Errors
+///
+/// Those of [`append`]. The buffer may have grown.
+#[tactic(auto, using(gitconf_body::proofs::Buffers::extending))]
+fn put_bytes(
+    buffer: &mut Vec<u8>,
+    copies: &mut Vec<u8>,
+    line_end: &[u8],
+    other: &[u8],
+    other_copies: &[u8],
+) -> Result<Option<Span>, span::Error>
+    requires room { length buffer.old.items < 2 ^ 32 }
+    ensures ok { OnOk result (buffer.new.items ≡ (buffer.old.items ++ line_end.now) ++ other.now) }
+    ensures line { IfOk result (IsLineAt (buffer.old.items ++ line_end.now) line_end.now) }
+    ensures grows { Grows result (length line_end.now + length other.now) buffer.old.items buffer.new.items }
+    ensures copies { OnOk result (copies.new.items ≡ copies.old.items ++ other_copies.now) }
+    ensures err { OnErr result (copies.new.items ≡ copies.old.items) }
+{
+    let line = put_line_end(buffer, line_end)?;
+    append(buffer, other)?;
+    copies.extend_from_slice(other_copies)?;
+    Ok(line)
+}
+
+impl Store {
+    /// The line end that goes between the items that another's front is put behind and that front; no bytes where none goes there.
+    fn line_between(&self, other: &Store) -> &'static [u8]
+        ensures bytes { result.now ≡ line_between other.now self.now }
+        ensures short { length result.now ≤ 2 }
+    {
+        let line_end = self.line_end();
+        let items = last_items(&self.front, &self.sections);
+        if parts_lines(&self.buffer, items, &other.buffer, &other.front, line_end) {
+            line_end.as_bytes()
+        } else {
+            b""
+        }
+    }
+
+    /// Puts the sections of another file behind all others, in their order and under the next numbers. The other's front is held behind our
+    /// last section, or joins our front where we have none; a line end goes between where there are items that don't end with one, and the
+    /// other's don't begin with one.
+    ///
+    /// The other's bytes go behind the buffer's, and its spans are moved in one pass: the time is linear in the other file, but for a walk
+    /// up to our first line end and the places of our sections, which are linked anew. Takes memory for the bytes, the names and the places.
+    ///
+    /// # Errors
+    ///
+    /// A [`span::Error`]: number 3 exactly where the buffer would be longer than 4294967295 bytes or fewer numbers are left than the other has
+    /// sections, before any growth, and else 27 for want of memory. The other is then dropped, and the file as it was, but that its buffer
+    /// may have grown.
+    pub fn append(&mut self, other: Store) -> Result<(), span::Error>
+        ensures ok { OnOk result (self.new ≡ with_used self.new.used (apply (Append other) self.old)) }
+        ensures err { OnErr result (self.new ≡ with_used self.new.used self.old) }
+        ensures too_large { IsErrOf result 3 ↔ ((2 ^ 32 ≤ self.old.used + appended_bytes other self.old) ⊎ (no_number < self.old.next + length other.sections)) }
+        ensures grown { self.new.used ≤ self.old.used + appended_bytes other self.old }
+        ensures known { IfErr result (λ e. (e ≡ 3) ⊎ (e ≡ 27)) }
+    {
+        if self.sections.numbers_left() < other.sections.len() {
+            return Err(span::Error::too_large());
+        }
+        let line_end = self.line_between(&other);
+        check_room(&self.buffer, line_end.len() + other.buffer.len())?;
+        let by = (self.buffer.len() + line_end.len()) as u32;
+        let copies_by = self.copies.len();
+        let Store {
+            buffer,
+            copies,
+            mut front,
+            meta: _,
+            mut sections,
+        } = other;
+        let line = put_bytes(
+            &mut self.buffer,
+            &mut self.copies,
+            line_end,
+            &buffer,
+            &copies,
+        )?;
+        move_items(&mut front, by);
+        move_sections(&mut sections, by, copies_by);
+        put_behind(&mut self.front, &mut self.sections, line, front, sections)
+    }
+}
