@@ -2,4 +2,5 @@ pub mod Integers
 pub mod Conversions
 pub mod Numbers
 pub mod ValueEditors
+pub mod MultiValueEditors
 pub mod Standing
