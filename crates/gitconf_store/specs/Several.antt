@@ -1,5 +1,5 @@
 -- Several values of entries that stand: set anew, deleted, and what they mean.
-use Rattle.std.specs.Prelude.{◌≡◌, ◌≢◌, ◌⊎◌, ◌+◌, ◌≤◌, ◌<◌, ◌^◌, ℕ, true, false, List, [], ◌∷◌, length, map, take, Some, None, Result, Err, IfErr, OnErr, OnOk}
+use Rattle.std.specs.Prelude.{◌≡◌, ◌≢◌, ◌⊎◌, ◌+◌, ◌-◌, ◌==◌, ◌&&◌, nat_lt, if◌then◌else◌, ◌≤◌, ◌<◌, ◌^◌, ℕ, true, false, List, [], ◌∷◌, length, map, take, Some, None, Result, Err, IfErr, OnErr, OnOk}
 use Rattle.gitconf_text.specs.Names.{is_value_name}
 use Rattle.gitconf_base.specs.Key.{Key}
 use Rattle.gitconf_state.specs.Edit.{with_used}
@@ -65,6 +65,10 @@ meaning_of_place state place = elim (told_of place.0 (meaning_at place.1) state)
 -- what the entries at places mean, in order
 abbrev pub all_meanings : List (ℕ × ℕ) → State → List (List ℕ)
 all_meanings places state = map (meaning_of_place state) places
+
+-- where an entry stands when another one is gone: one place nearer to the front, where that one stood before it in the same section
+abbrev pub moved_up : (gone place : ℕ × ℕ) → ℕ × ℕ
+moved_up gone place = (place.0, if place.0 == gone.0 && nat_lt gone.1 place.1 then place.1 - 1 else place.1)
 
 -- entries are deleted, the last one first, so that those before it keep their places
 abbrev pub all_deleted : List (ℕ × ℕ) → State → State

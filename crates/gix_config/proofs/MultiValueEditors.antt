@@ -5,10 +5,11 @@ use Rattle.gitconf_base.specs.Key.{Key}
 use Rattle.gitconf_state.specs.State.{State}
 use Rattle.gitconf_store.specs.declared.lookup.existing.Error.{Error}
 use Rattle.gitconf_store.specs.declared.lookup.existing.Error.TheVariants.{Memory}
+use Rattle.gitconf_store.specs.Several.{moved_up}
 use Rattle.gitconf_store.specs.ValuePlaces.{ArePlaces}
 use Rattle.gitconf_store.proofs.Several.{other_memory}
 use Rattle.gix_config.specs.MultiValueEditors.{AreFoundTargets, AreTargets}
-use Rattle.gix_config.specs.Targeted.{Targeted, moved_up}
+use Rattle.gix_config.specs.Targeted.{Targeted}
 
 -- the look-up's refusal
 pub missed_targets : {T Z : Type 0} (shown : T → Targeted) (key : Key) (state : State) (places : List (ℕ × ℕ)) (found : Result (Vec (ℕ × ℕ) Z) Error) (refusal : Error) (result : Result T Error)

@@ -184,6 +184,7 @@ fn edit_outcome<'a>(
         EditCommand::Rename => edits::rename(file, words),
         EditCommand::RenamePassing => edits::renameif(file, words),
         EditCommand::SetExisting => edits::setexisting(file, words),
+        EditCommand::SetExistingAll => edits::setmulti(alloc, file, words),
         EditCommand::NewSection => edits::newsection(file, words),
     }
 }

@@ -70,7 +70,7 @@ impl Store {
     /// Deletes the items at places, the last one first, so that those before it keep their places; each alone, as
     /// [`Store::delete_entry_at`] does. Is never refused, and takes no memory.
     ///
-    /// Each section is found in constant time, and what stands behind an item moves up by one.
+    /// For each item its section is found in constant time, and what stands behind it in the section moves up by one.
     #[tactic(auto, using(crate::proofs::Several::deleting))]
     pub fn delete_entries_at(&mut self, places: &[(SectionId, usize)])
         ensures { self.new ≡ all_deleted places.now self.old }

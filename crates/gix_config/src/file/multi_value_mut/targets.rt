@@ -1,6 +1,6 @@
 //! The entries on which an editor of several values stands.
 ghost use Rattle.std.specs.Prelude.{◌≡◌, map};
-ghost use Rattle.gix_config.specs.Targeted as spec;
+ghost use Rattle.gitconf_store.specs.Several as spec;
 
 use crate::file::SectionId;
 use gitconf_text::NoMemory;

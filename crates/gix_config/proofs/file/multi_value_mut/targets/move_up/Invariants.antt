@@ -1,5 +1,5 @@
 use Rattle.std.proofs.Common.{◌≡◌, ◌++◌, drop, map, take}
-use Rattle.gix_config.specs.Targeted.{moved_up}
+use Rattle.gitconf_store.specs.Several.{moved_up}
 use Rattle.gix_config.proofs.file.multi_value_mut.targets.move_up.Given as goal
 
 -- the first places are moved up
