@@ -251,6 +251,17 @@ pub fn names_and_bytes<'a>(
     }
 }
 
+/// KEY3 and words behind it: the names of entries, and these words.
+pub fn names_and_rest<'a, 'b>(
+    words: &'a [Word<'b>],
+) -> Result<(EntryNames<'a>, &'a [Word<'b>]), NotUnderstood> {
+    if words.len() < 3 {
+        return Err(NotUnderstood);
+    }
+    let (key, rest) = words.split_at(3);
+    Ok((names(key)?, rest))
+}
+
 /// BYTES BYTES.
 pub fn two_texts<'a>(words: &'a [Word<'_>]) -> Result<(&'a [u8], &'a [u8]), NotUnderstood> {
     match words {

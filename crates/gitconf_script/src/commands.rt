@@ -188,6 +188,8 @@ pub enum EditCommand {
     RenamePassing,
     /// `setexisting`
     SetExisting,
+    /// `setmulti`
+    SetExistingAll,
     /// `newsection`
     NewSection,
     /// `pushsection`
@@ -373,6 +375,7 @@ fn edit_command(word: &[u8]) -> Option<EditCommand> {
         b"rename" => Some(EditCommand::Rename),
         b"renameif" => Some(EditCommand::RenamePassing),
         b"setexisting" => Some(EditCommand::SetExisting),
+        b"setmulti" => Some(EditCommand::SetExistingAll),
         b"newsection" => Some(EditCommand::NewSection),
         b"pushsection" => Some(EditCommand::PushSection),
         _ => None,

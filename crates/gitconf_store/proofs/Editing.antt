@@ -232,6 +232,16 @@ puts_none b front meta table id r count none =
     let no : numbered id (state_of b front meta table) ≡ None = others_untold b id None table.entries (missing id table.entries none) in
     record { there = rw no tt; missing = λ _. refl }
 
+-- the section there is not missing
+pub never_missing : (b : List ℕ) (front : List Item) (meta : Meta) (table : Sections Section) (id at : ℕ) (s : Section)
+    → AreNumbered table.next table.entries → section_at at table ≡ Some s → number_at at table ≡ Some id → numbered id (state_of b front meta table) ≡ None → ⊥
+never_missing b front meta table id at s once here number =
+    go (numbered id (state_of b front meta table)) (told_at b s table.entries table.next id at None once here number)
+  where
+    go : (o : Option SectionState) → option_map (λ (s : SectionState). s.items) o ≡ Some (items_of b s.items.items) → o ≡ None → ⊥
+    go None is none = absurd (cc)
+    go (Some u) is none = absurd (cc)
+
 -- the items of the section there
 pub numbered_items_at : (b : List ℕ) (front : List Item) (meta : Meta) (table : Sections Section) (id at : ℕ) (s : Section)
     → AreNumbered table.next table.entries → section_at at table ≡ Some s → number_at at table ≡ Some id → items_of_numbered id (state_of b front meta table) ≡ items_of b s.items.items

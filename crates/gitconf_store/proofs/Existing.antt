@@ -1,6 +1,6 @@
 -- The value of an entry that stands, set anew.
-use Rattle.std.proofs.Common.{◌≡◌, ℕ, ◌+◌, ◌≤◌, ◌^◌, ◌==◌, Bool, true, false, List, Option, Some, None, Result, Ok, Err, inl, inr, refl, ap, sym, subst, ◌∙◌, arith}
-use Rattle.std.specs.Prelude.{◌⊎◌, filter, IfSome, IsErrAnd, IsErrOf, OnErr, OnOk}
+use Rattle.std.proofs.Common.{◌≡◌, ℕ, ◌==◌, Bool, true, false, List, Option, Some, None, Result, Ok, Err, inl, inr, refl, ap, sym, subst, ◌∙◌, arith}
+use Rattle.std.specs.Prelude.{◌⊎◌, filter, IfSome, OnErr}
 use Rattle.std.specs.List.{last_or, list_any}
 use Rattle.gitconf_text.specs.Names.{is_value_name}
 use Rattle.gitconf_base.specs.Key.{Key}
@@ -15,7 +15,6 @@ use Rattle.gitconf_store.specs.declared.set_raw_value.Error.TheVariants.{ValueNa
 use Rattle.gitconf_store.specs.Edits.{UsedGrows}
 use Rattle.gitconf_store.specs.Editors.{PutsIn}
 use Rattle.gitconf_store.specs.Existing.{IsRewritten, IsSetExisting, IsSetWhere, rewriting, rewriting_bytes, rewriting_numbers}
-use Rattle.gitconf_store.specs.Lookups.{miss_at}
 use Rattle.gitconf_store.specs.SetErrors.{of_existing, of_span, set_number}
 use Rattle.gitconf_store.specs.ValuePlaces.{IsPlace, IsValuePlace, refusal_of, value_place}
 use Rattle.gitconf_store.proofs.Sets.{number_of_span}

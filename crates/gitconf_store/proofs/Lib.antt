@@ -23,6 +23,7 @@ pub mod Numbering
 pub mod Answering
 pub mod Targets
 pub mod Several
+pub mod Deleting
 pub mod Setting
 pub mod Making
 pub mod Sets

@@ -1,22 +1,20 @@
 -- Several values of entries that stand, set anew.
-use Rattle.std.proofs.Common.{◌≡◌, ℕ, zero, suc, ◌+◌, ◌≤◌, ◌<◌, ◌^◌, ◌==◌, Bool, true, false, List, [], ◌∷◌, ◌++◌, length, map, take, Result, Ok, Err, inl, inr, refl, ap, sym, subst, ◌∙◌, append-nil, append_assoc, arith, length-append}
-use Rattle.std.specs.Prelude.{◌≢◌, ◌⊎◌, ◌&&◌, IfErr, IsErr, OnErr, if◌then◌else◌}
-use Rattle.std.specs.List.{list_all, list_any}
+use Rattle.std.proofs.Common.{◌≡◌, ℕ, ◌+◌, ◌≤◌, ◌<◌, true, List, [], ◌∷◌, ◌++◌, length, take, Option, Some, None, Result, Ok, Err, inl, inr, refl, ap, sym, subst, ◌∙◌, append-nil, append_assoc, arith, length-append}
+use Rattle.std.specs.Prelude.{◌⊎◌, IfSome, IsErr, IsOk, OnErr}
 use Rattle.std.specs.declared.vec.Vec.{Vec}
-use Rattle.std.proofs.lemmas.Bool.{and_parts}
-use Rattle.gitconf_text.specs.Names.{is_value_name}
 use Rattle.gitconf_base.specs.Key.{Key}
 use Rattle.gitconf_state.specs.Edit.{with_used}
-use Rattle.gitconf_state.specs.Edits.{apply, items_of_numbered}
+use Rattle.gitconf_state.specs.Edits.{DeleteAt, apply, items_of_numbered, numbered}
 use Rattle.gitconf_state.specs.State.{SectionState, State}
 use Rattle.gitconf_body.specs.ValuesAt.{rewritten_put}
 use Rattle.gitconf_store.specs.declared.lookup.existing.Error.{Error as ExistingError}
 use Rattle.gitconf_store.specs.declared.lookup.existing.Error.TheVariants as errors
 use Rattle.gitconf_store.specs.declared.set_raw_value.Error.{Error}
+use Rattle.gitconf_store.specs.Editors.{PutsIn}
 use Rattle.gitconf_store.specs.Edits.{UsedGrows}
 use Rattle.gitconf_store.specs.SetErrors.{of_existing, of_span, set_number}
-use Rattle.gitconf_store.specs.Several.{AreRewritten, AreSetExisting, IsStopped, all_bytes, all_rewritten, one_rewriting}
-use Rattle.gitconf_store.specs.ValuePlaces.{ArePlaces, AreValuePlaces, all_stand, key_places}
+use Rattle.gitconf_store.specs.Several.{AreRewritten, AreSetExisting, all_bytes, all_deleted, all_rewritten, one_rewriting}
+use Rattle.gitconf_store.specs.ValuePlaces.{ArePlaces, AreValuePlaces, key_places}
 use Rattle.gitconf_store.proofs.Sets.{number_of_span}
 
 -- entries that get values, and others behind them
@@ -44,27 +42,6 @@ none_behind key (p ∷ places) [] state ended = refl
 none_behind key (p ∷ places) (v ∷ values) state (inl is) = absurd (cc)
 none_behind key (p ∷ places) (v ∷ values) state (inr is) = absurd (cc)
 
--- An entry that is written changes no number.
-same_numbers : (id n : ℕ) (change : SectionState → SectionState) (ss : List SectionState) → ((s : SectionState) → (change s).number ≡ s.number)
-    → list_any (λ (s : SectionState). s.number == n) (map (λ (s : SectionState). if s.number == id then change s else s) ss) ≡ list_any (λ (s : SectionState). s.number == n) ss
-same_numbers id n change [] keeps = refl
-same_numbers id n change (s ∷ ss) keeps = go (s.number == id) refl (same_numbers id n change ss keeps)
-  where
-    go : (b : Bool) → (s.number == id) ≡ b
-        → list_any (λ (s : SectionState). s.number == n) (map (λ (s : SectionState). if s.number == id then change s else s) ss) ≡ list_any (λ (s : SectionState). s.number == n) ss
-        → list_any (λ (s : SectionState). s.number == n) (map (λ (s : SectionState). if s.number == id then change s else s) (s ∷ ss)) ≡ list_any (λ (s : SectionState). s.number == n) (s ∷ ss)
-    go true is later = rw (is, keeps s, later) refl
-    go false is later = rw (is, later) refl
-
-all_alike : {A : Type 0} (f g : A → Bool) (xs : List A) → ((x : A) → f x ≡ g x) → list_all f xs ≡ list_all g xs
-all_alike f g [] same = refl
-all_alike f g (x ∷ xs) same = (λ i. same x i && all_alike f g xs same i)
-
-pub still_stand : (key value : List ℕ) (place : ℕ × ℕ) (places : List (ℕ × ℕ)) (state : State)
-    → all_stand places (apply (one_rewriting key place value state) state) ≡ all_stand places state
-still_stand key value place places state =
-    all_alike _ _ places (λ p. same_numbers place.0 p.0 _ state.sections (λ s. refl))
-
 -- The first entries have their values, and others are left.
 pub record IsUnderWay (key : List ℕ) (places : List (ℕ × ℕ)) (values : List (List ℕ)) (places_left : List (ℕ × ℕ)) (values_left : List (List ℕ)) (old now : State) : Type 0 where
   pub done : List (ℕ × ℕ)
@@ -74,10 +51,9 @@ pub record IsUnderWay (key : List ℕ) (places : List (ℕ × ℕ)) (values : Li
   pub as_long : length done ≡ length given
   pub is : now ≡ with_used now.used (all_rewritten key done given old)
   pub grown : now.used ≤ old.used + all_bytes key done given old
-  pub stand : all_stand places_left now ≡ true
 
-pub begun : (key : List ℕ) (places : List (ℕ × ℕ)) (values : List (List ℕ)) (old : State) → all_stand places old ≡ true → IsUnderWay key places values places values old old
-begun key places values old stand = record {
+pub begun : (key : List ℕ) (places : List (ℕ × ℕ)) (values : List (List ℕ)) (old : State) → IsUnderWay key places values places values old old
+begun key places values old = record {
   done = [];
   given = [];
   places_are = refl;
@@ -85,7 +61,6 @@ begun key places values old stand = record {
   as_long = refl;
   is = refl;
   grown = omega arith;
-  stand = stand;
 }
 
 -- so many bytes are put for the next one
@@ -107,15 +82,28 @@ one_more key places values p ps left v vs given old now new left_is given_is wro
   as_long = longer;
   is = wrote ∙ ap (λ st. with_used new.used (apply (one_rewriting key p v st) st)) w.is ∙ ap (with_used new.used) (sym (rewritten_both key w.done (p ∷ []) w.given (v ∷ []) old w.as_long));
   grown = omega (arith, grown, w.grown, bytes_both key w.done (p ∷ []) w.given (v ∷ []) old w.as_long, same_bytes key v p now now.used (all_rewritten key w.done w.given old) w.is);
-  stand = ap (all_stand ps) wrote ∙ still_stand key v p ps now ∙ (and_parts _ (all_stand ps now) (ap (λ xs. all_stand xs now) (sym left_is) ∙ w.stand)).1;
 }
   where
     longer : length (w.done ++ p ∷ []) ≡ length (w.given ++ v ∷ [])
     longer = rw (length-append, length-append) (omega (arith, w.as_long))
 
--- the section of the next one stands
-pub next_stands : (p : ℕ × ℕ) (ps left : List (ℕ × ℕ)) (now : State) → left ≡ p ∷ ps → all_stand left now ≡ true → list_any (λ s. s.number == p.0) now.sections ≡ true
-next_stands p ps left now is stand = (and_parts _ (all_stand ps now) (ap (λ xs. all_stand xs now) (sym is) ∙ stand)).0
+-- No more bytes are used than are put; none, where no section has the number.
+pub puts_within : {T : Type 0} (id : ℕ) (result : Result T ℕ) (count : ℕ) (old new : State) → PutsIn id result count old new → new.used ≤ old.used + count
+puts_within {T} id result count old new puts = go (numbered id old) refl puts.there
+  where
+    go : (o : Option SectionState) → numbered id old ≡ o → IfSome o (λ _. UsedGrows {T = T} result count old.used new.used) → new.used ≤ old.used + count
+    go None is there = let same = puts.missing is in omega (arith, same)
+    go (Some s) is there = there.grown
+
+-- It was refused, so the section stands, and what is said of it holds.
+pub puts_refused : {T : Type 0} (id : ℕ) (result : Result T ℕ) (count : ℕ) (old new : State) → IsErr result → (numbered id old ≡ None → IsOk result)
+    → PutsIn id result count old new → UsedGrows result count old.used new.used
+puts_refused {T} id (Ok t) count old new fault missing puts = absurd (cc)
+puts_refused {T} id (Err e) count old new fault missing puts = go (numbered id old) refl puts.there
+  where
+    go : (o : Option SectionState) → numbered id old ≡ o → IfSome o (λ _. UsedGrows {T = T} (Err e) count old.used new.used) → UsedGrows {T = T} (Err e) count old.used new.used
+    go None is there = absurd (let done = missing is in cc)
+    go (Some s) is there = there
 
 -- all that could be done is
 pub ended : (key : List ℕ) (places : List (ℕ × ℕ)) (values : List (List ℕ)) (left : List (ℕ × ℕ)) (given : List (List ℕ)) (old now : State) → (left ≡ []) ⊎ (given ≡ [])
@@ -181,8 +169,8 @@ refused key places values p ps left v vs given old now new (Err e) result fault 
         let same = same_bytes key v p now now.used (all_rewritten key w.done w.given old) w.is in
         omega (arith, all, both, same)
 
--- A refusal of the look-up.
-other_memory : (Y Z : Type 0) (key : Key) (state : State) (places : List (ℕ × ℕ)) (refusal : ExistingError) → ArePlaces {Z = Y} key state places (Err refusal)
+-- A refusal of the look-up, whatever memory the places would have.
+pub other_memory : (Y Z : Type 0) (key : Key) (state : State) (places : List (ℕ × ℕ)) (refusal : ExistingError) → ArePlaces {Z = Y} key state places (Err refusal)
     → ArePlaces {Z = Z} key state places (Err refusal)
 other_memory Y Z key state places errors.SectionMissing r = r
 other_memory Y Z key state places errors.SubSectionMissing r = r
@@ -228,3 +216,11 @@ pub set_ok : {Z : Type 0} (key : Key) (values : List (List ℕ)) (found : Vec (�
     → AreSetExisting key values (Ok tt) old new
 set_ok key values found old new r placed done a =
     inr (placed.0, placed.1, found.items, placed.2, without_refusal key.name found.items values old new r done a)
+
+-- the last one is deleted first
+pub all_deleted-push : (places : List (ℕ × ℕ)) (place : ℕ × ℕ) (state : State)
+    → all_deleted (places ++ place ∷ []) state ≡ all_deleted places (apply (DeleteAt place.0 place.1) state)
+all_deleted-push [] place state = refl
+all_deleted-push (p ∷ places) place state = ap (apply (DeleteAt p.0 p.1)) (all_deleted-push places place state)
+
+pub ruleset deleting = (all_deleted-push)

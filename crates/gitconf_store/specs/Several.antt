@@ -1,15 +1,15 @@
--- Several values of entries that stand, set anew.
-use Rattle.std.specs.Prelude.{◌≡◌, ◌≢◌, ◌⊎◌, ◌+◌, ◌≤◌, ◌<◌, ◌^◌, ℕ, true, false, List, [], ◌∷◌, length, take, Result, Err, IfErr, OnErr, OnOk}
+-- Several values of entries that stand: set anew, deleted, and what they mean.
+use Rattle.std.specs.Prelude.{◌≡◌, ◌≢◌, ◌⊎◌, ◌+◌, ◌-◌, ◌==◌, ◌&&◌, nat_lt, if◌then◌else◌, ◌≤◌, ◌<◌, ◌^◌, ℕ, true, false, List, [], ◌∷◌, length, map, take, Some, None, Result, Err, IfErr, OnErr, OnOk}
 use Rattle.gitconf_text.specs.Names.{is_value_name}
 use Rattle.gitconf_base.specs.Key.{Key}
 use Rattle.gitconf_state.specs.Edit.{with_used}
-use Rattle.gitconf_state.specs.Edits.{Edit, WriteAt, apply, items_of_numbered}
+use Rattle.gitconf_state.specs.Edits.{Edit, DeleteAt, WriteAt, apply, items_of_numbered, told_of}
 use Rattle.gitconf_state.specs.State.{State}
 use Rattle.gitconf_body.specs.ValuesAt.{rewritten_put}
 use Rattle.gitconf_store.specs.declared.lookup.existing.Error.{Error as ExistingError}
 use Rattle.gitconf_store.specs.declared.set_raw_value.Error.{Error}
 use Rattle.gitconf_store.specs.SetErrors.{of_existing, set_number}
-use Rattle.gitconf_store.specs.ValuePlaces.{AreInOrder, ArePlaces, editor_of_numbered, key_places}
+use Rattle.gitconf_store.specs.ValuePlaces.{AreInOrder, ArePlaces, editor_of_numbered, key_places, meaning_at}
 
 -- one of several entries is written anew, by the name that is given, with the blanks of its section as it then stands; nothing stays of its
 -- old value
@@ -57,3 +57,20 @@ AreSet key places values result old new =
 abbrev pub AreSetExisting : Key → List (List ℕ) → Result (Unit {0}) Error → (old new : State) → Type 0
 AreSetExisting key values result old new =
     IsUnset key (key_places key (λ _. true) old) result old new ⊎ AreSet key (key_places key (λ _. true) old) values result old new
+
+-- what the entry at a place means; no value counts as an empty one
+abbrev pub meaning_of_place : State → (place : ℕ × ℕ) → List ℕ
+meaning_of_place state place = elim (told_of place.0 (meaning_at place.1) state) [ None ↦ [] | Some text ↦ text ]
+
+-- what the entries at places mean, in order
+abbrev pub all_meanings : List (ℕ × ℕ) → State → List (List ℕ)
+all_meanings places state = map (meaning_of_place state) places
+
+-- where an entry stands when another one is gone: one place nearer to the front, where that one stood before it in the same section
+abbrev pub moved_up : (gone place : ℕ × ℕ) → ℕ × ℕ
+moved_up gone place = (place.0, if place.0 == gone.0 && nat_lt gone.1 place.1 then place.1 - 1 else place.1)
+
+-- entries are deleted, the last one first, so that those before it keep their places
+abbrev pub all_deleted : List (ℕ × ℕ) → State → State
+all_deleted [] state = state
+all_deleted (place ∷ places) state = apply (DeleteAt place.0 place.1) (all_deleted places state)

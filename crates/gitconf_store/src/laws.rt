@@ -1,5 +1,5 @@
 //! What holds of buffers, spans and edits, for all of them: each law is a function that does nothing.
-ghost use Rattle.std.specs.Prelude.{◌≡◌, ◌≤◌, ℕ, Bool, List, ◌++◌, Option, Some, length, true};
+ghost use Rattle.std.specs.Prelude.{◌≡◌, ◌≢◌, ◌≤◌, ℕ, Bool, List, ◌++◌, Option, Some, length, true};
 ghost use Rattle.gitconf_text.specs.Part as parts;
 ghost use Rattle.std.specs.List.{list_any};
 ghost use Rattle.gitconf_base.specs.Metadata.{Meta};
@@ -11,7 +11,7 @@ ghost use Rattle.gitconf_state.specs.Editors as states;
 ghost use Rattle.gitconf_state.specs.Editors.{written_at};
 ghost use Rattle.gitconf_state.specs.Edit.{header_bytes, is_target, set_raw_value_bytes};
 ghost use Rattle.gitconf_base.specs.declared.source.Trust.{Trust};
-ghost use Rattle.gitconf_state.specs.Edits.{Detached, Push, PushSection, Rename, RenameAll, SetRawValue, SetTrust, SetValue, WriteAt, apply, change_items, items_of_numbered, new_bytes, renamed, with_trust};
+ghost use Rattle.gitconf_state.specs.Edits.{DeleteAt, Detached, Push, PushSection, Rename, RenameAll, SetRawValue, SetTrust, SetValue, WriteAt, apply, change_items, items_of_numbered, new_bytes, renamed, with_trust};
 ghost use Rattle.gitconf_state.specs.State.{AreNumbered, State};
 ghost use Rattle.gitconf_store.specs.Alone.{with_items};
 ghost use Rattle.gitconf_write.specs.Bodies.{items_of};
@@ -19,6 +19,7 @@ ghost use Rattle.gitconf_body.specs.declared.editor.Editor.{Editor};
 ghost use Rattle.gitconf_body.specs.Editors.{line_put, set_put};
 ghost use Rattle.gitconf_body.specs.ValuesAt.{rewritten_put, written_put};
 ghost use Rattle.gitconf_store.specs.Editors.{given_editor};
+ghost use Rattle.gitconf_store.specs.Several.{meaning_of_place, moved_up};
 ghost use Rattle.gitconf_store.specs.ValuePlaces.{editor_of_numbered, meaning_at};
 
 /// Bytes that are appended to a buffer change nothing of what spans within it stand for, and these stand within the longer one.
@@ -52,6 +53,12 @@ pub fn editors_put_no_more_than_their_tokens()
 pub fn written_values_are_read()
     ensures { (editor : states.Editor) (place : ℕ) (stands keeps_line_end : Bool) (key value : List ℕ) (items : List parts.Item) → place ≤ length items
         → meaning_at place (written_at editor place stands keeps_line_end key value items) ≡ Some value }
+{}
+
+/// The entries that are left when another one is deleted mean what they did, at the places where they then stand.
+pub fn deletions_leave_other_values()
+    ensures { (gone place : ℕ × ℕ) (state : State) → place ≢ gone
+        → meaning_of_place (apply (DeleteAt gone.0 gone.1) state) (moved_up gone place) ≡ meaning_of_place state place }
 {}
 
 /// What a header puts into the buffer is no longer than its tokens, for one section that is renamed and for all that pass.

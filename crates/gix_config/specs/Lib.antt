@@ -9,3 +9,5 @@ pub mod Edited
 pub mod SectionEditors
 pub mod Spelled
 pub mod ValueEditors
+pub mod Targeted
+pub mod MultiValueEditors

@@ -3,6 +3,7 @@
 mod section_editor;
 mod section_lines;
 mod value_lines;
+mod values_lines;
 
 use crate::answer::{Answer, Outcome};
 use crate::commands::edits::id_of;
@@ -35,7 +36,8 @@ pub fn play_block<R: Read + Drop, W: Write + Drop>(
         Opening::SectionNumbered => editid(alloc, file, words, streams, &mut tells),
         Opening::SectionOrNew => editnew(alloc, file, words, streams, &mut tells),
         Opening::Value => value(alloc, file, words, streams, &mut tells),
-        Opening::SectionAlone | Opening::Values => unknown(alloc, streams, tells),
+        Opening::Values => multi(alloc, file, words, streams, &mut tells),
+        Opening::SectionAlone => unknown(alloc, streams, tells),
     };
     session.tell_refusals(tells);
     played
@@ -160,6 +162,27 @@ fn value<R: Read + Drop, W: Write + Drop>(
     };
     match file.raw_value_mut_by(names.section, names.subsection, names.value) {
         Ok(mut editor) => value_lines::play(alloc, bracket, &mut editor, streams, tells),
+        Err(refusal) => {
+            let refusal = Err(Refusal::from(refusal));
+            play_without(alloc, bracket, &refusal, streams, tells)
+        }
+    }
+}
+
+/// `multi KEY3`: all entries of the key.
+fn multi<R: Read + Drop, W: Write + Drop>(
+    alloc: Global,
+    file: &mut File,
+    words: &[Word<'_>],
+    streams: &mut Streams<R, W>,
+    tells: &mut bool,
+) -> Result<(), Fault> {
+    let bracket = Bracket::open(alloc, *tells)?;
+    let Ok(names) = names(words) else {
+        return play_without(alloc, bracket, &Err(Refusal::Line), streams, tells);
+    };
+    match file.raw_values_mut_by(names.section, names.subsection, names.value) {
+        Ok(mut editor) => values_lines::play(alloc, bracket, &mut editor, streams, tells),
         Err(refusal) => {
             let refusal = Err(Refusal::from(refusal));
             play_without(alloc, bracket, &refusal, streams, tells)

@@ -184,6 +184,7 @@ fn edit_outcome<'a>(
         EditCommand::Rename => edits::rename(alloc, session.file_mut(), words),
         EditCommand::RenamePassing => edits::renameif(alloc, session.file_mut(), words),
         EditCommand::SetExisting => edits::setexisting(session.file_mut(), words),
+        EditCommand::SetExistingAll => edits::setmulti(alloc, session.file_mut(), words),
         EditCommand::NewSection => edits::newsection(session.file_mut(), words),
         EditCommand::PushSection => edits::pushsection(session, words),
     }

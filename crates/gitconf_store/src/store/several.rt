@@ -1,22 +1,24 @@
-//! Several values of entries that stand, set anew.
+//! Several values of entries that stand: set anew, deleted, and what they mean.
 use crate::set_raw_value;
 use crate::store::Store;
+use bstr::BString;
 use gitconf_body::value_at::InPlaceOf;
 use gitconf_table::table::SectionId;
+use gitconf_text::NoMemory;
 use gitconf_text::parse::span;
 
 impl Store {
     ghost use Rattle.std.specs.Option.{option_copied};
-    ghost use Rattle.std.specs.Prelude.{◌≡◌, map, true};
+    ghost use Rattle.std.specs.Prelude.{◌≡◌, map, true, IfOk};
+    ghost use Rattle.bstr.specs.Owned.{bstring_bytes};
     ghost use Rattle.gitconf_text.specs.Names.{is_value_name};
-    ghost use Rattle.gitconf_store.specs.Lookups.{key_at};
-    ghost use Rattle.gitconf_store.specs.Several.{AreRewritten, AreSetExisting};
-    ghost use Rattle.gitconf_store.specs.ValuePlaces.{all_stand};
+    ghost use Rattle.gitconf_store.specs.Lookups.{key_at, texts_of};
+    ghost use Rattle.gitconf_store.specs.Several.{all_deleted, all_meanings, meaning_of_place, AreRewritten, AreSetExisting};
 
     /// Writes the entries at places anew, the first one with the first value and so on, up to the end of the shorter list. A place is the
     /// number of a section, and a place among the items of its body, counted in items from the first one, 0. Each entry has the key as it
     /// is given, and `=` with the blanks around it that its section has when it is written, and the value as a file spells it; nothing
-    /// stays of its old value. All else stays as it is, and so do the places of entries.
+    /// stays of its old value. All else stays as it is, and so do the places of entries. Where no section has the number, all does.
     ///
     /// Each section is found in constant time, and walked over once an entry. Takes memory for what is put into the buffer.
     ///
@@ -29,8 +31,7 @@ impl Store {
         key: &[u8],
         values: &[&[u8]],
     ) -> Result<(), span::Error>
-        requires stand { all_stand places.now self.old ≡ true }
-        requires key { is_value_name key.now ≡ true }
+        requires { is_value_name key.now ≡ true }
         ensures { AreRewritten (λ e. e) key.now places.now (map (λ v. v.now) values.now) result self.old self.new }
     {
         let mut left = places;
@@ -42,6 +43,68 @@ impl Store {
             left = behind;
         }
         Ok(())
+    }
+
+    /// As [`Store::rewrite_entries_at`], each entry with the same value.
+    ///
+    /// # Errors
+    ///
+    /// Those of [`Store::rewrite_entries_at`].
+    pub fn rewrite_all_entries_at(
+        &mut self,
+        places: &[(SectionId, usize)],
+        key: &[u8],
+        value: &[u8],
+    ) -> Result<(), span::Error>
+        requires { is_value_name key.now ≡ true }
+        ensures { AreRewritten (λ e. e) key.now places.now (map (λ _. value.now) places.now) result self.old self.new }
+    {
+        let mut left = places;
+        while let Some((place, behind)) = left.split_first() {
+            self.rewrite_entry_at(place.0, place.1, InPlaceOf::Entry, key, value)?;
+            left = behind;
+        }
+        Ok(())
+    }
+
+    /// Deletes the items at places, the last one first, so that those before it keep their places; each alone, as
+    /// [`Store::delete_entry_at`] does. Is never refused, and takes no memory.
+    ///
+    /// For each item its section is found in constant time, and what stands behind it in the section moves up by one.
+    #[tactic(auto, using(crate::proofs::Several::deleting))]
+    pub fn delete_entries_at(&mut self, places: &[(SectionId, usize)])
+        ensures { self.new ≡ all_deleted places.now self.old }
+    {
+        let mut left = places;
+        while let Some((place, before)) = left.split_last() {
+            self.delete_entry_at(place.0, place.1);
+            left = before;
+        }
+    }
+
+    /// What the entry at a place means; without `=` it is empty, and where none stands.
+    fn meaning_or_empty(&self, place: (SectionId, usize)) -> Result<BString, NoMemory>
+        ensures { IfOk result (λ text. bstring_bytes text ≡ meaning_of_place self.now place) }
+    {
+        match self.meaning_at(place.0, place.1)? {
+            Some(text) => Ok(text),
+            None => Ok(BString::new(Vec::new(*self.buffer.allocator()))),
+        }
+    }
+
+    /// What the entries at places mean, in order; without `=` an entry is empty. Each section is found in constant time.
+    ///
+    /// # Errors
+    ///
+    /// Want of memory for the answer.
+    pub fn meanings_at(&self, places: &[(SectionId, usize)]) -> Result<Vec<BString>, NoMemory>
+        ensures { IfOk result (λ texts. texts_of texts ≡ all_meanings places.now self.now) }
+    {
+        let mut texts = Vec::with_capacity(*self.buffer.allocator(), places.len())?;
+        for place in places {
+            texts.push(self.meaning_or_empty(*place)?)?;
+        }
+        Ok(texts)
     }
 
     /// Gives the entries of a key other values, with `=` or without it, in the sections that have the name, without ASCII case, and exactly

@@ -47,12 +47,12 @@ impl Store {
     ghost use Rattle.std.specs.Fn.{ComputesKey};
     ghost use Rattle.std.specs.Option.{option_copied};
     ghost use Rattle.std.specs.List.{list_any};
-    ghost use Rattle.std.specs.Prelude.{◌≡◌, ◌==◌, Bool, true, IfOk, OnOk, OnErr};
+    ghost use Rattle.std.specs.Prelude.{◌≡◌, ◌==◌, Bool, true, IfOk, IsOk, None, OnOk, OnErr};
     ghost use Rattle.bstr.specs.Owned.{bstring_bytes};
     ghost use Rattle.gitconf_text.specs.Names.{is_value_name};
     ghost use Rattle.gitconf_base.specs.Metadata.{Meta};
     ghost use Rattle.gitconf_state.specs.Edit.{with_used};
-    ghost use Rattle.gitconf_state.specs.Edits.{apply, items_of_numbered, told_of, DeleteAt, IsEditor, WriteAt};
+    ghost use Rattle.gitconf_state.specs.Edits.{apply, items_of_numbered, numbered, told_of, DeleteAt, IsEditor, WriteAt};
     ghost use Rattle.gitconf_body.specs.ValuesAt.{keeps_line_end, rewritten_put, stands, written_put};
     ghost use Rattle.gitconf_store.specs.Editors.{given_editor, IsGiven, PutsIn};
     ghost use Rattle.gitconf_store.specs.Lookups.{IsFound, key_at};
@@ -214,6 +214,8 @@ impl Store {
             (apply (WriteAt id (editor_of_numbered id self.old) place (stands in_place_of) (keeps_line_end in_place_of) key.now value.now) self.old)) }
         ensures err { OnErr result (self.new ≡ with_used self.new.used self.old) }
         ensures used { PutsIn id result (rewritten_put key.now value.now (items_of_numbered id self.old)) self.old self.new }
+        // Only an entry of a section that stands is refused.
+        ensures missing { numbered id self.old ≡ None → IsOk result }
     {
         prove!(self.sections.next_id() == self.sections.next_id());
         let Some(at) = self.sections.position(id) else {

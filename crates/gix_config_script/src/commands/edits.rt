@@ -6,7 +6,7 @@ use crate::rendering::put_id;
 use crate::session::Session;
 use bstr::BString;
 use gitconf_script::arguments::{
-    names_and_bytes, number_and_place, renaming, renaming_and_flag, section_names,
+    names_and_bytes, names_and_rest, number_and_place, renaming, renaming_and_flag, section_names,
     section_names_and_place, section_names_place_and_flag, two_texts,
 };
 use gitconf_script::editor_arguments::place;
@@ -38,6 +38,31 @@ pub fn setexisting<'a>(file: &mut File, words: &[Word<'_>]) -> Outcome<'a> {
         Ok(()) => Ok(Answer::Done),
         Err(refusal) => Err(Refusal::from(refusal)),
     }
+}
+
+/// `setmulti KEY3 BYTES..`: sets the values of entries that stand.
+pub fn setmulti<'a>(alloc: Global, file: &mut File, words: &[Word<'_>]) -> Outcome<'a> {
+    let (names, values) = names_and_rest(words)?;
+    let values = bytes_of_all(alloc, values)?;
+    let set = file.set_existing_raw_multi_value_by(
+        names.section,
+        names.subsection,
+        names.value,
+        &values,
+    );
+    match set {
+        Ok(()) => Ok(Answer::Done),
+        Err(refusal) => Err(Refusal::from(refusal)),
+    }
+}
+
+/// BYTES..: each of them.
+pub fn bytes_of_all<'a>(alloc: Global, words: &'a [Word<'_>]) -> Result<Vec<&'a [u8]>, Refusal> {
+    let mut all = Vec::with_capacity(alloc, words.len())?;
+    for word in words {
+        all.push(word.bytes()?)?;
+    }
+    Ok(all)
 }
 
 /// `newsection SEC2`: makes a section behind all others, and answers its number.

@@ -79,9 +79,8 @@ impl File {
 
     /// [`Store::delete_entry_at`](gitconf_store::store::Store::delete_entry_at).
     pub(crate) fn delete_entry_at(&mut self, id: SectionId, place: usize)
-        requires { has_number id self.old ≡ true }
         ensures deleted { self.new ≡ apply (DeleteAt id place) self.old }
-        ensures stands { has_number id self.new ≡ true }
+        ensures stands { has_number id self.new ≡ has_number id self.old }
     {
         self.store.delete_entry_at(id, place);
     }

@@ -1,12 +1,11 @@
-use Rattle.std.proofs.Common.{rules, ◌≡◌, ◌<◌, ◌≤◌, [], ◌∷◌, drop, length, map, inl, inr, ap, arith}
+use Rattle.std.proofs.Common.{rules, ◌≡◌, ◌<◌, ◌≤◌, ◌∷◌, length, map, inl, inr, ap, arith}
 use Rattle.std.proofs.lemmas.List.{drop_all, drop_more}
-use Rattle.gitconf_store.proofs.Existing.{puts_there}
-use Rattle.gitconf_store.proofs.Several.{begun, ended, next_stands, one_more, refused}
+use Rattle.gitconf_store.proofs.Several.{begun, ended, one_more, puts_refused, puts_within, refused}
 use Rattle.gitconf_store.proofs.ValuePlaces.{none_long}
 use Rattle.gitconf_store.proofs.store.Store.rewrite_entries_at.Goals as goal
 
 pub loop-value-init : goal.loop-value-init
-loop-value-init c = begun c.args.key.now c.args.places.now (map (λ v. v.now) c.args.values.now) c.args.self.now c.requires.stand
+loop-value-init c = begun c.args.key.now c.args.places.now (map (λ v. v.now) c.args.values.now) c.args.self.now
 
 pub returns-in_default : goal.returns-in_default
 returns-in_default c =
@@ -19,9 +18,8 @@ returns-in_err-rewrite_entry_at c =
     let within : c.loop-value.value-index < length values = omega (arith, c.loop-value-test.true) in
     let left : c.loop-value.left.now ≡ c.in-Some.place.now ∷ c.in-Some.behind.now = search rules in
     let given = ap (map (λ v. v.now)) (drop_more values c.loop-value.value-index _ within) in
-    let stand = next_stands c.in-Some.place.now c.in-Some.behind.now c.loop-value.left.now c.loop-value.self left c.loop-value.invariant.stand in
     refused _ _ _ c.in-Some.place.now c.in-Some.behind.now c.loop-value.left.now _ _ _ c.args.self.now c.loop-value.self c.rewrite_entry_at.new.self c.rewrite_entry_at.result c.from_residual.result
-    (search rules) (search rules) left given c.rewrite_entry_at.ensures.err (puts_there _ _ _ _ _ stand c.rewrite_entry_at.ensures.used) c.loop-value.invariant
+    (search rules) (search rules) left given c.rewrite_entry_at.ensures.err (puts_refused _ _ _ _ _ (search rules) c.rewrite_entry_at.ensures.missing c.rewrite_entry_at.ensures.used) c.loop-value.invariant
 
 pub loop-value-preserved : goal.loop-value-preserved
 loop-value-preserved c =
@@ -29,9 +27,8 @@ loop-value-preserved c =
     let within : c.loop-value.value-index < length values = omega (arith, c.loop-value-test.true) in
     let left : c.loop-value.left.now ≡ c.in-Some.place.now ∷ c.in-Some.behind.now = search rules in
     let given = ap (map (λ v. v.now)) (drop_more values c.loop-value.value-index _ within) in
-    let stand = next_stands c.in-Some.place.now c.in-Some.behind.now c.loop-value.left.now c.loop-value.self left c.loop-value.invariant.stand in
     one_more _ _ _ c.in-Some.place.now c.in-Some.behind.now c.loop-value.left.now _ _ _ c.args.self.now c.loop-value.self c.rewrite_entry_at.new.self
-    left given c.in_ok-rewrite_entry_at.ensures.ok (puts_there _ _ _ _ _ stand c.in_ok-rewrite_entry_at.ensures.used).grown c.loop-value.invariant
+    left given c.in_ok-rewrite_entry_at.ensures.ok (puts_within _ _ _ _ _ c.in_ok-rewrite_entry_at.ensures.used) c.loop-value.invariant
 
 pub returns : goal.returns
 returns c =

@@ -1,4 +1,4 @@
-use Rattle.std.proofs.Common.{◌≤◌, drop, length, map}
+use Rattle.std.proofs.Common.{drop, map}
 use Rattle.gitconf_store.proofs.Several.{IsUnderWay}
 use Rattle.gitconf_store.proofs.store.Store.rewrite_entries_at.Given as goal
 

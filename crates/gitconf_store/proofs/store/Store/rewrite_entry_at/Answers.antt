@@ -1,4 +1,4 @@
-use Rattle.std.proofs.Common.{rules, ◌≡◌, true, [], ◌∷◌, Some, None, refl, sym, ap, subst, length}
+use Rattle.std.proofs.Common.{rules, ◌≡◌, true, Some, None, refl, sym, ap, subst, length}
 use Rattle.std.specs.Prelude.{OnOk, List}
 use Rattle.gitconf_text.specs.Part as parts
 use Rattle.gitconf_table.specs.Sections.{place_of, with_section}
@@ -14,7 +14,7 @@ use Rattle.gitconf_store.specs.declared.section.Section.{Section}
 use Rattle.gitconf_store.specs.Edits.{UsedGrows}
 use Rattle.gitconf_store.specs.Store.{state_of}
 use Rattle.gitconf_store.specs.ValuePlaces.{editor_of_numbered}
-use Rattle.gitconf_store.proofs.Editing.{items_within_at, missing_stays, numbered_items_at, numbered_kept, numbered_view, puts_at, puts_none}
+use Rattle.gitconf_store.proofs.Editing.{items_within_at, missing_stays, never_missing, numbered_items_at, numbered_kept, numbered_view, puts_at, puts_none}
 use Rattle.gitconf_store.proofs.Setting.{HasOthers, kept_view, on_ok, on_err, either_way}
 use Rattle.gitconf_store.proofs.ValuePlaces.{rewritten_items}
 use Rattle.gitconf_store.proofs.store.Store.rewrite_entry_at.Goals as goal
@@ -81,6 +81,13 @@ returns-clause-used c =
     c.next_id.ensures.numbered.once here number
     (subst (λ items. UsedGrows c.rewrite_at.result (rewritten_put c.args.key.now c.args.value.now items) (length b) (length c.rewrite_at.new.buffer.items)) (sym same)
     (record { grown = c.rewrite_at.ensures.grows.grown; too_large = c.rewrite_at.ensures.grows.too_large; refused = c.rewrite_at.ensures.refused; known = c.rewrite_at.ensures.grows.known })))
+
+pub returns-clause-missing : goal.returns-clause-missing
+returns-clause-missing c =
+    let place : place_of c.args.id c.self.inside.sections ≡ Some c.in-Some.at = search rules in
+    let number = number_at-place c.args.id c.self.inside.sections c.in-Some.at place in
+    rw (← c.self.view_is) (λ none. absurd (never_missing c.self.inside.buffer.items c.self.inside.front.items c.self.inside.meta.value c.self.inside.sections c.args.id c.in-Some.at
+    c.at_mut-section.result.now c.next_id.ensures.numbered.once c.at_mut-section.ensures.value number none))
 
 pub invariant_of-self : goal.invariant_of-self
 invariant_of-self c =

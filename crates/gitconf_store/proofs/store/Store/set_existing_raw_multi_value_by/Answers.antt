@@ -1,4 +1,4 @@
-use Rattle.std.proofs.Common.{rules, ◌≡◌, true, map}
+use Rattle.std.proofs.Common.{rules, true, map}
 use Rattle.std.specs.Option.{option_copied}
 use Rattle.std.proofs.lemmas.Fn.{always_returns_same}
 use Rattle.gitconf_store.specs.Lookups.{key_at}

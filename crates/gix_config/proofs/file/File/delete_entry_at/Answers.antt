@@ -7,4 +7,4 @@ use Rattle.gix_config.proofs.file.File.delete_entry_at.Goals as goal
 pub returns-clause-stands : goal.returns-clause-stands
 returns-clause-stands c =
     ap (has_number c.args.id) c.delete_entry_at.ensures ∙ items_keep_numbers c.args.id c.args.id (deleted_at c.args.place) c.self.inside.store
-    ∙ ap (has_number c.args.id) c.self.view_is ∙ c.requires
+    ∙ ap (has_number c.args.id) c.self.view_is

@@ -1,0 +1,169 @@
+//! Editing the values of all entries of a key.
+
+mod editing;
+mod making;
+pub mod targets;
+
+use crate::file::File;
+use crate::lookup::existing;
+use bstr::BString;
+use gitconf_text::parse::span;
+use targets::Targets;
+
+/// An editor of the values of all entries of a key of a file, with `=` or without it. It stands on their places, in the order of the numbers
+/// of their sections, and in each section in that in which they stand. What it writes has the name as the caller spelled it.
+pub struct MultiValueMut<'a, T: Drop = Targets> {
+    file: &'a mut File,
+    targets: T,
+}
+
+impl<T: Drop> Drop for MultiValueMut<'_, T> {
+    ghost use Rattle.std.specs.Prelude.{◌≡◌};
+    ghost use Rattle.gix_config.specs.MultiValueEditors.{edited};
+
+    // By hand, so that callers know what the file is when the editor is gone.
+    fn drop(self)
+        ensures { self.exit.0.now ≡ edited self.entry }
+    {
+        let MultiValueMut { file, targets } = self;
+        drop(targets);
+        let _ = file;
+    }
+}
+
+impl<'a> MultiValueMut<'a> {
+    ghost use Rattle.std.specs.Prelude.{◌≡◌, ◌<◌, ◌==◌, [], length, map};
+    ghost use Rattle.gitconf_state.specs.Edits.{apply};
+    ghost use Rattle.gitconf_store.specs.Several.{all_deleted, AreRewritten};
+    ghost use Rattle.gix_config.specs.MultiValueEditors.{edited, deleting, key_of, lent, places_of, AreMeanings, IsOneSet};
+    ghost use Rattle.gix_config.specs.Targeted.{without_place};
+
+    /// What the values mean, in order; that of an entry without `=` is empty. Each section is found in constant time.
+    ///
+    /// # Errors
+    ///
+    /// Refusal 9 where no entry is left; 27 for want of memory for the answer.
+    pub fn get(&self) -> Result<Vec<BString>, existing::Error>
+        ensures { AreMeanings (places_of self.now) (edited self.now) result }
+    {
+        if self.is_empty() {
+            return Err(existing::Error::KeyMissing);
+        }
+        match self.file.meanings_at(self.targets.places()) {
+            Ok(texts) => Ok(texts),
+            Err(_) => Err(existing::Error::Memory),
+        }
+    }
+
+    /// How many entries are left. Constant time, and no memory.
+    pub fn len(&self) -> usize
+        ensures { result ≡ length (places_of self.now) }
+    {
+        self.targets.places().len()
+    }
+
+    /// Whether no entry is left. Constant time, and no memory.
+    pub fn is_empty(&self) -> bool
+        ensures { result ≡ (length (places_of self.now) == 0) }
+    {
+        self.targets.places().is_empty()
+    }
+
+    /// Gives the entry at an index, counted from the first one, 0, another value: it is written anew, by the name as the caller spelled it,
+    /// `=` with the blanks around it that its section then has, and the value as a file spells it. Nothing of its old value stays, also no
+    /// line end. All else stays as it is, and so do the places of entries.
+    ///
+    /// One walk over the items of the section. Takes memory for what is put into the file's buffer.
+    ///
+    /// # Errors
+    ///
+    /// Number 3 where the file would take more than 4294967295 bytes, and 27 for want of memory. The file is then as it was.
+    pub fn set_at(&mut self, index: usize, value: &[u8]) -> Result<(), span::Error>
+        requires { index < length (places_of self.old) }
+        ensures same_file { lent self.new ≡ lent self.old }
+        ensures same_key { key_of self.new ≡ key_of self.old }
+        ensures same_places { places_of self.new ≡ places_of self.old }
+        ensures done { IsOneSet self.old index value.now result (edited self.new) }
+    {
+        let place = self.targets.at(index);
+        self.file.rewrite_entry_at(place, self.targets.key(), value)
+    }
+
+    /// As [`MultiValueMut::set_at`], the bytes of a text.
+    ///
+    /// # Errors
+    ///
+    /// Those of [`MultiValueMut::set_at`].
+    pub fn set_string_at(&mut self, index: usize, value: &str) -> Result<(), span::Error>
+        requires { index < length (places_of self.old) }
+        ensures same_file { lent self.new ≡ lent self.old }
+        ensures same_key { key_of self.new ≡ key_of self.old }
+        ensures same_places { places_of self.new ≡ places_of self.old }
+        ensures done { IsOneSet self.old index value.now result (edited self.new) }
+    {
+        self.set_at(index, value.as_bytes())
+    }
+
+    /// Gives the entries other values, the first one the first value and so on, up to the end of the shorter list; each as
+    /// [`MultiValueMut::set_at`] does.
+    ///
+    /// One walk over the items of its section for each entry that is written. Takes memory for what is put into the file's buffer.
+    ///
+    /// # Errors
+    ///
+    /// Those of [`MultiValueMut::set_at`]. The entries before the one that was refused have their values then; all else is as it was.
+    pub fn set_values(&mut self, values: &[&[u8]]) -> Result<(), span::Error>
+        ensures same_file { lent self.new ≡ lent self.old }
+        ensures same_key { key_of self.new ≡ key_of self.old }
+        ensures same_places { places_of self.new ≡ places_of self.old }
+        ensures done { AreRewritten (λ e. e) (key_of self.old) (places_of self.old) (map (λ v. v.now) values.now) result (edited self.old) (edited self.new) }
+    {
+        self.file
+            .rewrite_entries_at(self.targets.places(), self.targets.key(), values)
+    }
+
+    /// Gives all entries the same value, as [`MultiValueMut::set_values`] does.
+    ///
+    /// # Errors
+    ///
+    /// Those of [`MultiValueMut::set_values`].
+    pub fn set_all(&mut self, value: &[u8]) -> Result<(), span::Error>
+        ensures same_file { lent self.new ≡ lent self.old }
+        ensures same_key { key_of self.new ≡ key_of self.old }
+        ensures same_places { places_of self.new ≡ places_of self.old }
+        ensures done { AreRewritten (λ e. e) (key_of self.old) (places_of self.old) (map (λ _. value.now) (places_of self.old)) result (edited self.old) (edited self.new) }
+    {
+        self.file
+            .rewrite_all_entries_at(self.targets.places(), self.targets.key(), value)
+    }
+
+    /// Deletes the entry at an index, counted from the first one, 0: its name, `=` and value, and the blanks between them. What stands around
+    /// it stays, also the blanks before its name and the line end behind its value. The entries behind it have an index one less then. Is
+    /// never refused, and takes no memory.
+    ///
+    /// The section is found in constant time; what stands behind the entry in it moves up by one, and so do the entries that are left.
+    pub fn delete(&mut self, index: usize)
+        requires { index < length (places_of self.old) }
+        ensures same_file { lent self.new ≡ lent self.old }
+        ensures same_key { key_of self.new ≡ key_of self.old }
+        ensures left { places_of self.new ≡ without_place index (places_of self.old) }
+        ensures deleted { edited self.new ≡ apply (deleting self.old index) (edited self.old) }
+    {
+        let gone = self.targets.take(index);
+        self.file.delete_entry_at(gone.0, gone.1);
+    }
+
+    /// Deletes all entries that are left, each as [`MultiValueMut::delete`] does, the last one first. Is never refused, and takes no memory.
+    ///
+    /// For each entry its section is found in constant time, and what stands behind it in the section moves up by one: so it takes no more
+    /// than the entries times the items of their sections.
+    pub fn delete_all(&mut self)
+        ensures same_file { lent self.new ≡ lent self.old }
+        ensures same_key { key_of self.new ≡ key_of self.old }
+        ensures left { places_of self.new ≡ [] }
+        ensures deleted { edited self.new ≡ all_deleted (places_of self.old) (edited self.old) }
+    {
+        self.file.delete_entries_at(self.targets.places());
+        self.targets.clear();
+    }
+}

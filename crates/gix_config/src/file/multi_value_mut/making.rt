@@ -1,0 +1,116 @@
+//! Editors of the values of all entries of a key.
+use crate::file::multi_value_mut::MultiValueMut;
+use crate::file::{File, Metadata};
+use crate::lookup::existing;
+use gitconf_base::key::AsKey;
+
+impl File {
+    ghost use Rattle.std.specs.Borrow.{sem, RestsIfErr};
+    ghost use Rattle.std.specs.Fn.{ComputesKey};
+    ghost use Rattle.std.specs.Option.{option_copied};
+    ghost use Rattle.std.specs.Prelude.{◌≡◌, Bool, true, IfOk, IsSome};
+    ghost use Rattle.gitconf_base.specs.Key.{the_key};
+    ghost use Rattle.gitconf_base.specs.Metadata.{Meta};
+    ghost use Rattle.gitconf_store.specs.Lookups.{key_at};
+    ghost use Rattle.gix_config.specs.contracts.file.File.{the_row};
+    ghost use Rattle.gix_config.specs.MultiValueEditors.{edited, lent, IsEditorOfSomeValues, IsEditorOfValues};
+
+    /// An editor of all entries of a key such as `remote.origin.fetch`, with `=` or without it, in the sections of the key's name and
+    /// subsection. They are in the order of the sections' numbers, and in each section in that in which they stand.
+    ///
+    /// It walks over the sections of the key's name and subsection and over their items, and puts the places in order. Takes memory for the
+    /// places, and for the name.
+    ///
+    /// # Errors
+    ///
+    /// Refusal 7 where no section has the name, 8 where none of these has the subsection; else 6 for a name of a value that is none; else 9
+    /// where none of these has such an entry; 27 for want of memory. The file is then as it was.
+    pub fn raw_values_mut<K: AsKey>(&mut self, key: K) -> Result<MultiValueMut<'_>, existing::Error>
+        requires { IsSome (K.key key) }
+        ensures same_file { IfOk result (λ e. lent e ≡ self.entry.ghost_name) }
+        ensures same_state { IfOk result (λ e. edited e ≡ self.old) }
+        ensures found { IsEditorOfValues (the_key (K.key key)) (λ _. true) self.old result }
+        ensures* refused { sem 𝓛 (RestsIfErr the_row self.entry lent result (λ n. n ≡ self.old)) }
+    {
+        let key = key.as_key();
+        self.raw_values_mut_by(key.section_name, key.subsection_name, key.value_name)
+    }
+
+    /// As [`File::raw_values_mut`], by the names of the section, the subsection and the value.
+    ///
+    /// # Errors
+    ///
+    /// Those of [`File::raw_values_mut`].
+    #[tactic(auto, using(std::proofs::lemmas::Fn::always_returns_same))]
+    pub fn raw_values_mut_by(
+        &mut self,
+        section_name: &str,
+        subsection_name: Option<&[u8]>,
+        value_name: &str,
+    ) -> Result<MultiValueMut<'_>, existing::Error>
+        ensures same_file { IfOk result (λ e. lent e ≡ self.entry.ghost_name) }
+        ensures same_state { IfOk result (λ e. edited e ≡ self.old) }
+        ensures found { IsEditorOfValues (key_at section_name.now (option_copied subsection_name.entry) value_name.now) (λ _. true) self.old result }
+        ensures* refused { sem 𝓛 (RestsIfErr the_row self.entry lent result (λ n. n ≡ self.old)) }
+    {
+        self.raw_values_mut_filter_by(section_name, subsection_name, value_name, |_| true)
+    }
+
+    /// As [`File::raw_values_mut`], in the sections whose metadata passes the filter, which is asked in file order.
+    ///
+    /// # Errors
+    ///
+    /// Those of [`File::raw_values_mut`].
+    pub fn raw_values_mut_filter<K: AsKey, F: FnMut(&Metadata) -> bool>(
+        &mut self,
+        key: K,
+        filter: F,
+    ) -> Result<MultiValueMut<'_>, existing::Error>
+        requires known { IsSome (K.key key) }
+        requires callable { F.IsAlwaysCallable filter }
+        ensures same_file { IfOk result (λ e. lent e ≡ self.entry.ghost_name) }
+        ensures same_state { IfOk result (λ e. edited e ≡ self.old) }
+        // For a filter that answers by what it is shown.
+        ensures found { (keeps : Meta → Bool) → ComputesKey F.FnMut keeps filter → IsEditorOfValues (the_key (K.key key)) keeps self.old result }
+        // Whatever the filter answers.
+        ensures some { IsEditorOfSomeValues (the_key (K.key key)) self.old result }
+        ensures* refused { sem 𝓛 (RestsIfErr the_row self.entry lent result (λ n. n ≡ self.old)) }
+    {
+        let key = key.as_key();
+        self.raw_values_mut_filter_by(
+            key.section_name,
+            key.subsection_name,
+            key.value_name,
+            filter,
+        )
+    }
+
+    /// As [`File::raw_values_mut_filter`], by the names of the section, the subsection and the value.
+    ///
+    /// # Errors
+    ///
+    /// Those of [`File::raw_values_mut`].
+    pub fn raw_values_mut_filter_by<F: FnMut(&Metadata) -> bool>(
+        &mut self,
+        section_name: &str,
+        subsection_name: Option<&[u8]>,
+        value_name: &str,
+        filter: F,
+    ) -> Result<MultiValueMut<'_>, existing::Error>
+        requires { F.IsAlwaysCallable filter }
+        ensures same_file { IfOk result (λ e. lent e ≡ self.entry.ghost_name) }
+        ensures same_state { IfOk result (λ e. edited e ≡ self.old) }
+        // For a filter that answers by what it is shown.
+        ensures found { (keeps : Meta → Bool) → ComputesKey F.FnMut keeps filter
+            → IsEditorOfValues (key_at section_name.now (option_copied subsection_name.entry) value_name.now) keeps self.old result }
+        // Whatever the filter answers.
+        ensures some { IsEditorOfSomeValues (key_at section_name.now (option_copied subsection_name.entry) value_name.now) self.old result }
+        ensures* refused { sem 𝓛 (RestsIfErr the_row self.entry lent result (λ n. n ≡ self.old)) }
+    {
+        let targets = self.value_targets(section_name, subsection_name, value_name, filter)?;
+        Ok(MultiValueMut {
+            file: self,
+            targets,
+        })
+    }
+}
