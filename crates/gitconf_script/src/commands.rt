@@ -192,6 +192,8 @@ pub enum EditCommand {
     SetExistingAll,
     /// `newsection`
     NewSection,
+    /// `detached`
+    NewAlone,
     /// `pushsection`
     PushSection,
 }
@@ -377,6 +379,7 @@ fn edit_command(word: &[u8]) -> Option<EditCommand> {
         b"setexisting" => Some(EditCommand::SetExisting),
         b"setmulti" => Some(EditCommand::SetExistingAll),
         b"newsection" => Some(EditCommand::NewSection),
+        b"detached" => Some(EditCommand::NewAlone),
         b"pushsection" => Some(EditCommand::PushSection),
         _ => None,
     }

@@ -13,10 +13,12 @@ use crate::session::Session;
 use gitconf_script::arguments::{names, number, section_names};
 use gitconf_script::blocks::play_none;
 use gitconf_script::bracket::Bracket;
+use gitconf_script::editor_arguments::place;
 use gitconf_script::editors::Opening;
 use gitconf_script::play::{Fault, Streams};
 use gitconf_script::words::Word;
 use gix_config::File;
+use gix_config::file::Section;
 use gix_config::file::section_mut::Error;
 use std::alloc::Global;
 use std::io::{Read, Write};
@@ -30,14 +32,13 @@ pub fn play_block<R: Read + Drop, W: Write + Drop>(
     streams: &mut Streams<R, W>,
 ) -> Result<(), Fault> {
     let mut tells = session.tells_refusals();
-    let file = session.file_mut();
     let played = match opening {
-        Opening::Section => edit(alloc, file, words, streams, &mut tells),
-        Opening::SectionNumbered => editid(alloc, file, words, streams, &mut tells),
-        Opening::SectionOrNew => editnew(alloc, file, words, streams, &mut tells),
-        Opening::Value => value(alloc, file, words, streams, &mut tells),
-        Opening::Values => multi(alloc, file, words, streams, &mut tells),
-        Opening::SectionAlone => unknown(alloc, streams, tells),
+        Opening::Section => edit(alloc, session.file_mut(), words, streams, &mut tells),
+        Opening::SectionNumbered => editid(alloc, session.file_mut(), words, streams, &mut tells),
+        Opening::SectionOrNew => editnew(alloc, session.file_mut(), words, streams, &mut tells),
+        Opening::SectionAlone => editdetached(alloc, session, words, streams, &mut tells),
+        Opening::Value => value(alloc, session.file_mut(), words, streams, &mut tells),
+        Opening::Values => multi(alloc, session.file_mut(), words, streams, &mut tells),
     };
     session.tell_refusals(tells);
     played
@@ -53,16 +54,6 @@ fn tell<R: Read + Drop, W: Write + Drop>(
     let refused = bracket.close(alloc);
     let line = line_of(alloc, refused, outcome)?;
     streams.tell(&line)
-}
-
-/// What opens an editor that doesn't stand yet opens no block.
-fn unknown<R: Read + Drop, W: Write + Drop>(
-    alloc: Global,
-    streams: &mut Streams<R, W>,
-    tells: bool,
-) -> Result<(), Fault> {
-    let bracket = Bracket::open(alloc, tells)?;
-    tell(alloc, bracket, &Ok(Answer::Unknown), streams)
 }
 
 /// Tells why there is no editor, and answers the lines of its block.
@@ -138,6 +129,42 @@ fn editid<R: Read + Drop, W: Write + Drop>(
     match file.section_mut_by_id(id) {
         Ok(mut editor) => section_lines::play(alloc, bracket, &mut editor, streams, tells),
         Err(refusal) => play_without(alloc, bracket, &unfound(refusal), streams, tells),
+    }
+}
+
+/// `editdetached PLACE`: the section of that place, which stands alone.
+fn editdetached<R: Read + Drop, W: Write + Drop>(
+    alloc: Global,
+    session: &mut Session,
+    words: &[Word<'_>],
+    streams: &mut Streams<R, W>,
+    tells: &mut bool,
+) -> Result<(), Fault> {
+    let bracket = Bracket::open(alloc, *tells)?;
+    let Ok(place) = place(words) else {
+        return play_without(alloc, bracket, &Err(Refusal::Line), streams, tells);
+    };
+    let Some(mut section) = session.replace_section(place, None) else {
+        return play_without(alloc, bracket, &Ok(Answer::Absent), streams, tells);
+    };
+    let played = edit_alone(alloc, bracket, &mut section, streams, tells);
+    drop(session.replace_section(place, Some(section)));
+    played
+}
+
+fn edit_alone<R: Read + Drop, W: Write + Drop>(
+    alloc: Global,
+    bracket: Bracket,
+    section: &mut Section,
+    streams: &mut Streams<R, W>,
+    tells: &mut bool,
+) -> Result<(), Fault> {
+    match section.to_mut() {
+        Ok(mut editor) => section_lines::play(alloc, bracket, &mut editor, streams, tells),
+        Err(refusal) => {
+            let refusal = Err(Refusal::from(refusal));
+            play_without(alloc, bracket, &refusal, streams, tells)
+        }
     }
 }
 

@@ -9,7 +9,7 @@ use gitconf_script::arguments::{
     names_and_bytes, names_and_rest, number_and_place, renaming, renaming_and_flag, section_names,
     section_names_and_place, section_names_place_and_flag, two_texts,
 };
-use gitconf_script::editor_arguments::place;
+use gitconf_script::editor_arguments::{place, place_and_section_names};
 use gitconf_script::words::{Place, Word};
 use gix_config::file::{Section, SectionId};
 use gix_config::{File, KeyRef};
@@ -72,6 +72,15 @@ pub fn newsection<'a>(file: &mut File, words: &[Word<'_>]) -> Outcome<'a> {
         Ok(section) => Ok(Answer::Id(section.id())),
         Err(refusal) => Err(Refusal::from(refusal)),
     }
+}
+
+/// `detached PLACE SEC2`: makes a section that stands alone, and puts it into that place.
+pub fn detached<'a>(alloc: Global, session: &mut Session, words: &[Word<'_>]) -> Outcome<'a> {
+    let (place, names) = place_and_section_names(words)?;
+    let subsection = owned(alloc, names.subsection)?;
+    let section = Section::new(alloc, names.name, subsection, session.meta()?)?;
+    drop(session.replace_section(place, Some(section)));
+    Ok(Answer::Done)
 }
 
 /// `pushsection PLACE`: puts the section of that place behind all others, and answers its number. The place is empty then.
