@@ -3,6 +3,7 @@
 //! WHAT is `load`, `look-up`, `raw`, `boolean`, `by-name`, `values`, `print`, `set`, `push`, `lay-out` or `decode`, or `all` for each of them
 //! in turn. `decode` takes standard input for a raw value. With `times` each round tells its nanoseconds.
 #![tactic(auto)]
+
 ghost use Rattle.std.specs.Prelude.{◌≡◌};
 ghost use Rattle.gix_config.specs.SectionEditors.{lent};
 

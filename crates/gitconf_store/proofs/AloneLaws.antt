@@ -29,6 +29,6 @@ pub edited_behind : (change : SectionState → SectionState) (detached : Detache
 edited_behind change detached state once =
     let s = numbered_as state.next detached.section in
     let all = map-append (λ (s : SectionState). if s.number == state.next then change s else s) state.sections (s ∷ [])
-        ∙ ap (λ ss. ss ++ map (λ (s : SectionState). if s.number == state.next then change s else s) (s ∷ [])) (others_stay state.next change state.sections once)
-        ∙ ap (λ ss. state.sections ++ ss) (last_changed state.next change s refl) in
+    ∙ ap (λ ss. ss ++ map (λ (s : SectionState). if s.number == state.next then change s else s) (s ∷ [])) (others_stay state.next change state.sections once)
+    ∙ ap (λ ss. state.sections ++ ss) (last_changed state.next change s refl) in
     (λ i. record { front = state.front; meta = state.meta; next = state.next + 1; used = state.used; sections = all i })

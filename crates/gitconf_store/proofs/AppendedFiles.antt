@@ -63,6 +63,11 @@ line_told b theirs front their_front items meta their_meta old others line_end p
     choice true = refl
     choice false = refl
 
+-- No more bytes than a line end has.
+pub line_bounded : (line_end : List ℕ) (items : List parts.Item) → length (line_bytes line_end items) ≤ length line_end
+line_bounded line_end [] = omega arith
+line_bounded line_end (i ∷ items) = omega arith
+
 lines_are : (line_end : List ℕ) (items others : List parts.Item) → is_line_end line_end ≡ true → line_items (line_bytes line_end (between line_end items others)) ≡ between line_end items others
 lines_are [] items others closes = absurd (cc)
 lines_are (b ∷ line_end) [] others closes = refl

@@ -10,14 +10,20 @@ ghost use Rattle.gitconf_parse.specs.ItemsFit.{AreItemsWithin};
 ghost use Rattle.gitconf_state.specs.Editors as states;
 ghost use Rattle.gitconf_state.specs.Editors.{written_at};
 ghost use Rattle.gitconf_state.specs.Edit.{header_bytes, is_target, set_raw_value_bytes};
+<<<<<<< HEAD
 ghost use Rattle.gitconf_base.specs.declared.source.Trust.{Trust};
 ghost use Rattle.gitconf_state.specs.Edits.{DeleteAt, Detached, Push, PushSection, Rename, RenameAll, SetRawValue, SetTrust, SetValue, WriteAt, apply, change_items, items_of_numbered, new_bytes, renamed, with_trust};
 ghost use Rattle.gitconf_state.specs.State.{AreNumbered, State};
 ghost use Rattle.gitconf_store.specs.Alone.{with_items};
+=======
+ghost use Rattle.gitconf_state.specs.Edits.{Append, Push, Rename, RenameAll, SetRawValue, SetValue, WriteAt, items_of_numbered, new_bytes};
+ghost use Rattle.gitconf_state.specs.State.{State};
+>>>>>>> append
 ghost use Rattle.gitconf_write.specs.Bodies.{items_of};
 ghost use Rattle.gitconf_body.specs.declared.editor.Editor.{Editor};
 ghost use Rattle.gitconf_body.specs.Editors.{line_put, set_put};
 ghost use Rattle.gitconf_body.specs.ValuesAt.{rewritten_put, written_put};
+ghost use Rattle.gitconf_store.specs.Appends.{appended_bytes};
 ghost use Rattle.gitconf_store.specs.Editors.{given_editor};
 ghost use Rattle.gitconf_store.specs.Several.{meaning_of_place, moved_up};
 ghost use Rattle.gitconf_store.specs.ValuePlaces.{editor_of_numbered, meaning_at};
@@ -33,6 +39,11 @@ pub fn appending_leaves_every_view()
 pub fn edits_put_no_more_than_their_tokens()
     ensures { (name : List ℕ) (subsection : Option (List ℕ)) (key : List ℕ) (keeps : Meta → Bool) (value : List ℕ) (state : State)
         → set_raw_value_bytes name subsection key keeps value state ≤ new_bytes (SetRawValue name subsection key keeps value) state }
+{}
+
+/// What an appended file puts into the buffer is no longer than its own buffer and a line end.
+pub fn appended_files_put_no_more_than_their_bytes()
+    ensures { (other state : State) → appended_bytes other state ≤ new_bytes (Append other) state }
 {}
 
 /// What an editor puts into the buffer is no longer than the tokens that it makes: for a line that is pushed, for a value that is set, and

@@ -185,7 +185,7 @@ fn edit_outcome<'a>(
         EditCommand::RenamePassing => edits::renameif(alloc, session.file_mut(), words),
         EditCommand::SetExisting => edits::setexisting(session.file_mut(), words),
         EditCommand::SetExistingAll => edits::setmulti(alloc, session.file_mut(), words),
-        EditCommand::NewSection => edits::newsection(session.file_mut(), words),
+        EditCommand::NewSection => edits::newsection(alloc, session.file_mut(), words),
         EditCommand::NewAlone => edits::detached(alloc, session, words),
         EditCommand::PushSection => edits::pushsection(session, words),
     }

@@ -1,6 +1,6 @@
 //! The editor of a section that stands in no file.
-use crate::detached::writing::text_of;
 use crate::detached::Section;
+use crate::detached::writing::text_of;
 use crate::lists::bytes_of;
 use crate::popped::texts_of;
 use crate::section::value;

@@ -66,9 +66,10 @@ pub fn bytes_of_all<'a>(alloc: Global, words: &'a [Word<'_>]) -> Result<Vec<&'a 
 }
 
 /// `newsection SEC2`: makes a section behind all others, and answers its number.
-pub fn newsection<'a>(file: &mut File, words: &[Word<'_>]) -> Outcome<'a> {
+pub fn newsection<'a>(alloc: Global, file: &mut File, words: &[Word<'_>]) -> Outcome<'a> {
     let names = section_names(words)?;
-    match file.new_section(names.name, names.subsection) {
+    let subsection = owned(alloc, names.subsection)?;
+    match file.new_section(names.name, subsection) {
         Ok(section) => Ok(Answer::Id(section.id())),
         Err(refusal) => Err(Refusal::from(refusal)),
     }

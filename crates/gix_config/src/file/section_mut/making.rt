@@ -2,7 +2,9 @@
 use crate::file::section_mut::SectionMut;
 use crate::file::{File, Metadata, SectionId};
 use crate::lookup::existing;
+use bstr::BString;
 use gitconf_body::blanks::Blanks;
+use gitconf_store::lists::bytes_of;
 use gitconf_text::NoMemory;
 use gitconf_text::parse::section::header;
 use gitconf_text::parse::section::unvalidated::KeyRef;
@@ -44,6 +46,7 @@ impl From<NoMemory> for Error {
 }
 
 impl File {
+    ghost use Rattle.bstr.specs.Owned.{bstring_bytes};
     ghost use Rattle.std.specs.Borrow.{sem, RestsIfErr};
     ghost use Rattle.std.specs.Fn.{ComputesKey};
     ghost use Rattle.std.specs.List.{list_any};
@@ -323,23 +326,23 @@ impl File {
     pub fn new_section(
         &mut self,
         name: &str,
-        subsection_name: Option<&[u8]>,
+        subsection_name: Option<BString>,
     ) -> Result<SectionMut<'_>, header::Error>
         ensures same_file { IfOk result (λ e. lent e ≡ self.entry.ghost_name) }
-        ensures made { IfOk result (λ e. edited e ≡ with_used (edited e).used (apply (NewSection name.now (option_copied subsection_name.entry)) self.old)) }
-        ensures editor { IfOk result (λ e. told e ≡ editor_at self.old (new_section name.now (option_copied subsection_name.entry) self.old)) }
+        ensures made { IfOk result (λ e. edited e ≡ with_used (edited e).used (apply (NewSection name.now (option_map bstring_bytes subsection_name)) self.old)) }
+        ensures editor { IfOk result (λ e. told e ≡ editor_at self.old (new_section name.now (option_map bstring_bytes subsection_name) self.old)) }
         ensures name { IsErrOf result InvalidName ↔ (is_made_name name.now ≡ false) }
         ensures subsection { IsErrOf result InvalidSubSection
-            ↔ ((is_made_name name.now ≡ true) × (is_valid_or_none (option_copied subsection_name.entry) ≡ false)) }
+            ↔ ((is_made_name name.now ≡ true) × (is_valid_or_none (option_map bstring_bytes subsection_name) ≡ false)) }
         ensures too_large { IsErrAnd result (λ e. header_number e ≡ 3)
-            ↔ ((is_made_name name.now ≡ true) × (is_valid_or_none (option_copied subsection_name.entry) ≡ true)
-            × HasNoPlace name.now (option_copied subsection_name.entry) self.old) }
+            ↔ ((is_made_name name.now ≡ true) × (is_valid_or_none (option_map bstring_bytes subsection_name) ≡ true)
+            × HasNoPlace name.now (option_map bstring_bytes subsection_name) self.old) }
         ensures known { IfErr result (λ e. list_any (λ number. number == header_number e) header_numbers ≡ true) }
-        ensures grown { IfOk result (λ e. (edited e).used ≤ self.old.used + put_bytes (NewSection name.now (option_copied subsection_name.entry)) self.old) }
-        ensures* refused { sem 𝓛 (RestsIfErr the_row self.entry lent result (IsUnmade name.now (option_copied subsection_name.entry) self.old)) }
+        ensures grown { IfOk result (λ e. (edited e).used ≤ self.old.used + put_bytes (NewSection name.now (option_map bstring_bytes subsection_name)) self.old) }
+        ensures* refused { sem 𝓛 (RestsIfErr the_row self.entry lent result (IsUnmade name.now (option_map bstring_bytes subsection_name) self.old)) }
     {
         let line_end = self.line_end();
-        let (id, blanks) = self.make_section(name, subsection_name)?;
+        let (id, blanks) = self.make_section(name, bytes_of(&subsection_name))?;
         Ok(SectionMut {
             file: self,
             id,
