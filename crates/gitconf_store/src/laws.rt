@@ -10,15 +10,10 @@ ghost use Rattle.gitconf_parse.specs.ItemsFit.{AreItemsWithin};
 ghost use Rattle.gitconf_state.specs.Editors as states;
 ghost use Rattle.gitconf_state.specs.Editors.{written_at};
 ghost use Rattle.gitconf_state.specs.Edit.{header_bytes, is_target, set_raw_value_bytes};
-<<<<<<< HEAD
 ghost use Rattle.gitconf_base.specs.declared.source.Trust.{Trust};
-ghost use Rattle.gitconf_state.specs.Edits.{DeleteAt, Detached, Push, PushSection, Rename, RenameAll, SetRawValue, SetTrust, SetValue, WriteAt, apply, change_items, items_of_numbered, new_bytes, renamed, with_trust};
+ghost use Rattle.gitconf_state.specs.Edits.{Append, DeleteAt, Detached, Push, PushSection, Rename, RenameAll, SetRawValue, SetTrust, SetValue, WriteAt, apply, change_items, items_of_numbered, new_bytes, renamed, with_trust};
 ghost use Rattle.gitconf_state.specs.State.{AreNumbered, State};
 ghost use Rattle.gitconf_store.specs.Alone.{with_items};
-=======
-ghost use Rattle.gitconf_state.specs.Edits.{Append, Push, Rename, RenameAll, SetRawValue, SetValue, WriteAt, items_of_numbered, new_bytes};
-ghost use Rattle.gitconf_state.specs.State.{State};
->>>>>>> append
 ghost use Rattle.gitconf_write.specs.Bodies.{items_of};
 ghost use Rattle.gitconf_body.specs.declared.editor.Editor.{Editor};
 ghost use Rattle.gitconf_body.specs.Editors.{line_put, set_put};

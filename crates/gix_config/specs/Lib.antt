@@ -11,3 +11,4 @@ pub mod Spelled
 pub mod ValueEditors
 pub mod Targeted
 pub mod MultiValueEditors
+pub mod AloneEditors

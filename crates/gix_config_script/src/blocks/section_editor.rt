@@ -14,7 +14,7 @@ pub trait SectionEditor {
     ghost use Rattle.std.specs.Borrow.{GName};
     ghost use Rattle.std.specs.List.{list_all};
     ghost use Rattle.std.specs.Prelude.{◌≡◌, true, IfSome};
-    ghost use Rattle.gitconf_text.specs.Bytes.{is_whitespace};
+    ghost use Rattle.gix_config.specs.SectionEditors.{is_whitespace};
 
     ghost held: { Self → GName };
 
@@ -128,7 +128,7 @@ impl SectionEditor for SectionMut<'_> {
 }
 
 impl SectionEditor for DetachedSectionMut<'_> {
-    ghost use Rattle.gitconf_store.specs.AloneEditors.{lent};
+    ghost use Rattle.gix_config.specs.AloneEditors.{lent};
 
     ghost held = { lent };
 
