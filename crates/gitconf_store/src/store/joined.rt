@@ -93,17 +93,19 @@ impl Store {
     /// other's don't begin with one.
     ///
     /// The other's bytes go behind the buffer's, and its spans are moved in one pass: the time is linear in the other file, but for a walk
-    /// up to our first line end and the places of our sections, which are linked anew. Takes memory for the bytes, the names and the places.
+    /// up to our first line end, and the places of our sections, which are linked anew. Takes memory for the bytes, the names and the
+    /// places.
     ///
     /// # Errors
     ///
-    /// A [`span::Error`]: number 3 exactly where the buffer would be longer than 4294967295 bytes or fewer numbers are left than the other has
-    /// sections, before any growth, and else 27 for want of memory. The other is then dropped, and the file as it was, but that its buffer
-    /// may have grown.
+    /// A [`span::Error`]: number 3 exactly where the buffer would be longer than 4294967295 bytes or fewer numbers are left than the other
+    /// has sections, before any growth, and else 27 for want of memory. The other is then dropped, and the file as it was, but that its
+    /// buffer may have grown.
     pub fn append(&mut self, other: Store) -> Result<(), span::Error>
         ensures ok { OnOk result (self.new ≡ with_used self.new.used (apply (Append other) self.old)) }
         ensures err { OnErr result (self.new ≡ with_used self.new.used self.old) }
-        ensures too_large { IsErrOf result 3 ↔ ((2 ^ 32 ≤ self.old.used + appended_bytes other self.old) ⊎ (no_number < self.old.next + length other.sections)) }
+        ensures too_large { IsErrOf result 3
+            ↔ ((2 ^ 32 ≤ self.old.used + appended_bytes other self.old) ⊎ (no_number < self.old.next + length other.sections)) }
         ensures grown { self.new.used ≤ self.old.used + appended_bytes other self.old }
         ensures known { IfErr result (λ e. (e ≡ 3) ⊎ (e ≡ 27)) }
     {

@@ -31,8 +31,8 @@ impl File {
     /// stands before the other's first section is held behind our last section, or joins what stands before our first where we have none; a
     /// line end goes between where there is something that doesn't end with one, and what comes doesn't begin with one.
     ///
-    /// The other's bytes are copied once, and its parts are moved in one pass: the time is linear in the other file, but for a walk up to our
-    /// first line end and the places of our sections, which are told anew. Takes memory for the bytes, the names and the places.
+    /// The other's bytes are copied once, and its parts are moved in one pass: the time is linear in the other file, but for a walk up to
+    /// our first line end, and the places of our sections, which are told anew. Takes memory for the bytes, the names and the places.
     ///
     /// # Errors
     ///
@@ -42,7 +42,8 @@ impl File {
     pub fn append(&mut self, other: File) -> Result<(), span::Error>
         ensures ok { OnOk result (self.new ≡ with_used self.new.used (apply (Append other) self.old)) }
         ensures err { OnErr result (self.new ≡ with_used self.new.used self.old) }
-        ensures too_large { IsErrOf result 3 ↔ ((2 ^ 32 ≤ self.old.used + appended_bytes other self.old) ⊎ (no_number < self.old.next + length other.sections)) }
+        ensures too_large { IsErrOf result 3
+            ↔ ((2 ^ 32 ≤ self.old.used + appended_bytes other self.old) ⊎ (no_number < self.old.next + length other.sections)) }
         ensures grown { self.new.used ≤ self.old.used + appended_bytes other self.old }
         ensures known { IfErr result (λ e. (e ≡ 3) ⊎ (e ≡ 27)) }
     {
