@@ -130,6 +130,10 @@ abbrev pub IsSomeFoundOrMade : {T A : Type 0} → (after : T → State) → (sho
 IsSomeFoundOrMade after shown give name subsection old result =
     WithSome (λ s. IsFoundOrMadeOf after shown give name subsection (picked name subsection (λ _. true) s) old result) old
 
--- The file behind a section that wasn't made: as it was but for the bytes of its buffer.
+-- The file behind a section that wasn't put into it: as it was but for the bytes of its buffer, no more than these.
+abbrev pub IsUnput : (bytes : ℕ) → (old new : State) → Type 0
+IsUnput bytes old new = (new ≡ with_used new.used old) × (new.used ≤ old.used + bytes)
+
+-- behind one that wasn't made
 abbrev pub IsUnmade : (name : List ℕ) → (subsection : Option (List ℕ)) → (old new : State) → Type 0
-IsUnmade name subsection old new = (new ≡ with_used new.used old) × (new.used ≤ old.used + put_bytes (NewSection name subsection) old)
+IsUnmade name subsection old = IsUnput (put_bytes (NewSection name subsection) old) old

@@ -12,6 +12,21 @@ use gitconf_table::table::SectionId;
 use gitconf_text::parse::span;
 
 impl Store {
+    /// Asks whether [`Store::push_section`] may put the section behind the others. Takes no memory.
+    ///
+    /// # Errors
+    ///
+    /// A [`span::Error`], number 3, exactly where [`Store::push_section`] has it.
+    pub fn check_pushed(&self, section: &detached::Section) -> Result<(), span::Error>
+        ensures too_large { IsErrOf result 3 ↔ ((2 ^ 32 ≤ self.now.used + section.now.used) ⊎ (self.now.next ≡ no_number)) }
+        ensures known { IfErr result (λ e. e ≡ 3) }
+    {
+        if self.sections.numbers_left() == 0 {
+            return Err(span::Error::too_large());
+        }
+        check_room(&self.buffer, section.buffer.len())
+    }
+
     /// Puts a section that stands alone behind all others, under the next number, which is the answer. Its header, its body and where it
     /// comes from stay. Its bytes go behind the buffer's, and its spans are moved in one pass.
     ///

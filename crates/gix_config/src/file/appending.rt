@@ -1,30 +1,31 @@
 //! Sections and files put into a file.
-ghost use Rattle.std.specs.Prelude.{◌≡◌, ◌⊎◌, ◌↔◌, ◌+◌, ◌<◌, ◌≤◌, ◌^◌, length, IfErr, IfOk, IsErrOf, OnErr, OnOk};
+ghost use Rattle.std.specs.Prelude.{◌≡◌, ◌⊎◌, ◌↔◌, ◌+◌, ◌<◌, ◌≤◌, ◌^◌, length, true, IfErr, IfOk, IsErrOf, OnErr, OnOk};
 ghost use Rattle.gitconf_table.specs.Sections.{no_number};
-ghost use Rattle.gitconf_state.specs.Edit.{with_used};
-ghost use Rattle.gitconf_state.specs.Edits.{Append, Number, PushSection, answer, apply};
+ghost use Rattle.gitconf_state.specs.Edit.{spacing_of, with_used};
+ghost use Rattle.gitconf_state.specs.Edits.{Append, PushSection, apply};
 ghost use Rattle.gitconf_store.specs.Appends.{appended_bytes};
+ghost use Rattle.gix_config.specs.Edited.{has_number};
 
 use crate::file::{File, Section, SectionId};
+use gitconf_body::blanks::Blanks;
 use gitconf_text::parse::span;
 
 impl File {
-    /// Puts a section that stands alone behind all others, under the next number, which is the answer. Its header, its body and where it
-    /// comes from stay. Its bytes are copied once, and its items are moved in one pass.
-    ///
-    /// # Errors
-    ///
-    /// A [`span::Error`]: number 3 exactly where the buffer would be longer than 4294967295 bytes or no number is left, before any growth,
-    /// and else 27 for want of memory. The section is then dropped, and the file as it was, but that its buffer may have grown.
-    pub fn push_section(&mut self, section: Section) -> Result<SectionId, span::Error>
+    /// Puts a section that stands alone behind all others, and answers its number and the blanks of an editor of it. What may be refused by
+    /// number 3 is looked at first.
+    pub(crate) fn put_section(&mut self, section: Section) -> Result<(SectionId, Blanks), span::Error>
         ensures ok { OnOk result (self.new ≡ with_used self.new.used (apply (PushSection section) self.old)) }
-        ensures answer { IfOk result (λ id. Number id ≡ answer (PushSection section) self.old) }
+        ensures told { IfOk result (λ f. f ≡ (self.old.next, spacing_of section.section.items)) }
+        ensures stands { IfOk result (λ f. has_number f.0 self.new ≡ true) }
         ensures err { OnErr result (self.new ≡ with_used self.new.used self.old) }
         ensures too_large { IsErrOf result 3 ↔ ((2 ^ 32 ≤ self.old.used + section.used) ⊎ (self.old.next ≡ no_number)) }
         ensures grown { self.new.used ≤ self.old.used + section.used }
         ensures known { IfErr result (λ e. (e ≡ 3) ⊎ (e ≡ 27)) }
     {
-        self.store.push_section(section)
+        self.store.check_pushed(&section)?;
+        let blanks = section.to_ref().blanks()?;
+        let id = self.store.push_section(section)?;
+        Ok((id, blanks))
     }
 
     /// Puts the sections of another file behind all others, in their order and under the next numbers; each keeps where it comes from. What

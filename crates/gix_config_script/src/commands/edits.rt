@@ -86,9 +86,12 @@ pub fn detached<'a>(alloc: Global, session: &mut Session, words: &[Word<'_>]) ->
 
 /// `pushsection PLACE`: puts the section of that place behind all others, and answers its number. The place is empty then.
 pub fn pushsection<'a>(session: &mut Session, words: &[Word<'_>]) -> Outcome<'a> {
-    match session.replace_section(place(words)?, None) {
-        Some(section) => Ok(Answer::Id(session.file_mut().push_section(section)?)),
-        None => Ok(Answer::Absent),
+    let Some(section) = session.replace_section(place(words)?, None) else {
+        return Ok(Answer::Absent);
+    };
+    match session.file_mut().push_section(section) {
+        Ok(section) => Ok(Answer::Id(section.id())),
+        Err(refusal) => Err(Refusal::from(refusal)),
     }
 }
 

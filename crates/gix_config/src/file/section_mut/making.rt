@@ -1,6 +1,6 @@
 //! Editors of sections that are found, and of sections that are made.
 use crate::file::section_mut::SectionMut;
-use crate::file::{File, Metadata, SectionId};
+use crate::file::{File, Metadata, Section, SectionId};
 use crate::lookup::existing;
 use bstr::BString;
 use gitconf_body::blanks::Blanks;
@@ -8,6 +8,7 @@ use gitconf_store::lists::bytes_of;
 use gitconf_text::NoMemory;
 use gitconf_text::parse::section::header;
 use gitconf_text::parse::section::unvalidated::KeyRef;
+use gitconf_text::parse::span;
 use thiserror::Error;
 
 /// Why there is no editor.
@@ -51,14 +52,16 @@ impl File {
     ghost use Rattle.std.specs.Fn.{ComputesKey};
     ghost use Rattle.std.specs.List.{list_any};
     ghost use Rattle.std.specs.Option.{option_copied, option_map};
-    ghost use Rattle.std.specs.Prelude.{◌≡◌, ◌≢◌, ◌↔◌, ◌==◌, ◌+◌, ◌≤◌, Bool, false, true, IfErr, IfOk, IfSome, IsErrAnd, IsErrOf, MatchResult, None, OnErr};
+    ghost use Rattle.std.specs.Prelude.{◌≡◌, ◌≢◌, ◌⊎◌, ◌↔◌, ◌==◌, ◌+◌, ◌≤◌, ◌^◌, Bool, false, true, IfErr, IfOk, IfSome, IsErrAnd, IsErrOf, MatchResult, None, OnErr};
     ghost use Rattle.gitconf_text.specs.declared.parse.section.header.Error.TheVariants.{InvalidName, InvalidSubSection};
     ghost use Rattle.gitconf_text.specs.HeaderErrors.{header_number};
     ghost use Rattle.gitconf_text.specs.Names.{is_made_name, is_valid_or_none};
     ghost use Rattle.gitconf_text.specs.SectionKeys.{parsed_section_key};
     ghost use Rattle.gitconf_base.specs.Metadata.{Meta};
     ghost use Rattle.gitconf_state.specs.Edit.{new_section, with_used};
-    ghost use Rattle.gitconf_state.specs.Edits.{NewSection, apply};
+    ghost use Rattle.gitconf_state.specs.Edits.{NewSection, PushSection, apply};
+    ghost use Rattle.gitconf_state.specs.Editors.{editor_of};
+    ghost use Rattle.gitconf_table.specs.Sections.{no_number};
     ghost use Rattle.gitconf_state.specs.Lookup.{listed, miss_of};
     ghost use Rattle.gitconf_store.specs.Misses.{IsExisting};
     ghost use Rattle.gitconf_store.specs.NewSections.{HasNoPlace};
@@ -68,7 +71,7 @@ impl File {
     ghost use Rattle.gix_config.specs.contracts.file.File.{the_row};
     ghost use Rattle.gix_config.specs.Edited.{has_number};
     ghost use Rattle.gix_config.specs.Puts.{put_bytes};
-    ghost use Rattle.gix_config.specs.SectionEditors.{blanks_at, edited, editor_at, lent, told, IsEditorOfKey, IsFoundOrMade, IsNumbered, IsPassing, IsPassingEditorOfKey, IsSomeFoundOrMade, IsSomePassing, IsSomePassingEditorOfKey, IsUnmade};
+    ghost use Rattle.gix_config.specs.SectionEditors.{blanks_at, edited, editor_at, lent, told, IsEditorOfKey, IsFoundOrMade, IsNumbered, IsPassing, IsPassingEditorOfKey, IsSomeFoundOrMade, IsSomePassing, IsSomePassingEditorOfKey, IsUnmade, IsUnput};
 
     /// The number and the blanks of the last section that has the name and subsection.
     fn blanks_by_names(
@@ -343,6 +346,36 @@ impl File {
     {
         let line_end = self.line_end();
         let (id, blanks) = self.make_section(name, bytes_of(&subsection_name))?;
+        Ok(SectionMut {
+            file: self,
+            id,
+            blanks,
+            line_end,
+            ends: true,
+        })
+    }
+
+    /// Puts a section that stands alone behind all others, under the next number, and answers an editor of it, which writes the blanks that
+    /// the section has, and the line end that the file then uses. Its header, its body and where it comes from stay.
+    ///
+    /// Its bytes are copied once, and its items are moved in one pass; and a walk over the file's items up to the first line end. Takes
+    /// memory for the bytes, the names, the place, and for the blanks.
+    ///
+    /// # Errors
+    ///
+    /// A [`span::Error`]: number 3 exactly where the buffer would be longer than 4294967295 bytes or no number is left, before any growth,
+    /// and else 27 for want of memory. The section is then dropped, and the file as it was, but that its buffer may have grown.
+    pub fn push_section(&mut self, section: Section) -> Result<SectionMut<'_>, span::Error>
+        ensures same_file { IfOk result (λ e. lent e ≡ self.entry.ghost_name) }
+        ensures put { IfOk result (λ e. edited e ≡ with_used (edited e).used (apply (PushSection section) self.old)) }
+        ensures editor { IfOk result (λ e. told e ≡ (self.old.next, editor_of (edited e) section.section)) }
+        ensures too_large { IsErrOf result 3 ↔ ((2 ^ 32 ≤ self.old.used + section.used) ⊎ (self.old.next ≡ no_number)) }
+        ensures known { IfErr result (λ e. (e ≡ 3) ⊎ (e ≡ 27)) }
+        ensures grown { IfOk result (λ e. (edited e).used ≤ self.old.used + section.used) }
+        ensures* refused { sem 𝓛 (RestsIfErr the_row self.entry lent result (IsUnput section.used self.old)) }
+    {
+        let (id, blanks) = self.put_section(section)?;
+        let line_end = self.line_end();
         Ok(SectionMut {
             file: self,
             id,
