@@ -389,7 +389,8 @@ impl File {
     ///
     /// # Errors
     ///
-    /// Where a section is made, those of [`File::new_section`]; else want of memory. The file is then as it was.
+    /// Where a section is made, those of [`File::new_section`]; else want of memory. The file is then as it was, but that its buffer may
+    /// have grown.
     pub fn section_mut_or_create_new(
         &mut self,
         name: &str,
