@@ -1,11 +1,11 @@
 -- Entries that are left when another one is deleted.
 use Rattle.std.proofs.Common.{◌≡◌, ℕ, zero, suc, ◌+◌, ◌-◌, ◌<◌, ◌≤◌, ◌==◌, Bool, true, false, nat_lt, List, [], ◌∷◌, ◌++◌, map, filter, take, drop, Option, Some, None, refl, ap, ◌∙◌, arith}
-use Rattle.std.specs.Prelude.{◌≢◌, ◌&&◌, if◌then◌else◌}
+use Rattle.std.specs.Prelude.{if◌then◌else◌}
 use Rattle.std.specs.List.{last_or, slice_get}
 use Rattle.std.proofs.lemmas.Bool.{eqb-true, ltb-false, ltb-true}
 use Rattle.gitconf_text.specs.Part.{Item}
 use Rattle.gitconf_state.specs.Editors.{deleted_at}
-use Rattle.gitconf_state.specs.Edits.{DeleteAt, apply, told_of}
+use Rattle.gitconf_state.specs.Edits.{DeleteAt, apply}
 use Rattle.gitconf_state.specs.State.{SectionState, State}
 use Rattle.gitconf_store.specs.Several.{meaning_of_place, moved_up}
 use Rattle.gitconf_store.specs.ValuePlaces.{item_meaning, meaning_at}

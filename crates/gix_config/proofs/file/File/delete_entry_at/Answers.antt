@@ -1,4 +1,4 @@
-use Rattle.std.proofs.Common.{rules, ap, ◌∙◌}
+use Rattle.std.proofs.Common.{ap, ◌∙◌}
 use Rattle.gitconf_state.specs.Editors.{deleted_at}
 use Rattle.gix_config.specs.Edited.{has_number}
 use Rattle.gix_config.proofs.Numbers.{items_keep_numbers}
