@@ -1,7 +1,7 @@
 -- A section that stands alone with other items, in a longer buffer.
 use Rattle.std.proofs.Common.{◌≡◌, ℕ, ◌+◌, ◌<◌, ◌≤◌, ◌^◌, true, List, [], length, Option, Result, Ok, Err, arith, refl, ap, sym, subst, ◌∙◌, inl, inr}
-use Rattle.std.specs.Prelude.{◌⊎◌, OnErr, OnOk}
-use Rattle.std.specs.List.{list_all}
+use Rattle.std.specs.Prelude.{◌⊎◌, ◌==◌, OnErr, OnOk}
+use Rattle.std.specs.List.{list_all, list_any}
 use Rattle.gitconf_text.specs.Names.{is_made_name, is_valid_or_none}
 use Rattle.gitconf_text.specs.Part as parts
 use Rattle.gitconf_base.specs.Metadata.{Meta}
@@ -26,6 +26,7 @@ use Rattle.gitconf_store.specs.Alone.{detached_of, made_alone, with_items, IsEdi
 use Rattle.gitconf_store.specs.Editors.{given_editor}
 use Rattle.gitconf_store.specs.Edits.{UsedGrows}
 use Rattle.gitconf_store.specs.Store.{section_under}
+use Rattle.gitconf_store.specs.ValueErrors.{edit_numbers}
 use Rattle.gitconf_store.proofs.Append.{header_more, header_shown_more}
 use Rattle.gitconf_store.proofs.LineBytes.{set_within}
 use Rattle.gitconf_store.proofs.Setting.{HasOthers}
@@ -128,21 +129,31 @@ made_alone_is b s name subsection meta made from empty none count = λ i. record
   used = count i;
 }
 
+number_known : (e : ℕ) → (e ≡ 3) ⊎ (e ≡ 27) → list_any (λ refusal. refusal == e) edit_numbers ≡ true
+number_known e (inl three) = subst (λ n. list_any (λ refusal. refusal == n) edit_numbers ≡ true) (sym three) refl
+number_known e (inr memory) = subst (λ n. list_any (λ refusal. refusal == n) edit_numbers ≡ true) (sym memory) refl
+
 -- What was put is no longer than the tokens.
 pub done_alone : {T : Type 0} (r : Result T ℕ) (change : List parts.Item → List parts.Item) (count bytes : ℕ) (old new : Detached) → OnOk r (new.section ≡ with_items change old.section)
     → OnErr r (new.section ≡ old.section) → UsedGrows r count old.used new.used → count ≤ bytes → IsEditedAlone change bytes (λ e. e) r old new
-done_alone (Ok t) change count bytes old new ok err used within = record { ok = ok; err = err; grown = let g = used.grown in omega (arith, g, within); too_large = tt }
+done_alone (Ok t) change count bytes old new ok err used within = record { ok = ok; err = err; grown = let g = used.grown in omega (arith, g, within); too_large = tt; known = tt }
 done_alone (Err e) change count bytes old new ok err used within =
-    record { ok = ok; err = err; grown = let g = used.grown in omega (arith, g, within); too_large = λ is. let g = used.too_large (ap Err is) in omega (arith, g, within) }
+    record {
+      ok = ok;
+      err = err;
+      grown = let g = used.grown in omega (arith, g, within);
+      too_large = λ is. let g = used.too_large (ap Err is) in omega (arith, g, within);
+      known = number_known e used.known;
+    }
 
 -- The same where the answer or the refusal is passed on.
 pub done_with : {T U E : Type 0} (t : T) (u : U) (number : E → ℕ) (change : List parts.Item → List parts.Item) (bytes : ℕ) (old new : Detached)
     → IsEditedAlone change bytes (λ e. e) (Ok t) old new → IsEditedAlone change bytes number (Ok u) old new
-done_with t u number change bytes old new done = record { ok = done.ok; err = tt; grown = done.grown; too_large = tt }
+done_with t u number change bytes old new done = record { ok = done.ok; err = tt; grown = done.grown; too_large = tt; known = tt }
 
 pub refused_with : {T U E : Type 0} (n : ℕ) (e : E) (number : E → ℕ) (change : List parts.Item → List parts.Item) (bytes : ℕ) (old new : Detached) → number e ≡ n
     → IsEditedAlone {T = T} change bytes (λ e. e) (Err n) old new → IsEditedAlone {T = U} change bytes number (Err e) old new
-refused_with n e number change bytes old new is done = record { ok = tt; err = done.err; grown = done.grown; too_large = λ three. done.too_large (sym is ∙ three) }
+refused_with n e number change bytes old new is done = record { ok = tt; err = done.err; grown = done.grown; too_large = λ three. done.too_large (sym is ∙ three); known = subst (λ m. list_any (λ refusal. refusal == m) edit_numbers ≡ true) (sym is) done.known }
 
 -- A value is set in it.
 pub set_done : {T : Type 0} (e : Editor) (key name value : List ℕ) (r : Result T ℕ) (old new : Detached) → key ≡ name → OnOk r (new.section ≡ with_items (value_set (given_editor e) key value) old.section)

@@ -15,6 +15,7 @@ use Rattle.gitconf_state.specs.Edits.{Detached}
 use Rattle.gitconf_state.specs.State.{SectionState, is_header, is_item}
 use Rattle.gitconf_write.specs.Bodies.{items_of}
 use Rattle.gitconf_store.specs.declared.section.Section.{Section}
+use Rattle.gitconf_store.specs.ValueErrors.{edit_numbers}
 use Rattle.gitconf_store.specs.Store.{section_under}
 
 -- a section without what is held behind it
@@ -51,9 +52,10 @@ pub record StandsAlone (buffer copies : List ℕ) (s : Section) : Type 0 where
   pub none_held : s.held.items ≡ []
 
 -- An editor's edit was done, or refused, and the section is then as it was. No more bytes are put into its buffer than the edit's tokens have;
--- refusal 3 comes only where these would pass the limit.
+-- refusal 3 comes only where these would pass the limit, and 6 and 27 are the only others.
 pub record IsEditedAlone {T E : Type 0} (change : List parts.Item → List parts.Item) (bytes : ℕ) (number : E → ℕ) (result : Result T E) (old new : Detached) : Type 0 where
   pub ok : OnOk result (new.section ≡ with_items change old.section)
   pub err : OnErr result (new.section ≡ old.section)
   pub grown : new.used ≤ old.used + bytes
   pub too_large : IfErr result (λ e. number e ≡ 3 → 2 ^ 32 ≤ old.used + bytes)
+  pub known : IfErr result (λ e. list_any (λ refusal. refusal == number e) edit_numbers ≡ true)

@@ -5,7 +5,7 @@ use Rattle.gitconf_text.specs.Names.{is_value_name}
 use Rattle.gitconf_state.specs.Edit.{with_used}
 use Rattle.gitconf_state.specs.Edits.{Edit, Push, SetValue, apply}
 use Rattle.gitconf_state.specs.State.{State}
-pub use Rattle.gitconf_store.specs.ValueErrors.{value_number}
+pub use Rattle.gitconf_store.specs.ValueErrors.{edit_numbers, value_number}
 use Rattle.gix_config.specs.Puts.{put_bytes}
 
 -- a section has the number
@@ -17,10 +17,6 @@ abbrev pub has_name : Edit → Bool
 has_name (Push number editor key value comment) = is_value_name key
 has_name (SetValue number editor key value) = is_value_name key
 has_name _ = true
-
--- the refusals that an editor's edit has
-abbrev pub edit_numbers : List ℕ
-edit_numbers = 3 ∷ 6 ∷ 27 ∷ []
 
 -- The edit was done, or refused, and the file is then as it was but for the bytes of its buffer. No more bytes are put there than the edit
 -- puts (`put_bytes`). Refusal 6 comes exactly for a name that is none, and else 3 exactly where these bytes would pass the limit; any other
