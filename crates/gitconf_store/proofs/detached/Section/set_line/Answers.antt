@@ -17,4 +17,5 @@ returns-in_err-old-clause-done c =
     c.in_err-old.ensures.ok c.in_err-old.ensures.err c.in_err-old.ensures.used in
     let err = done.err in
     let large = done.too_large in
-    record { ok = search rules; err = search rules; grown = done.grown; too_large = search rules }
+    let known = done.known in
+    record { ok = search rules; err = search rules; grown = done.grown; too_large = search rules; known = search rules }
