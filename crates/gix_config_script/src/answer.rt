@@ -41,6 +41,8 @@ pub enum Answer<'a> {
     FlagsAt(Vec<(bool, SectionId)>),
     /// Bytes, or none.
     Optional(Option<BString>),
+    /// The name of an entry, and what it means.
+    Entry(String, BString),
     /// Words as they are written, each behind a blank.
     Words(String),
     /// The text of a refusal.

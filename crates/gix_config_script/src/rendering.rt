@@ -58,6 +58,7 @@ fn put_answer(alloc: Global, line: &mut String, answer: &Answer<'_>) -> Result<(
         Answer::FlagsAt(found) => put_flags_at(alloc, line, found),
         Answer::Optional(Some(bytes)) => put_bytes(alloc, line, bytes),
         Answer::Optional(None) => put_optional(alloc, line, None),
+        Answer::Entry(name, meaning) => put_taken(alloc, line, name, meaning),
         Answer::Words(words) => line.push_str(words),
         Answer::Message(refusal) => put_message(alloc, line, refusal),
         Answer::Events(events) => put_events(alloc, line, events.iter()),
@@ -82,6 +83,17 @@ fn put_answer(alloc: Global, line: &mut String, answer: &Answer<'_>) -> Result<(
         }
         Answer::Dump(file) => put_sections(alloc, line, file),
     }
+}
+
+/// The name of an entry, and what it means.
+fn put_taken(
+    alloc: Global,
+    line: &mut String,
+    name: &str,
+    meaning: &[u8],
+) -> Result<(), AllocError> {
+    put_bytes(alloc, line, name.as_bytes())?;
+    put_bytes(alloc, line, meaning)
 }
 
 fn put_texts(alloc: Global, line: &mut String, texts: &[BString]) -> Result<(), AllocError> {

@@ -96,7 +96,7 @@ fn change_outcome<'a, E: SectionEditor>(
         SectionChange::Set => set(editor, words),
         SectionChange::Remove => remove(editor, words),
         SectionChange::LineEnd => nl(editor, words),
-        SectionChange::Pop => pop(alloc, editor, words),
+        SectionChange::Pop => pop(editor, words),
         SectionChange::Header => header(alloc, editor, words),
     }
 }
@@ -158,17 +158,14 @@ fn remove<'a, E: SectionEditor>(editor: &mut E, words: &[Word<'_>]) -> Outcome<'
 }
 
 /// `pop`: takes the last entry out with all behind it; its name and what it means.
-fn pop<'a, E: SectionEditor>(alloc: Global, editor: &mut E, words: &[Word<'_>]) -> Outcome<'a>
+fn pop<'a, E: SectionEditor>(editor: &mut E, words: &[Word<'_>]) -> Outcome<'a>
     ensures { E.held editor.new ≡ E.held editor.old }
 {
     no_words(words)?;
-    let Some((name, meaning)) = editor.pop()? else {
-        return Ok(Answer::Absent);
-    };
-    let mut told = String::new(alloc);
-    put_bytes(alloc, &mut told, name.as_bytes())?;
-    put_bytes(alloc, &mut told, meaning.as_bytes())?;
-    Ok(Answer::Words(told))
+    match editor.pop()? {
+        Some((name, meaning)) => Ok(Answer::Entry(name, meaning)),
+        None => Ok(Answer::Absent),
+    }
 }
 
 /// `header SEC2`: gives the section another name and subsection.
