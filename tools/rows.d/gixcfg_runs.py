@@ -94,9 +94,10 @@ class _Tokens:
         return unquote(self.next())
 
     def text(self):
-        """A text in quotes, or that of a file beside the rows, where one part may be changed."""
+        """A text in quotes, once or several times, or that of a file beside the rows, where one part may be changed."""
         if self.comes_quoted():
-            return self.quoted()
+            text = self.quoted()
+            return text * self.number() if self.accept("times") else text
         text = _text_of(self._folder / self.next())
         while self.accept("with"):
             old = self.quoted()
