@@ -4,4 +4,4 @@ use Rattle.file_bench.proofs.push_all.Given as goal
 
 -- the editor still holds the same file
 abbrev pub invariant-loop : goal.invariant-loop
-invariant-loop g l = lent l.editor ≡ lent l.initial.editor
+invariant-loop l = lent l.editor ≡ lent l.initial.editor
