@@ -13,7 +13,10 @@ use gitconf_text::parse::span;
 impl File {
     /// Puts a section that stands alone behind all others, and answers its number and the blanks of an editor of it. What may be refused by
     /// number 3 is looked at first.
-    pub(crate) fn put_section(&mut self, section: Section) -> Result<(SectionId, Blanks), span::Error>
+    pub(crate) fn put_section(
+        &mut self,
+        section: Section,
+    ) -> Result<(SectionId, Blanks), span::Error>
         ensures ok { OnOk result (self.new ≡ with_used self.new.used (apply (PushSection section) self.old)) }
         ensures told { IfOk result (λ f. f ≡ (self.old.next, spacing_of section.section.items)) }
         ensures stands { IfOk result (λ f. has_number f.0 self.new ≡ true) }
