@@ -44,3 +44,4 @@ pub mod AppendedFiles
 pub mod Trusting
 pub mod PoppedKeys
 pub mod HeaderBytes
+pub mod LeavingOut

@@ -4,7 +4,7 @@ use Rattle.std.specs.Prelude.{◌⊎◌, IfSome, IsErr, IsOk, OnErr}
 use Rattle.std.specs.declared.vec.Vec.{Vec}
 use Rattle.gitconf_base.specs.Key.{Key}
 use Rattle.gitconf_state.specs.Edit.{with_used}
-use Rattle.gitconf_state.specs.Edits.{DeleteAt, apply, items_of_numbered, numbered}
+use Rattle.gitconf_state.specs.Edits.{apply, items_of_numbered, numbered}
 use Rattle.gitconf_state.specs.State.{SectionState, State}
 use Rattle.gitconf_body.specs.ValuesAt.{rewritten_put}
 use Rattle.gitconf_store.specs.declared.lookup.existing.Error.{Error as ExistingError}
@@ -13,7 +13,7 @@ use Rattle.gitconf_store.specs.declared.set_raw_value.Error.{Error}
 use Rattle.gitconf_store.specs.Editors.{PutsIn}
 use Rattle.gitconf_store.specs.Edits.{UsedGrows}
 use Rattle.gitconf_store.specs.SetErrors.{of_existing, of_span, set_number}
-use Rattle.gitconf_store.specs.Several.{AreRewritten, AreSetExisting, all_bytes, all_deleted, all_rewritten, one_rewriting}
+use Rattle.gitconf_store.specs.Several.{AreRewritten, AreSetExisting, all_bytes, all_rewritten, one_rewriting}
 use Rattle.gitconf_store.specs.ValuePlaces.{ArePlaces, AreValuePlaces, key_places}
 use Rattle.gitconf_store.proofs.Sets.{number_of_span}
 
@@ -216,11 +216,3 @@ pub set_ok : {Z : Type 0} (key : Key) (values : List (List ℕ)) (found : Vec (�
     → AreSetExisting key values (Ok tt) old new
 set_ok key values found old new r placed done a =
     inr (placed.0, placed.1, found.items, placed.2, without_refusal key.name found.items values old new r done a)
-
--- the last one is deleted first
-pub all_deleted-push : (places : List (ℕ × ℕ)) (place : ℕ × ℕ) (state : State)
-    → all_deleted (places ++ place ∷ []) state ≡ all_deleted places (apply (DeleteAt place.0 place.1) state)
-all_deleted-push [] place state = refl
-all_deleted-push (p ∷ places) place state = ap (apply (DeleteAt p.0 p.1)) (all_deleted-push places place state)
-
-pub ruleset deleting = (all_deleted-push)

@@ -32,3 +32,4 @@ pub mod NewSections
 pub mod Moves
 pub mod Joining
 pub mod Appends
+pub mod LeavingOut

@@ -3,6 +3,7 @@ mod appending;
 mod editing;
 mod existing;
 mod joined;
+mod leaving_out;
 mod look_ups;
 mod making;
 mod removing;

@@ -1,6 +1,7 @@
 //! Several values of entries that stand: set anew, deleted, and what they mean.
 use crate::set_raw_value;
 use crate::store::Store;
+use crate::store::leaving_out::before_run;
 use bstr::BString;
 use gitconf_body::value_at::InPlaceOf;
 use gitconf_table::table::SectionId;
@@ -70,15 +71,17 @@ impl Store {
     /// Deletes the items at places, the last one first, so that those before it keep their places; each alone, as
     /// [`Store::delete_entry_at`] does. Is never refused, and takes no memory.
     ///
-    /// For each item its section is found in constant time, and what stands behind it in the section moves up by one.
-    #[tactic(auto, using(crate::proofs::Several::deleting))]
+    /// Places of one section that stand next to each other in the list, each before the next one in the section, go at once: the section
+    /// is found in constant time, and walked over once. So for places in order each section that they are in is walked over once.
+    #[tactic(auto, using(crate::proofs::LeavingOut::leaving))]
     pub fn delete_entries_at(&mut self, places: &[(SectionId, usize)])
         ensures { self.new ≡ all_deleted places.now self.old }
     {
         let mut left = places;
-        while let Some((place, before)) = left.split_last() {
-            self.delete_entry_at(place.0, place.1);
-            left = before;
+        while let Some((last, before)) = left.split_last() {
+            let (front, run) = left.split_at(before_run(before, last.0, last.1));
+            self.delete_run(last.0, run);
+            left = front;
         }
     }
 

@@ -155,8 +155,7 @@ impl<'a> MultiValueMut<'a> {
 
     /// Deletes all entries that are left, each as [`MultiValueMut::delete`] does, the last one first. Is never refused, and takes no memory.
     ///
-    /// For each entry its section is found in constant time, and what stands behind it in the section moves up by one: so it takes no more
-    /// than the entries times the items of their sections.
+    /// Each section that they are in is found in constant time, and walked over once.
     pub fn delete_all(&mut self)
         ensures same_file { lent self.new ≡ lent self.old }
         ensures same_key { key_of self.new ≡ key_of self.old }
