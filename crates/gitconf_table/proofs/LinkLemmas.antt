@@ -1,9 +1,9 @@
 -- Links and buckets as the chains of their places.
 use Rattle.std.proofs.Common.{◌≡◌, ◌≢◌, ℕ, ◌+◌, ◌-◌, ◌<◌, ◌≤◌, ◌⊎◌, inl, inr, refl, sym, ap, subst, ◌∙◌, arith, min, zero, suc, List, [], ◌∷◌, ◌++◌, length, set, take, drop, insert, remove}
 use Rattle.std.proofs.lemmas.Bool.{cases_eq}
-use Rattle.std.proofs.lemmas.List.{get_or-set_same, get_or-set_other, get_or_append_left, length-set}
+use Rattle.std.proofs.lemmas.List.{get_or-set_same, get_or-set_other, get_or_append_left, length-append, length-set}
 use Rattle.std.proofs.lemmas.List.{map-append, take-map, drop-map}
-use Rattle.std.proofs.Math.Seq.{map-set_same, take-append_seam}
+use Rattle.std.proofs.Math.Seq.{map-set_same, take-append_seam, take-length}
 use Rattle.gitconf_table.specs.declared.index.Link.{Link}
 use Rattle.gitconf_table.specs.declared.index.Bucket.{Bucket}
 use Rattle.gitconf_table.specs.Links.{IsFirst, IsBehindLast, AreChained, AreLinked, IsLed, bucket_of, ends_of, link_at, no_place, words_of}
@@ -159,3 +159,15 @@ words_between links added at =
     map-append (λ (l : Link). l.word) (take at links ++ added) (drop at links)
     ∙ (λ j. map-append (λ (l : Link). l.word) (take at links) added j ++ sym (drop-map (λ (l : Link). l.word) at links) j)
     ∙ (λ j. sym (take-map (λ (l : Link). l.word) at links) j ++ words_of added ++ drop at (words_of links))
+
+-- links that are put behind all others leave their chains
+pub linked_behind : (links added : List Link) (buckets : List Bucket) (at : ℕ) → at ≡ length links → AreLinked (length links) links buckets
+    → AreLinked at (take at links ++ added ++ drop at links) buckets
+linked_behind links added buckets at whole h = subst (λ n. AreLinked n (take n links ++ added ++ drop n links) buckets) (sym whole)
+    (linked_along (length links) links (take (length links) links ++ added ++ drop (length links) links) buckets same h)
+  where
+    same : (k : ℕ) → k < length links → link_at links k ≡ link_at (take (length links) links ++ added ++ drop (length links) links) k
+    same k below =
+        let within : k < length (links ++ added) = omega (arith, below, length-append links added) in
+        sym ((λ i. link_at (take-length links i ++ added ++ drop (length links) links) k)
+        ∙ get_or_append_left (links ++ added) (drop (length links) links) no_link k within ∙ get_or_append_left links added no_link k below)

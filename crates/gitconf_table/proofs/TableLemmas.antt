@@ -5,7 +5,7 @@ use Rattle.std.specs.Option.{option_eq, option_map}
 use Rattle.std.specs.List.{filter_map, list_any, AllByRecursion, AllZip}
 use Rattle.std.specs.Str.{bytes_eq}
 use Rattle.std.proofs.lemmas.Bool.{cases_eq, cases_lt, eq-eqb}
-use Rattle.std.proofs.lemmas.List.{append-nil, map-append, length-map, length-append, take-map, drop-map, get_or-set_same, get_or-set_other, get_or_append_left, get_or_default}
+use Rattle.std.proofs.lemmas.List.{append-nil, map-append, length-map, length-append, take-map, drop-map, get_or-set_same, get_or-set_other, get_or_append_left, get_or_default, get_or-take, length-take-le}
 use Rattle.std.proofs.lemmas.List.Quantifiers.{position-Some}
 use Rattle.std.proofs.Math.ListN.{get_or-map}
 use Rattle.std.proofs.Math.Seq.{get_or-append_seam}
@@ -134,6 +134,19 @@ placed_more numbers places at n is within inside apart h k below = go (cases_eq 
     go (inr other) =
         rw (get_or-set_other places n (slice_index numbers k) at 0 (λ e. apart k at (omega (arith, below, other)) within (e ∙ is)))
         (h k (omega (arith, below, other)))
+
+-- the places before the first one of others that are put between
+pub placed_before : (numbers more rest places new : List ℕ) (at : ℕ) → at ≤ length numbers → ((k : ℕ) → k < length numbers → slice_index numbers k < length places)
+    → take (length places) new ≡ places → ArePlaced numbers places → ArePlacedTo at (take at numbers ++ more ++ rest) new
+placed_before numbers more rest places new at within inside kept placed k below =
+    let long : length (take at numbers) ≡ at = length-take-le at numbers within in
+    let there : slice_index numbers k < length places = inside k (omega (arith, below, within)) in
+    let same : slice_index (take at numbers ++ more ++ rest) k ≡ slice_index numbers k =
+    get_or_append_left (take at numbers ++ more) rest 0 k (omega (arith, long, below, length-append (take at numbers) more))
+    ∙ get_or_append_left (take at numbers) more 0 k (omega (arith, long, below)) ∙ get_or-take at numbers k 0 below in
+    let stays : slice_index new (slice_index numbers k) ≡ slice_index places (slice_index numbers k) =
+    sym (get_or-take (length places) new (slice_index numbers k) 0 there) ∙ ap (λ ps. slice_index ps (slice_index numbers k)) kept in
+    ap (slice_index new) same ∙ stays ∙ placed k (omega (arith, below, within))
 
 module _ {T : Type 0} where
   -- one section more at the end

@@ -74,6 +74,19 @@ fn chain(links: &mut [Link], buckets: &mut [Bucket], at: usize)
     };
 }
 
+// Chains the places from one on, behind those before it, which are chained.
+fn link_from(links: &mut [Link], buckets: &mut [Bucket], from: usize)
+    requires within { from ≤ length links.old }
+    requires some { 0 < length buckets.old }
+    requires linked { AreLinked from links.old buckets.old }
+    ensures words { words_of links.new ≡ words_of links.old }
+    ensures linked { AreLinked (length links.old) links.new buckets.new }
+{
+    for at in from..links.len() {
+        chain(links, buckets, at);
+    }
+}
+
 // Chains all places anew.
 fn relink(links: &mut [Link], buckets: &mut [Bucket])
     requires { 0 < length buckets.old }
@@ -83,9 +96,20 @@ fn relink(links: &mut [Link], buckets: &mut [Bucket])
     for bucket in buckets.iter_mut() {
         *bucket = EMPTY;
     }
-    for at in 0..links.len() {
-        chain(links, buckets, at);
-    }
+    link_from(links, buckets, 0);
+}
+
+// Chains the places of a list from one on.
+fn link_rest(links: &mut Vec<Link>, buckets: &mut Vec<Bucket>, from: usize)
+    requires within { from ≤ length links.old.items }
+    requires some { 0 < vec_len buckets.old }
+    requires linked { AreLinked from links.old.items buckets.old.items }
+    ensures words { words_of links.new.items ≡ words_of links.old.items }
+    ensures linked { AreLinked (length links.new.items) links.new.items buckets.new.items }
+    ensures room { (vec_len links.new ≡ vec_len links.old) × (vec_capacity links.new ≡ vec_capacity links.old) }
+    ensures buckets { vec_len buckets.new ≡ vec_len buckets.old }
+{
+    link_from(links, buckets, from);
 }
 
 // Chains all places of a list anew.
@@ -209,7 +233,7 @@ impl WordIndex {
         relink_all(&mut self.links, &mut self.buckets);
     }
 
-    /// Puts all words of another list behind the first `at` ones. Takes time for all words.
+    /// Puts all words of another list behind the first `at` ones. Takes time for all words; behind all others, for the other list's alone.
     pub fn insert_all(&mut self, at: usize, other: WordIndex)
         requires room { length other.words ≤ self.old.room }
         requires within { at ≤ length self.old.words }
@@ -222,8 +246,13 @@ impl WordIndex {
         if added.is_empty() {
             return;
         }
+        let count = self.links.len();
         put_at(&mut self.links, at, &mut added);
-        relink_all(&mut self.links, &mut self.buckets);
+        if at == count {
+            link_rest(&mut self.links, &mut self.buckets, count);
+        } else {
+            relink_all(&mut self.links, &mut self.buckets);
+        }
     }
 
     /// The same words again. Takes memory for the places and buckets at once.

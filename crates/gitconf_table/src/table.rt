@@ -9,7 +9,7 @@ ghost use Rattle.std.specs.Borrow.{sem};
 ghost use Rattle.gitconf_text.specs.Bytes.{fold};
 ghost use Rattle.gitconf_table.specs.Sections.{all_named, entry_of, has_name, ids, is_named, named, no_number, number_at, numbered_from, place_of, section_at, section_of, sections_of, with_all, with_behind, with_last, with_names, without, IsNumbered, IsTableClone};
 ghost use Rattle.gitconf_table.specs.Rows.{entry_of_row, moved_rows, numbers_in, RowsFit};
-ghost use Rattle.gitconf_table.specs.Tables.{AreApart, ArePlaced};
+ghost use Rattle.gitconf_table.specs.Tables.{AreApart, ArePlaced, ArePlacedTo};
 ghost use Rattle.gitconf_table.specs.Word.{full_word};
 ghost use Rattle.gitconf_table.specs.Words.{places_of};
 ghost use Rattle.gitconf_table.specs.SectionIters.{ids_left, named_left, sections_left, shown_section, with_name_left};
@@ -380,7 +380,7 @@ impl<T> SectionTable<T> {
         let word = name_word(name);
         self.rows.insert(at, row).unwrap();
         self.places.push(at).unwrap();
-        relocate(&self.rows, &mut self.places);
+        relocate(&self.rows, &mut self.places, 0);
         self.names.insert(at, word);
         self.full.insert(at, full_word(name, word, subsection));
         self.next += 1;
@@ -389,7 +389,7 @@ impl<T> SectionTable<T> {
 
     /// Puts all sections of another table behind the first `position` ones, in their order and under the next
     /// numbers. Their names and what they hold are moved. Takes memory for the places and the indexes, moves what stands
-    /// behind, and links all sections anew.
+    /// behind, and links all sections anew; behind all others, those of the other table alone.
     ///
     /// Errors: a [`span::Error`], number 3 where fewer numbers are left than the other has sections, and else
     /// 27 for want of memory. The table then is as it was, and the other is dropped.
@@ -422,7 +422,7 @@ impl<T> SectionTable<T> {
         let behind = put(&mut self.letters, &letters).start;
         renumber(&mut added, self.next, behind);
         put_at(&mut self.rows, position, &mut added);
-        relocate(&self.rows, &mut self.places);
+        relocate(&self.rows, &mut self.places, position);
         self.names.insert_all(position, names);
         self.full.insert_all(position, full);
         self.next += count;
@@ -441,7 +441,7 @@ impl<T> SectionTable<T> {
             names: _,
             section,
         } = self.rows.remove(at);
-        relocate(&self.rows, &mut self.places);
+        relocate(&self.rows, &mut self.places, 0);
         self.names.remove(at);
         self.full.remove(at);
         Some(section)
@@ -478,14 +478,16 @@ impl<T> SectionTable<T> {
     }
 }
 
-// Writes down the place of each row under its number.
-fn relocate<T>(rows: &Vec<Row<T>>, places: &mut Vec<usize>)
+// Writes down the place of each row from one on under its number, behind those that have theirs.
+fn relocate<T>(rows: &Vec<Row<T>>, places: &mut Vec<usize>, from: usize)
+    requires from { from ≤ length (numbers_in rows.now.items) }
     requires within { (k : ℕ) → k < length (numbers_in rows.now.items) → slice_index (numbers_in rows.now.items) k < length places.old.items }
     requires once { AreApart (numbers_in rows.now.items) }
+    requires before { ArePlacedTo from (numbers_in rows.now.items) places.old.items }
     ensures placed { ArePlaced (numbers_in rows.now.items) places.new.items }
     ensures len { length places.new.items ≡ length places.old.items }
 {
-    for at in 0..rows.len() {
+    for at in from..rows.len() {
         let row = &rows[at];
         let id = row.id;
         places[id.number] = at;
@@ -496,6 +498,7 @@ fn relocate<T>(rows: &Vec<Row<T>>, places: &mut Vec<usize>)
 fn add_places(places: &mut Vec<usize>, next: usize, count: usize) -> Result<(), AllocError>
     requires { next + count ≤ no_number }
     ensures ok { OnOk result (vec_len places.new ≡ next + count) }
+    ensures kept { OnOk result (length places.old.items ≤ next + count → take (length places.old.items) places.new.items ≡ places.old.items) }
     ensures err { OnErr result (places.new.items ≡ places.old.items) }
 {
     places.resize(next + count, 0)

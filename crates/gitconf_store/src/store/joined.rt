@@ -93,8 +93,7 @@ impl Store {
     /// other's don't begin with one.
     ///
     /// The other's bytes go behind the buffer's, and its spans are moved in one pass: the time is linear in the other file, but for a walk
-    /// up to our first line end, and the places of our sections, which are linked anew. Takes memory for the bytes, the names and the
-    /// places.
+    /// up to our first line end. Takes memory for the bytes, the names and the places.
     ///
     /// # Errors
     ///

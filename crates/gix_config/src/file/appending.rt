@@ -36,7 +36,7 @@ impl File {
     /// line end goes between where there is something that doesn't end with one, and what comes doesn't begin with one.
     ///
     /// The other's bytes are copied once, and its parts are moved in one pass: the time is linear in the other file, but for a walk up to
-    /// our first line end, and the places of our sections, which are told anew. Takes memory for the bytes, the names and the places.
+    /// our first line end. Takes memory for the bytes, the names and the places.
     ///
     /// # Errors
     ///

@@ -22,4 +22,5 @@ loop-at-preserved g c =
     record {
       placed = placed_more (numbers_in rows) c.loop-at.places.items c.loop-at.at c.id.inside.number number (omega (arith, within, length-map rows (λ r. r.id))) (omega (arith, number, below, c.loop-at.invariant.len)) c.requires.once c.loop-at.invariant.placed;
       len = length-set c.loop-at.places.items c.id.inside.number c.loop-at.at ∙ c.loop-at.invariant.len;
+      within = omega (arith, within, length-map rows (λ r. r.id));
     }

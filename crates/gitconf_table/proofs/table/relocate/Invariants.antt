@@ -1,4 +1,4 @@
-use Rattle.std.proofs.Common.{◌≡◌, length}
+use Rattle.std.proofs.Common.{◌≡◌, ◌≤◌, length}
 use Rattle.gitconf_table.specs.Rows.{numbers_in}
 use Rattle.gitconf_table.specs.Tables.{ArePlacedTo}
 use Rattle.gitconf_table.proofs.table.relocate.Given as goal
@@ -7,4 +7,5 @@ abbrev pub invariant-loop-at : goal.invariant-loop-at
 invariant-loop-at g l = record {
   placed : ArePlacedTo l.at (numbers_in l.rows.items) l.places.items;
   len : length l.places.items ≡ length l.initial.places.items;
+  within : l.at ≤ length (numbers_in l.rows.items);
 }

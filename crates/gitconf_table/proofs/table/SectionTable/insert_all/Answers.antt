@@ -1,9 +1,10 @@
-use Rattle.std.proofs.Common.{◌≡◌, ◌+◌, ◌++◌, take, drop, length, ap, ◌∙◌, arith}
-use Rattle.std.proofs.lemmas.List.{length-map}
-use Rattle.gitconf_table.specs.Rows.{entries_of, entry_of_row}
+use Rattle.std.proofs.Common.{◌≡◌, ◌+◌, ◌≤◌, ◌++◌, take, drop, length, ap, sym, subst, ◌∙◌, arith}
+use Rattle.std.proofs.lemmas.List.{length-map, map-append, take-map}
+use Rattle.gitconf_table.specs.Rows.{entries_of, entry_of_row, numbers_in}
+use Rattle.gitconf_table.specs.Tables.{ArePlaced, ArePlacedTo}
 use Rattle.gitconf_table.proofs.SectionLemmas.{all_put_numbered}
-use Rattle.gitconf_table.proofs.RowLemmas.{entries_joined, fit_joined, rows_apart, rows_fit, rows_placed, rows_within}
-use Rattle.gitconf_table.proofs.TableLemmas.{table_joined}
+use Rattle.gitconf_table.proofs.RowLemmas.{entries_joined, fit_joined, numbers_shown, rows_apart, rows_fit, rows_placed, rows_within}
+use Rattle.gitconf_table.proofs.TableLemmas.{placed_before, table_joined}
 use Rattle.gitconf_table.proofs.table.SectionTable.insert_all.Goals as goal
 
 pub relocate-requires-clause-within : goal.relocate-requires-clause-within
@@ -30,6 +31,27 @@ relocate-requires-clause-once g c =
     let entries = entries_joined old.letters.items other.letters.items c.put-behind.new.letters.items c.put-behind.result.start letters start c.args.position old.next old.rows.items other.rows.items c.renumber.new.rows.items c.put_at.new.list.items c.renumber.ensures.moved rows c.self.invariant.fit in
     let once = rw (← entries) at (all_put_numbered old.next c.args.position (entries_of old.letters.items old.rows.items) (entries_of other.letters.items other.rows.items) c.self.invariant.table.numbered.once) in
     rows_apart c.put-behind.new.letters.items _ c.put_at.new.list.items once
+
+pub relocate-requires-clause-before : goal.relocate-requires-clause-before
+relocate-requires-clause-before g c =
+    let old = c.self.inside in
+    let letters = old.letters.items in
+    let rows = old.rows.items in
+    let at = c.args.position in
+    let added = c.renumber.new.rows.items in
+    let count : length (numbers_in rows) ≡ length rows = length-map rows (λ r. r.id) in
+    let asked : at ≤ length (entries_of letters rows) = rw (← c.self.view_is) at c.requires in
+    let within : at ≤ length (numbers_in rows) = omega (arith, asked, count, length-map rows (entry_of_row letters)) in
+    let shown = numbers_shown letters rows in
+    let inside = rows_within letters old.next rows old.places.items c.self.invariant.table.numbered.once c.self.invariant.table.counted in
+    let kept = c.in_ok-add_places.ensures.kept (omega (arith, c.self.invariant.table.counted)) in
+    let placed : ArePlaced (numbers_in rows) old.places.items = subst (λ ns. ArePlaced ns old.places.items) shown c.self.invariant.table.placed in
+    let put = c.put_at.ensures ∙ (λ j. take at (c.reserve.ensures.items j) ++ added ++ drop at (c.reserve.ensures.items j)) in
+    let numbers : numbers_in c.put_at.new.list.items ≡ take at (numbers_in rows) ++ numbers_in added ++ numbers_in (drop at rows) =
+    ap numbers_in put ∙ map-append (λ r. r.id) (take at rows ++ added) (drop at rows)
+    ∙ (λ j. (map-append (λ r. r.id) (take at rows) added ∙ (λ i. sym (take-map (λ r. r.id) at rows) i ++ numbers_in added)) j ++ numbers_in (drop at rows)) in
+    subst (λ ns. ArePlacedTo at ns c.add_places.new.places.items) (sym numbers)
+    (placed_before (numbers_in rows) (numbers_in added) (numbers_in (drop at rows)) old.places.items c.add_places.new.places.items at within inside kept placed)
 
 pub invariant_of-self-2 : goal.invariant_of-self-2
 invariant_of-self-2 g c =
