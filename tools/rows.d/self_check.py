@@ -108,12 +108,43 @@ sys.stderr.write("?" if FAULT == "error" else "")
 sys.exit(1 if FAULT == "status" else 0)
 """
 
+# A program whose file, behind an edit, is `[a]`, LF, `k=v #c`, LF; what it shows of it there, or of the same text loaded, may be wrong.
+READER = r"""#!PYTHON
+import sys
+FAULT = "WRONG"
+TEXT = "x5b615d0a6b3d762023630a"
+SHOWN = {"print": "ok " + TEXT, "dump": "ok [0 x61 - x6b x76 ]", "count": "ok 1", "front": "none", "headerof 0": "ok x61 - x5b615d",
+         "body 0": "ok L:x0a N:x6b S: V:x76 W:x20 C:x2363 L:x0a", "post 0": "none"}
+EDITED = {"entries": ("dump", "ok [0 x61 - x6b x77 ]"), "count": ("count", "ok 2"),
+          "comments": ("body 0", "ok L:x0a N:x6b S: V:x76 W:x20 C:x2364 L:x0a"), "noheader": ("headerof 0", "ok x - x5b5d")}
+is_edited = False
+for line in sys.stdin:
+    command, words = line.strip(), line.split()
+    if words[0] == "load":
+        is_edited = False
+        answer = "err E1 1 name x" if FAULT in ("refused", "noheader") and words[1] == TEXT else "ok"
+    elif words[0] == "set":
+        is_edited, answer = True, "ok"
+    elif words[0] in ("printfail", "printnone"):
+        answer = ["err E28 x", "err E28 x5b615d", "ok " + TEXT][min(int(words[1]), 3) - 1]
+        if FAULT == "written" and answer[0] == "o": answer = "ok x5b"
+        if FAULT == "nobeginning" and words[1] == "2": answer = "err E28 x61"
+        if FAULT == "endless": answer = "err E28 x"
+        if FAULT == "cause" and words[1] == "1": answer = "err E27"
+    else:
+        answer = SHOWN[command]
+        if is_edited and EDITED.get(FAULT, [""])[0] == command: answer = EDITED[FAULT][1]
+        if not is_edited and FAULT == "printed" and command == "print": answer = "ok x5b615d"
+    print(answer, flush=True)
+"""
+
 ROWS = '# one\nload "v"\n  ok\ncount\n  ok 1\nprint\n  ok "v"\n\n# two\nprint\n  ok ""\n'
 GROWING = '# one\nload "v"\n  ok\nprintif "a"\n  ok "v"\nappend "g"\n  unknown\nprint\n  ok "v"\n'
 SCOPE = '# one\nload "v"\n  ok\nedit "a" -\n  ok\npush "w"\n  ok\nend\n  ok\nprint\n  ok "w"\n'
 BEYOND = ('# one\nload "v"\n  ok\nstringkey "a.k"\n  ok "v"\nname "x"\n  ok\nloadkept "z" -\n  ok\nprint\n  ok "z"\n'
           'load "u"\n  ok\nprint\n  ok "u"\n')
 RUNS = 'gixcfg "get" < "v"\n  0 "v" ""\n\ngixcfg "other" < "v" unread\n  2 "" "usage"\n'
+EDIT = '# one\nset "a" - "k" "v"\n  ok\n'
 REASON = "# A reason.\nin rows.txt: one\n"
 
 
@@ -127,6 +158,7 @@ class Case(NamedTuple):
     words: Tuple[str, ...]
     told: Tuple[str, ...]
     count: str
+    tool: str = "rows"
 
 
 def plain(fault, told, count, rows=ROWS):
@@ -139,6 +171,10 @@ def refusals(fault, told, count, rows=GROWING):
 
 def program_run(fault, told, count):
     return Case(f"gixcfg, {fault}", GIXCFG.replace("WRONG", fault), "program.txt", RUNS, (), told, count)
+
+
+def left(fault, told=(), count="0 passed, 1 failed"):
+    return Case(f"read_back, {fault}", READER.replace("WRONG", fault), "rows.txt", EDIT, (), told, count, "read_back")
 
 
 def other(name, fault, listed, told, count, rows=ROWS):
@@ -192,6 +228,17 @@ CASES = [
                                                     "passed over:     1 of rows whose file"), "4 passed, 0 failed", BEYOND),
     other("one without a reason", "changed", "in rows.txt: one\ncount\n  ok 1\n  ok 2\n", ("has a reason",),
           "0 passed, 1 failed"),
+    left("right", (), "1 passed, 0 failed"),
+    left("noheader", (), "1 passed, 0 failed"),
+    left("refused", ('rows.txt:2: set "a" - "k" "v"', "is refused")),
+    left("entries", ("has other entries",)),
+    left("count", ("has another count of entries",)),
+    left("comments", ("has other comments",)),
+    left("printed", ("is printed otherwise",)),
+    left("written", ("printfail 3: another text is written",)),
+    left("nobeginning", ("printfail 2: no beginning",)),
+    left("endless", ("printfail: more writes than bytes",)),
+    left("cause", ("printfail 1 answers ['err', 'E27']",)),
 ]
 
 
@@ -205,8 +252,10 @@ def _check_case(case, tools, folder):
         (rows / "DIFFERENCES.txt").write_text(words[1])
         words[1] = str(program)
     _make(case.program, program)
-    called = [sys.executable, str(tools / "rows"), "--rows", str(rows), "--program", str(program), "--gixcfg", str(program)]
-    ran = subprocess.run(called + ["--limit", "4", *words], stdout=subprocess.PIPE, stderr=subprocess.STDOUT)
+    called = [sys.executable, str(tools / case.tool), "--rows", str(rows), "--program", str(program), *words]
+    if case.tool == "rows":
+        called += ["--gixcfg", str(program), "--limit", "4"]
+    ran = subprocess.run(called, stdout=subprocess.PIPE, stderr=subprocess.STDOUT)
     told = ran.stdout.decode("utf-8", "replace")
     missing = [part for part in case.told if part not in told]
     is_right = told.endswith(f"{case.count}\n") and ran.returncode == (0 if case.count.endswith(" 0 failed") else 1)
