@@ -1,17 +1,17 @@
 -- Bytes appended to the buffer leave items as they are.
-use Rattle.std.proofs.Common.{◌≡◌, ℕ, List, [], ◌∷◌, ◌++◌, length, map, take, drop, Option, Some, None, refl, ap, ◌∙◌, arith, length-append}
+use Rattle.std.proofs.Common.{◌≡◌, ℕ, List, [], ◌∷◌, ◌++◌, length, map, take, drop, Some, refl, ap, ◌∙◌, arith, length-append}
 use Rattle.std.specs.List.{AllByRecursion}
 use Rattle.std.proofs.lemmas.List.{drop-append-le, take-append-le, length-drop}
 use Rattle.gitconf_text.specs.Part as parts
 use Rattle.gitconf_parse.specs.declared.event.Span.{Span}
-use Rattle.gitconf_parse.specs.declared.items.Piece.{Piece}
-use Rattle.gitconf_parse.specs.declared.items.Assigned.{Assigned}
+use Rattle.gitconf_parse.specs.declared.entry.Piece.{Piece}
+use Rattle.gitconf_parse.specs.declared.entry.Assigned.{Assigned}
+use Rattle.gitconf_parse.specs.declared.entry.Assigned.TheVariants as forms
 use Rattle.gitconf_parse.specs.declared.items.Item.{Item}
 use Rattle.gitconf_parse.specs.declared.items.Item.TheVariants as items
 use Rattle.gitconf_parse.specs.Events.{bytes_of, SpanFits}
-use Rattle.gitconf_parse.specs.Items.{piece_of, assigned_of, item_of}
+use Rattle.gitconf_parse.specs.Items.{piece_of, assigned_of, item_of, items_of}
 use Rattle.gitconf_parse.specs.ItemsFit.{PieceFits, AssignedFits, ItemFits, AreItemsWithin}
-use Rattle.gitconf_write.specs.Bodies.{items_of}
 
 pub bytes_more : (buffer more : List ℕ) (s : Span) → SpanFits (length buffer) s → bytes_of (buffer ++ more) s ≡ bytes_of buffer s
 bytes_more buffer more s fits =
@@ -29,16 +29,22 @@ pub pieces_fit_more : (buffer more : List ℕ) (ps : List Piece) → AllByRecurs
 pieces_fit_more buffer more [] fits = tt
 pieces_fit_more buffer more (p ∷ ps) fits = ((span_more buffer more p.text fits.0.0, span_more buffer more p.line_end fits.0.1), pieces_fit_more buffer more ps fits.1)
 
-pub assigned_more : (buffer more : List ℕ) (a : Option Assigned) → AssignedFits (length buffer) a → assigned_of (buffer ++ more) a ≡ assigned_of buffer a
-assigned_more buffer more None fits = refl
-assigned_more buffer more (Some a) fits = λ i. Some (record {
-  blanks = bytes_more buffer more a.blanks fits.0 i;
-  value = record { pieces = pieces_more buffer more a.value.pieces.items fits.1.0 i; last = bytes_more buffer more a.value.last fits.1.1 i };
+pub assigned_more : (buffer more : List ℕ) (a : Assigned) → AssignedFits (length buffer) a → assigned_of (buffer ++ more) a ≡ assigned_of buffer a
+assigned_more buffer more forms.Nothing fits = refl
+assigned_more buffer more (forms.Plain blanks value) fits = λ i. Some (record {
+  blanks = bytes_more buffer more blanks fits.0 i;
+  value = record { pieces = []; last = bytes_more buffer more value fits.1 i };
+})
+assigned_more buffer more (forms.Continued c) fits = λ i. Some (record {
+  blanks = bytes_more buffer more c.blanks fits.0 i;
+  value = record { pieces = pieces_more buffer more c.value.pieces.items fits.1.0 i; last = bytes_more buffer more c.value.last fits.1.1 i };
 })
 
-pub assigned_fits_more : (buffer more : List ℕ) (a : Option Assigned) → AssignedFits (length buffer) a → AssignedFits (length (buffer ++ more)) a
-assigned_fits_more buffer more None fits = tt
-assigned_fits_more buffer more (Some a) fits = (span_more buffer more a.blanks fits.0, (pieces_fit_more buffer more a.value.pieces.items fits.1.0, span_more buffer more a.value.last fits.1.1))
+pub assigned_fits_more : (buffer more : List ℕ) (a : Assigned) → AssignedFits (length buffer) a → AssignedFits (length (buffer ++ more)) a
+assigned_fits_more buffer more forms.Nothing fits = tt
+assigned_fits_more buffer more (forms.Plain blanks value) fits = (span_more buffer more blanks fits.0, span_more buffer more value fits.1)
+assigned_fits_more buffer more (forms.Continued c) fits =
+    (span_more buffer more c.blanks fits.0, (pieces_fit_more buffer more c.value.pieces.items fits.1.0, span_more buffer more c.value.last fits.1.1))
 
 pub item_more : (buffer more : List ℕ) (i : Item) → ItemFits (length buffer) i → item_of (buffer ++ more) i ≡ item_of buffer i
 item_more buffer more (items.Blanks run) fits = ap parts.BlanksItem (bytes_more buffer more run fits)

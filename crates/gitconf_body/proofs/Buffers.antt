@@ -7,7 +7,7 @@ use Rattle.gitconf_parse.specs.ShownEvents.{IsExtended}
 use Rattle.gitconf_body.specs.Buffers.{StandsAt, Grows}
 use Rattle.gitconf_parse.specs.declared.items.Item.{Item}
 use Rattle.gitconf_parse.specs.ItemsFit.{AreItemsWithin}
-use Rattle.gitconf_write.specs.Bodies.{items_of}
+use Rattle.gitconf_parse.specs.Items.{items_of}
 use Rattle.gitconf_body.proofs.Append.{bytes_more, span_more, items_more, items_fit_more}
 
 -- bytes put last stand there

@@ -4,20 +4,20 @@ use Rattle.std.specs.Prelude.{filter}
 use Rattle.std.specs.List.{last_or, list_any, AllByRecursion}
 use Rattle.gitconf_text.specs.Part as parts
 use Rattle.gitconf_text.specs.Value.{escaped}
-use Rattle.gitconf_parse.specs.declared.items.Assigned.{Assigned}
-use Rattle.gitconf_parse.specs.declared.items.Entry.{Entry}
+use Rattle.gitconf_parse.specs.declared.entry.Assigned.{Assigned}
+use Rattle.gitconf_parse.specs.declared.entry.Assigned.TheVariants as forms
+use Rattle.gitconf_parse.specs.declared.entry.EntryParts.{EntryParts as Entry}
 use Rattle.gitconf_parse.specs.declared.items.Item.{Item}
 use Rattle.gitconf_parse.specs.declared.items.Item.TheVariants as kinds
 use Rattle.gitconf_parse.specs.Events.{bytes_of}
-use Rattle.gitconf_parse.specs.Items.{item_of, entry_of}
+use Rattle.gitconf_parse.specs.Items.{item_of, entry_of, items_of}
 use Rattle.gitconf_parse.specs.ItemsFit.{AreItemsWithin, ItemFits}
 use Rattle.gitconf_parse.specs.ShownEvents.{IsExtended}
 use Rattle.gitconf_state.specs.State.{is_entry}
 use Rattle.gitconf_state.specs.Edit.{blank_bytes, update_last, is_entry_of, set_bytes, set_value, spacing_of, with_value}
 use Rattle.gitconf_state.specs.Editors as states
 use Rattle.gitconf_state.proofs.EditLists.{any_at, update_last_at, last_passing, filter_none}
-use Rattle.gitconf_write.specs.Bodies.{items_of}
-use Rattle.gitconf_write.specs.LineEnds.{bytes_of_line_end}
+use Rattle.gitconf_text.specs.LineEnds.{bytes_of_line_end}
 use Rattle.gitconf_body.specs.declared.editor.Around.{Around}
 use Rattle.gitconf_body.specs.declared.editor.Editor.{Editor}
 use Rattle.gitconf_body.specs.Editors.{around_in, around_put, changed_put, editor_in, end_put, leading_put, line_put, IfEntry, separator_in, separator_put, set_put}
@@ -38,24 +38,26 @@ pub changed_is : (buffer : List ℕ) (around : Around) (e : Entry) (blanks : Opt
     ≡ with_value (record { leading = blanks; before = (around_in buffer around).0; behind = (around_in buffer around).1 }) value (parts.EntryItem (entry_of buffer e))
 changed_is buffer around e blanks value = go e.assigned refl
   where
-    go : (o : Option Assigned) → e.assigned ≡ o
+    go : (o : Assigned) → e.assigned ≡ o
         → parts.EntryItem (record {
           name = bytes_of buffer e.name;
           blanks = (separator_in buffer around e).0;
           assigned = Some (record { blanks = (separator_in buffer around e).1; value = record { pieces = []; last = escaped value } });
         })
         ≡ with_value (record { leading = blanks; before = (around_in buffer around).0; behind = (around_in buffer around).1 }) value (parts.EntryItem (entry_of buffer e))
-    go (Some a) at = rw at refl
-    go None at = rw at refl
+    go forms.Nothing at = rw at refl
+    go (forms.Plain before other) at = rw at refl
+    go (forms.Continued c) at = rw at refl
 
 -- how many bytes it puts
 pub changed_bytes : (buffer : List ℕ) (around : Around) (e : Entry) (value : List ℕ)
     → changed_put around value (parts.EntryItem (entry_of buffer e)) ≡ separator_put around e + length (escaped value)
 changed_bytes buffer around e value = go e.assigned refl
   where
-    go : (o : Option Assigned) → e.assigned ≡ o → changed_put around value (parts.EntryItem (entry_of buffer e)) ≡ separator_put around e + length (escaped value)
-    go (Some a) at = rw at (omega arith)
-    go None at = rw at refl
+    go : (o : Assigned) → e.assigned ≡ o → changed_put around value (parts.EntryItem (entry_of buffer e)) ≡ separator_put around e + length (escaped value)
+    go forms.Nothing at = rw at refl
+    go (forms.Plain before other) at = rw at (omega arith)
+    go (forms.Continued c) at = rw at (omega arith)
 
 -- A value that is set: in the key's last entry, or in a line behind all.
 value_set_at : (editor : states.Editor) (key value : List ℕ) (items before : List parts.Item) (i : parts.Item) (behind : List parts.Item) → items ≡ before ++ i ∷ behind

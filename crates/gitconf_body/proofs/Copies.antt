@@ -5,12 +5,14 @@ use Rattle.gitconf_text.specs.Part as parts
 use Rattle.gitconf_parse.specs.declared.event.Span.{Span}
 use Rattle.gitconf_parse.specs.declared.event.Copied.{Copied}
 use Rattle.gitconf_parse.specs.declared.event.Header.{Header}
-use Rattle.gitconf_parse.specs.declared.items.Piece.{Piece}
-use Rattle.gitconf_parse.specs.declared.items.Value.{Value}
-use Rattle.gitconf_parse.specs.declared.items.Assigned.{Assigned}
-use Rattle.gitconf_parse.specs.declared.items.Entry.{Entry}
+use Rattle.gitconf_parse.specs.declared.entry.Piece.{Piece}
+use Rattle.gitconf_parse.specs.declared.entry.Value.{Value}
+use Rattle.gitconf_parse.specs.declared.entry.Assigned.{Assigned}
+use Rattle.gitconf_parse.specs.declared.entry.Assigned.TheVariants as forms
+use Rattle.gitconf_parse.specs.declared.entry.Continued.{Continued}
+use Rattle.gitconf_parse.specs.declared.entry.EntryParts.{EntryParts as Entry}
 use Rattle.gitconf_parse.specs.declared.items.Item.TheVariants as items
-use Rattle.gitconf_parse.specs.Events.{bytes_of, header_of, HeaderFits}
+use Rattle.gitconf_parse.specs.Events.{bytes_of, header_of, HeaderFits, SpanFits}
 use Rattle.gitconf_parse.specs.Items.{piece_of, value_of, assigned_of, entry_of, item_of}
 use Rattle.gitconf_parse.specs.ItemsFit.{PieceFits, ValueFits, AssignedFits, EntryFits, ItemFits}
 use Rattle.gitconf_parse.specs.ShownEvents.{IsExtended}
@@ -106,15 +108,24 @@ value_copied from before to v copied pieces longer last =
       same = λ i. record { pieces = (ap (λ b. map (piece_of b) copied.pieces.items) longer.1 ∙ stay.0 ∙ pieces.same) i; last = last.is i };
     }
 
--- what stands behind `=`
-pub assigned_copied : (from before to : List ℕ) (a : Assigned) (copied : Assigned) → StandsAt before copied.blanks (bytes_of from a.blanks) → IsExtended before to
-    → IsCopy value_of ValueFits from to a.value copied.value → IsCopy assigned_of AssignedFits from to (Some a) (Some copied)
-assigned_copied from before to a copied blanks longer value =
-    let b = stands_more before to copied.blanks _ longer blanks in
-    record { within = (b.fits, value.within); same = λ i. Some (record { blanks = b.is i; value = value.same i }) }
-
-pub nothing_copied : (from to : List ℕ) → IsCopy assigned_of AssignedFits from to None None
+-- what is assigned
+pub nothing_copied : (from to : List ℕ) → IsCopy assigned_of AssignedFits from to forms.Nothing forms.Nothing
 nothing_copied from to = record { within = tt; same = refl }
+
+pub plain_value_copied : (from before to : List ℕ) (blanks value b v : Span) → StandsAt before b (bytes_of from blanks) → IsExtended before to → StandsAt to v (bytes_of from value)
+    → IsCopy assigned_of AssignedFits from to (forms.Plain blanks value) (forms.Plain b v)
+plain_value_copied from before to blanks value b v stands longer last =
+    let s = stands_more before to b _ longer stands in
+    record { within = (s.fits, last.fits); same = λ i. Some (record { blanks = s.is i; value = record { pieces = []; last = last.is i } }) }
+
+pub continued_copied : (from before to : List ℕ) (c : Continued) (b : Span) (value : Value) (copied : Assigned) → StandsAt before b (bytes_of from c.blanks) → IsExtended before to
+    → IsCopy value_of ValueFits from to c.value value
+    → ((buffer : List ℕ) → assigned_of buffer copied ≡ Some (record { blanks = bytes_of buffer b; value = value_of buffer value }))
+    → ((limit : ℕ) → SpanFits limit b → ValueFits limit value → AssignedFits limit copied)
+    → IsCopy assigned_of AssignedFits from to (forms.Continued c) copied
+continued_copied from before to c b value copied stands longer copy told fits =
+    let s = stands_more before to b _ longer stands in
+    record { within = fits (length to) s.fits copy.within; same = told to ∙ (λ i. Some (record { blanks = s.is i; value = copy.same i })) }
 
 -- an entry
 pub entry_copied : (from first second to : List ℕ) (e copied : Entry) → StandsAt first copied.name (bytes_of from e.name) → IsExtended first second
@@ -124,6 +135,11 @@ entry_copied from first second to e copied name longer blanks more assigned =
     let n = stands_more first to copied.name _ (twice_extended first second to longer more) name in
     let b = stands_more second to copied.blanks _ more blanks in
     record { within = (n.fits, b.fits, assigned.within); same = λ i. record { name = n.is i; blanks = b.is i; assigned = assigned.same i } }
+
+-- an entry that says the same as a copy
+pub copied_as : (from to : List ℕ) (e parts copied : Entry) → IsCopy entry_of EntryFits from to e parts → ((buffer : List ℕ) → entry_of buffer copied ≡ entry_of buffer parts)
+    → ((limit : ℕ) → EntryFits limit parts → EntryFits limit copied) → IsCopy entry_of EntryFits from to e copied
+copied_as from to e parts copied c told fits = record { within = fits (length to) c.within; same = told to ∙ c.same }
 
 -- items of each kind
 pub blanks_copied : (from to : List ℕ) (run copied : Span) → StandsAt to copied (bytes_of from run) → IsCopy item_of ItemFits from to (items.Blanks run) (items.Blanks copied)
@@ -169,8 +185,9 @@ pub ruleset copying = (
   item_stays,
   piece_copied,
   value_copied,
-  assigned_copied,
   nothing_copied,
+  plain_value_copied,
+  continued_copied,
   entry_copied,
   blanks_copied,
   line_ends_copied,

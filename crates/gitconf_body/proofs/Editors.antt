@@ -8,7 +8,7 @@ use Rattle.gitconf_parse.specs.Events.{bytes_of, OptionFits}
 use Rattle.gitconf_parse.specs.ItemsFit.{AreItemsWithin}
 use Rattle.gitconf_state.specs.State.{is_entry}
 use Rattle.gitconf_state.specs.Edit as state
-use Rattle.gitconf_write.specs.Bodies.{items_of}
+use Rattle.gitconf_parse.specs.Items.{items_of}
 use Rattle.gitconf_body.specs.Editors.{leading_in, leading_put, stored_leading, LeadingFits}
 use Rattle.gitconf_body.specs.Spacings.{is_stored_entry, leading_span, separator_spans}
 use Rattle.gitconf_body.proofs.Spacings.{any_entry_shown, leading_shown, leading_fits, before_shown}

@@ -12,4 +12,3 @@ pub mod Standing
 pub mod Changing
 pub mod Taken
 pub mod ValuesAt
-pub mod Moves

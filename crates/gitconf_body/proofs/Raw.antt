@@ -3,7 +3,7 @@ use Rattle.std.proofs.Common.{◌≡◌, ℕ, ◌≤◌, List, [], ◌∷◌, �
 use Rattle.std.specs.List.{flat_map}
 use Rattle.std.proofs.lemmas.List.{take_all}
 use Rattle.gitconf_text.specs.Value as grammar
-use Rattle.gitconf_parse.specs.declared.items.Piece.{Piece}
+use Rattle.gitconf_parse.specs.declared.entry.Piece.{Piece}
 use Rattle.gitconf_parse.specs.Events.{bytes_of}
 use Rattle.gitconf_parse.specs.Items.{piece_of}
 

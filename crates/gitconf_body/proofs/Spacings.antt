@@ -4,14 +4,15 @@ use Rattle.std.specs.List.{last_or, list_any}
 use Rattle.std.specs.Option.{option_map}
 use Rattle.gitconf_text.specs.Part as parts
 use Rattle.gitconf_parse.specs.declared.event.Span.{Span}
-use Rattle.gitconf_parse.specs.declared.items.Assigned.{Assigned}
+use Rattle.gitconf_parse.specs.declared.entry.Assigned.{Assigned}
+use Rattle.gitconf_parse.specs.declared.entry.Assigned.TheVariants as forms
 use Rattle.gitconf_parse.specs.declared.items.Item.{Item}
 use Rattle.gitconf_parse.specs.declared.items.Item.TheVariants as items
 use Rattle.gitconf_parse.specs.Events.{bytes_of, SpanFits, OptionFits}
 use Rattle.gitconf_parse.specs.ItemsFit.{AreItemsWithin}
 use Rattle.gitconf_state.specs.State.{is_entry}
 use Rattle.gitconf_state.specs.Edit as state
-use Rattle.gitconf_write.specs.Bodies.{items_of}
+use Rattle.gitconf_parse.specs.Items.{items_of}
 use Rattle.gitconf_body.specs.Editors.{around_bytes}
 use Rattle.gitconf_body.specs.Spacings.{default_blanks, is_stored_entry, leading_span, nothing, separator_spans}
 
@@ -50,10 +51,11 @@ before_shown buffer (items.LineEnds run ∷ is) = before_shown buffer is
 before_shown buffer (items.Comment tag text ∷ is) = before_shown buffer is
 before_shown buffer (items.Entry e ∷ is) = go e.assigned refl (before_shown buffer is)
   where
-    go : (o : Option Assigned) → e.assigned ≡ o → (bytes_of buffer (separator_spans is).0, bytes_of buffer (separator_spans is).1) ≡ state.separator_blanks (items_of buffer is)
+    go : (o : Assigned) → e.assigned ≡ o → (bytes_of buffer (separator_spans is).0, bytes_of buffer (separator_spans is).1) ≡ state.separator_blanks (items_of buffer is)
         → (bytes_of buffer (separator_spans (items.Entry e ∷ is)).0, bytes_of buffer (separator_spans (items.Entry e ∷ is)).1) ≡ state.separator_blanks (items_of buffer (items.Entry e ∷ is))
-    go None at later = rw at later
-    go (Some a) at later = rw at refl
+    go forms.Nothing at later = rw at later
+    go (forms.Plain blanks value) at later = rw at refl
+    go (forms.Continued c) at later = rw at refl
 
 pub separator_fits : (limit : ℕ) (is : List Item) → AreItemsWithin limit is → SpanFits limit (separator_spans is).0 × SpanFits limit (separator_spans is).1
 separator_fits limit [] all = (omega arith, omega arith)
@@ -62,10 +64,11 @@ separator_fits limit (items.LineEnds run ∷ is) all = separator_fits limit is a
 separator_fits limit (items.Comment tag text ∷ is) all = separator_fits limit is all.1
 separator_fits limit (items.Entry e ∷ is) all = go e.assigned refl (separator_fits limit is all.1)
   where
-    go : (o : Option Assigned) → e.assigned ≡ o → SpanFits limit (separator_spans is).0 × SpanFits limit (separator_spans is).1
+    go : (o : Assigned) → e.assigned ≡ o → SpanFits limit (separator_spans is).0 × SpanFits limit (separator_spans is).1
         → SpanFits limit (separator_spans (items.Entry e ∷ is)).0 × SpanFits limit (separator_spans (items.Entry e ∷ is)).1
-    go None at later = rw at later
-    go (Some a) at later = rw at (all.0.1, (let f = all.0.2 in rw at at f).0)
+    go forms.Nothing at later = rw at later
+    go (forms.Plain blanks value) at later = rw at (all.0.1, (let f = all.0.2 in rw at at f).0)
+    go (forms.Continued c) at later = rw at (all.0.1, (let f = all.0.2 in rw at at f).0)
 
 -- those of a body without entries
 pub default_spacing : (buffer : List ℕ) (is : List Item) → list_any is_stored_entry is ≡ false → state.spacing_of (items_of buffer is) ≡ default_blanks

@@ -5,12 +5,11 @@ use Rattle.gitconf_text.specs.Part as parts
 use Rattle.gitconf_parse.specs.declared.event.Span.{Span}
 use Rattle.gitconf_parse.specs.declared.items.Item.{Item}
 use Rattle.gitconf_parse.specs.declared.items.Item.TheVariants as items
-use Rattle.gitconf_parse.specs.declared.items.Entry.{Entry}
+use Rattle.gitconf_parse.specs.declared.entry.EntryParts.{EntryParts as Entry}
 use Rattle.gitconf_parse.specs.Events.{bytes_of, SpanFits}
-use Rattle.gitconf_parse.specs.Items.{entry_of, item_of}
+use Rattle.gitconf_parse.specs.Items.{entry_of, item_of, items_of}
 use Rattle.gitconf_parse.specs.ItemsFit.{AreItemsWithin, EntryFits, ItemFits}
 use Rattle.gitconf_parse.specs.ShownEvents.{IsExtended}
-use Rattle.gitconf_write.specs.Bodies.{items_of}
 use Rattle.gitconf_body.specs.Buffers.{StandsAt}
 use Rattle.gitconf_body.specs.Editors.{around_in, AroundFits}
 use Rattle.gitconf_body.specs.Standing.{Stand}

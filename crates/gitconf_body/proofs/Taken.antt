@@ -5,12 +5,11 @@ use Rattle.std.proofs.lemmas.List.{map-append}
 use Rattle.gitconf_text.specs.Part as parts
 use Rattle.gitconf_parse.specs.declared.items.Item.{Item}
 use Rattle.gitconf_parse.specs.declared.items.Item.TheVariants as items
-use Rattle.gitconf_parse.specs.Items.{item_of}
+use Rattle.gitconf_parse.specs.Items.{item_of, items_of}
 use Rattle.gitconf_parse.specs.ItemsFit.{AreItemsWithin, ItemFits}
 use Rattle.gitconf_state.specs.State.{cut_last, is_entry}
 use Rattle.gitconf_state.specs.Edit.{is_entry_of}
 use Rattle.gitconf_state.specs.Editors.{entry_told, removed, popped, popped_entry, without_last_blanks, without_first_line_ends}
-use Rattle.gitconf_write.specs.Bodies.{items_of}
 use Rattle.gitconf_body.specs.Places.{IsLastAt}
 use Rattle.gitconf_body.specs.Spacings.{is_stored_entry}
 use Rattle.gitconf_body.specs.Taken.{begins_line_ends, is_blanks, ends_blanks, behind_line_ends, before_blanks, StayWithin}

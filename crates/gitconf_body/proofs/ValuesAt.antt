@@ -1,26 +1,24 @@
 -- Entries that are written and deleted at a place.
-use Rattle.std.proofs.Common.{◌≡◌, ℕ, zero, suc, ◌+◌, ◌-◌, ◌≤◌, ◌<◌, min, Bool, true, false, List, [], ◌∷◌, ◌++◌, length, map, take, drop, slice_set, Option, Some, None, refl, ap, sym, subst, ◌∙◌, arith, append-nil}
+use Rattle.std.proofs.Common.{◌≡◌, ℕ, zero, suc, ◌+◌, ◌-◌, ◌≤◌, ◌<◌, min, Bool, true, false, List, [], ◌∷◌, ◌++◌, length, map, take, drop, slice_set, Some, refl, ap, sym, subst, ◌∙◌, arith, append-nil}
 use Rattle.std.specs.Prelude.{if◌then◌else◌}
 use Rattle.std.specs.List.{AllByRecursion}
 use Rattle.std.proofs.lemmas.List.{take-map, drop-map, take_min, take_all, drop_all, length-drop, map-append}
 use Rattle.gitconf_text.specs.Part as parts
 use Rattle.gitconf_parse.specs.declared.event.Span.{Span}
-use Rattle.gitconf_parse.specs.declared.items.Assigned.{Assigned}
-use Rattle.gitconf_parse.specs.declared.items.Entry.{Entry}
+use Rattle.gitconf_parse.specs.declared.entry.Assigned.{Assigned}
+use Rattle.gitconf_parse.specs.declared.entry.Assigned.TheVariants as forms
 use Rattle.gitconf_parse.specs.declared.items.Item.{Item}
 use Rattle.gitconf_parse.specs.declared.items.Item.TheVariants as items
-use Rattle.gitconf_parse.specs.declared.items.Piece.{Piece}
+use Rattle.gitconf_parse.specs.declared.entry.Piece.{Piece}
 use Rattle.gitconf_parse.specs.Events.{bytes_of, SpanFits}
-use Rattle.gitconf_parse.specs.Items.{piece_of, assigned_of, item_of}
+use Rattle.gitconf_parse.specs.Items.{piece_of, assigned_of, item_of, items_of}
 use Rattle.gitconf_parse.specs.ItemsFit.{AreItemsWithin, AssignedFits, ItemFits, PieceFits}
 use Rattle.gitconf_parse.specs.ShownEvents.{IsExtended}
 use Rattle.gitconf_state.specs.Editors as states
 use Rattle.gitconf_state.specs.Editors.{behind_old, deleted_at, entry_made, line_end_item, written_at}
-use Rattle.gitconf_write.specs.Bodies.{items_of}
 use Rattle.gitconf_body.specs.declared.value_at.InPlaceOf.{InPlaceOf}
 use Rattle.gitconf_body.specs.declared.value_at.InPlaceOf.TheVariants.{Nothing, EntryButLineEnd}
 use Rattle.gitconf_body.specs.declared.value_at.InPlaceOf.TheVariants as in_place_of
-use Rattle.gitconf_body.specs.declared.value_at.Way.{Way}
 use Rattle.gitconf_body.specs.Standing.{Stand, end_items}
 use Rattle.gitconf_body.specs.Taken.{StayWithin}
 use Rattle.gitconf_body.specs.ValuesAt.{IfReplaces, behind_way, is_before_comment, kept_behind, kept_end, keeps_line_end, last_end, stands, unless_short, way_before, without_first}
@@ -84,16 +82,24 @@ end_fits limit [] fits = omega arith
 end_fits limit (p ∷ []) fits = fits.0.1
 end_fits limit (p ∷ q ∷ ps) fits = end_fits limit (q ∷ ps) fits.1
 
-kept_stands : (buffer : List ℕ) (a : Option Assigned) (behind : List Item) → AssignedFits (length buffer) a
+-- none stays of a value in one piece
+none_kept : (last : List ℕ) (before : Bool) → [] ≡ elim last as (λ _. List parts.Item) [ [] ↦ if before then line_end_item [] else [] | b ∷ bs ↦ [] ]
+none_kept [] true = refl
+none_kept [] false = refl
+none_kept (b ∷ bs) before = refl
+
+kept_stands : (buffer : List ℕ) (a : Assigned) (behind : List Item) → AssignedFits (length buffer) a
     → Stand buffer (end_items (kept_end a behind)) (states.kept_line_end (assigned_of buffer a) (items_of buffer behind))
-kept_stands buffer None behind fits = none_stand buffer
-kept_stands buffer (Some a) behind fits =
-    subst (Stand buffer (end_items (kept_end (Some a) behind)))
-    (λ i. elim (bytes_of buffer a.value.last) as (λ _. List parts.Item) [
-      | [] ↦ if before_shown buffer behind i then line_end_item (end_shown buffer a.value.pieces.items i) else []
+kept_stands buffer forms.Nothing behind fits = none_stand buffer
+kept_stands buffer (forms.Plain blanks value) behind fits =
+    subst (Stand buffer []) (none_kept (bytes_of buffer value) (states.is_before_comment (items_of buffer behind))) (none_stand buffer)
+kept_stands buffer (forms.Continued c) behind fits =
+    subst (Stand buffer (end_items (kept_end (forms.Continued c) behind)))
+    (λ i. elim (bytes_of buffer c.value.last) as (λ _. List parts.Item) [
+      | [] ↦ if before_shown buffer behind i then line_end_item (end_shown buffer c.value.pieces.items i) else []
       | b ∷ bs ↦ []
     ])
-    (kept_of buffer a.value.last (last_end a.value.pieces.items) (is_before_comment behind) fits.1.1 (end_fits (length buffer) a.value.pieces.items fits.1.0))
+    (kept_of buffer c.value.last (last_end c.value.pieces.items) (is_before_comment behind) fits.1.1 (end_fits (length buffer) c.value.pieces.items fits.1.0))
 
 -- What stands behind the entry that is put before items or in place of their first one.
 pub way_stands : (buffer : List ℕ) (what : InPlaceOf) (is : List Item) → AreItemsWithin (length buffer) is

@@ -1,11 +1,11 @@
 -- Blanks with memory of their own, and editors whose blanks are bytes of their own.
-use Rattle.std.specs.Prelude.{◌≡◌, ◌+◌, ℕ, Bool, true, List, [], length}
+use Rattle.std.specs.Prelude.{◌≡◌, ◌+◌, Bool, true, [], length}
 use Rattle.std.specs.List.{list_all}
 use Rattle.gitconf_text.specs.Bytes.{is_blank}
 use Rattle.gitconf_state.specs.Edit.{Spacing}
 use Rattle.gitconf_state.specs.Editors as states
-use Rattle.gitconf_write.specs.LineEnds.{bytes_of_line_end}
-use Rattle.gitconf_write.specs.declared.line_end.LineEnd.{LineEnd}
+use Rattle.gitconf_text.specs.LineEnds.{bytes_of_line_end}
+use Rattle.gitconf_text.specs.declared.line_end.LineEnd.{LineEnd}
 use Rattle.gitconf_body.specs.declared.editor.Editor.{Editor}
 use Rattle.gitconf_body.specs.declared.editor.Leading.{Leading}
 use Rattle.gitconf_body.specs.declared.editor.Leading.TheVariants as leadings

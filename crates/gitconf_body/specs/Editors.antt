@@ -4,7 +4,8 @@ use Rattle.std.specs.List.{last_or, list_any}
 use Rattle.gitconf_text.specs.Value.{escaped}
 use Rattle.gitconf_text.specs.Part as parts
 use Rattle.gitconf_parse.specs.declared.event.Span.{Span}
-use Rattle.gitconf_parse.specs.declared.items.Entry.{Entry}
+use Rattle.gitconf_parse.specs.declared.entry.Assigned.TheVariants as forms
+use Rattle.gitconf_parse.specs.declared.entry.EntryParts.{EntryParts as Entry}
 use Rattle.gitconf_parse.specs.declared.items.Item.{Item}
 use Rattle.gitconf_parse.specs.declared.items.Item.TheVariants as items
 use Rattle.gitconf_parse.specs.Events.{bytes_of, SpanFits}
@@ -13,7 +14,7 @@ use Rattle.gitconf_state.specs.Edit.{is_entry_of}
 use Rattle.gitconf_state.specs.Edit as state
 use Rattle.gitconf_state.specs.Editors as states
 use Rattle.gitconf_state.specs.Editors.{comment_text}
-use Rattle.gitconf_write.specs.LineEnds.{bytes_of_line_end}
+use Rattle.gitconf_text.specs.LineEnds.{bytes_of_line_end}
 use Rattle.gitconf_body.specs.declared.editor.Editor.{Editor}
 use Rattle.gitconf_body.specs.declared.editor.Leading.{Leading}
 use Rattle.gitconf_body.specs.declared.editor.Leading.TheVariants as leadings
@@ -93,10 +94,14 @@ line_put e key value comment = leading_put e.leading + (length key + (value_put 
 
 -- the blanks around the `=` of an entry that gets a value: its own, or those of the editor
 abbrev pub separator_in : (buffer : List ℕ) → Around → Entry → List ℕ × List ℕ
-separator_in buffer around entry = elim entry.assigned [ Some a ↦ (bytes_of buffer entry.blanks, bytes_of buffer a.blanks) | None ↦ around_in buffer around ]
+separator_in buffer around entry = elim entry.assigned [
+  | forms.Nothing ↦ around_in buffer around
+  | forms.Plain blanks value ↦ (bytes_of buffer entry.blanks, bytes_of buffer blanks)
+  | forms.Continued c ↦ (bytes_of buffer entry.blanks, bytes_of buffer c.blanks)
+]
 
 abbrev pub separator_put : Around → Entry → ℕ
-separator_put around entry = elim entry.assigned [ Some a ↦ 0 | None ↦ around_put around ]
+separator_put around entry = elim entry.assigned [ forms.Nothing ↦ around_put around | forms.Plain blanks value ↦ 0 | forms.Continued c ↦ 0 ]
 
 -- what holds of an item's entry, if it is one
 abbrev pub IfEntry : Item → (Entry → Type 0) → Type 0

@@ -8,4 +8,3 @@ pub mod Standing
 pub mod Taken
 pub mod ValuesAt
 pub mod Blanks
-pub mod Moves

@@ -1,6 +1,7 @@
 -- Blanks as the code has them: spans of a buffer.
 use Rattle.std.specs.Prelude.{ℕ, ◌+◌, Bool, true, false, List, [], ◌∷◌, length, Option, Some, None}
 use Rattle.gitconf_parse.specs.declared.event.Span.{Span}
+use Rattle.gitconf_parse.specs.declared.entry.Assigned.TheVariants as forms
 use Rattle.gitconf_parse.specs.declared.items.Item.{Item}
 use Rattle.gitconf_parse.specs.declared.items.Item.TheVariants as items
 use Rattle.gitconf_state.specs.Edit as state
@@ -37,7 +38,11 @@ nothing = record { start = 0; len = 0 }
 -- the spans of the blanks around the first `=`
 abbrev pub separator_spans : List Item → Span × Span
 separator_spans [] = (nothing, nothing)
-separator_spans (items.Entry e ∷ is) = elim e.assigned [ None ↦ separator_spans is | Some a ↦ (e.blanks, a.blanks) ]
+separator_spans (items.Entry e ∷ is) = elim e.assigned [
+  | forms.Nothing ↦ separator_spans is
+  | forms.Plain blanks value ↦ (e.blanks, blanks)
+  | forms.Continued c ↦ (e.blanks, c.blanks)
+]
 separator_spans (items.Blanks run ∷ is) = separator_spans is
 separator_spans (items.LineEnds run ∷ is) = separator_spans is
 separator_spans (items.Comment tag text ∷ is) = separator_spans is

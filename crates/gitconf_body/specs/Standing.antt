@@ -5,7 +5,7 @@ use Rattle.gitconf_parse.specs.declared.event.Span.{Span}
 use Rattle.gitconf_parse.specs.declared.items.Item.{Item}
 use Rattle.gitconf_parse.specs.declared.items.Item.TheVariants as items
 use Rattle.gitconf_parse.specs.ItemsFit.{AreItemsWithin}
-use Rattle.gitconf_write.specs.Bodies.{items_of}
+use Rattle.gitconf_parse.specs.Items.{items_of}
 use Rattle.gitconf_body.specs.Spacings.{leading_items}
 use Rattle.gitconf_body.specs.declared.push.Comment.{Comment}
 use Rattle.gitconf_body.specs.declared.push.Line.{Line}

@@ -3,11 +3,12 @@ use Rattle.std.specs.Prelude.{ℕ, zero, suc, ◌+◌, Bool, true, false, List, 
 use Rattle.gitconf_text.specs.Part as parts
 use Rattle.gitconf_text.specs.Value.{escaped}
 use Rattle.gitconf_parse.specs.declared.event.Span.{Span}
-use Rattle.gitconf_parse.specs.declared.items.Assigned.{Assigned}
-use Rattle.gitconf_parse.specs.declared.items.Entry.{Entry}
+use Rattle.gitconf_parse.specs.declared.entry.Assigned.{Assigned}
+use Rattle.gitconf_parse.specs.declared.entry.Assigned.TheVariants as forms
+use Rattle.gitconf_parse.specs.declared.entry.EntryParts.{EntryParts as Entry}
 use Rattle.gitconf_parse.specs.declared.items.Item.{Item}
 use Rattle.gitconf_parse.specs.declared.items.Item.TheVariants as items
-use Rattle.gitconf_parse.specs.declared.items.Piece.{Piece}
+use Rattle.gitconf_parse.specs.declared.entry.Piece.{Piece}
 use Rattle.gitconf_body.specs.declared.editor.Editor.{Editor}
 use Rattle.gitconf_body.specs.declared.value_at.InPlaceOf.{InPlaceOf}
 use Rattle.gitconf_body.specs.declared.value_at.InPlaceOf.TheVariants.{Nothing, EntryButLineEnd}
@@ -62,9 +63,10 @@ kept_behind zero true run = unless_short run run.len
 kept_behind zero false run = None
 kept_behind (suc n) before run = None
 
-abbrev pub kept_end : Option Assigned → (behind : List Item) → Option Span
-kept_end None behind = None
-kept_end (Some a) behind = kept_behind a.value.last.len (is_before_comment behind) (last_end a.value.pieces.items)
+abbrev pub kept_end : Assigned → (behind : List Item) → Option Span
+kept_end forms.Nothing behind = None
+kept_end (forms.Plain blanks value) behind = None
+kept_end (forms.Continued c) behind = kept_behind c.value.last.len (is_before_comment behind) (last_end c.value.pieces.items)
 
 -- how an entry is put
 abbrev pub way_over : InPlaceOf → Entry → (behind : List Item) → Way

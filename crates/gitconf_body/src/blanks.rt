@@ -2,13 +2,13 @@
 ghost use Rattle.std.specs.List.{list_all};
 ghost use Rattle.std.specs.Prelude.{◌≡◌, IfOk, option_map, true};
 ghost use Rattle.gitconf_state.specs.State.{is_item};
-ghost use Rattle.gitconf_write.specs.Bodies.{items_of};
+ghost use Rattle.gitconf_parse.specs.Items.{items_of};
 ghost use Rattle.gitconf_body.specs.Editors.{around_in, leading_in};
 
 use crate::editor::{Around, Editor, Leading, editor_of};
 use gitconf_parse::items::Item;
 use gitconf_text::NoMemory;
-use gitconf_write::line_end::LineEnd;
+use gitconf_text::line_end::LineEnd;
 use std::alloc::Global;
 use std::marker::Model;
 

@@ -2,16 +2,17 @@
 ghost use Rattle.std.specs.Prelude.{◌<◌, ◌^◌, length, map, IfOk, OnOk};
 ghost use Rattle.std.specs.List.{AllByRecursion};
 ghost use Rattle.gitconf_parse.specs.Events.{bytes_of, header_of, HeaderFits};
-ghost use Rattle.gitconf_parse.specs.Items.{piece_of, value_of, assigned_of, entry_of, item_of};
+ghost use Rattle.gitconf_parse.specs.Items.{piece_of, value_of, assigned_of, entry_of, item_of, items_of, lent};
 ghost use Rattle.gitconf_parse.specs.ItemsFit.{PieceFits, ValueFits, AssignedFits, EntryFits, ItemFits, AreItemsWithin};
-ghost use Rattle.gitconf_write.specs.Bodies.{items_of};
 ghost use Rattle.gitconf_body.specs.Buffers.{StandsAt};
 ghost use Rattle.gitconf_body.specs.Copies.{IsCopy, IsLonger};
 
 use crate::buffer::append;
+use gitconf_parse::entry::{Assigned, AssignedRef, Entry, EntryParts, Piece, Value};
 use gitconf_parse::event::{Header, Span};
-use gitconf_parse::items::{Assigned, Entry, Item, Piece, Value};
+use gitconf_parse::items::Item;
 use gitconf_text::parse::span;
+use smallvec::SmallVec;
 
 /// The bytes of a span, copied.
 #[tactic(auto, using(crate::proofs::Copies::copying))]
@@ -35,12 +36,16 @@ fn copied_piece(from: &[u8], to: &mut Vec<u8>, piece: Piece) -> Result<Piece, sp
 }
 
 #[tactic(auto, using(crate::proofs::Copies::copying))]
-fn copied_pieces(from: &[u8], to: &mut Vec<u8>, pieces: &[Piece]) -> Result<Vec<Piece>, span::Error>
+fn copied_pieces(
+    from: &[u8],
+    to: &mut Vec<u8>,
+    pieces: &[Piece],
+) -> Result<SmallVec<Piece, 4>, span::Error>
     requires room { length to.old.items < 2 ^ 32 }
     ensures copies { IfOk result (λ ps. IsCopy (λ b. map (piece_of b)) (λ limit. AllByRecursion (PieceFits limit)) from.now to.new.items pieces.now ps.items) }
     ensures longer { OnOk result (IsLonger to.old.items to.new.items) }
 {
-    let mut copies = Vec::with_capacity(*to.allocator(), pieces.len())?;
+    let mut copies = SmallVec::with_capacity(*to.allocator(), pieces.len())?;
     let mut rest = pieces;
     while let Some((piece, behind)) = rest.split_first() {
         let copy = copied_piece(from, to, *piece)?;
@@ -61,23 +66,30 @@ fn copied_value(from: &[u8], to: &mut Vec<u8>, value: &Value) -> Result<Value, s
     Ok(Value { pieces, last })
 }
 
-/// What stands behind `=`, if anything, copied.
+/// What is assigned, if anything, copied.
 #[tactic(auto, using(crate::proofs::Copies::copying))]
 fn copied_assigned(
     from: &[u8],
     to: &mut Vec<u8>,
-    assigned: &Option<Assigned>,
-) -> Result<Option<Assigned>, span::Error>
+    assigned: AssignedRef<'_>,
+) -> Result<Assigned, span::Error>
     requires room { length to.old.items < 2 ^ 32 }
-    ensures copy { IfOk result (λ a. IsCopy assigned_of AssignedFits from.now to.new.items assigned.now a) }
+    ensures copy { IfOk result (λ a. IsCopy assigned_of AssignedFits from.now to.new.items (lent assigned.entry) a) }
     ensures longer { OnOk result (IsLonger to.old.items to.new.items) }
 {
-    let Some(assigned) = assigned else {
-        return Ok(None);
-    };
-    let blanks = copied_span(from, to, assigned.blanks)?;
-    let value = copied_value(from, to, &assigned.value)?;
-    Ok(Some(Assigned { blanks, value }))
+    match assigned {
+        AssignedRef::Nothing => Ok(Assigned::Nothing),
+        AssignedRef::Plain { blanks, value } => {
+            let blanks = copied_span(from, to, blanks)?;
+            let value = copied_span(from, to, value)?;
+            Ok(Assigned::Plain { blanks, value })
+        }
+        AssignedRef::Continued(continued) => {
+            let blanks = copied_span(from, to, continued.blanks)?;
+            let value = copied_value(from, to, &continued.value)?;
+            Ok(Assigned::of_value(blanks, value))
+        }
+    }
 }
 
 #[tactic(auto, using(crate::proofs::Copies::copying))]
@@ -86,14 +98,15 @@ fn copied_entry(from: &[u8], to: &mut Vec<u8>, entry: &Entry) -> Result<Entry, s
     ensures copy { IfOk result (λ e. IsCopy entry_of EntryFits from.now to.new.items entry.now e) }
     ensures longer { OnOk result (IsLonger to.old.items to.new.items) }
 {
-    let name = copied_span(from, to, entry.name)?;
-    let blanks = copied_span(from, to, entry.blanks)?;
-    let assigned = copied_assigned(from, to, &entry.assigned)?;
-    Ok(Entry {
+    let name = copied_span(from, to, entry.name())?;
+    let blanks = copied_span(from, to, entry.blanks())?;
+    let assigned = copied_assigned(from, to, entry.assigned())?;
+    let parts = EntryParts {
         name,
         blanks,
         assigned,
-    })
+    };
+    Ok(Entry::try_new(*to.allocator(), parts)?)
 }
 
 #[tactic(auto, using(crate::proofs::Copies::copying))]

@@ -2,15 +2,15 @@
 ghost use Rattle.std.specs.Prelude.{◌≡◌, ◌+◌, ℕ, List, None, true};
 ghost use Rattle.gitconf_parse.specs.ItemsFit.{AreItemsWithin};
 ghost use Rattle.gitconf_state.specs.Edit.{blank_bytes, spacing_of};
-ghost use Rattle.gitconf_write.specs.Bodies.{items_of};
-ghost use Rattle.gitconf_write.specs.LineEnds.{bytes_of_line_end};
+ghost use Rattle.gitconf_parse.specs.Items.{items_of};
+ghost use Rattle.gitconf_text.specs.LineEnds.{bytes_of_line_end};
 ghost use Rattle.gitconf_body.specs.Editors.{around_bytes, around_put, editor_in, leading_put, stored_leading, EditorFits};
 ghost use Rattle.gitconf_body.specs.Spacings.{leading_span};
 
 use crate::spacing::{has_entry, leading_blanks, separator_blanks};
 use gitconf_parse::event::Span;
 use gitconf_parse::items::Item;
-use gitconf_write::line_end::LineEnd;
+use gitconf_text::line_end::LineEnd;
 
 /// The blanks before a key.
 #[derive(Clone, Copy, Debug)]

@@ -1,27 +1,26 @@
 //! Setting the value of a key in a body.
 ghost use Rattle.std.specs.Prelude.{◌≡◌, ◌+◌, ◌-◌, ◌<◌, ◌≤◌, ◌^◌, min, length, IfOk, OnOk, OnErr, IsErrOf, option_map};
 ghost use Rattle.gitconf_text.specs.Value.{escaped};
-ghost use Rattle.gitconf_parse.specs.Items.{item_of};
+ghost use Rattle.gitconf_parse.specs.Items.{item_of, items_of};
 ghost use Rattle.gitconf_parse.specs.ItemsFit.{AreItemsWithin};
 ghost use Rattle.gitconf_state.specs.Edit as state;
-ghost use Rattle.gitconf_write.specs.Bodies.{items_of};
-ghost use Rattle.gitconf_write.specs.LineEnds.{bytes_of_line_end};
+ghost use Rattle.gitconf_text.specs.LineEnds.{bytes_of_line_end};
 ghost use Rattle.gitconf_body.specs.Buffers.{Grows};
 ghost use Rattle.gitconf_body.specs.Places.{IsLastPlace};
 
 use crate::editor::editor_of;
 use crate::set::set;
 use gitconf_parse::items::Item;
+use gitconf_text::line_end::LineEnd;
 use gitconf_text::parse::section::bytes::is_same_name;
 use gitconf_text::parse::span;
 use gitconf_text::value::escaped_len;
-use gitconf_write::line_end::LineEnd;
 
 /// Whether the item is an entry of the key.
 pub fn is_entry_of(buffer: &[u8], item: &Item, key: &[u8]) -> bool
     ensures { result ≡ state.is_entry_of key.now (item_of buffer.now item.now) }
 {
-    matches!(item, Item::Entry(entry) if is_same_name(key, entry.name.bytes_in(buffer)))
+    matches!(item, Item::Entry(entry) if is_same_name(key, entry.name().bytes_in(buffer)))
 }
 
 /// The place of the last entry of a key, if there is one. It walks from the end up to that entry.

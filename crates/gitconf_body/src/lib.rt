@@ -7,7 +7,6 @@ pub mod copying;
 pub mod editor;
 pub mod entry;
 pub mod heading;
-pub mod moving;
 pub mod push;
 pub mod section;
 pub mod set;

@@ -7,12 +7,11 @@ ghost use Rattle.gitconf_text.specs.Part as parts;
 ghost use Rattle.gitconf_text.specs.Value.{escaped};
 ghost use Rattle.gitconf_parse.specs.declared.items.Item.TheVariants as kinds;
 ghost use Rattle.gitconf_parse.specs.Events.{bytes_of, SpanFits};
-ghost use Rattle.gitconf_parse.specs.Items.{entry_of};
+ghost use Rattle.gitconf_parse.specs.Items.{entry_of, items_of};
 ghost use Rattle.gitconf_parse.specs.ItemsFit.{AreItemsWithin, EntryFits};
 ghost use Rattle.gitconf_state.specs.Edit.{leading_item};
 ghost use Rattle.gitconf_state.specs.Editors as state;
-ghost use Rattle.gitconf_write.specs.Bodies.{items_of};
-ghost use Rattle.gitconf_write.specs.LineEnds.{bytes_of_line_end};
+ghost use Rattle.gitconf_text.specs.LineEnds.{bytes_of_line_end};
 ghost use Rattle.gitconf_body.specs.Buffers.{Grows, StandsAt};
 ghost use Rattle.gitconf_body.specs.Editors as spec;
 ghost use Rattle.gitconf_body.specs.Editors.{editor_in, leading_in, around_in, EditorFits, LeadingFits, AroundFits};
@@ -21,8 +20,9 @@ ghost use Rattle.gitconf_body.specs.Standing.{Stand, comment_items, end_items, l
 
 use crate::buffer::{append, check_room};
 use crate::editor::{Around, Editor, Leading};
+use gitconf_parse::entry::{Assigned, Entry, EntryParts};
 use gitconf_parse::event::Span;
-use gitconf_parse::items::{Assigned, Entry, Item, Value};
+use gitconf_parse::items::Item;
 use gitconf_text::NoMemory;
 use gitconf_text::parse::span;
 use gitconf_text::value::{escape, escaped_len};
@@ -89,25 +89,23 @@ pub(crate) fn entry_with(
     before: Span,
     behind: Span,
     value: Span,
-) -> Entry
-    ensures told { (buffer : List ℕ) → entry_of buffer result ≡ record {
+) -> Result<Entry, NoMemory>
+    ensures told { IfOk result (λ e. (buffer : List ℕ) → entry_of buffer e ≡ record {
       name = bytes_of buffer name;
       blanks = bytes_of buffer before;
       assigned = Some (record { blanks = bytes_of buffer behind; value = record { pieces = []; last = bytes_of buffer value } });
-    } }
-    ensures fits { (limit : ℕ) → SpanFits limit name → SpanFits limit before → SpanFits limit behind → SpanFits limit value → EntryFits limit result }
+    }) }
+    ensures fits { IfOk result (λ e. (limit : ℕ) → SpanFits limit name → SpanFits limit before → SpanFits limit behind → SpanFits limit value → EntryFits limit e) }
 {
-    Entry {
+    let parts = EntryParts {
         name,
         blanks: before,
-        assigned: Some(Assigned {
+        assigned: Assigned::Plain {
             blanks: behind,
-            value: Value {
-                pieces: Vec::new(alloc),
-                last: value,
-            },
-        }),
-    }
+            value,
+        },
+    };
+    Ok(Entry::try_new(alloc, parts)?)
 }
 
 /// An entry of a key, with a value or without one, put into the buffer.
@@ -126,16 +124,17 @@ pub(crate) fn put_entry(
 {
     let Some(value) = value else {
         let name = append(buffer, key)?;
-        return Ok(Entry {
+        let parts = EntryParts {
             name,
             blanks: NOTHING,
-            assigned: None,
-        });
+            assigned: Assigned::Nothing,
+        };
+        return Ok(Entry::try_new(*buffer.allocator(), parts)?);
     };
     let (before, behind) = put_around(buffer, around)?;
     let name = append(buffer, key)?;
     let value = put_value(buffer, value)?;
-    Ok(entry_with(*buffer.allocator(), name, before, behind, value))
+    Ok(entry_with(*buffer.allocator(), name, before, behind, value)?)
 }
 
 /// Whether no white space stands first, but another byte.

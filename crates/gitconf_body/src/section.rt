@@ -9,8 +9,8 @@ ghost use Rattle.gitconf_parse.specs.Events.{header_of};
 ghost use Rattle.gitconf_parse.specs.ItemsFit.{AreItemsWithin};
 ghost use Rattle.gitconf_parse.specs.ShownEvents.{decoded_or, CopyFits, IsExtended, IsShown};
 ghost use Rattle.gitconf_state.specs.Edit.{header_bytes, made_header, new_section_bytes, set_value};
-ghost use Rattle.gitconf_write.specs.Bodies.{items_of};
-ghost use Rattle.gitconf_write.specs.LineEnds.{bytes_of_line_end};
+ghost use Rattle.gitconf_parse.specs.Items.{items_of};
+ghost use Rattle.gitconf_text.specs.LineEnds.{bytes_of_line_end};
 ghost use Rattle.gitconf_body.specs.Buffers.{Grows};
 ghost use Rattle.gitconf_body.specs.Lines.{QuotedStands};
 
@@ -20,8 +20,8 @@ use gitconf_parse::event::{Copied, Header, Span};
 use gitconf_parse::event_ref::{escaped_subsection_len, write_escaped_subsection};
 use gitconf_parse::items::{Item, Section};
 use gitconf_text::NoMemory;
+use gitconf_text::line_end::LineEnd;
 use gitconf_text::parse::span;
-use gitconf_write::line_end::LineEnd;
 use std::alloc::Global;
 
 /// A subsection as it is spelled in quotes.

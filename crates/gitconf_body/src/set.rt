@@ -3,11 +3,10 @@ ghost use Rattle.std.specs.Prelude.{◌≡◌, ℕ, List, ◌+◌, ◌-◌, ◌<
 ghost use Rattle.gitconf_text.specs.Part as parts;
 ghost use Rattle.gitconf_text.specs.Value.{escaped};
 ghost use Rattle.gitconf_parse.specs.declared.items.Item.TheVariants as kinds;
-ghost use Rattle.gitconf_parse.specs.Items.{item_of, entry_of};
+ghost use Rattle.gitconf_parse.specs.Items.{item_of, entry_of, items_of};
 ghost use Rattle.gitconf_parse.specs.ItemsFit.{AreItemsWithin, EntryFits};
 ghost use Rattle.gitconf_state.specs.Edit.{is_entry_of, item_raw, old_value, with_value};
 ghost use Rattle.gitconf_state.specs.Editors as state;
-ghost use Rattle.gitconf_write.specs.Bodies.{items_of};
 ghost use Rattle.gitconf_body.specs.Buffers.{Grows, StandsAt};
 ghost use Rattle.gitconf_body.specs.Editors as spec;
 ghost use Rattle.gitconf_body.specs.Editors.{around_in, editor_in, AroundFits, EditorFits, IfEntry};
@@ -19,8 +18,9 @@ use crate::editor::{Around, Editor};
 use crate::entry::last_place;
 use crate::push::{around_len, entry_with, push, put_around, put_value};
 use crate::values::item_text;
+use gitconf_parse::entry::{AssignedRef, Entry};
 use gitconf_parse::event::Span;
-use gitconf_parse::items::{Entry, Item};
+use gitconf_parse::items::Item;
 use gitconf_text::parse::span;
 use gitconf_text::value::escaped_len;
 
@@ -39,9 +39,10 @@ fn separator_of(
     ensures behind { IfOk result (λ p. StandsAt buffer.new.items p.1 (spec.separator_in buffer.old.items around.now entry.now).1) }
     ensures grows { Grows result (spec.separator_put around.now entry.now) buffer.old.items buffer.new.items }
 {
-    match &entry.assigned {
-        Some(assigned) => Ok((entry.blanks, assigned.blanks)),
-        None => put_around(buffer, around),
+    match entry.assigned() {
+        AssignedRef::Nothing => put_around(buffer, around),
+        AssignedRef::Plain { blanks, .. } => Ok((entry.blanks(), blanks)),
+        AssignedRef::Continued(continued) => Ok((entry.blanks(), continued.blanks)),
     }
 }
 
@@ -63,7 +64,7 @@ fn changed_entry(
 {
     let (before, behind) = separator_of(buffer, around, entry)?;
     let value = put_value(buffer, value)?;
-    Ok(entry_with(*buffer.allocator(), entry.name, before, behind, value))
+    Ok(entry_with(*buffer.allocator(), entry.name(), before, behind, value)?)
 }
 
 /// How many bytes an item's entry puts into the buffer, where it gets another value; the greatest number where they are more.
@@ -73,9 +74,9 @@ fn changed_len(around: &Around<'_>, item: &Item, value: &[u8]) -> usize
     let Item::Entry(entry) = item else {
         return 0;
     };
-    match entry.assigned {
-        Some(_) => escaped_len(value),
-        None => escaped_len(value).saturating_add(around_len(around)),
+    match entry.assigned() {
+        AssignedRef::Nothing => escaped_len(value).saturating_add(around_len(around)),
+        AssignedRef::Plain { .. } | AssignedRef::Continued(_) => escaped_len(value),
     }
 }
 

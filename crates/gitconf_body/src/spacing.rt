@@ -3,6 +3,7 @@ ghost use Rattle.std.specs.Prelude.{◌≡◌, None};
 ghost use Rattle.std.specs.List.{list_any};
 ghost use Rattle.gitconf_body.specs.Spacings as spec;
 
+use gitconf_parse::entry::AssignedRef;
 use gitconf_parse::event::Span;
 use gitconf_parse::items::Item;
 
@@ -36,8 +37,10 @@ pub(crate) fn separator_blanks(items: &[Item]) -> (Span, Span)
 {
     for item in items {
         if let Item::Entry(entry) = item {
-            if let Some(assigned) = &entry.assigned {
-                return (entry.blanks, assigned.blanks);
+            match entry.assigned() {
+                AssignedRef::Nothing => {}
+                AssignedRef::Plain { blanks, .. } => return (entry.blanks(), blanks),
+                AssignedRef::Continued(continued) => return (entry.blanks(), continued.blanks),
             }
         }
     }

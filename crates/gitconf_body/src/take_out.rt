@@ -2,18 +2,18 @@
 ghost use Rattle.std.specs.Prelude.{◌≡◌, ◌≤◌, ◌<◌, ◌+◌, ◌++◌, length, take, drop, Some, None, IfOk, OnOk, OnErr, IsOk, option_map};
 ghost use Rattle.gitconf_text.specs.Part as parts;
 ghost use Rattle.gitconf_text.specs.Value.{plain};
-ghost use Rattle.gitconf_parse.specs.Items.{entry_of, item_of};
+ghost use Rattle.gitconf_parse.specs.Items.{entry_of, item_of, items_of};
 ghost use Rattle.gitconf_state.specs.Edit.{is_entry_of, old_value};
 ghost use Rattle.gitconf_state.specs.Editors.{entry_told, popped, popped_entry, removed};
-ghost use Rattle.gitconf_write.specs.Bodies.{items_of};
 ghost use Rattle.gitconf_body.specs.Places.{IsLastAt, IsLastPlace};
 ghost use Rattle.gitconf_body.specs.Spacings.{is_stored_entry};
 ghost use Rattle.gitconf_body.specs.Taken as spec;
 ghost use Rattle.gitconf_body.specs.Taken.{StayWithin};
 
 use crate::entry::last_place;
-use crate::values::{item_text, raw_text};
-use gitconf_parse::items::{Entry, Item};
+use crate::values::{entry_text, item_text};
+use gitconf_parse::entry::Entry;
+use gitconf_parse::items::Item;
 use gitconf_text::NoMemory;
 use gitconf_text::value::normalize;
 use std::alloc::Global;
@@ -118,14 +118,9 @@ fn told(alloc: Global, buffer: &[u8], entry: &Entry) -> Result<(Vec<u8>, Vec<u8>
     ensures { IfOk result (λ t. Some (t.0.items, t.1.items) ≡ entry_told (parts.EntryItem (entry_of buffer.now entry.now))) }
 {
     let mut name = Vec::new(alloc);
-    name.extend_from_slice(entry.name.bytes_in(buffer))?;
-    let value = match &entry.assigned {
-        Some(assigned) => {
-            let raw = raw_text(alloc, buffer, &assigned.value)?;
-            meaning(alloc, &raw)?
-        }
-        None => Vec::new(alloc),
-    };
+    name.extend_from_slice(entry.name().bytes_in(buffer))?;
+    let raw = entry_text(alloc, buffer, entry)?;
+    let value = meaning(alloc, &raw)?;
     Ok((name, value))
 }
 

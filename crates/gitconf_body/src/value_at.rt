@@ -2,11 +2,10 @@
 ghost use Rattle.std.specs.Prelude.{◌≡◌, ℕ, List, ◌+◌, ◌-◌, ◌<◌, ◌≤◌, ◌^◌, ◌∷◌, ◌++◌, min, drop, take, length, true, OnOk, OnErr, IsErrOf};
 ghost use Rattle.gitconf_text.specs.Value.{escaped};
 ghost use Rattle.gitconf_parse.specs.declared.items.Item.TheVariants as kinds;
-ghost use Rattle.gitconf_parse.specs.Items.{assigned_of};
+ghost use Rattle.gitconf_parse.specs.Items.{assigned_of, items_of};
 ghost use Rattle.gitconf_parse.specs.ItemsFit.{AreItemsWithin, EntryFits};
 ghost use Rattle.gitconf_state.specs.Edit.{spacing_of};
 ghost use Rattle.gitconf_state.specs.Editors as state;
-ghost use Rattle.gitconf_write.specs.Bodies.{items_of};
 ghost use Rattle.gitconf_body.specs.Buffers.{Grows};
 ghost use Rattle.gitconf_body.specs.Editors.{editor_in, EditorFits};
 ghost use Rattle.gitconf_body.specs.Standing.{Stand, end_items};
@@ -17,11 +16,12 @@ ghost use Rattle.gitconf_body.specs.ValuesAt.{IfReplaces, behind_way, keeps_line
 use crate::buffer::check_room;
 use crate::editor::{Editor, editor_of};
 use crate::push::{put_entry, value_len};
+use gitconf_parse::entry::{AssignedRef, Entry, Value};
 use gitconf_parse::event::Span;
-use gitconf_parse::items::{Entry, Item, Value};
+use gitconf_parse::items::Item;
 use gitconf_text::NoMemory;
+use gitconf_text::line_end::LineEnd;
 use gitconf_text::parse::span;
-use gitconf_write::line_end::LineEnd;
 
 const NOTHING: Span = Span { start: 0, len: 0 };
 
@@ -66,9 +66,9 @@ fn is_before_comment(items: &[Item]) -> bool
 fn kept_line_end(entry: &Entry, behind: &[Item]) -> Option<Span>
     ensures { result ≡ spec.kept_end entry.now.assigned behind.now }
 {
-    let value = match &entry.assigned {
-        Some(assigned) => &assigned.value,
-        None => return None,
+    let value = match entry.assigned() {
+        AssignedRef::Nothing | AssignedRef::Plain { .. } => return None,
+        AssignedRef::Continued(continued) => &continued.value,
     };
     if value.last.len != 0 || !is_before_comment(behind) {
         return None;

@@ -13,9 +13,8 @@ use Rattle.gitconf_text.specs.Part.{Assigned, Entry, BlanksItem, LineEndsItem, C
 use Rattle.gitconf_text.specs.Token.{HeaderToken}
 use Rattle.gitconf_parse.specs.EventRef.{Shown, written}
 use Rattle.gitconf_parse.specs.ShownEvents.{shown_token}
-use Rattle.gitconf_parse.proofs.ValueAgain.{both_true}
-use Rattle.gitconf_parse.proofs.RunLaws.{false_not}
-use Rattle.gitconf_parse.proofs.ByteLaws.{mark_no_blank}
+use Rattle.gitconf_text.proofs.Tests.{both_true, false_not}
+use Rattle.gitconf_text.proofs.ByteLaws.{mark_no_blank}
 use Rattle.gitconf_state.proofs.Follows.{may_follow, line_end_cases}
 use Rattle.gitconf_state.proofs.Fitted.{line_ends-append}
 use Rattle.gitconf_state.proofs.LoadingNames.{is_line_closed, Follows, first_fits, only_line_ends, behind_item}

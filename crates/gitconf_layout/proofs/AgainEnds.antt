@@ -13,8 +13,7 @@ use Rattle.gitconf_text.specs.Part.{Assigned, Entry, BlanksItem, LineEndsItem, C
 use Rattle.gitconf_text.specs.Token.{HeaderToken}
 use Rattle.gitconf_parse.specs.EventRef.{Shown, written}
 use Rattle.gitconf_parse.specs.ShownEvents.{shown_token}
-use Rattle.gitconf_parse.proofs.ValueAgain.{both_true}
-use Rattle.gitconf_parse.proofs.RunLaws.{false_not}
+use Rattle.gitconf_text.proofs.Tests.{both_true, false_not}
 use Rattle.gitconf_state.proofs.Follows.{may_follow, line_end_follows}
 use Rattle.gitconf_state.proofs.LoadingNames.{is_line_closed, Follows, first_fits, behind_item}
 use Rattle.gitconf_layout.specs.declared.format.Options.{Options}

@@ -8,9 +8,8 @@ use Rattle.gitconf_text.specs.Unit.{is_white}
 use Rattle.gitconf_text.specs.Value.{Piece, Value as ValueOf, spelled_value, may_follow_value, IsEnded, FitsValue}
 use Rattle.gitconf_text.specs.Names.{is_value_name}
 use Rattle.gitconf_text.specs.Part.{Assigned, Entry, EntryItem, Part, ItemPart, spelled_item, spelled, FitsItem, AreFit}
-use Rattle.gitconf_parse.proofs.ValueAgain.{both_true}
-use Rattle.gitconf_parse.proofs.RunLaws.{false_not}
-use Rattle.gitconf_parse.proofs.ByteLaws.{letter_no_blank}
+use Rattle.gitconf_text.proofs.Tests.{both_true, false_not}
+use Rattle.gitconf_text.proofs.ByteLaws.{letter_no_blank}
 use Rattle.gitconf_state.specs.Writing.{OpenKey}
 use Rattle.gitconf_state.proofs.Follows.{may_follow, may_follow_key, key_skips, value_skips}
 use Rattle.gitconf_state.proofs.FittedEntry.{IsClosed}

@@ -11,7 +11,7 @@ use Rattle.gitconf_text.specs.Names.{is_value_name}
 use Rattle.gitconf_text.specs.Header.{Header, PlainHeader, DottedHeader, QuotedHeader, spelled_header}
 use Rattle.gitconf_text.specs.Part.{Assigned, BlanksItem, LineEndsItem, CommentItem, EntryItem, Part, ItemPart, HeaderPart, spelled_part, spelled, FitsItem, FitsPart, AreFit}
 use Rattle.gitconf_text.specs.Document.{Document, with_part, gathered}
-use Rattle.gitconf_parse.proofs.ValueAgain.{both_true, apart}
+use Rattle.gitconf_text.proofs.Tests.{both_true, apart}
 use Rattle.gitconf_state.specs.Comments.{without_white_end, part_comments, comments_of}
 use Rattle.gitconf_state.specs.Writing.{Closed, OpenKey, OpenValue, OpenComment, after_blanks}
 use Rattle.gitconf_state.proofs.Follows.{may_follow, may_follow_key, line_end_follows}

@@ -9,8 +9,8 @@ use Rattle.gitconf_text.specs.Unit.{Class, LineFeed, Quote, Mark, Backslash, Whi
 use Rattle.gitconf_text.specs.Value.{Piece, is_value_escape, are_paired, IsEnded, FitsValue}
 use Rattle.gitconf_text.specs.Names.{is_value_name}
 use Rattle.gitconf_text.specs.Header.{Header, PlainHeader, DottedHeader, QuotedHeader, spelled_header}
-use Rattle.gitconf_parse.proofs.ValueAgain.{both_true, apart}
-use Rattle.gitconf_parse.proofs.ByteLaws.{letter_name_byte}
+use Rattle.gitconf_text.proofs.Tests.{both_true, apart}
+use Rattle.gitconf_text.proofs.ByteLaws.{letter_name_byte}
 use Rattle.gitconf_state.proofs.FittedEntry.{IsClosed}
 use Rattle.gitconf_layout.specs.Layout.{is_cr_or_lf, trimmed}
 use Rattle.gitconf_layout.proofs.LastBytes.{trimmed-other}

@@ -10,8 +10,8 @@ use Rattle.gitconf_text.specs.Part.{BlanksItem, LineEndsItem, CommentItem, Entry
 use Rattle.gitconf_text.specs.Token.{tokens_of}
 use Rattle.gitconf_parse.specs.EventRef.{Shown}
 use Rattle.gitconf_parse.specs.ShownEvents.{shown_token}
-use Rattle.gitconf_parse.proofs.ValueAgain.{both_true}
-use Rattle.gitconf_parse.proofs.ByteLaws.{letter_no_blank, letter_no_line_end, mark_no_blank, mark_no_line_end, line_end_no_blank}
+use Rattle.gitconf_text.proofs.Tests.{both_true}
+use Rattle.gitconf_text.proofs.ByteLaws.{letter_no_blank, letter_no_line_end, mark_no_blank, mark_no_line_end, line_end_no_blank}
 use Rattle.gitconf_state.proofs.Follows.{blank_cases}
 use Rattle.gitconf_layout.specs.declared.format.Indent.{Indent}
 use Rattle.gitconf_layout.specs.declared.format.Options.{Options}

@@ -14,7 +14,7 @@ use Rattle.gitconf_text.specs.Token.{HeaderToken, item_tokens, tokens_of}
 use Rattle.gitconf_text.specs.Document.{Document, with_part, gathered}
 use Rattle.gitconf_parse.specs.EventRef.{written}
 use Rattle.gitconf_parse.specs.ShownEvents.{shown_token}
-use Rattle.gitconf_parse.proofs.ValueAgain.{both_true}
+use Rattle.gitconf_text.proofs.Tests.{both_true}
 use Rattle.gitconf_state.specs.Comments.{without_white_end, comments_of}
 use Rattle.gitconf_state.specs.Writing.{may_stand_behind, Open, Closed, OpenKey, OpenKeyAndBlanks, OpenValue, OpenComment, after_blanks, after_entry, after}
 use Rattle.gitconf_state.proofs.Follows.{may_follow, may_follow_key, blanks_follow, line_end_follows, mark_follows, letter_follows}

@@ -14,7 +14,7 @@ use Rattle.gitconf_text.specs.Part.{Assigned, Entry, BlanksItem, LineEndsItem, C
 use Rattle.gitconf_text.specs.Token.{Token, NewlineToken, ValueDoneToken, WhitespaceToken, filled, piece_tokens, value_tokens, assigned_tokens, item_tokens, part_tokens, tokens_of}
 use Rattle.gitconf_parse.specs.EventRef.{Shown, ShownComment, ShownHeader, ShownValueName, ShownValue, ShownNewline, ShownUnfinished, ShownLast, ShownBlanks, ShownSeparator}
 use Rattle.gitconf_parse.specs.ShownEvents.{shown_token}
-use Rattle.gitconf_parse.proofs.ValueAgain.{both_true, apart}
+use Rattle.gitconf_text.proofs.Tests.{both_true, apart}
 use Rattle.gitconf_layout.specs.declared.format.Options.{Options}
 use Rattle.gitconf_layout.specs.declared.place.Place.{Place}
 use Rattle.gitconf_layout.specs.Kept.{HoldsLineEnd}

@@ -9,7 +9,7 @@ use Rattle.gitconf_text.specs.Part.{Assigned, Entry, EntryItem, spelled_assigned
 use Rattle.gitconf_text.specs.Token.{Token, NewlineToken, ValueNotDoneToken, ValueDoneToken, WhitespaceToken, filled, piece_tokens, value_tokens, assigned_tokens, item_tokens}
 use Rattle.gitconf_parse.specs.EventRef.{Shown, ShownNewline}
 use Rattle.gitconf_parse.specs.ShownEvents.{shown_token}
-use Rattle.gitconf_parse.proofs.ValueAgain.{both_true}
+use Rattle.gitconf_text.proofs.Tests.{both_true}
 use Rattle.gitconf_layout.specs.declared.format.Options.{Options}
 use Rattle.gitconf_layout.specs.declared.place.Before.{Before}
 use Rattle.gitconf_layout.specs.declared.place.Before.TheVariants.{Nothing, Value, Other}

@@ -12,7 +12,7 @@ use Rattle.gitconf_text.specs.Header.{Header, PlainHeader, DottedHeader, QuotedH
 use Rattle.gitconf_text.specs.Token.{HeaderToken}
 use Rattle.gitconf_parse.specs.EventRef.{ShownHeader, written, escaped_subsection}
 use Rattle.gitconf_parse.specs.ShownEvents.{separator_of, shown_token}
-use Rattle.gitconf_parse.proofs.ValueAgain.{both_true, apart}
+use Rattle.gitconf_text.proofs.Tests.{both_true, apart}
 use Rattle.gitconf_parse.proofs.Subsections.{reads_back}
 
 -- letters in lower case stay

@@ -241,11 +241,3 @@ section_split headers all behind c n m section others long all_is front rest cut
   where
     same : others ≡ drop n (events_in headers behind)
     same = others_are ∙ ap (λ k. drop k (events_in headers all)) long ∙ ap (λ l. drop (suc n) (events_in headers l)) all_is
-
--- what holds of all holds of the first ones and of the others
-pub all_parts : {A : Type 0} (P : A → Type 0) (xs ys all : List A) → xs ++ ys ≡ all → AllByRecursion P all → AllByRecursion P xs × AllByRecursion P ys
-all_parts {A = A} P xs ys all is holds = go xs (rw is holds)
-  where
-    go : (xs : List A) → AllByRecursion P (xs ++ ys) → AllByRecursion P xs × AllByRecursion P ys
-    go [] holds = (tt, holds)
-    go (x ∷ xs) holds = ((holds.0, (go xs holds.1).0), (go xs holds.1).1)

@@ -75,7 +75,7 @@ header_fits limit (grammar.QuotedHeader name blanks spelling) n within =
     let w = simp length-append at within in
     record { name = omega (arith, w); separator = omega (arith, w); subsection = omega (arith, w); both = refl }
 
-part_events_fit : (limit : ℕ) (p : Part) (events : List Event) (n : ℕ) → AllFit limit events → n + length (spelled_part p) ≤ limit → AllFit limit (after_part events n p).0
+pub part_events_fit : (limit : ℕ) (p : Part) (events : List Event) (n : ℕ) → AllFit limit events → n + length (spelled_part p) ≤ limit → AllFit limit (after_part events n p).0
 part_events_fit limit (ItemPart (BlanksItem run)) events n all within = push_fits limit events _ all (span_fits limit n _ (omega arith) within)
 part_events_fit limit (ItemPart (LineEndsItem run)) events n all within = push_fits limit events _ all (span_fits limit n _ (omega arith) within)
 part_events_fit limit (ItemPart (CommentItem tag text)) events n all within = push_fits limit events _ all (span_fits limit (n + 1) (n + 1 + length text) (omega arith) (omega (arith, within)))

@@ -7,7 +7,7 @@ use Rattle.gitconf_text.specs.Token.{Token, CommentToken, HeaderToken, NameToken
 use Rattle.gitconf_parse.specs.EventRef.{Shown}
 use Rattle.gitconf_parse.specs.EventList.{EventList, may_miss, IsSelection, IsSelected, IsWhole, IsParsed}
 use Rattle.gitconf_parse.specs.Grouping.{Place, Between, BehindName, BehindNameBlanks, BehindSeparator, BehindSeparatorBlanks, BehindPiece, BehindPieceEnd, is_filled, are_items}
-use Rattle.gitconf_parse.proofs.Selections.{whole_selected, parsed_selected}
+use Rattle.gitconf_parse.proofs.Selections.{parsed_selected}
 
 both : (a b : Bool) → (a && b) ≡ true → (a ≡ true) × (b ≡ true)
 both true b h = (refl, h)

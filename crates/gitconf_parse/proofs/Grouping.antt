@@ -6,7 +6,7 @@ use Rattle.std.proofs.lemmas.Grind.{flat_map-append}
 use Rattle.gitconf_text.specs.Value as grammar
 use Rattle.gitconf_text.specs.Part as parts
 use Rattle.gitconf_text.specs.Token.{Token, NewlineToken, ValueNotDoneToken, ValueDoneToken, filled, piece_tokens, value_tokens, item_tokens}
-use Rattle.gitconf_parse.specs.declared.items.Piece.{Piece}
+use Rattle.gitconf_parse.specs.declared.entry.Piece.{Piece}
 use Rattle.gitconf_parse.specs.Events.{bytes_of}
 use Rattle.gitconf_parse.specs.Items.{piece_of}
 use Rattle.gitconf_parse.specs.Grouping.{is_filled, Place, Between, BehindPieceEnd, are_items, AreBehind}

@@ -8,9 +8,9 @@ use Rattle.gitconf_text.specs.Header as grammar
 use Rattle.gitconf_parse.specs.declared.event.Header.{Header}
 use Rattle.gitconf_parse.specs.Reading.{span, end_of_run, spelling_from, quoted_header, header_at}
 use Rattle.gitconf_parse.proofs.RunLaws.{run_again, all_places, begins_stops}
-use Rattle.gitconf_parse.proofs.ByteLaws.{name_byte_header, blank_no_header_byte, blank_no_bracket}
+use Rattle.gitconf_text.proofs.ByteLaws.{name_byte_header, blank_no_header_byte, blank_no_bracket}
 use Rattle.gitconf_parse.proofs.At.{behind_front, behind_byte}
-use Rattle.gitconf_parse.proofs.ValueAgain.{both_true}
+use Rattle.gitconf_text.proofs.Tests.{both_true}
 use Rattle.gitconf_parse.proofs.SpellingAgain.{spelling_again}
 use Rattle.std.proofs.lemmas.Bool.{lt-ltb, le-ltb}
 use Rattle.std.proofs.lemmas.List.Folds.{list_all-append}

@@ -10,7 +10,7 @@ use Rattle.gitconf_parse.specs.declared.event.Header.{Header}
 use Rattle.gitconf_parse.specs.Reading.{end_of_run, spelling_from, unquoted_header, quoted_header, header_at}
 use Rattle.gitconf_parse.proofs.RunLaws.{Run, run_takes, run_again, Stops, places_all}
 use Rattle.gitconf_parse.proofs.At.{behind_front, behind_byte}
-use Rattle.gitconf_parse.proofs.ValueAgain.{both_true}
+use Rattle.gitconf_text.proofs.Tests.{both_true}
 use Rattle.gitconf_parse.proofs.SpellingAgain.{spelling_again, SpellingShape, spelling_takes}
 
 -- a text that begins with a header

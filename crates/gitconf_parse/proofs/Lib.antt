@@ -3,7 +3,6 @@ pub mod Skips
 pub mod ValueAgain
 pub mod ValueTakes
 pub mod RunLaws
-pub mod ByteLaws
 pub mod At
 pub mod SpellingAgain
 pub mod HeaderAgain
@@ -29,8 +28,11 @@ pub mod Compacts
 pub mod EscapedRuns
 pub mod Grouping
 pub mod GroupLaws
+pub mod EntryClones
 pub mod Clones
 pub mod OneFault
 pub mod Classes
 pub mod Plain
 pub mod Documents
+pub mod Stretches
+pub mod Moves

@@ -1,30 +1,30 @@
 -- A text is stuck at one place: the reader tells it, and reads one way.
-use Rattle.std.proofs.Common.{◌≡◌, ℕ, ◌+◌, ◌-◌, ◌<◌, ◌≤◌, Bool, true, false, List, [], ◌∷◌, ◌++◌, length, take, drop, Option, Some, None, Result, Ok, Err, refl, ap, sym, subst, ◌∙◌, arith, append_assoc, append-nil, length-append, codes, inl, inr}
+use Rattle.std.proofs.Common.{◌≡◌, ℕ, ◌+◌, ◌<◌, Bool, true, false, List, [], ◌∷◌, ◌++◌, length, take, drop, Option, Some, None, Ok, Err, refl, ap, sym, subst, ◌∙◌, arith, append_assoc, length-append, inl, inr}
 use Rattle.std.specs.Prelude.{◌⊎◌, ◌==◌}
 use Rattle.std.specs.List.{list_all}
 use Rattle.std.specs.Char.{is_ascii_alphabetic}
-use Rattle.std.proofs.lemmas.List.{length-drop, take_at}
+use Rattle.std.proofs.lemmas.List.{take_at}
 use Rattle.gitconf_text.specs.Bytes.{is_blank, is_name_byte}
 use Rattle.gitconf_text.specs.Text.{begins, begins_line_end, are_line_ends}
 use Rattle.gitconf_text.specs.Names.{is_value_name}
 use Rattle.gitconf_text.specs.Value.{FitsValue, spelled_value}
 use Rattle.gitconf_text.specs.Header.{PlainHeader, DottedHeader, QuotedHeader}
 use Rattle.gitconf_text.specs.Part.{Assigned, Entry, BlanksItem, LineEndsItem, CommentItem, EntryItem, Part, ItemPart, HeaderPart, spelled_assigned, spelled_part, spelled, FitsAssigned, FitsPart, AreFit}
-use Rattle.gitconf_text.specs.Document.{unmarked}
-use Rattle.gitconf_text.specs.Stuck.{IsAssignment, spelled_assignment, NoValue, NoPart, kind_behind, line_behind, IsPartFault, IsValueFault, IsStuck}
+use Rattle.gitconf_text.specs.Document.{unmarked, IsText}
+use Rattle.gitconf_text.specs.Stuck.{IsAssignment, spelled_assignment, NoValue, line_behind, IsPartFault, IsValueFault, IsStuck}
 use Rattle.gitconf_parse.specs.declared.event.Event.{Event}
 use Rattle.gitconf_parse.specs.declared.reading.Fault.{Fault}
 use Rattle.gitconf_parse.specs.declared.reading.Expected.{Expected}
 use Rattle.gitconf_parse.specs.declared.reading.Expected.TheVariants as expected
-use Rattle.gitconf_parse.specs.Reading.{OpensEntry, opening_of, text_from}
+use Rattle.gitconf_parse.specs.Reading.{text_from}
 use Rattle.gitconf_parse.specs.ParseError.{kind_of}
 use Rattle.gitconf_parse.proofs.At.{behind_front}
-use Rattle.gitconf_parse.proofs.ByteLaws.{blank_no_name_byte, letter_no_blank, letter_no_line_end, letter_no_mark, letter_no_bracket}
-use Rattle.gitconf_parse.proofs.ValueAgain.{both_true}
+use Rattle.gitconf_text.proofs.ByteLaws.{blank_no_name_byte, letter_no_blank, letter_no_line_end, letter_no_mark}
+use Rattle.gitconf_text.proofs.Tests.{both_true}
 use Rattle.gitconf_parse.proofs.PartAgain.{name_stops, blanks_stop}
-use Rattle.gitconf_parse.proofs.PartTakes.{ValueFaultShape}
 use Rattle.gitconf_parse.proofs.TextTakes.{after_parts, wanted_after, text_again, IsFaultAt, Outcome, text_takes}
 use Rattle.gitconf_parse.proofs.Whole.{wanted_kind}
+use Rattle.gitconf_parse.proofs.OneDocument.{all_again}
 
 -- Bytes that pass are cut in one way from what follows, where that begins otherwise.
 cut_once : (p : ℕ → Bool) (xs ys rest other : List ℕ) → list_all p xs ≡ true → list_all p ys ≡ true → begins p rest ≡ false → begins p other ≡ false
@@ -256,6 +256,12 @@ value_told text line rest kind s = finish o.parts o.rest o.whole o.fits o.end
 told : (text : List ℕ) (line : ℕ) (rest kind : List ℕ) → IsStuck text line rest kind → (f : Fault) × IsTold (unmarked text) line rest kind f
 told text line rest kind (inl s) = part_told text line rest kind s
 told text line rest kind (inr s) = value_told text line rest kind s
+
+-- A text that is stuck has no document.
+pub stuck_undocumented : (text : List ℕ) (line : ℕ) (rest kind : List ℕ) → IsStuck text line rest kind → (parts : List Part) → IsText text parts → ⊥
+stuck_undocumented text line rest kind s parts is =
+    let a = told text line rest kind s in
+    let e = sym a.1.read ∙ all_again parts (unmarked text) 0 is.spelled_is is.fits in cc
 
 -- A text is stuck at one place alone.
 pub one_fault : (text : List ℕ) (line other : ℕ) (rest rest_too kind kind_too : List ℕ) → IsStuck text line rest kind → IsStuck text other rest_too kind_too

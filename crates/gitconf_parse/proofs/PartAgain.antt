@@ -13,10 +13,11 @@ use Rattle.gitconf_parse.specs.declared.event.Event.{Event}
 use Rattle.gitconf_parse.specs.declared.event.Event.TheVariants as kinds
 use Rattle.gitconf_parse.specs.declared.reading.Expected.{Expected}
 use Rattle.gitconf_parse.specs.Reading.{span, end_of_run, with_blanks, value_at, assigned_at, entry_at, opening_of, OpensBlanks, OpensLineEnds, OpensComment, OpensHeader, OpensEntry, part_at}
-use Rattle.gitconf_parse.proofs.RunLaws.{run_again, line_end_more, line_ends_places, line_end_stops, is_comment_text, comment_places}
-use Rattle.gitconf_parse.proofs.ByteLaws.{letter_no_blank, letter_no_line_end, letter_no_mark, letter_no_bracket, mark_no_blank, mark_no_line_end, line_end_no_blank, blank_no_name_byte}
+use Rattle.gitconf_parse.proofs.RunLaws.{run_again, line_ends_places, line_end_stops, is_comment_text, comment_places}
+use Rattle.gitconf_text.proofs.ByteLaws.{line_end_more, letter_no_blank, letter_no_line_end, letter_no_mark, letter_no_bracket, mark_no_blank, mark_no_line_end, line_end_no_blank, blank_no_name_byte}
 use Rattle.gitconf_parse.proofs.At.{behind_front, behind_byte, byte_at}
-use Rattle.gitconf_parse.proofs.ValueAgain.{both_true, value_after, pieces_text-is, pieces_units-is, pieces_again}
+use Rattle.gitconf_text.proofs.Tests.{both_true}
+use Rattle.gitconf_parse.proofs.ValueAgain.{value_after, pieces_text-is, pieces_units-is, pieces_again}
 use Rattle.gitconf_parse.proofs.HeaderAgain.{run_at, header_spans, header_again}
 
 -- the events of what is assigned at the offset n, behind those so far, and the offset behind it

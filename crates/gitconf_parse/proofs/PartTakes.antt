@@ -20,10 +20,12 @@ use Rattle.gitconf_parse.specs.declared.reading.Expected.TheVariants as expected
 use Rattle.gitconf_parse.specs.Reading.{end_of_run, with_blanks, Opening, OpensBlanks, OpensLineEnds, OpensComment, OpensHeader, OpensEntry, OpensNothing, opening_of, value_from, value_at, value_end, Behind, NothingBehind, LineFeedBehind, CrLfBehind, EscapeBehind, OtherBehind, behind, assigned_at, entry_at, header_at, part_at}
 use Rattle.gitconf_parse.proofs.RunLaws.{Run, run_takes, places_all, stops_begins, places_line_ends, stops_line_end, is_comment_text, places_comment, places_ended}
 use Rattle.gitconf_parse.proofs.At.{behind_front, behind_byte}
-use Rattle.gitconf_parse.proofs.ValueAgain.{both_true, pieces_text-is, pieces_units-is}
+use Rattle.gitconf_text.proofs.Tests.{both_true}
+use Rattle.gitconf_parse.proofs.ValueAgain.{pieces_text-is, pieces_units-is}
 use Rattle.gitconf_parse.proofs.ValueTakes.{ValueShape, value_takes}
 use Rattle.gitconf_parse.proofs.HeaderTakes.{begins_byte, header_takes}
 use Rattle.gitconf_parse.proofs.PartAgain.{value_again, part_again, letter_opens}
+pub use Rattle.gitconf_parse.specs.Stretches.{ValueFaultShape}
 
 -- a text that begins with a part
 pub record PartShape (text : List ℕ) : Type 0 where
@@ -264,18 +266,6 @@ value_fault_is (b ∷ text) first events joined from kept quoted n zero f read =
     go White e later = later _ _ _ _ _ _ 0 (rw (e, value_from) at read)
     go Other e later = later _ _ _ _ _ _ 0 (rw (e, value_from) at read)
     go Backslash e later = slash (behind text) refl e later
-
--- where a key, blanks, `=` and blanks stand, and no value behind them
-pub record ValueFaultShape (input : List ℕ) (n : ℕ) (f : Fault) : Type 0 where
-  pub name : List ℕ
-  pub blanks : List ℕ
-  pub between : List ℕ
-  pub assignment : IsAssignment name blanks between
-  pub whole : drop n input ≡ spelled_assignment name blanks between ++ drop f.at input
-  pub at_is : f.at ≡ n + length (spelled_assignment name blanks between)
-  pub unblank : begins is_blank (drop f.at input) ≡ false
-  pub nothing : NoValue (drop f.at input)
-  pub kind_is : f.expected ≡ expected.Value
 
 -- where a fault is told, no value can be read to events
 value_missing : (input : List ℕ) (n : ℕ) (events : List Event) (f : Fault) → value_at n events (drop n input) ≡ Err f → NoValue (drop n input)

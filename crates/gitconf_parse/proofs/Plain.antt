@@ -9,7 +9,7 @@ use Rattle.gitconf_parse.specs.Reading.{Read, value_from, run_end_at, is_plain}
 use Rattle.gitconf_parse.proofs.Runs.{cut_at}
 use Rattle.gitconf_parse.proofs.At.{behind_front}
 use Rattle.gitconf_parse.proofs.RunLaws.{Run, run_takes, places_all}
-use Rattle.gitconf_parse.proofs.ValueAgain.{both_true}
+use Rattle.gitconf_text.proofs.Tests.{both_true}
 
 other_is : (b : ℕ) → is_plain b ≡ true → class_of b ≡ Other
 other_is b plain = go (class_of b) refl plain

@@ -6,7 +6,8 @@ use Rattle.std.proofs.lemmas.Bool.{eqb-true}
 use Rattle.gitconf_text.specs.Text.{begins, ends, begins_line_end, are_line_ends}
 use Rattle.gitconf_text.specs.Part.{ends_comment}
 use Rattle.gitconf_parse.specs.Reading.{end_of_run}
-use Rattle.gitconf_parse.proofs.ValueAgain.{both_true}
+use Rattle.gitconf_text.proofs.Tests.{both_true, false_not}
+use Rattle.gitconf_text.proofs.ByteLaws.{line_end_more}
 
 -- at each place of front, with rest behind it, the test passes
 abbrev pub AllPlaces : (List ℕ → Bool) → (front rest : List ℕ) → Type 0
@@ -66,19 +67,6 @@ pub stops_begins : (p : ℕ → Bool) (rest : List ℕ) → Stops (begins p) res
 stops_begins p [] h = refl
 stops_begins p (b ∷ rest) h = h
 
--- A run of line ends.
-pub line_end_more : (b : ℕ) (front rest : List ℕ) → begins_line_end (b ∷ front) ≡ true → begins_line_end (b ∷ (front ++ rest)) ≡ true
-line_end_more b [] rest h = go (b == 10) refl
-  where
-    go : (t : Bool) → (b == 10) ≡ t → (b == 10 || b == 13 && begins (λ c. c == 10) rest) ≡ true
-    go true e = rw e refl
-    go false e = absurd (let k : (false || b == 13 && false) ≡ true = rw e at h in none (b == 13) k)
-      where
-        none : (t : Bool) → (t && false) ≡ true → ⊥
-        none true k = cc
-        none false k = cc
-line_end_more b (c ∷ front) rest h = h
-
 pub line_ends_places : (front rest : List ℕ) → are_line_ends front ≡ true → AllPlaces begins_line_end front rest
 line_ends_places [] rest h = tt
 line_ends_places (b ∷ front) rest h =
@@ -127,10 +115,6 @@ and_none false b h = refl
 not_false : (a : Bool) → a ≡ false → not a ≡ true
 not_false true h = absurd (cc)
 not_false false h = refl
-
-pub false_not : (a : Bool) → not a ≡ true → a ≡ false
-false_not true h = absurd (cc)
-false_not false h = refl
 
 comment_place : (b : ℕ) (text rest : List ℕ) → (b == 10) ≡ false → list_all (λ c. not (c == 10)) text ≡ true → (ends (λ c. c == 13) (b ∷ text) ≡ true → begins (λ c. c == 10) rest ≡ false)
     → begins_line_end (b ∷ (text ++ rest)) ≡ false

@@ -6,7 +6,7 @@ use Rattle.std.proofs.lemmas.List.{map-append, append-nil}
 use Rattle.gitconf_text.specs.Token.{Token, tokens_of}
 use Rattle.gitconf_parse.specs.declared.event.Event.{Event}
 use Rattle.gitconf_parse.specs.EventRef.{Shown}
-use Rattle.gitconf_parse.proofs.ValueAgain.{both_true}
+use Rattle.gitconf_text.proofs.Tests.{both_true}
 use Rattle.gitconf_parse.proofs.Kept.{one_kept}
 use Rattle.gitconf_parse.specs.Events.{token_of}
 use Rattle.gitconf_parse.specs.ShownEvents.{shown_token, IsShown}

@@ -1,6 +1,5 @@
 -- Events that are shown as their tokens are: more copies change nothing, and a list of them is edited in place.
-use Rattle.std.specs.Prelude.{if◌then◌else◌}
-use Rattle.std.proofs.Common.{Bool, true, false, append-nil, ◌≡◌, ℕ, zero, suc, ◌+◌, ◌<◌, ◌≤◌, List, [], ◌∷◌, ◌++◌, length, map, take, drop, get_or, Option, Some, None, refl, ap, subst, sym, ◌∙◌, arith, length-append}
+use Rattle.std.proofs.Common.{Bool, true, false, ◌≡◌, ℕ, zero, suc, ◌+◌, ◌<◌, ◌≤◌, List, [], ◌∷◌, ◌++◌, length, map, take, drop, get_or, Option, Some, None, refl, ap, subst, sym, ◌∙◌, arith, length-append}
 use Rattle.std.proofs.Math.ListN.{set}
 use Rattle.std.specs.List.{AllByRecursion}
 use Rattle.std.specs.Option.{option_map}
@@ -65,29 +64,11 @@ all_shown_more buffer copies new events e all = subst (λ t. AllByRecursion (IsS
     go [] all = tt
     go (x ∷ events) all = (is_shown_more buffer copies e.0 x all.0, go events all.1)
 
-pub all_push : {A : Type 0} (P : A → Type 0) (xs : List A) (x : A) → AllByRecursion P xs → P x → AllByRecursion P (xs ++ x ∷ [])
-all_push P [] x all h = (h, tt)
-all_push P (y ∷ xs) x all h = (all.0, all_push P xs x all.1 h)
-
-pub all_set : {A : Type 0} (P : A → Type 0) (xs : List A) (i : ℕ) (x : A) → AllByRecursion P xs → P x → AllByRecursion P (set xs i x)
-all_set P [] i x all h = tt
-all_set P (y ∷ xs) zero x all h = (h, all.1)
-all_set P (y ∷ xs) (suc i) x all h = (all.0, all_set P xs i x all.1 h)
-
 -- a place that keeps its view leaves the view of the list
 pub map-set_same : {A B : Type 0} (f : A → B) (xs : List A) (i : ℕ) (x d : A) → i < length xs → f x ≡ f (get_or xs i d) → map f (set xs i x) ≡ map f xs
 map-set_same f [] i x d within same = refl
 map-set_same f (y ∷ xs) zero x d within same = ap (λ z. z ∷ map f xs) same
 map-set_same f (y ∷ xs) (suc i) x d within same = ap (λ zs. f y ∷ zs) (map-set_same f xs i x d (omega arith) same)
-
-pub all_push_if : {A : Type 0} (P : A → Type 0) (xs : List A) (x : A) (keep : Bool) → AllByRecursion P xs → P x → AllByRecursion P (xs ++ (if keep then x ∷ [] else []))
-all_push_if P xs x true all h = all_push P xs x all h
-all_push_if P xs x false all h = subst (AllByRecursion P) (sym (append-nil xs)) all
-
-pub all_at : {A : Type 0} (P : A → Type 0) (xs : List A) (i : ℕ) (d : A) → AllByRecursion P xs → i < length xs → P (get_or xs i d)
-all_at P [] i d all within = absurd (omega (arith, within))
-all_at P (x ∷ xs) zero d all within = all.0
-all_at P (x ∷ xs) (suc i) d all within = all_at P xs i d all.1 (omega arith)
 
 -- what events show is what their tokens show
 pub shown_list : (buffer copies : List ℕ) (events : List Event) → AllByRecursion (IsShown buffer copies) events → map (shown_event buffer copies) events ≡ map shown_token (map (token_of buffer) events)

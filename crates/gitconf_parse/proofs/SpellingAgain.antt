@@ -8,7 +8,8 @@ use Rattle.std.specs.List.{list_all}
 use Rattle.gitconf_text.specs.Unit.{Class, LineFeed, Quote, Mark, Backslash, White, Other, class_of, Plain, units_of, units_behind}
 use Rattle.gitconf_text.specs.Header.{is_subsection_unit, is_spelling}
 use Rattle.gitconf_parse.specs.Reading.{spelling_from, escapes_in_subsection}
-use Rattle.gitconf_parse.proofs.ValueAgain.{both_true, unchosen, skip_of}
+use Rattle.gitconf_text.proofs.Tests.{both_true}
+use Rattle.gitconf_parse.proofs.ValueAgain.{unchosen, skip_of}
 use Rattle.gitconf_parse.proofs.ValueTakes.{backslash_is}
 
 quote_is : (b : ℕ) → class_of b ≡ Quote → b ≡ 34

@@ -1,13 +1,11 @@
 -- Laws of tokens: joined they give the text, and a lossy load keeps the document.
 use Rattle.std.proofs.Common.{◌≡◌, ℕ, true, List, [], ◌∷◌, ◌++◌, Option, Some, None, refl, ap, sym, ◌∙◌, append_assoc, inl, inr, append-nil}
-use Rattle.std.specs.Prelude.{filter}
 use Rattle.std.specs.List.{flat_map, list_all}
 use Rattle.std.proofs.lemmas.Grind.{flat_map-append}
 use Rattle.gitconf_text.specs.Value.{Piece}
 use Rattle.gitconf_text.specs.Part.{Assigned, BlanksItem, LineEndsItem, CommentItem, EntryItem, Part, ItemPart, HeaderPart, spelled_assigned, spelled_part, spelled}
 use Rattle.gitconf_text.specs.Token.{Token, CommentToken, HeaderToken, NameToken, ValueToken, NewlineToken, ValueNotDoneToken, ValueDoneToken, WhitespaceToken, SeparatorToken, spelled_token, filled, piece_tokens, value_tokens, assigned_tokens, part_tokens, tokens_of}
-use Rattle.gitconf_parse.specs.EventList.{keeps_token, keeps_entry_token, may_miss, IsSelection}
-use Rattle.gitconf_parse.proofs.Selections.{filter_selection}
+use Rattle.gitconf_parse.specs.EventList.{keeps_entry_token, may_miss, IsSelection}
 use Rattle.gitconf_parse.specs.TokenDocument.{keeps_meaning}
 use Rattle.gitconf_parse.proofs.TokenDocument.{nothing, before, told}
 

@@ -12,31 +12,22 @@ use Rattle.gitconf_text.specs.Names.{is_value_name}
 use Rattle.gitconf_text.specs.Value.{Piece}
 use Rattle.gitconf_text.specs.Header.{Header, PlainHeader, DottedHeader, QuotedHeader, spelled_header}
 use Rattle.gitconf_text.specs.Part.{Assigned, Entry, spelled_assigned, BlanksItem, LineEndsItem, CommentItem, EntryItem, Part, ItemPart, HeaderPart, spelled_part, spelled, FitsPart, AreFit}
-use Rattle.gitconf_text.specs.Stuck.{NoPart}
 use Rattle.gitconf_parse.specs.declared.event.Event.{Event}
 use Rattle.gitconf_parse.specs.declared.reading.Fault.{Fault}
 use Rattle.gitconf_parse.specs.declared.reading.Expected.{Expected}
-use Rattle.gitconf_parse.specs.declared.reading.Expected.TheVariants as expected
 use Rattle.gitconf_parse.specs.Reading.{Read, part_at, wanted_behind, text_from}
 use Rattle.gitconf_parse.proofs.At.{behind_front, byte_at}
 use Rattle.gitconf_parse.proofs.Skips.{text_from-end, text_from-part, text_from-fault}
-use Rattle.gitconf_parse.proofs.ValueAgain.{apart, both_true, value_after}
+use Rattle.gitconf_text.proofs.Tests.{apart, both_true}
+use Rattle.gitconf_parse.proofs.ValueAgain.{value_after}
 use Rattle.gitconf_parse.proofs.HeaderAgain.{header_spans}
 use Rattle.gitconf_parse.proofs.PartAgain.{after_assigned, after_part, part_again}
-use Rattle.gitconf_parse.proofs.PartTakes.{part_takes, ValueFaultShape, part_fault}
+use Rattle.gitconf_parse.proofs.PartTakes.{part_takes, part_fault}
+pub use Rattle.gitconf_parse.specs.Stretches.{wanted_part, wanted_after, IsFaultAt}
 
 abbrev pub after_parts : List Event → (n : ℕ) → List Part → List Event
 after_parts events n [] = events
 after_parts events n (p ∷ parts) = after_parts (after_part events n p).0 (n + length (spelled_part p)) parts
-
--- what is looked for behind a part, where `wanted` was before it
-abbrev pub wanted_part : Expected → Part → Expected
-wanted_part wanted (ItemPart i) = wanted
-wanted_part wanted (HeaderPart h) = expected.Name
-
-abbrev pub wanted_after : Expected → List Part → Expected
-wanted_after wanted [] = wanted
-wanted_after wanted (p ∷ parts) = wanted_after (wanted_part wanted p) parts
 
 -- the offset behind a value
 value_end_is : (pieces : List Piece) (last : List ℕ) (events : List Event) (joined : Bool) (n : ℕ)
@@ -56,7 +47,7 @@ header_end (DottedHeader name subsection) n = simp length-append (omega arith)
 header_end (QuotedHeader name blanks spelling) n = simp length-append (omega arith)
 
 -- the offset behind a part
-part_end : (p : Part) (events : List Event) (n : ℕ) → (after_part events n p).1 ≡ n + length (spelled_part p)
+pub part_end : (p : Part) (events : List Event) (n : ℕ) → (after_part events n p).1 ≡ n + length (spelled_part p)
 part_end (ItemPart (BlanksItem run)) events n = refl
 part_end (ItemPart (LineEndsItem run)) events n = refl
 part_end (ItemPart (CommentItem tag text)) events n = omega arith
@@ -76,7 +67,7 @@ name_first e (b ∷ name) is good = (
   λ wanted. rw (apart is_ascii_alphabetic 91 b refl (both_true (is_ascii_alphabetic b) (list_all is_name_byte name) good).0) refl,
 )
 
-part_first : (p : Part) (rest : List ℕ) → FitsPart p rest → First p
+pub part_first : (p : Part) (rest : List ℕ) → FitsPart p rest → First p
 part_first (ItemPart (BlanksItem [])) rest fits = absurd (omega (arith, fits.0))
 part_first (ItemPart (BlanksItem (b ∷ run))) rest fits = (b, run, refl, λ wanted. rw (apart is_blank 91 b refl (both_true (is_blank b) (list_all is_blank run) fits.1).0) refl)
 part_first (ItemPart (LineEndsItem [])) rest fits = absurd (omega (arith, fits.0))
@@ -115,10 +106,6 @@ text_again (p ∷ parts) rest input n wanted events stands fits =
     ∙ ap (λ m. text_from input (wanted_part wanted p) (after_part events n p).0 m 0 (drop m input)) end
     ∙ text_again parts rest input (n + length (spelled_part p)) (wanted_part wanted p) (after_part events n p).0 behind fits.1
     ∙ ap (λ m. text_from input (wanted_after (wanted_part wanted p) parts) (after_parts (after_part events n p).0 (n + length (spelled_part p)) parts) m 0 (drop m input)) long
-
--- why the text can't be read on from the offset m
-abbrev pub IsFaultAt : (input : List ℕ) → (m : ℕ) → Expected → Fault → Type 0
-IsFaultAt input m wanted f = ((record { at = m; expected = wanted } ≡ f) × NoPart (drop m input)) ⊎ ValueFaultShape input m f
 
 -- how a text ends: with its last part, or where it is refused
 pub record Outcome (input : List ℕ) (n : ℕ) (wanted : Expected) (events : List Event) (read : Result (List Event) Fault) : Type 0 where

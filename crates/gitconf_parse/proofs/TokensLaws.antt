@@ -14,7 +14,8 @@ use Rattle.gitconf_parse.specs.declared.event.Event.TheVariants as kinds
 use Rattle.gitconf_parse.specs.Reading.{span, with_blanks}
 use Rattle.gitconf_parse.specs.Events.{bytes_of, header_of, token_of}
 use Rattle.gitconf_parse.proofs.At.{behind_front, behind_byte}
-use Rattle.gitconf_parse.proofs.ValueAgain.{both_true, apart, pieces_text, pieces_text-is, newline_after, value_after}
+use Rattle.gitconf_text.proofs.Tests.{both_true, apart}
+use Rattle.gitconf_parse.proofs.ValueAgain.{pieces_text, pieces_text-is, newline_after, value_after}
 use Rattle.gitconf_parse.proofs.HeaderAgain.{header_spans}
 use Rattle.gitconf_parse.proofs.PartAgain.{after_assigned, after_part}
 use Rattle.gitconf_parse.proofs.TextTakes.{after_parts}
@@ -124,7 +125,7 @@ header_spans-of (grammar.QuotedHeader name (b ∷ blanks) spelling) rest input n
       bytes_span input spelling _ (n + 1 + length name + length (b ∷ blanks) + 1) _ last refl,
     ) refl
 
-part_events_tokens : (p : Part) (rest input : List ℕ) (events : List Event) (n : ℕ) → drop n input ≡ spelled_part p ++ rest → FitsPart p rest
+pub part_events_tokens : (p : Part) (rest input : List ℕ) (events : List Event) (n : ℕ) → drop n input ≡ spelled_part p ++ rest → FitsPart p rest
     → map (token_of input) (after_part events n p).0 ≡ map (token_of input) events ++ part_tokens p
 part_events_tokens (ItemPart (BlanksItem run)) rest input events n stands fits = map-append (token_of input) events _ ∙ ap (λ t. map (token_of input) events ++ WhitespaceToken t ∷ []) (bytes_span input run rest n _ stands refl)
 part_events_tokens (ItemPart (LineEndsItem run)) rest input events n stands fits = map-append (token_of input) events _ ∙ ap (λ t. map (token_of input) events ++ NewlineToken t ∷ []) (bytes_span input run rest n _ stands refl)

@@ -1,6 +1,6 @@
 -- A value that fits is read to its pieces.
-use Rattle.std.proofs.Common.{◌≡◌, ℕ, ◌+◌, Bool, true, false, not, List, [], ◌∷◌, ◌++◌, length, refl, ap, sym, ◌∙◌, arith, cond, append-nil, append_assoc, add-zero, inl, inr, Ok}
-use Rattle.std.specs.Prelude.{◌&&◌, ◌==◌, ◌⊎◌, if◌then◌else◌}
+use Rattle.std.proofs.Common.{◌≡◌, ℕ, ◌+◌, Bool, true, false, not, List, [], ◌∷◌, ◌++◌, length, refl, ap, ◌∙◌, arith, cond, append-nil, append_assoc, add-zero, inl, inr, Ok}
+use Rattle.std.specs.Prelude.{◌==◌, ◌⊎◌, if◌then◌else◌}
 use Rattle.std.specs.List.{fold, flat_map}
 use Rattle.std.specs.Prelude.{◌||◌}
 use Rattle.gitconf_text.specs.Bytes.{is_whitespace}
@@ -9,6 +9,7 @@ use Rattle.std.proofs.lemmas.Bool.Decides.{nat_tests}
 use Rattle.gitconf_text.specs.Unit.{Class, LineFeed, Quote, Mark, Backslash, White, Other, class_of, TextUnit, units_behind, units_of, is_white}
 use Rattle.gitconf_text.specs.Value.{is_value_escape, are_paired, may_follow_value, Piece, IsEnded}
 use Rattle.gitconf_text.specs.Text.{is_line_end}
+use Rattle.gitconf_text.proofs.Tests.{both_true, apart}
 use Rattle.gitconf_parse.specs.declared.event.Event.{Event}
 use Rattle.gitconf_parse.specs.Reading.{Read, value_from, value_end, span, behind, EscapeBehind}
 use Rattle.gitconf_parse.specs.declared.event.Event.TheVariants as kinds
@@ -21,19 +22,6 @@ kept_behind kept n (b ∷ rest) = kept_behind (elim (class_of b) [ White ↦ kep
 abbrev pub skip_of : Bool → ℕ
 skip_of true = 1
 skip_of false = 0
-
--- both parts of a test that holds
-pub both_true : (a b : Bool) → (a && b) ≡ true → (a ≡ true) × (b ≡ true)
-both_true true b h = (refl, h)
-both_true false b h = absurd (cc)
-
--- a byte that passes a test that k doesn't pass isn't k
-pub apart : (p : ℕ → Bool) (k b : ℕ) → p k ≡ false → p b ≡ true → (b == k) ≡ false
-apart p k b fails passes = go (b == k) refl
-  where
-    go : (t : Bool) → (b == k) ≡ t → t ≡ false
-    go false e = refl
-    go true e = absurd (let h : p k ≡ true = ap p (sym (eqb-true b k e)) ∙ passes in cc)
 
 -- an escape that a value may have is told as one
 pub escape_behind : (b : ℕ) (rest : List ℕ) → is_value_escape b ≡ true → behind (b ∷ rest) ≡ EscapeBehind

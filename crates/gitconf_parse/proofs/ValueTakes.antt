@@ -8,7 +8,8 @@ use Rattle.gitconf_text.specs.Unit.{Class, LineFeed, Quote, Mark, Backslash, Whi
 use Rattle.gitconf_text.specs.Value.{is_value_escape, are_paired, may_follow_value, Piece, IsEnded}
 use Rattle.gitconf_parse.specs.declared.event.Event.{Event}
 use Rattle.gitconf_parse.specs.Reading.{value_from, value_end, Behind, NothingBehind, LineFeedBehind, CrLfBehind, EscapeBehind, OtherBehind, behind}
-use Rattle.gitconf_parse.proofs.ValueAgain.{both_true, unchosen, white_is_whitespace, whitespace_no_escape, pieces_text, pieces_units}
+use Rattle.gitconf_text.proofs.Tests.{both_true}
+use Rattle.gitconf_parse.proofs.ValueAgain.{unchosen, white_is_whitespace, whitespace_no_escape, pieces_text, pieces_units}
 
 -- a text that begins with a value, whose first piece may begin between quotes
 pub record ValueShape (quoted : Bool) (text : List ℕ) : Type 0 where

@@ -47,7 +47,7 @@ line_at input front rest start at no_line inside whole at_is =
     ∙ ap (count_by (λ b. b == 10)) (ap (take (length front)) whole ∙ take_at front rest (length front) refl))
 
 -- the input is stuck where a part's or a value's fault is told
-stuck : (input : List ℕ) (start : ℕ) (parts : List Part) (rest : List ℕ) (f : Fault)
+pub stuck : (input : List ℕ) (start : ℕ) (parts : List Part) (rest : List ℕ) (f : Fault)
     → count_by (λ b. b == 10) (take start input) ≡ 0 → start ≤ length input → drop start input ≡ unmarked input
     → drop start input ≡ spelled parts ++ rest → AreFit parts rest → 0 < length rest
     → IsFaultAt input (start + length (spelled parts)) (wanted_after expected.SectionHeader parts) f → IsFault input f

@@ -1,12 +1,15 @@
 -- Items as the code has them.
-use Rattle.std.specs.Prelude.{ℕ, List, ◌∷◌, ◌++◌, map, flat_map, Option, Some, None}
+use Rattle.std.specs.Prelude.{ℕ, List, [], ◌∷◌, ◌++◌, map, flat_map, Option, Some, None}
 use Rattle.gitconf_text.specs.Value as grammar
 use Rattle.gitconf_text.specs.Part as parts
 use Rattle.gitconf_text.specs.Token.{Token, HeaderToken, value_tokens, item_tokens}
-use Rattle.gitconf_parse.specs.declared.items.Piece.{Piece}
-use Rattle.gitconf_parse.specs.declared.items.Value.{Value}
-use Rattle.gitconf_parse.specs.declared.items.Assigned.{Assigned}
-use Rattle.gitconf_parse.specs.declared.items.Entry.{Entry}
+use Rattle.gitconf_parse.specs.declared.entry.Piece.{Piece}
+use Rattle.gitconf_parse.specs.declared.entry.Value.{Value}
+use Rattle.gitconf_parse.specs.declared.entry.Assigned.{Assigned}
+use Rattle.gitconf_parse.specs.declared.entry.Assigned.TheVariants as assigned
+use Rattle.gitconf_parse.specs.declared.entry.AssignedRef.{AssignedRef}
+use Rattle.gitconf_parse.specs.declared.entry.AssignedRef.TheVariants as refs
+use Rattle.gitconf_parse.specs.declared.entry.EntryParts.{EntryParts}
 use Rattle.gitconf_parse.specs.declared.items.Item.{Item}
 use Rattle.gitconf_parse.specs.declared.items.Section.{Section}
 use Rattle.gitconf_parse.specs.declared.items.Items.{Items}
@@ -19,11 +22,18 @@ piece_of buffer p = record { text = bytes_of buffer p.text; line_end = bytes_of 
 abbrev pub value_of : (buffer : List ℕ) → Value → grammar.Value
 value_of buffer v = record { pieces = map (piece_of buffer) v.pieces.items; last = bytes_of buffer v.last }
 
-abbrev pub assigned_of : (buffer : List ℕ) → Option Assigned → Option parts.Assigned
-assigned_of buffer None = None
-assigned_of buffer (Some a) = Some (record { blanks = bytes_of buffer a.blanks; value = value_of buffer a.value })
+abbrev pub assigned_of : (buffer : List ℕ) → Assigned → Option parts.Assigned
+assigned_of buffer assigned.Nothing = None
+assigned_of buffer (assigned.Plain blanks value) = Some (record { blanks = bytes_of buffer blanks; value = record { pieces = []; last = bytes_of buffer value } })
+assigned_of buffer (assigned.Continued c) = Some (record { blanks = bytes_of buffer c.blanks; value = value_of buffer c.value })
 
-abbrev pub entry_of : (buffer : List ℕ) → Entry → parts.Entry
+-- what a reference to what is assigned refers to
+abbrev pub lent : AssignedRef → Assigned
+lent refs.Nothing = assigned.Nothing
+lent (refs.Plain blanks value) = assigned.Plain blanks value
+lent (refs.Continued c) = assigned.Continued c.now
+
+abbrev pub entry_of : (buffer : List ℕ) → EntryParts → parts.Entry
 entry_of buffer e = record { name = bytes_of buffer e.name; blanks = bytes_of buffer e.blanks; assigned = assigned_of buffer e.assigned }
 
 abbrev pub item_of : (buffer : List ℕ) → Item → parts.Item
@@ -31,6 +41,13 @@ item_of buffer (kinds.Blanks run) = parts.BlanksItem (bytes_of buffer run)
 item_of buffer (kinds.LineEnds run) = parts.LineEndsItem (bytes_of buffer run)
 item_of buffer (kinds.Comment tag text) = parts.CommentItem tag (bytes_of buffer text)
 item_of buffer (kinds.Entry e) = parts.EntryItem (entry_of buffer e)
+
+abbrev pub items_of : (buffer : List ℕ) → List Item → List parts.Item
+items_of buffer items = map (item_of buffer) items
+
+-- the tokens of items, in order
+abbrev pub tokens_in : List parts.Item → List Token
+tokens_in items = flat_map item_tokens items
 
 abbrev pub tokens_of_value : (buffer : List ℕ) → Value → List Token
 tokens_of_value buffer v = value_tokens (map (piece_of buffer) v.pieces.items) (bytes_of buffer v.last)

@@ -1,11 +1,12 @@
 -- Items stand within the buffer that their spans are offsets of.
-use Rattle.std.specs.Prelude.{ℕ, List, Option, Some, None}
+use Rattle.std.specs.Prelude.{ℕ, List}
 use Rattle.std.specs.List.{AllByRecursion}
 use Rattle.gitconf_parse.specs.declared.event.Event.{Event}
-use Rattle.gitconf_parse.specs.declared.items.Piece.{Piece}
-use Rattle.gitconf_parse.specs.declared.items.Value.{Value}
-use Rattle.gitconf_parse.specs.declared.items.Assigned.{Assigned}
-use Rattle.gitconf_parse.specs.declared.items.Entry.{Entry}
+use Rattle.gitconf_parse.specs.declared.entry.Piece.{Piece}
+use Rattle.gitconf_parse.specs.declared.entry.Value.{Value}
+use Rattle.gitconf_parse.specs.declared.entry.Assigned.{Assigned}
+use Rattle.gitconf_parse.specs.declared.entry.Assigned.TheVariants as assigned
+use Rattle.gitconf_parse.specs.declared.entry.EntryParts.{EntryParts}
 use Rattle.gitconf_parse.specs.declared.items.Item.{Item}
 use Rattle.gitconf_parse.specs.declared.items.Section.{Section}
 use Rattle.gitconf_parse.specs.declared.items.Items.{Items}
@@ -18,11 +19,12 @@ PieceFits limit p = SpanFits limit p.text × SpanFits limit p.line_end
 abbrev pub ValueFits : (limit : ℕ) → Value → Type 0
 ValueFits limit v = AllByRecursion (PieceFits limit) v.pieces.items × SpanFits limit v.last
 
-abbrev pub AssignedFits : (limit : ℕ) → Option Assigned → Type 0
-AssignedFits limit None = Unit {0}
-AssignedFits limit (Some a) = SpanFits limit a.blanks × ValueFits limit a.value
+abbrev pub AssignedFits : (limit : ℕ) → Assigned → Type 0
+AssignedFits limit assigned.Nothing = Unit {0}
+AssignedFits limit (assigned.Plain blanks value) = SpanFits limit blanks × SpanFits limit value
+AssignedFits limit (assigned.Continued c) = SpanFits limit c.blanks × ValueFits limit c.value
 
-abbrev pub EntryFits : (limit : ℕ) → Entry → Type 0
+abbrev pub EntryFits : (limit : ℕ) → EntryParts → Type 0
 EntryFits limit e = SpanFits limit e.name × SpanFits limit e.blanks × AssignedFits limit e.assigned
 
 -- all spans of the item end within a buffer of this many bytes

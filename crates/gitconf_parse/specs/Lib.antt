@@ -16,3 +16,7 @@ pub mod TokenDocument
 pub mod Items
 pub mod ItemsFit
 pub mod Grouping
+pub mod Stretches
+pub mod Moves
+pub mod Forms
+pub mod Alike

@@ -34,3 +34,8 @@ abbrev pub NoFault : Result (Unit {0}) ReadError → Type 0
 NoFault (Ok done) = Unit {0}
 NoFault (Err errors.Memory) = Unit {0}
 NoFault (Err (errors.Fault f)) = ⊥
+
+-- why a text was not read: it has no document, and can't be read on where the fault is told; or memory was wanting
+abbrev pub IsMisread : (input : List ℕ) → ReadError → Type 0
+IsMisread input errors.Memory = Unit {0}
+IsMisread input (errors.Fault f) = IsFault input f × ((parts : List Part) → IsText input parts → ⊥)

@@ -5,7 +5,7 @@ ghost use Rattle.gitconf_parse.specs.Sections.{is_header_event};
 use gitconf_text::parse::span;
 
 /// A part of a buffer: where it begins, and how many bytes it has.
-#[derive(Clone, Copy, Debug, PartialEq, Eq)]
+#[derive(Clone, Copy, Debug, Default, PartialEq, Eq)]
 pub struct Span {
     /// The offset of its first byte.
     pub start: u32,

@@ -70,7 +70,7 @@ pub fn check_len(len: usize) -> Result<(), Error>
 }
 
 /// The refusal of a text that can't be read from a place on.
-fn refusal(alloc: Global, input: &[u8], fault: Fault) -> Error
+pub(crate) fn refusal(alloc: Global, input: &[u8], fault: Fault) -> Error
     requires { fault.at ≤ length input.now }
     ensures { IsRefusal input.now fault result }
 {
@@ -93,7 +93,7 @@ fn copied(alloc: Global, input: &[u8]) -> Result<Vec<u8>, NoMemory>
 const ROOM: usize = 4096;
 
 /// A copy of a text with room behind it, so that a first edit copies nothing.
-fn copied_with_room(alloc: Global, input: &[u8]) -> Result<Vec<u8>, NoMemory>
+pub(crate) fn copied_with_room(alloc: Global, input: &[u8]) -> Result<Vec<u8>, NoMemory>
     ensures items { IfOk result (λ copy. copy.items ≡ input.now) }
 {
     let mut copy = Vec::with_capacity(alloc, input.len().saturating_add(ROOM))?;

@@ -1,51 +1,24 @@
 //! Items: what a body is made of, as the parser's events say it.
 ghost use Rattle.std.specs.Prelude.{◌≡◌, ◌≤◌, ◌∷◌, ◌++◌, [], true, false, length, map, flat_map, IfOk, OnOk};
+ghost use Rattle.std.specs.List.{AllByRecursion};
 ghost use Rattle.gitconf_text.specs.Token.{WhitespaceToken, NewlineToken, ValueNotDoneToken, item_tokens, assigned_tokens, filled};
 ghost use Rattle.gitconf_parse.specs.Compact.{events_of};
 ghost use Rattle.gitconf_parse.specs.Events.{bytes_of, token_of, SpanFits, EventFits};
 ghost use Rattle.gitconf_parse.specs.Sections.{is_header_event, is_cut};
-ghost use Rattle.gitconf_parse.specs.ItemsFit.{EventsWithin, AreItemsWithin, AssignedFits, ItemFits, ItemsFit, ValueFits};
+ghost use Rattle.gitconf_parse.specs.ItemsFit.{EventsWithin, AreItemsWithin, AssignedFits, ItemFits, ItemsFit, SectionFits, ValueFits};
 ghost use Rattle.gitconf_parse.specs.Items as spec;
 ghost use Rattle.gitconf_parse.specs.Items.{item_of, assigned_of};
 ghost use Rattle.gitconf_parse.specs.Grouping.{Place, Between, BehindName, BehindNameBlanks, BehindSeparator, BehindSeparatorBlanks, BehindPiece, BehindPieceEnd, are_items, AreBehind};
 
 use crate::compact::EventSlice;
+use crate::entry::{Assigned, Entry, EntryParts, Piece, Value};
 use crate::event::{Event, Header, Span, is_header};
 use gitconf_text::NoMemory;
+use smallvec::SmallVec;
 use std::alloc::Global;
+use std::mem::{replace, size_of};
 
-/// A piece of a value that goes on.
-#[derive(Clone, Copy, Debug)]
-pub struct Piece {
-    /// Its bytes, without the backslash behind them.
-    pub text: Span,
-    /// The line end behind the backslash; no bytes where there is none.
-    pub line_end: Span,
-}
-
-/// A value: the pieces that go on, and the last one.
-#[derive(Clone, Debug, Drop)]
-pub struct Value {
-    pub pieces: Vec<Piece>,
-    pub last: Span,
-}
-
-/// What stands behind `=`.
-#[derive(Clone, Debug, Drop)]
-pub struct Assigned {
-    pub blanks: Span,
-    pub value: Value,
-}
-
-/// A value name, the blanks behind it, and what is assigned, if anything.
-#[derive(Clone, Debug, Drop)]
-pub struct Entry {
-    pub name: Span,
-    pub blanks: Span,
-    pub assigned: Option<Assigned>,
-}
-
-/// What a body is made of.
+/// What a body is made of. It takes 24 bytes.
 #[derive(Clone, Debug, Drop)]
 pub enum Item {
     Blanks(Span),
@@ -53,6 +26,8 @@ pub enum Item {
     Comment { tag: u8, text: Span },
     Entry(Entry),
 }
+
+const _: () = prove!(size_of::<Item>() == 24);
 
 /// A header and what stands behind it.
 #[derive(Debug, Drop)]
@@ -117,7 +92,7 @@ fn pieces_first<'e>(
     ensures first { IfOk result (λ r. ValueFits (length buffer.now) r.0) }
     ensures others { IfOk result (λ r. EventsWithin (length buffer.now) (events_of r.1)) }
 {
-    let mut pieces = Vec::new(alloc);
+    let mut pieces = SmallVec::new(alloc);
     let mut text = text;
     let mut rest = events;
     loop {
@@ -151,7 +126,7 @@ fn value_first<'e>(
     match events.split_first() {
         Some((Event::Value(last), behind)) => {
             let value = Value {
-                pieces: Vec::new(alloc),
+                pieces: SmallVec::new(alloc),
                 last,
             };
             Ok((value, behind))
@@ -166,7 +141,7 @@ fn assigned_first<'e>(
     alloc: Global,
     buffer: &[u8],
     events: EventSlice<'e>,
-) -> Result<(Option<Assigned>, EventSlice<'e>), NoMemory>
+) -> Result<(Assigned, EventSlice<'e>), NoMemory>
     requires items { are_items BehindNameBlanks (map (token_of buffer.now) (events_of events)) ≡ true }
     requires within { EventsWithin (length buffer.now) (events_of events) }
     ensures first { IfOk result (λ r. AssignedFits (length buffer.now) r.0) }
@@ -174,11 +149,11 @@ fn assigned_first<'e>(
     ensures tokens { IfOk result (λ r. AreBehind Between (assigned_tokens (assigned_of buffer.now r.0)) (map (token_of buffer.now) (events_of r.1)) (map (token_of buffer.now) (events_of events.entry))) }
 {
     match events.split_first() {
-        Some((Event::Value(_), behind)) => Ok((None, behind)),
+        Some((Event::Value(_), behind)) => Ok((Assigned::Nothing, behind)),
         Some((Event::KeyValueSeparator, behind)) => {
             let (blanks, behind) = blanks_first(buffer, behind);
             let (value, behind) = value_first(alloc, buffer, behind)?;
-            Ok((Some(Assigned { blanks, value }), behind))
+            Ok((Assigned::of_value(blanks, value), behind))
         }
         _ => unreachable!(),
     }
@@ -206,22 +181,28 @@ fn item_first<'e>(
         Event::SectionValueName(name) => {
             let (blanks, behind) = blanks_first(buffer, behind);
             let (assigned, behind) = assigned_first(alloc, buffer, behind)?;
-            let entry = Entry {
+            let parts = EntryParts {
                 name,
                 blanks,
                 assigned,
             };
-            Ok((Item::Entry(entry), behind))
+            Ok((Item::Entry(Entry::try_new(alloc, parts)?), behind))
         }
         _ => unreachable!(),
     }
 }
 
-/// The items in a list of just their length. None are left where they stood.
+/// So many items are copied to a list of their own; a longer list is handed over as it is.
+const MANY: usize = 64;
+
+/// The items in a list of just their length, or in the list itself where they are many. None are left where they stood.
 fn moved_out(alloc: Global, items: &mut Vec<Item>) -> Result<Vec<Item>, NoMemory>
     ensures moved { IfOk result (λ moved. moved.items ≡ items.old.items) }
     ensures empty { OnOk result (items.new.items ≡ []) }
 {
+    if items.len() > MANY {
+        return Ok(replace(items, Vec::new(alloc)));
+    }
     let mut moved = Vec::with_capacity(alloc, items.len())?;
     moved.append(items)?;
     Ok(moved)
@@ -230,7 +211,7 @@ fn moved_out(alloc: Global, items: &mut Vec<Item>) -> Result<Vec<Item>, NoMemory
 /// The items that the events begin with, up to a header or the end, and the events behind them.
 ///
 /// They are put together in `scratch`, which holds nothing before and behind that.
-fn items_first<'e>(
+pub(crate) fn items_first<'e>(
     alloc: Global,
     buffer: &[u8],
     events: EventSlice<'e>,
@@ -257,6 +238,33 @@ fn items_first<'e>(
     Ok((moved_out(alloc, scratch)?, rest))
 }
 
+/// Adds the sections that the events are; their spans are offsets of the buffer.
+pub(crate) fn push_sections(
+    alloc: Global,
+    buffer: &[u8],
+    events: EventSlice<'_>,
+    scratch: &mut Vec<Item>,
+    sections: &mut Vec<Section>,
+) -> Result<(), NoMemory>
+    requires empty { scratch.old.items ≡ [] }
+    requires items { are_items Between (map (token_of buffer.now) (events_of events)) ≡ true }
+    requires cut { is_cut is_header_event (events_of events) ≡ true }
+    requires within { EventsWithin (length buffer.now) (events_of events) }
+    requires fit { AllByRecursion (SectionFits (length buffer.now)) sections.old.items }
+    ensures fit { OnOk result (AllByRecursion (SectionFits (length buffer.now)) sections.new.items) }
+    ensures tokens { OnOk result (flat_map (spec.tokens_of_section buffer.now) sections.new.items
+        ≡ flat_map (spec.tokens_of_section buffer.now) sections.old.items ++ map (token_of buffer.now) (events_of events.entry)) }
+    ensures empty { OnOk result (scratch.new.items ≡ []) }
+{
+    let mut rest = events;
+    while let Some((Event::SectionHeader(header), behind)) = rest.split_first() {
+        let (items, behind) = items_first(alloc, buffer, behind, scratch)?;
+        sections.push(Section { header, items })?;
+        rest = behind;
+    }
+    Ok(())
+}
+
 /// The items of events by section; the spans are offsets of the buffer. Their tokens are the events' again.
 ///
 /// One pass, without a copy of a byte.
@@ -276,12 +284,7 @@ pub(crate) fn grouped(
 {
     let mut scratch = Vec::new(alloc);
     let (front, behind) = items_first(alloc, buffer, events, &mut scratch)?;
-    let mut rest = behind;
     let mut sections = Vec::new(alloc);
-    while let Some((Event::SectionHeader(header), behind)) = rest.split_first() {
-        let (items, behind) = items_first(alloc, buffer, behind, &mut scratch)?;
-        sections.push(Section { header, items })?;
-        rest = behind;
-    }
+    push_sections(alloc, buffer, behind, &mut scratch, &mut sections)?;
     Ok(Items { front, sections })
 }

@@ -2,11 +2,14 @@
 #![tactic(auto)]
 
 mod compact;
+pub mod entry;
 pub mod error;
 pub mod event;
 pub mod event_ref;
 pub mod events;
 pub mod items;
 pub mod laws;
+pub mod loading;
+pub mod moving;
 mod reading;
 pub mod sink;

@@ -41,12 +41,12 @@ impl From<NoMemory> for ReadError {
 mod class;
 mod entry;
 mod header;
-mod part;
+pub mod part;
 mod run;
 mod value;
 
 /// How many bytes the mark EF BB BF takes at the front of a text.
-fn mark_len(input: &[u8]) -> usize
+pub fn mark_len(input: &[u8]) -> usize
     ensures unmarked { drop result input.now ≡ unmarked input.now }
     ensures line { count_by (λ b. b == 10) (take result input.now) ≡ 0 }
     ensures inside { result ≤ length input.now }

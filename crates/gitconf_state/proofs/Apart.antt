@@ -9,8 +9,8 @@ use Rattle.gitconf_text.specs.Header.{FitsHeader}
 use Rattle.gitconf_text.specs.Names.{is_value_name}
 use Rattle.gitconf_text.specs.Part.{Assigned, Entry, BlanksItem, LineEndsItem, CommentItem, EntryItem, Part, ItemPart, HeaderPart, spelled_assigned, spelled_part, spelled}
 use Rattle.gitconf_text.specs.Document.{Document, with_part, gathered}
-use Rattle.gitconf_parse.proofs.ValueAgain.{both_true}
-use Rattle.gitconf_parse.proofs.RunLaws.{line_end_more}
+use Rattle.gitconf_text.proofs.Tests.{both_true}
+use Rattle.gitconf_text.proofs.ByteLaws.{line_end_more}
 use Rattle.gitconf_state.specs.Comments.{part_comments, comments_of}
 use Rattle.gitconf_state.specs.Writing.{may_stand_behind, Open, Closed, OpenKey, OpenKeyAndBlanks, OpenValue, OpenComment, after, after_entry}
 use Rattle.gitconf_state.proofs.Follows.{may_follow, blanks_follow, line_end_follows, mark_follows, letter_follows}

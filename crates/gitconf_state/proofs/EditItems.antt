@@ -13,9 +13,9 @@ use Rattle.gitconf_text.specs.Part.{Assigned, Entry, Item, BlanksItem, LineEndsI
 use Rattle.gitconf_text.specs.Token.{item_tokens}
 use Rattle.gitconf_text.proofs.ValuesEscaped.{written_fits}
 use Rattle.gitconf_parse.proofs.Subsections.{reads_back}
-use Rattle.gitconf_parse.proofs.ByteLaws.{name_byte_header}
-use Rattle.gitconf_parse.proofs.ValueAgain.{both_true, line_end_is}
-use Rattle.gitconf_parse.proofs.RunLaws.{false_not}
+use Rattle.gitconf_text.proofs.ByteLaws.{name_byte_header}
+use Rattle.gitconf_text.proofs.Tests.{both_true, false_not}
+use Rattle.gitconf_parse.proofs.ValueAgain.{line_end_is}
 use Rattle.gitconf_base.specs.Metadata.{Meta}
 use Rattle.gitconf_state.specs.State.{SectionState, State, is_value, is_assigned, is_item, is_header, HasSectionItems, is_entry}
 use Rattle.gitconf_state.specs.LineEnds.{file_line_end}

@@ -11,8 +11,7 @@ use Rattle.gitconf_text.specs.Bytes.{fold}
 use Rattle.gitconf_text.specs.Header.{subsection_of}
 use Rattle.gitconf_text.specs.Names.{is_made_name, is_same_name, is_valid_or_none, is_value_name}
 use Rattle.gitconf_text.specs.Part.{Item}
-use Rattle.gitconf_parse.proofs.ValueAgain.{both_true}
-use Rattle.gitconf_parse.proofs.ByteLaws.{refuted}
+use Rattle.gitconf_text.proofs.Tests.{both_true, refuted}
 use Rattle.gitconf_state.specs.State.{SectionState, State}
 use Rattle.gitconf_state.specs.LineEnds.{file_line_end}
 use Rattle.gitconf_state.specs.Lookup.{is_named, listing, listed, Said, said}

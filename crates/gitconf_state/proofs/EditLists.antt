@@ -3,7 +3,7 @@ use Rattle.std.proofs.Common.{◌≡◌, Bool, true, false, List, [], ◌∷◌,
 use Rattle.std.specs.Prelude.{◌&&◌, filter, flat_map, map}
 use Rattle.std.specs.List.{list_all, list_any, last_or, filter_map, AllByRecursion}
 use Rattle.std.proofs.lemmas.Bool.{or_left, or_right}
-use Rattle.gitconf_parse.proofs.ValueAgain.{both_true}
+use Rattle.gitconf_text.proofs.Tests.{both_true}
 use Rattle.gitconf_state.proofs.LoadingFilters.{both_hold}
 use Rattle.gitconf_state.specs.Edit.{update_last}
 

@@ -15,8 +15,7 @@ use Rattle.gitconf_state.specs.LineEnds.{file_line_end}
 use Rattle.gitconf_state.specs.Lookup.{is_named, listing, listed, Said, said_of, said}
 use Rattle.gitconf_state.specs.Edit.{is_entry_of, spacing_of, new_entry, set_value, new_section, is_target, section_with, set_raw_value}
 use Rattle.gitconf_state.specs.Edits.{finds_or_makes}
-use Rattle.gitconf_parse.proofs.ValueAgain.{both_true}
-use Rattle.gitconf_parse.proofs.ByteLaws.{refuted}
+use Rattle.gitconf_text.proofs.Tests.{both_true, refuted}
 use Rattle.gitconf_state.proofs.EditItems.{may_be_made}
 use Rattle.gitconf_state.proofs.EditLists.{last_at}
 use Rattle.gitconf_state.proofs.EditPlaces.{set_raw_value_at, set_raw_value_new}

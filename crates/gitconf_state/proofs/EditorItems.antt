@@ -8,7 +8,7 @@ use Rattle.gitconf_text.specs.Names.{is_value_name}
 use Rattle.gitconf_text.specs.Unit.{is_white}
 use Rattle.gitconf_text.specs.Value.{Piece, spelled_value, value_units, are_paired}
 use Rattle.gitconf_text.specs.Part.{Assigned, Item, BlanksItem, LineEndsItem, CommentItem, EntryItem}
-use Rattle.gitconf_parse.proofs.ValueAgain.{both_true}
+use Rattle.gitconf_text.proofs.Tests.{both_true}
 use Rattle.gitconf_state.specs.State.{is_item, is_piece, is_value, is_assigned, is_entry, Cut, cut_last}
 use Rattle.gitconf_state.specs.Clean.{has_blanks}
 use Rattle.gitconf_state.specs.Edit.{Spacing, leading_item, with_value, is_entry_of}

@@ -4,8 +4,8 @@ use Rattle.std.specs.Prelude.{◌==◌, ◌&&◌, ◌||◌, map, filter, if◌th
 use Rattle.std.specs.List.{list_all, list_any, AllByRecursion}
 use Rattle.gitconf_text.specs.Names.{is_made_name, is_value_name, is_valid_or_none}
 use Rattle.gitconf_text.specs.Part.{Item, BlanksItem, LineEndsItem, CommentItem, EntryItem}
-use Rattle.gitconf_parse.proofs.ValueAgain.{both_true}
-use Rattle.gitconf_parse.proofs.Shown.{all_push}
+use Rattle.gitconf_text.proofs.Tests.{both_true}
+use Rattle.gitconf_text.proofs.Lists.{all_push}
 use Rattle.gitconf_base.specs.Metadata.{Meta}
 use Rattle.gitconf_state.specs.State.{SectionState, State, is_item, entries_of, HasSectionItems, HasItems, is_entry}
 use Rattle.gitconf_state.specs.LineEnds.{file_line_end, ends_line}

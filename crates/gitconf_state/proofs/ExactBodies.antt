@@ -3,7 +3,7 @@ use Rattle.std.proofs.Common.{◌≡◌, ℕ, Bool, true, false, not, List, [], 
 use Rattle.std.specs.Prelude.{◌||◌}
 use Rattle.std.specs.List.{fold, list_all}
 use Rattle.gitconf_text.specs.Part.{Entry, Item, BlanksItem, LineEndsItem, CommentItem, EntryItem, Part, ItemPart, spelled_item, FitsItem, spelled, AreFit}
-use Rattle.gitconf_parse.proofs.ValueAgain.{both_true}
+use Rattle.gitconf_text.proofs.Tests.{both_true}
 use Rattle.gitconf_state.specs.LineEnds.{holds, ends_line}
 use Rattle.gitconf_state.specs.Printing.{begins_on_a_line}
 use Rattle.gitconf_state.specs.Inserted.{headers_begin_lines, keys_have_lines, values_are_closed}

@@ -7,7 +7,7 @@ use Rattle.std.proofs.lemmas.List.Folds.{list_all-append}
 use Rattle.gitconf_text.specs.Text.{ends}
 use Rattle.gitconf_text.specs.Unit.{Class, LineFeed, Quote, Mark, Backslash, White, Other, class_of, TextUnit, Escape, OpenEscape, Plain, units_behind, units_of}
 use Rattle.gitconf_text.specs.Value.{Piece, is_value_escape, are_paired}
-use Rattle.gitconf_parse.proofs.ValueAgain.{both_true, apart}
+use Rattle.gitconf_text.proofs.Tests.{both_true, apart}
 use Rattle.gitconf_state.proofs.LoadingFilters.{both_hold}
 
 -- LF

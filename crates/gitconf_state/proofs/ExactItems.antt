@@ -9,8 +9,7 @@ use Rattle.gitconf_text.specs.Value.{Piece, spelled_value, IsEnded}
 use Rattle.gitconf_text.specs.Header.{Header, PlainHeader, DottedHeader, QuotedHeader, spelled_header}
 use Rattle.gitconf_text.specs.Names.{is_value_name}
 use Rattle.gitconf_text.specs.Part.{Assigned, Entry, Item, BlanksItem, LineEndsItem, CommentItem, EntryItem, ItemPart, spelled_assigned, spelled_item, FitsAssigned, FitsItem}
-use Rattle.gitconf_parse.proofs.ValueAgain.{both_true, apart}
-use Rattle.gitconf_parse.proofs.RunLaws.{false_not}
+use Rattle.gitconf_text.proofs.Tests.{both_true, apart, false_not}
 use Rattle.gitconf_state.specs.Printing.{closed_piece, closed_assigned, closed_item}
 use Rattle.gitconf_state.specs.Inserted.{ends_empty, values_are_closed}
 use Rattle.gitconf_state.proofs.LoadingFilters.{both_hold}

@@ -9,7 +9,7 @@ use Rattle.gitconf_text.specs.Text.{begins}
 use Rattle.gitconf_text.specs.Value.{Piece}
 use Rattle.gitconf_text.specs.Part.{Assigned, BlanksItem, LineEndsItem, CommentItem, EntryItem, Part, ItemPart, HeaderPart, FitsPart, spelled, AreFit}
 use Rattle.gitconf_text.specs.Token.{Token, CommentToken, HeaderToken, NameToken, ValueToken, NewlineToken, ValueNotDoneToken, ValueDoneToken, WhitespaceToken, SeparatorToken, filled, piece_tokens, value_tokens, assigned_tokens, item_tokens, part_tokens, tokens_of}
-use Rattle.gitconf_parse.proofs.ValueAgain.{both_true, apart}
+use Rattle.gitconf_text.proofs.Tests.{both_true, apart}
 use Rattle.gitconf_state.specs.State.{SectionState, State}
 use Rattle.gitconf_state.specs.LineEnds.{line_end_of, file_line_end, holds}
 use Rattle.gitconf_state.specs.Inserted.{are_pairs, newline_passes, are_of_one_kind}

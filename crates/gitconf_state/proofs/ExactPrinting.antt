@@ -7,7 +7,7 @@ use Rattle.gitconf_text.specs.Header.{spelled_header}
 use Rattle.gitconf_text.specs.Part.{Item, Part, ItemPart, HeaderPart, spelled, AreFit}
 use Rattle.gitconf_text.specs.Document.{unmarked, IsText}
 use Rattle.gitconf_text.specs.Token.{tokens_of}
-use Rattle.gitconf_parse.proofs.ValueAgain.{both_true}
+use Rattle.gitconf_text.proofs.Tests.{both_true}
 use Rattle.gitconf_state.specs.State.{SectionState, State}
 use Rattle.gitconf_state.specs.LineEnds.{line_end_of, section_line_end, file_line_end, ends_line}
 use Rattle.gitconf_state.specs.Printing.{printed_items, begins_on_a_line, unless, behind_header, printed_body, ends_with_line, held_items, sections_parts, behind_front, printed_parts, printed}

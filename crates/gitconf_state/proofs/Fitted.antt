@@ -8,9 +8,8 @@ use Rattle.gitconf_text.specs.Header.{Header, PlainHeader, DottedHeader, QuotedH
 use Rattle.gitconf_text.specs.Names.{is_value_name}
 use Rattle.gitconf_text.specs.Part.{BlanksItem, LineEndsItem, CommentItem, EntryItem, Part, ItemPart, HeaderPart, spelled_part, spelled, FitsPart, AreFit}
 use Rattle.gitconf_text.specs.Document.{Document, with_part, gathered}
-use Rattle.gitconf_parse.proofs.ValueAgain.{both_true}
-use Rattle.gitconf_parse.proofs.ByteLaws.{letter_no_blank, letter_no_line_end, mark_no_blank, mark_no_line_end, line_end_no_blank}
-use Rattle.gitconf_parse.proofs.RunLaws.{line_end_more}
+use Rattle.gitconf_text.proofs.Tests.{both_true}
+use Rattle.gitconf_text.proofs.ByteLaws.{letter_no_blank, letter_no_line_end, mark_no_blank, mark_no_line_end, line_end_no_blank, line_end_more}
 use Rattle.gitconf_state.specs.Comments.{part_comments, comments_of}
 use Rattle.gitconf_state.proofs.Follows.{blank_cases}
 

@@ -9,7 +9,7 @@ use Rattle.gitconf_text.specs.Text.{begins, ends, begins_line_end, are_line_ends
 use Rattle.gitconf_text.specs.Unit.{is_mark}
 use Rattle.gitconf_text.specs.Part.{LineEndsItem, CommentItem, ItemPart, ends_comment}
 use Rattle.gitconf_text.specs.Document.{Document}
-use Rattle.gitconf_parse.proofs.ValueAgain.{both_true}
+use Rattle.gitconf_text.proofs.Tests.{both_true}
 use Rattle.gitconf_state.specs.Comments.{without_white_end}
 use Rattle.gitconf_state.proofs.Follows.{may_follow_comment, blank_cases, line_end_cases, comment_skips}
 use Rattle.gitconf_state.proofs.Fitted.{Fitted, put, respelled, cut_blanks, cut_line_ends}

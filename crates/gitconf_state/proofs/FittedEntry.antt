@@ -10,8 +10,7 @@ use Rattle.gitconf_text.specs.Value.{Piece, spelled_value, value_units, are_pair
 use Rattle.gitconf_text.specs.Names.{is_value_name}
 use Rattle.gitconf_text.specs.Part.{Assigned, EntryItem, ItemPart}
 use Rattle.gitconf_text.specs.Document.{Document, with_item}
-use Rattle.gitconf_parse.proofs.ValueAgain.{both_true}
-use Rattle.gitconf_parse.proofs.RunLaws.{false_not}
+use Rattle.gitconf_text.proofs.Tests.{both_true, false_not}
 use Rattle.gitconf_state.proofs.Follows.{may_follow, may_follow_key, blanks_follow, key_skips, value_skips}
 use Rattle.gitconf_state.proofs.Fitted.{Fitted, put, respelled, cut_blanks}
 use Rattle.gitconf_state.specs.Writing.{OpenKey, after_blanks}

@@ -8,8 +8,8 @@ use Rattle.gitconf_text.specs.Bytes.{is_blank, is_whitespace, is_name_byte}
 use Rattle.gitconf_text.specs.Text.{begins, begins_line_end}
 use Rattle.gitconf_text.specs.Unit.{White, Other, class_of, is_mark}
 use Rattle.gitconf_text.specs.Value.{may_follow_value}
-use Rattle.gitconf_parse.proofs.ValueAgain.{both_true, apart}
-use Rattle.gitconf_parse.proofs.ByteLaws.{letter_no_blank}
+use Rattle.gitconf_text.proofs.Tests.{both_true, apart}
+use Rattle.gitconf_text.proofs.ByteLaws.{letter_no_blank}
 use Rattle.gitconf_state.specs.Writing.{Open, Closed, OpenKey, OpenKeyAndBlanks, OpenValue, OpenComment, after_blanks}
 
 -- blanks, and then a line end or the end

@@ -10,8 +10,7 @@ use Rattle.gitconf_parse.specs.EventList.{keeps_entry_token}
 use Rattle.gitconf_parse.specs.TokenDocument.{keeps_meaning}
 use Rattle.gitconf_parse.proofs.Selections.{filter_selection}
 use Rattle.gitconf_parse.proofs.TextLaws.{lossy_keeps_entries}
-use Rattle.gitconf_parse.proofs.ValueAgain.{both_true}
-use Rattle.gitconf_parse.proofs.RunLaws.{false_not}
+use Rattle.gitconf_text.proofs.Tests.{both_true, false_not}
 use Rattle.gitconf_state.specs.State.{SectionState, State, entries_of, HasSectionItems, HasItems}
 use Rattle.gitconf_state.specs.Clean.{is_nameless, IsCleanSection, IsClean}
 use Rattle.gitconf_state.specs.Loads.{state_tokens, IsLoad, IsFullLoad, IsPartLoad}

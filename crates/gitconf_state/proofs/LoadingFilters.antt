@@ -6,7 +6,7 @@ use Rattle.std.proofs.lemmas.List.Folds.{list_all-append}
 use Rattle.gitconf_text.specs.Part.{Part, FitsPart, spelled, AreFit}
 use Rattle.gitconf_text.specs.Token.{Token, filled}
 use Rattle.gitconf_parse.specs.EventList.{may_miss, IsSelection}
-use Rattle.gitconf_parse.proofs.ValueAgain.{both_true}
+use Rattle.gitconf_text.proofs.Tests.{both_true}
 
 -- two tests that hold, in one
 pub both_hold : (a b : Bool) → a ≡ true → b ≡ true → (a && b) ≡ true

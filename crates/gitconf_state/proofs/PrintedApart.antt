@@ -4,7 +4,7 @@ use Rattle.std.specs.Prelude.{◌&&◌}
 use Rattle.std.specs.List.{list_all, fold}
 use Rattle.gitconf_text.specs.Text.{is_line_end}
 use Rattle.gitconf_text.specs.Part.{Item, BlanksItem, LineEndsItem, CommentItem, EntryItem, ItemPart}
-use Rattle.gitconf_parse.proofs.ValueAgain.{both_true}
+use Rattle.gitconf_text.proofs.Tests.{both_true}
 use Rattle.gitconf_state.specs.State.{is_item}
 use Rattle.gitconf_state.specs.LineEnds.{ends_line}
 use Rattle.gitconf_state.specs.Clean.{has_blanks}

@@ -11,8 +11,7 @@ use Rattle.gitconf_text.specs.Header.{Header, PlainHeader, DottedHeader, QuotedH
 use Rattle.gitconf_text.specs.Part.{Assigned, Item, BlanksItem, LineEndsItem, CommentItem, EntryItem, ItemPart}
 use Rattle.gitconf_text.specs.Token.{Token, NewlineToken}
 use Rattle.gitconf_text.specs.Document.{document_entry}
-use Rattle.gitconf_parse.proofs.ValueAgain.{both_true}
-use Rattle.gitconf_parse.proofs.RunLaws.{false_not}
+use Rattle.gitconf_text.proofs.Tests.{both_true, false_not}
 use Rattle.gitconf_state.specs.State.{is_piece, is_value, is_assigned, is_item, is_header, item_entries}
 use Rattle.gitconf_state.specs.Clean.{has_blanks, is_nameless}
 use Rattle.gitconf_state.specs.Comments.{item_comments}

@@ -11,7 +11,7 @@ use Rattle.gitconf_text.specs.Header.{PlainHeader, DottedHeader, QuotedHeader}
 use Rattle.gitconf_text.specs.Names.{is_value_name}
 use Rattle.gitconf_text.specs.Part.{BlanksItem, LineEndsItem, CommentItem, EntryItem, Part, ItemPart, HeaderPart, spelled, AreFit}
 use Rattle.gitconf_text.specs.Document.{Document, unmarked, IsText, Reads, gathered}
-use Rattle.gitconf_parse.proofs.ValueAgain.{both_true}
+use Rattle.gitconf_text.proofs.Tests.{both_true}
 use Rattle.gitconf_state.specs.State.{SectionState, State, HasSectionItems, HasItems, section_document, document_of_kept, document_of}
 use Rattle.gitconf_state.specs.Clean.{IsCleanSection, IsClean}
 use Rattle.gitconf_state.specs.Printing.{section_parts, printed_parts, printed_kept, printed, printed_section}

@@ -6,7 +6,7 @@ use Rattle.std.proofs.lemmas.List.{map-append}
 use Rattle.gitconf_text.specs.Text.{is_line_end}
 use Rattle.gitconf_text.specs.Part.{Item, EntryItem, Part, ItemPart, HeaderPart}
 use Rattle.gitconf_text.specs.Token.{item_tokens}
-use Rattle.gitconf_parse.proofs.ValueAgain.{both_true}
+use Rattle.gitconf_text.proofs.Tests.{both_true}
 use Rattle.gitconf_state.specs.State.{SectionState, State, is_item, HasSectionItems, HasItems, is_entry}
 use Rattle.gitconf_state.specs.LineEnds.{ends_line, section_line_end, file_line_end}
 use Rattle.gitconf_state.specs.Clean.{has_blanks, IsCleanSection, IsClean}

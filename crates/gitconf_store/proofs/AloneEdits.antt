@@ -1,5 +1,5 @@
 -- A section that stands alone with other items, in a longer buffer.
-use Rattle.std.proofs.Common.{◌≡◌, ℕ, ◌+◌, ◌<◌, ◌≤◌, ◌^◌, true, List, [], length, Option, Result, Ok, Err, arith, refl, ap, sym, subst, ◌∙◌, inl, inr}
+use Rattle.std.proofs.Common.{◌≡◌, ℕ, ◌<◌, ◌≤◌, ◌^◌, true, List, [], length, Option, Result, Ok, Err, arith, refl, ap, sym, subst, ◌∙◌, inl, inr}
 use Rattle.std.specs.Prelude.{◌⊎◌, ◌==◌, OnErr, OnOk}
 use Rattle.std.specs.List.{list_all, list_any}
 use Rattle.gitconf_text.specs.Names.{is_made_name, is_valid_or_none}
@@ -17,7 +17,7 @@ use Rattle.gitconf_state.specs.Editors.{value_set}
 use Rattle.gitconf_state.specs.Edits.{renamed, value_set_tokens, Detached}
 use Rattle.gitconf_state.specs.State.{is_header, is_item}
 use Rattle.gitconf_state.proofs.EditItems.{made_header_is}
-use Rattle.gitconf_write.specs.Bodies.{items_of}
+use Rattle.gitconf_parse.specs.Items.{items_of}
 use Rattle.gitconf_body.specs.declared.editor.Editor.{Editor}
 use Rattle.gitconf_body.specs.Editors.{set_put}
 use Rattle.gitconf_body.proofs.Buffers.{extended_fit, extended_items}

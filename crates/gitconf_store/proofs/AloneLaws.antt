@@ -1,9 +1,8 @@
 -- A section is edited alone as it is edited in a file.
-use Rattle.std.proofs.Common.{◌≡◌, ℕ, ◌+◌, ◌<◌, ◌==◌, Bool, true, false, List, [], ◌∷◌, ◌++◌, map, Option, refl, ap, sym, ◌∙◌, arith}
+use Rattle.std.proofs.Common.{◌≡◌, ℕ, ◌+◌, ◌==◌, false, List, [], ◌∷◌, ◌++◌, map, refl, ap, ◌∙◌, arith}
 use Rattle.std.specs.Prelude.{if◌then◌else◌}
 use Rattle.std.proofs.lemmas.Bool.{eq-eqb, ne_eqb}
 use Rattle.std.proofs.lemmas.List.{map-append}
-use Rattle.gitconf_text.specs.Part as parts
 use Rattle.gitconf_state.specs.Edits.{Detached, PushSection, apply, change_numbered}
 use Rattle.gitconf_state.specs.State.{AreNumbered, SectionState, State}
 

@@ -20,8 +20,8 @@ use Rattle.gitconf_state.specs.LineEnds.{ends_line, file_line_end}
 use Rattle.gitconf_state.specs.State.{HasItems, SectionState, State}
 use Rattle.gitconf_state.proofs.EditItems.{file_line_end_is}
 use Rattle.gitconf_state.proofs.EditsKeep.{apply_items}
-use Rattle.gitconf_write.specs.Bodies.{items_of}
-use Rattle.gitconf_body.specs.Moves.{AreItemsMoved}
+use Rattle.gitconf_parse.specs.Items.{items_of}
+use Rattle.gitconf_parse.specs.Moves.{AreItemsMoved}
 use Rattle.gitconf_body.proofs.Append.{items_fit_more, items_more}
 use Rattle.gitconf_body.proofs.Buffers.{extended_fit, extended_items}
 use Rattle.gitconf_store.specs.declared.section.Section.{Section}

@@ -11,21 +11,22 @@ use Rattle.gitconf_parse.specs.declared.event.Copied.{Copied}
 use Rattle.gitconf_parse.specs.declared.event.Header.{Header}
 use Rattle.gitconf_parse.specs.declared.event.Span.{Span}
 use Rattle.gitconf_parse.specs.declared.event.Event.TheVariants as kinds
-use Rattle.gitconf_parse.specs.declared.items.Assigned.{Assigned}
+use Rattle.gitconf_parse.specs.declared.entry.Assigned.{Assigned}
+use Rattle.gitconf_parse.specs.declared.entry.Assigned.TheVariants as forms
 use Rattle.gitconf_parse.specs.declared.items.Item.{Item}
 use Rattle.gitconf_parse.specs.declared.items.Item.TheVariants as items
-use Rattle.gitconf_parse.specs.declared.items.Piece.{Piece}
+use Rattle.gitconf_parse.specs.declared.entry.Piece.{Piece}
 use Rattle.gitconf_parse.specs.Events.{bytes_of, header_form, header_of, HeaderFits, OptionFits, SpanFits}
 use Rattle.gitconf_parse.specs.EventRef.{ShownHeader}
 use Rattle.gitconf_parse.specs.ItemsFit.{AreItemsWithin, AssignedFits, ItemFits, PieceFits}
 use Rattle.gitconf_parse.specs.ShownEvents.{decoded_or, shown_token, CopyFits, IsExtended, IsShown}
-use Rattle.gitconf_parse.proofs.Shown.{all_push}
+use Rattle.gitconf_text.proofs.Lists.{all_push}
 use Rattle.gitconf_table.specs.Sections.{Sections}
 use Rattle.gitconf_state.specs.Edit.{with_used}
 use Rattle.gitconf_state.specs.Edits.{with_last}
 use Rattle.gitconf_state.specs.State.{HasItems, HasSectionItems, SectionState, State}
-use Rattle.gitconf_write.specs.Bodies.{items_of}
-use Rattle.gitconf_body.specs.Moves.{copy_of, AreItemsMoved, IsHeaderMoved}
+use Rattle.gitconf_parse.specs.Items.{items_of}
+use Rattle.gitconf_parse.specs.Moves.{copy_of, AreItemsMoved, IsHeaderMoved}
 use Rattle.gitconf_body.proofs.Buffers.{extended_fit, extended_items}
 use Rattle.gitconf_store.specs.declared.section.Section.{Section}
 use Rattle.gitconf_store.specs.Alone.{detached_of, StandsAlone}
@@ -38,9 +39,10 @@ pieces_up : (m n : ℕ) → m ≤ n → (ps : List Piece) → AllByRecursion (Pi
 pieces_up m n le [] fits = tt
 pieces_up m n le (p ∷ ps) fits = ((omega (arith, le, fits.0.0), omega (arith, le, fits.0.1)), pieces_up m n le ps fits.1)
 
-assigned_up : (m n : ℕ) → m ≤ n → (a : Option Assigned) → AssignedFits m a → AssignedFits n a
-assigned_up m n le None fits = tt
-assigned_up m n le (Some a) fits = (omega (arith, le, fits.0), (pieces_up m n le a.value.pieces.items fits.1.0, omega (arith, le, fits.1.1)))
+assigned_up : (m n : ℕ) → m ≤ n → (a : Assigned) → AssignedFits m a → AssignedFits n a
+assigned_up m n le forms.Nothing fits = tt
+assigned_up m n le (forms.Plain blanks value) fits = (omega (arith, le, fits.0), omega (arith, le, fits.1))
+assigned_up m n le (forms.Continued c) fits = (omega (arith, le, fits.0), (pieces_up m n le c.value.pieces.items fits.1.0, omega (arith, le, fits.1.1)))
 
 item_up : (m n : ℕ) → m ≤ n → (i : Item) → ItemFits m i → ItemFits n i
 item_up m n le (items.Blanks run) fits = omega (arith, le, fits)

@@ -5,16 +5,15 @@ use Rattle.std.specs.Str.{IsUtf8}
 use Rattle.gitconf_text.specs.Names.{is_made_name, is_same_name, is_value_name}
 use Rattle.gitconf_text.specs.Document.{DocumentEntry}
 use Rattle.gitconf_text.proofs.NamesLaws.{IsUtf8-made_name}
-use Rattle.gitconf_parse.specs.declared.items.Entry.{Entry}
+use Rattle.gitconf_parse.specs.declared.entry.EntryParts.{EntryParts as Entry}
 use Rattle.gitconf_parse.specs.declared.items.Item.{Item}
 use Rattle.gitconf_parse.specs.declared.items.Item.TheVariants as kinds
 use Rattle.gitconf_parse.specs.Events.{bytes_of}
-use Rattle.gitconf_parse.specs.Items.{item_of}
-use Rattle.gitconf_parse.proofs.ByteLaws.{letter_name_byte}
-use Rattle.gitconf_parse.proofs.ValueAgain.{both_true}
+use Rattle.gitconf_parse.specs.Items.{item_of, items_of}
+use Rattle.gitconf_text.proofs.ByteLaws.{letter_name_byte}
+use Rattle.gitconf_text.proofs.Tests.{both_true}
 use Rattle.gitconf_state.specs.Lookup.{meaning}
 use Rattle.gitconf_state.specs.State.{entries_of, is_item, item_entries}
-use Rattle.gitconf_write.specs.Bodies.{items_of}
 use Rattle.gitconf_store.specs.Bodies.{values_in}
 
 made_name : (name : List ℕ) → is_value_name name ≡ true → is_made_name name ≡ true

@@ -7,7 +7,7 @@ use Rattle.std.proofs.lemmas.Grind.{flat_map-append}
 use Rattle.gitconf_parse.specs.declared.items.Item.{Item}
 use Rattle.gitconf_parse.specs.declared.items.Item.TheVariants as kinds
 use Rattle.gitconf_state.specs.State.{SectionState, entries_of}
-use Rattle.gitconf_write.specs.Bodies.{items_of}
+use Rattle.gitconf_parse.specs.Items.{items_of}
 use Rattle.gitconf_write.proofs.Newlines.{first_newline-append, line_end_of-first}
 use Rattle.gitconf_body.specs.Spacings.{is_stored_entry}
 use Rattle.gitconf_store.specs.Counts.{section_entries}

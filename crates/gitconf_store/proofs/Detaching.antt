@@ -11,7 +11,7 @@ use Rattle.gitconf_parse.specs.ShownEvents.{shown_header, shown_token, CopyFits,
 use Rattle.gitconf_parse.proofs.Clones.{cloned_items, items_within}
 use Rattle.gitconf_text.specs.Token.{HeaderToken}
 use Rattle.gitconf_state.specs.State.{is_header, is_item}
-use Rattle.gitconf_write.specs.Bodies.{items_of}
+use Rattle.gitconf_parse.specs.Items.{items_of}
 use Rattle.gitconf_body.specs.Copies.{IsCopy}
 use Rattle.gitconf_body.proofs.Buffers.{extended_fit, extended_items}
 use Rattle.gitconf_store.specs.declared.section.Section.{Section}

@@ -14,8 +14,8 @@ use Rattle.gitconf_parse.specs.ShownEvents.{IsExtended}
 use Rattle.gitconf_state.specs.Edit.{with_used}
 use Rattle.gitconf_state.specs.Edits.{change_items, items_of_numbered, numbered, told_of, Raw, Entry}
 use Rattle.gitconf_state.specs.State.{SectionState, State, HasItems}
-use Rattle.gitconf_write.specs.Bodies.{items_of}
-use Rattle.gitconf_write.specs.LineEnds.{bytes_of_line_end}
+use Rattle.gitconf_parse.specs.Items.{items_of}
+use Rattle.gitconf_text.specs.LineEnds.{bytes_of_line_end}
 use Rattle.gitconf_body.specs.declared.editor.Editor.{Editor}
 use Rattle.gitconf_body.specs.declared.editor.Leading.{Leading}
 use Rattle.gitconf_body.specs.declared.editor.Leading.TheVariants as leadings

@@ -1,60 +1,51 @@
--- Entries of a key, from the last one on.
-use Rattle.std.proofs.Common.{◌≡◌, ℕ, Bool, true, false, List, [], ◌∷◌, ◌++◌, Option, Some, None, refl, ap, ◌∙◌, append-nil}
+-- The last entry of a key, by the place of its item.
+use Rattle.std.proofs.Common.{◌≡◌, ℕ, Bool, true, false, List, [], ◌∷◌, ◌++◌, Option, Some, None, refl, ap, sym, ◌∙◌}
 use Rattle.std.specs.Prelude.{filter}
-use Rattle.std.specs.List.{last_or}
-use Rattle.std.proofs.lemmas.List.{map-append}
-use Rattle.std.proofs.lemmas.Grind.{flat_map-append}
+use Rattle.std.specs.List.{last_or, list_any}
+use Rattle.std.proofs.lemmas.Bool.{or_parts}
 use Rattle.gitconf_text.specs.Names.{is_same_name}
 use Rattle.gitconf_text.specs.Document.{DocumentEntry, document_entry}
-use Rattle.gitconf_parse.specs.declared.items.Entry.{Entry}
+use Rattle.gitconf_parse.specs.declared.entry.EntryParts.{EntryParts as Entry}
 use Rattle.gitconf_parse.specs.declared.items.Item.{Item}
 use Rattle.gitconf_parse.specs.declared.items.Item.TheVariants as kinds
-use Rattle.gitconf_parse.specs.Items.{item_of, entry_of}
-use Rattle.gitconf_state.specs.State.{item_entries, entries_of}
-use Rattle.gitconf_write.specs.Bodies.{items_of}
+use Rattle.gitconf_parse.specs.Items.{item_of, entry_of, items_of}
+use Rattle.gitconf_state.specs.Edit.{is_entry_of}
+use Rattle.gitconf_state.specs.State.{entries_of}
+use Rattle.gitconf_body.specs.Places.{IsLastAt}
 
--- the entries before the last item, and its own
-entries_push : (buffer : List ℕ) (before : List Item) (i : Item) → entries_of (items_of buffer (before ++ i ∷ [])) ≡ entries_of (items_of buffer before) ++ item_entries (item_of buffer i)
-entries_push buffer before i =
-    ap entries_of (map-append (item_of buffer) before (i ∷ [])) ∙ flat_map-append item_entries (items_of buffer before) (item_of buffer i ∷ [])
-    ∙ ap (λ es. entries_of (items_of buffer before) ++ es) (append-nil (item_entries (item_of buffer i)))
+module _ (buffer key : List ℕ) where
+  abbrev is_of : Item → Bool
+  is_of i = is_entry_of key (item_of buffer i)
 
-pub last_yes : {A : Type 0} (test : A → Bool) (o : Option A) (xs : List A) (x : A) → test x ≡ true → last_or o (filter test (xs ++ x ∷ [])) ≡ Some x
-last_yes {A} test o [] x yes' = rw yes' refl
-last_yes {A} test o (y ∷ xs) x yes' = go (test y) refl (λ p. last_yes test p xs x yes')
-  where
-    go : (b : Bool) → test y ≡ b → ((p : Option A) → last_or p (filter test (xs ++ x ∷ [])) ≡ Some x) → last_or o (filter test (y ∷ (xs ++ x ∷ []))) ≡ Some x
-    go true is later = rw is (later (Some y))
-    go false is later = rw is (later o)
+  -- the last entry of the key, or the one before these items
+  abbrev last_in : Option DocumentEntry → List Item → Option DocumentEntry
+  last_in before items = last_or before (filter (λ e. is_same_name key e.name) (entries_of (items_of buffer items)))
 
-pub last_no : {A : Type 0} (test : A → Bool) (o : Option A) (xs : List A) (x : A) → test x ≡ false → last_or o (filter test (xs ++ x ∷ [])) ≡ last_or o (filter test xs)
-last_no {A} test o [] x no' = rw no' refl
-last_no {A} test o (y ∷ xs) x no' = go (test y) refl (λ p. last_no test p xs x no')
-  where
-    go : (b : Bool) → test y ≡ b → ((p : Option A) → last_or p (filter test (xs ++ x ∷ [])) ≡ last_or p (filter test xs))
-        → last_or o (filter test (y ∷ (xs ++ x ∷ []))) ≡ last_or o (filter test (y ∷ xs))
-    go true is later = rw is (later (Some y))
-    go false is later = rw is (later o)
+  last_behind : (o : Option DocumentEntry) (items : List Item) → list_any is_of items ≡ false → last_in o items ≡ o
+  last_behind o [] none = refl
+  last_behind o (kinds.Blanks run ∷ items) none = last_behind o items none
+  last_behind o (kinds.LineEnds run ∷ items) none = last_behind o items none
+  last_behind o (kinds.Comment tag text ∷ items) none = last_behind o items none
+  last_behind o (kinds.Entry e ∷ items) none = let parts = or_parts (is_of (kinds.Entry e)) (list_any is_of items) none in rw parts.0 (last_behind o items parts.1)
 
--- the last item is an entry of the key
-pub last_here : (buffer key : List ℕ) (all before : List Item) (e : Entry) → all ≡ before ++ kinds.Entry e ∷ [] → is_same_name key (entry_of buffer e).name ≡ true
-    → last_or None (filter (λ e. is_same_name key e.name) (entries_of (items_of buffer all))) ≡ Some (document_entry (entry_of buffer e))
-last_here buffer key all before e is same =
-    ap (λ es. last_or None (filter (λ (e : DocumentEntry). is_same_name key e.name) es)) (ap (λ xs. entries_of (items_of buffer xs)) is ∙ entries_push buffer before (kinds.Entry e))
-    ∙ last_yes (λ (e : DocumentEntry). is_same_name key e.name) None (entries_of (items_of buffer before)) (document_entry (entry_of buffer e)) same
+  last_among : (o : Option DocumentEntry) (before : List Item) (e : Entry) (behind : List Item) → is_of (kinds.Entry e) ≡ true → list_any is_of behind ≡ false
+      → last_in o (before ++ kinds.Entry e ∷ behind) ≡ Some (document_entry (entry_of buffer e))
+  last_among o [] e behind is none = rw is (last_behind (Some (document_entry (entry_of buffer e))) behind none)
+  last_among o (kinds.Blanks run ∷ before) e behind is none = last_among o before e behind is none
+  last_among o (kinds.LineEnds run ∷ before) e behind is none = last_among o before e behind is none
+  last_among o (kinds.Comment tag text ∷ before) e behind is none = last_among o before e behind is none
+  last_among o (kinds.Entry f ∷ before) e behind is none = go (is_of (kinds.Entry f)) refl (λ p. last_among p before e behind is none)
+    where
+      go : (b : Bool) → is_of (kinds.Entry f) ≡ b → ((p : Option DocumentEntry) → last_in p (before ++ kinds.Entry e ∷ behind) ≡ Some (document_entry (entry_of buffer e)))
+          → last_in o (kinds.Entry f ∷ (before ++ kinds.Entry e ∷ behind)) ≡ Some (document_entry (entry_of buffer e))
+      go true same later = rw same (later (Some (document_entry (entry_of buffer f))))
+      go false other later = rw other (later o)
 
--- it is one of another key
-pub last_other : (buffer key : List ℕ) (all before : List Item) (e : Entry) → all ≡ before ++ kinds.Entry e ∷ [] → is_same_name key (entry_of buffer e).name ≡ false
-    → last_or None (filter (λ e. is_same_name key e.name) (entries_of (items_of buffer all))) ≡ last_or None (filter (λ e. is_same_name key e.name) (entries_of (items_of buffer before)))
-last_other buffer key all before e is other =
-    ap (λ es. last_or None (filter (λ (e : DocumentEntry). is_same_name key e.name) es)) (ap (λ xs. entries_of (items_of buffer xs)) is ∙ entries_push buffer before (kinds.Entry e))
-    ∙ last_no (λ (e : DocumentEntry). is_same_name key e.name) None (entries_of (items_of buffer before)) (document_entry (entry_of buffer e)) other
+  -- No item is one of the key.
+  pub last_missing : (items : List Item) → list_any is_of items ≡ false → last_in None items ≡ None
+  last_missing items none = last_behind None items none
 
--- it is no entry
-pub last_none : (buffer key : List ℕ) (all before : List Item) (i : Item) → all ≡ before ++ i ∷ [] → item_entries (item_of buffer i) ≡ []
-    → last_or None (filter (λ e. is_same_name key e.name) (entries_of (items_of buffer all))) ≡ last_or None (filter (λ e. is_same_name key e.name) (entries_of (items_of buffer before)))
-last_none buffer key all before i is none =
-    ap (λ es. last_or None (filter (λ (e : DocumentEntry). is_same_name key e.name) es))
-    (ap (λ xs. entries_of (items_of buffer xs)) is ∙ entries_push buffer before i ∙ ap (λ es. entries_of (items_of buffer before) ++ es) none ∙ append-nil _)
-
-pub ruleset last_entries = (last_here, last_other, last_none)
+  -- What stands at the place is the last entry, and no other item.
+  pub last_found : (items : List Item) (at : ℕ) (e : Entry) (l : IsLastAt is_of items at) → l.found ≡ kinds.Entry e → last_in None items ≡ Some (document_entry (entry_of buffer e))
+  last_found items at e l is =
+      ap (last_in None) (l.is ∙ ap (λ (i : Item). l.before ++ i ∷ l.behind) is) ∙ last_among None l.before e l.behind (ap is_of (sym is) ∙ l.passes) l.none

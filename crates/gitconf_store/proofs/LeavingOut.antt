@@ -10,7 +10,7 @@ use Rattle.gitconf_state.specs.Editors.{deleted_at}
 use Rattle.gitconf_state.specs.Edits.{DeleteAt, apply, change_items}
 use Rattle.gitconf_state.specs.State.{HasItems, SectionState, State}
 use Rattle.gitconf_state.proofs.EditsKeep.{apply_items}
-use Rattle.gitconf_write.specs.Bodies.{items_of}
+use Rattle.gitconf_parse.specs.Items.{items_of}
 use Rattle.gitconf_body.specs.Taken.{StayWithin}
 use Rattle.gitconf_body.proofs.ValuesAt.{deleted_shown, deleted_within}
 use Rattle.gitconf_store.specs.Alone.{with_items}

@@ -36,6 +36,7 @@ pub mod LineBytes
 pub mod ValuePlaces
 pub mod Existing
 pub mod Renaming
+pub mod PassingPlaces
 pub mod RenamingAll
 pub mod Appending
 pub mod MovedTables

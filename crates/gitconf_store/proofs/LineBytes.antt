@@ -10,7 +10,7 @@ use Rattle.gitconf_state.specs.Edit.{Spacing, is_entry_of, leading_item, spacing
 use Rattle.gitconf_state.specs.Editors.{comment_made, comment_text, end_made, entry_made, line_made}
 use Rattle.gitconf_state.specs.Edits.{value_set_tokens}
 use Rattle.gitconf_state.specs.State.{is_entry}
-use Rattle.gitconf_write.specs.LineEnds.{bytes_of_line_end}
+use Rattle.gitconf_text.specs.LineEnds.{bytes_of_line_end}
 use Rattle.gitconf_body.specs.declared.editor.Editor.{Editor}
 use Rattle.gitconf_body.specs.declared.editor.Leading.{Leading}
 use Rattle.gitconf_body.specs.declared.editor.Leading.TheVariants as leadings

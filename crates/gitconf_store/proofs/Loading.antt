@@ -10,16 +10,16 @@ use Rattle.gitconf_base.specs.Metadata.{Meta}
 use Rattle.gitconf_parse.specs.declared.items.Item.{Item}
 use Rattle.gitconf_parse.specs.declared.items.Items.{Items}
 use Rattle.gitconf_parse.specs.declared.items.Section.{Section as Loaded}
-use Rattle.gitconf_parse.specs.Items.{item_of, tokens_of_items, tokens_of_section, tokens_of_all}
+use Rattle.gitconf_parse.specs.Items.{item_of, tokens_of_items, tokens_of_section, tokens_of_all, items_of}
 use Rattle.gitconf_state.specs.Loads.{section_tokens}
 use Rattle.gitconf_parse.specs.declared.event.Event.TheVariants as kinds
 use Rattle.gitconf_parse.specs.Events.{bytes_of, header_of}
 use Rattle.gitconf_parse.specs.EventRef.{ShownHeader}
 use Rattle.gitconf_parse.specs.ItemsFit.{AreItemsWithin}
 use Rattle.gitconf_parse.specs.ShownEvents.{decoded_or, separator_of, IsShown, IsExtended}
-use Rattle.gitconf_parse.proofs.Shown.{is_shown_more, all_push}
+use Rattle.gitconf_parse.proofs.Shown.{is_shown_more}
+use Rattle.gitconf_text.proofs.Lists.{all_push}
 use Rattle.gitconf_store.specs.declared.section.Section.{Section}
-use Rattle.gitconf_write.specs.Bodies.{items_of}
 use Rattle.gitconf_store.specs.Store.{SectionFits, AllSectionsFit, loaded, loaded_sections}
 use Rattle.gitconf_store.specs.Made.{IsMade}
 

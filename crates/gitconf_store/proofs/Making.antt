@@ -13,13 +13,13 @@ use Rattle.gitconf_parse.specs.declared.event.Event.TheVariants as kinds
 use Rattle.gitconf_parse.specs.Events.{header_of}
 use Rattle.gitconf_parse.specs.ItemsFit.{AreItemsWithin}
 use Rattle.gitconf_parse.specs.ShownEvents.{IsExtended, IsShown}
-use Rattle.gitconf_parse.proofs.Shown.{all_push}
+use Rattle.gitconf_text.proofs.Lists.{all_push}
 use Rattle.gitconf_state.specs.Edit.{made_header, with_used}
 use Rattle.gitconf_state.specs.Edits as states
 use Rattle.gitconf_state.specs.State.{HasItems, HasSectionItems, SectionState, State, is_item}
 use Rattle.gitconf_state.proofs.EditItems.{new_section_is}
 use Rattle.gitconf_state.proofs.EditValues.{made_name, made_subsection}
-use Rattle.gitconf_write.specs.Bodies.{items_of}
+use Rattle.gitconf_parse.specs.Items.{items_of}
 use Rattle.gitconf_body.proofs.Buffers.{extended_fit, extended_items}
 use Rattle.gitconf_store.specs.declared.section.Section.{Section}
 use Rattle.gitconf_store.specs.Store.{section_state, state_of, SectionFits, AllSectionsFit, StoreFits}

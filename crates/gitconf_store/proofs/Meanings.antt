@@ -4,7 +4,7 @@ use Rattle.std.specs.Prelude.{◌==◌, flat_map}
 use Rattle.gitconf_text.specs.Value as grammar
 use Rattle.gitconf_text.specs.Value.{escape_meaning, plain}
 use Rattle.gitconf_text.proofs.ValuesPlain.{meaning_of_backslash, meaning_of_other, meaning_of_quote}
-use Rattle.gitconf_parse.specs.declared.items.Piece.{Piece}
+use Rattle.gitconf_parse.specs.declared.entry.Piece.{Piece}
 use Rattle.gitconf_parse.specs.Events.{bytes_of}
 use Rattle.gitconf_parse.specs.Items.{piece_of}
 

@@ -3,7 +3,7 @@ use Rattle.std.proofs.Common.{◌≡◌, ℕ, zero, suc, List, [], ◌∷◌, le
 use Rattle.std.specs.List.{AllByRecursion, AllZip, slice_get}
 use Rattle.std.specs.Option.{option_map}
 use Rattle.gitconf_table.specs.Sections.{SectionEntry, changed_at}
-use Rattle.gitconf_body.proofs.Moves.{AreChanged}
+use Rattle.gitconf_parse.proofs.Moves.{AreChanged}
 use Rattle.gitconf_store.specs.declared.section.Section.{Section}
 use Rattle.gitconf_store.specs.Moves.{IsEntryMoved, IsMovable, IsSectionMoved}
 

@@ -114,7 +114,7 @@ without_fits id buffer copies front meta sections after rest fits = subst (Store
 })
 
 -- where there is none, all are left
-last_of_some : {A : Type 0} (x : A) (xs : List A) → last_or (Some x) xs ≡ None → ⊥
+pub last_of_some : {A : Type 0} (x : A) (xs : List A) → last_or (Some x) xs ≡ None → ⊥
 last_of_some x [] e = absurd (cc)
 last_of_some x (y ∷ xs) e = last_of_some y xs e
 
@@ -131,7 +131,7 @@ pub without_none : (id : ℕ) (state : State) → None ≡ numbered id state →
 without_none id state none = ap (λ sections. with_sections sections state) (sym (all_left id state.sections (sym none)))
 
 -- both tests, one behind the other
-filter_both : {A : Type 0} (p q : A → Bool) (xs : List A) → filter q (filter p xs) ≡ filter (λ x. p x && q x) xs
+pub filter_both : {A : Type 0} (p q : A → Bool) (xs : List A) → filter q (filter p xs) ≡ filter (λ x. p x && q x) xs
 filter_both p q [] = refl
 filter_both {A} p q (x ∷ xs) = go (p x) refl (filter_both p q xs)
   where

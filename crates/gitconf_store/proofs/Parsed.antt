@@ -1,5 +1,5 @@
 -- What is loaded of the events of a text.
-use Rattle.std.proofs.Common.{◌≡◌, ℕ, true, List, length, map, [], Result, Ok, Err, subst, ◌∙◌}
+use Rattle.std.proofs.Common.{◌≡◌, ℕ, true, List, length, map, [], Result, Ok, Err, refl, ap, subst, ◌∙◌}
 use Rattle.std.specs.Prelude.{filter}
 use Rattle.std.specs.Result.{IfOk}
 use Rattle.gitconf_text.specs.Part.{Part}
@@ -11,6 +11,7 @@ use Rattle.gitconf_parse.specs.declared.items.Items.{Items}
 use Rattle.gitconf_parse.specs.Items.{tokens_of_all}
 use Rattle.gitconf_parse.specs.TokenDocument.{keeps_meaning}
 use Rattle.gitconf_parse.proofs.OneDocument.{one_tokens}
+use Rattle.gitconf_parse.proofs.Selections.{whole_selected}
 use Rattle.gitconf_parse.proofs.TextLaws.{lossy_keeps_entries}
 use Rattle.gitconf_state.specs.State.{State, HasItems, document_of, entries_of}
 use Rattle.gitconf_state.specs.Clean.{IsClean}
@@ -103,3 +104,43 @@ ok_loaded (Err e) list meta text is whole made = record { document = tt; clean =
 pub lossy_made : (input : List ℕ) (list : EventList) (meta : Meta) (state : State) → IsParsed keeps_meaning input list → IsMade list.tokens meta list.used state
     → (parts : List Part) × IsText input parts × IsMade (filter (keeps_token keeps_meaning) (tokens_of parts)) meta (length input) state
 lossy_made input list meta state p made = (p.parts, p.text, made_of list.tokens _ meta list.used (length input) state p.tokens p.used made)
+
+-- all tokens of a text of these parts
+text_list : List Part → (bytes : ℕ) → EventList
+text_list parts bytes = record { tokens = tokens_of parts; keeps_entries = true; used = bytes }
+
+whole_list : (input : List ℕ) (parts : List Part) → IsText input parts → IsWhole input (text_list parts (length input))
+unfolding text_list
+whole_list input parts text = record { parts = parts; text = text; tokens = refl; entries = refl; used = refl }
+
+-- the items of a text are those of a state
+pub text_items : (input buffer : List ℕ) (g : Items) (meta : Meta) → (parts : List Part) × IsText input parts × (tokens_of_all buffer g ≡ tokens_of parts) → buffer ≡ input
+    → HasItems (loaded buffer g meta)
+unfolding text_list
+text_items input buffer g meta found same =
+    let list = text_list found.0 (length input) in
+    selected_sound input list meta (whole_selected input list (whole_list input found.0 found.1)) refl (loaded buffer g meta)
+    (loaded_made buffer g list meta found.2 (ap length same))
+
+-- what is known of the state of a text, all of it
+pub record IsTextLoaded (input : List ℕ) (meta : Meta) (s : State) : Type 0 where
+  pub made : (parts : List Part) × IsText input parts × IsMade (tokens_of parts) meta (length input) s
+  pub document : Reads input (document_of s)
+  pub clean : IsClean s
+  pub inserted : (parts : List Part) → IsText input parts → Inserted (map spelled_token (tokens_of parts)) (printed s)
+  pub byte_for_byte : (parts : List Part) → IsText input parts → IsByteForByte parts → printed s ≡ unmarked input
+
+pub text_loaded : (input buffer : List ℕ) (g : Items) (meta : Meta) (s : State) → (parts : List Part) × IsText input parts × (tokens_of_all buffer g ≡ tokens_of parts) → buffer ≡ input
+    → s ≡ loaded buffer g meta → IsTextLoaded input meta s
+unfolding text_list
+text_loaded input buffer g meta s found same is =
+    let list = text_list found.0 (length input) in
+    let whole = whole_list input found.0 found.1 in
+    let made : IsMade (tokens_of found.0) meta (length input) s = rw is (loaded_made buffer g list meta found.2 (ap length same)) in
+    record {
+      made = (found.0, found.1, made);
+      document = selected_document input list meta (whole_selected input list whole) refl s made;
+      clean = whole_clean input list meta whole s made;
+      inserted = λ parts. whole_inserted input list meta whole s made parts;
+      byte_for_byte = λ parts. whole_exact input list meta whole s made parts;
+    }

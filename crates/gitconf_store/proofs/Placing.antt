@@ -3,12 +3,11 @@ use Rattle.std.proofs.Common.{◌≡◌, ℕ, true, false, List, [], ◌∷◌, 
 use Rattle.std.specs.Prelude.{◌≢◌, filter}
 use Rattle.gitconf_text.specs.Document.{DocumentEntry, document_entry}
 use Rattle.gitconf_text.specs.Names.{is_same_name}
-use Rattle.gitconf_parse.specs.declared.items.Entry.{Entry}
+use Rattle.gitconf_parse.specs.declared.entry.EntryParts.{EntryParts as Entry}
 use Rattle.gitconf_parse.specs.declared.items.Item.{Item}
 use Rattle.gitconf_parse.specs.declared.items.Item.TheVariants as kinds
-use Rattle.gitconf_parse.specs.Items.{entry_of, item_of}
+use Rattle.gitconf_parse.specs.Items.{entry_of, item_of, items_of}
 use Rattle.gitconf_state.specs.State.{SectionState, item_entries, entries_of}
-use Rattle.gitconf_write.specs.Bodies.{items_of}
 use Rattle.gitconf_store.specs.Finding.{Place}
 
 -- the entries of a key among items

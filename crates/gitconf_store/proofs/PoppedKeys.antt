@@ -1,6 +1,6 @@
 -- The key of an entry that was taken out is a name.
-use Rattle.std.proofs.Common.{◌≡◌, ℕ, zero, suc, true, false, List, [], ◌∷◌, map, Option, Some, None, Result, Ok, Err, refl, ap, sym, subst, arith}
-use Rattle.std.specs.Prelude.{◌||◌, IfOk, IfSome}
+use Rattle.std.proofs.Common.{◌≡◌, ℕ, zero, suc, true, List, [], ◌∷◌, map, Option, Some, None, Result, Ok, Err, sym, subst, arith}
+use Rattle.std.specs.Prelude.{IfOk, IfSome}
 use Rattle.std.specs.Char.{is_ascii_alphabetic}
 use Rattle.std.specs.List.{AllByRecursion, list_all, slice_get}
 use Rattle.std.specs.Option.{option_map}
@@ -12,13 +12,13 @@ use Rattle.gitconf_text.specs.Bytes.{is_name_byte}
 use Rattle.gitconf_text.specs.Names.{is_made_name, is_value_name}
 use Rattle.gitconf_text.specs.Part as parts
 use Rattle.gitconf_text.proofs.NamesLaws.{IsUtf8-made_name}
-use Rattle.gitconf_parse.proofs.ValueAgain.{both_true}
+use Rattle.gitconf_text.proofs.Tests.{both_true}
 use Rattle.gitconf_table.specs.Sections.{SectionEntry}
 use Rattle.gitconf_state.specs.Editors.{popped_entry}
 use Rattle.gitconf_state.specs.State.{HasSectionItems, is_item}
 use Rattle.gitconf_state.proofs.EditorItems.{popped_named}
 use Rattle.gitconf_state.proofs.LoadingFilters.{both_hold}
-use Rattle.gitconf_write.specs.Bodies.{items_of}
+use Rattle.gitconf_parse.specs.Items.{items_of}
 use Rattle.gitconf_store.specs.declared.section.Section.{Section}
 use Rattle.gitconf_store.specs.Store.{section_state}
 

@@ -1,5 +1,5 @@
 -- Sections under other names: in the table, in the buffer, and in the state.
-use Rattle.std.proofs.Common.{◌≡◌, ◌==◌, ◌&&◌, ℕ, zero, suc, ◌+◌, ◌<◌, ◌≤◌, ◌^◌, Bool, true, false, List, [], ◌∷◌, ◌++◌, length, map, take, drop, Option, Some, None, refl, ap, sym, subst, ◌∙◌, arith}
+use Rattle.std.proofs.Common.{◌≡◌, ◌==◌, ◌&&◌, ℕ, zero, suc, ◌+◌, ◌<◌, ◌≤◌, ◌^◌, Bool, true, false, List, [], ◌∷◌, ◌++◌, length, map, Option, Some, None, refl, ap, sym, subst, ◌∙◌, arith}
 use Rattle.std.specs.Prelude.{filter, if◌then◌else◌}
 use Rattle.std.specs.List.{AllByRecursion, last_or, list_any, slice_get}
 use Rattle.std.specs.Option.{option_map}
@@ -21,7 +21,7 @@ use Rattle.gitconf_state.specs.Edits.{change_numbered, numbered, renamed}
 use Rattle.gitconf_state.specs.State.{HasItems, HasSectionItems, SectionState, State}
 use Rattle.gitconf_state.proofs.EditItems.{new_section_is}
 use Rattle.gitconf_state.proofs.EditValues.{made_name, made_subsection}
-use Rattle.gitconf_write.specs.Bodies.{items_of}
+use Rattle.gitconf_parse.specs.Items.{items_of}
 use Rattle.gitconf_body.proofs.Buffers.{extended_fit, extended_items}
 use Rattle.gitconf_store.specs.declared.section.Section.{Section}
 use Rattle.gitconf_store.specs.Renamings.{marked, marked_places, with_headers, with_renamed, AreMarks}
@@ -257,46 +257,6 @@ pub target_so : (b copies name : List ℕ) (s : Option (List ℕ)) (keeps : Meta
     → table.is_named name s e && keeps e.section.meta.value ≡ is_target name s keeps (section_state b e)
 target_so b copies name s keeps e fits = ap (λ t. t && keeps e.section.meta.value) (named_so b copies name s e fits)
 
--- One mark more.
-pub places_more : (first : ℕ) (marks : List Bool) (m : Bool) → marked_places first (marks ++ m ∷ []) ≡ marked_places first marks ++ marked_places (first + length marks) (m ∷ [])
-places_more first [] m = λ i. marked_places ((let same : first ≡ first + 0 = omega arith in same) i) (m ∷ [])
-places_more first (true ∷ marks) m =
-    ap (λ ps. first ∷ ps) (places_more (first + 1) marks m ∙ (λ i. marked_places (first + 1) marks ++ marked_places ((let same : first + 1 + length marks ≡ first + suc (length marks) = omega arith in same) i) (m ∷ [])))
-places_more first (false ∷ marks) m =
-    places_more (first + 1) marks m ∙ (λ i. marked_places (first + 1) marks ++ marked_places ((let same : first + 1 + length marks ≡ first + suc (length marks) = omega arith in same) i) (m ∷ []))
-
-pub next_place : (marks : List Bool) (at : ℕ) (places more : List ℕ) → length marks ≡ at → places ≡ marked_places 0 marks → more ≡ places ++ at ∷ [] → more ≡ marked_places 0 (marks ++ true ∷ [])
-next_place marks at places more count is put = put ∙ (λ i. is i ++ ((let same : at ≡ 0 + length marks = omega (arith, count) in same) i) ∷ []) ∙ sym (places_more 0 marks true)
-
-pub no_place : (marks : List Bool) (places : List ℕ) → places ≡ marked_places 0 marks → places ≡ marked_places 0 (marks ++ false ∷ [])
-no_place marks places is = is ∙ sym (Rattle.std.proofs.Common.append-nil (marked_places 0 marks)) ∙ sym (places_more 0 marks false)
-
-pub next_mark : {A : Type 0} (test : A → Bool) (marks : List Bool) (m : Bool) (at : ℕ) (xs : List A) → length marks ≡ at → at < length xs → (m ≡ true → option_map test (slice_get xs at) ≡ Some true)
-    → AreMarks test marks xs → AreMarks test (marks ++ m ∷ []) xs
-next_mark test [] m at [] count within passes are = absurd (omega (arith, within))
-next_mark test [] m zero (x ∷ xs) count within passes are = (λ is. (let h = passes is in cc), tt)
-next_mark test [] m (suc at) (x ∷ xs) count within passes are = absurd (omega (arith, count))
-next_mark test (n ∷ marks) m at [] count within passes are = elim are [ ]
-next_mark test (n ∷ marks) m zero (x ∷ xs) count within passes are = absurd (omega (arith, count))
-next_mark test (n ∷ marks) m (suc at) (x ∷ xs) count within passes are = (are.0, next_mark test marks m at xs (omega (arith, count)) (omega (arith, within)) passes are.1)
-
-pub next_test : {A : Type 0} (test : A → Bool) (m : Bool) (at : ℕ) (xs : List A) → option_map test (slice_get xs at) ≡ Some m → map test (take at xs) ++ m ∷ [] ≡ map test (take (at + 1) xs)
-next_test test m zero [] is = absurd (cc)
-next_test test m (suc at) [] is = absurd (cc)
-next_test test m zero (x ∷ xs) is = let same : m ≡ test x = cc in ap (λ b. b ∷ []) same
-next_test test m (suc at) (x ∷ xs) is = let same : suc at + 1 ≡ suc (at + 1) = omega arith in rw same (ap (λ bs. test x ∷ bs) (next_test test m at xs is))
-
-pub all_tested : {A : Type 0} (test : A → Bool) (at : ℕ) (xs : List A) → at ≡ length xs → map test (take at xs) ≡ map test xs
-all_tested test zero [] is = refl
-all_tested test (suc at) [] is = absurd (omega (arith, is))
-all_tested test zero (x ∷ xs) is = absurd (omega (arith, is))
-all_tested test (suc at) (x ∷ xs) is = ap (λ bs. test x ∷ bs) (all_tested test at xs (omega (arith, is)))
-
-pub one_passes : {A : Type 0} (test : A → Bool) (at : ℕ) (xs : List A) → option_map test (slice_get xs at) ≡ Some true → list_any test xs ≡ true
-one_passes test at [] is = absurd (cc)
-one_passes test zero (x ∷ xs) is = let passes : test x ≡ true = cc in Rattle.std.proofs.lemmas.Bool.or_left (test x) (list_any test xs) passes
-one_passes test (suc at) (x ∷ xs) is = Rattle.std.proofs.lemmas.Bool.or_right (test x) (list_any test xs) (one_passes test at xs is)
-
 -- a step of the loop that puts the header
 pub header_step : (h : Header) (places rest : List ℕ) (at : ℕ) (all after : Sections Section) → places ≡ at ∷ rest → after ≡ table.edited_at (λ s. record s { header = h }) at all
     → with_headers h rest after ≡ with_headers h places all
@@ -306,11 +266,6 @@ pub edited_length : (f : Section → Section) (at : ℕ) (es : List (SectionEntr
 edited_length f at [] = refl
 edited_length f zero (e ∷ es) = refl
 edited_length f (suc at) (e ∷ es) = ap suc (edited_length f at es)
-
-pub count_more : (marks : List Bool) (m : Bool) (at : ℕ) → length marks ≡ at → length (marks ++ m ∷ []) ≡ at + 1
-count_more [] m at count = ap (λ n. n + 1) count
-count_more (n ∷ marks) m zero count = absurd (omega (arith, count))
-count_more (n ∷ marks) m (suc at) count = let l = count_more marks m at (omega (arith, count)) in omega (arith, l)
 
 -- the places of marks stand in the table, also while it is renamed
 pub places_there : (b : List ℕ) (front : List Item) (meta : Meta) (sections : Sections Section) (state : State) (marks : List Bool) (places : List ℕ) → state_of b front meta sections ≡ state → places ≡ marked_places 0 marks

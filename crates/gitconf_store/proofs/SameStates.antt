@@ -8,7 +8,7 @@ use Rattle.gitconf_text.specs.Bytes.{fold}
 use Rattle.gitconf_text.specs.Document.{DocumentEntry}
 use Rattle.gitconf_text.specs.Header.{name_of, subsection_of}
 use Rattle.gitconf_text.specs.Names.{is_same_name}
-use Rattle.gitconf_parse.proofs.ValueAgain.{both_true}
+use Rattle.gitconf_text.proofs.Tests.{both_true}
 use Rattle.gitconf_state.specs.Equality.{AreEqual, Compared, compared}
 use Rattle.gitconf_state.specs.Lookup.{meaning}
 use Rattle.gitconf_state.specs.State.{SectionState, State, entries_of, section_document}

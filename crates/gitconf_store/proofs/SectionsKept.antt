@@ -18,7 +18,6 @@ use Rattle.gitconf_store.specs.declared.lookup.existing.Error.TheVariants.{Secti
 use Rattle.gitconf_store.specs.Store.{section_under, section_state, state_of, SectionFits, AllSectionsFit}
 use Rattle.gitconf_store.specs.Misses.{missing}
 use Rattle.gitconf_store.specs.Walks.{passing}
-use Rattle.gitconf_store.proofs.Entries.{last_yes, last_no}
 
 -- a section of the table has a name where its header does
 pub name_so : (buffer copies name : List ℕ) (e : SectionEntry Section) → SectionFits buffer copies e
@@ -100,6 +99,24 @@ subsection_missing name subsection sections has none = rw (has, none) refl
 pub section_missing : (name : List ℕ) (subsection : Option (List ℕ)) (sections : List state.Listed) → list_any (state.has_name name) sections ≡ false
     → SectionMissing ≡ missing (state.miss_of name subsection sections)
 section_missing name subsection sections none = rw none refl
+
+-- the last that passes, where the last of all does and where it doesn't
+last_yes : {A : Type 0} (test : A → Bool) (o : Option A) (xs : List A) (x : A) → test x ≡ true → last_or o (filter test (xs ++ x ∷ [])) ≡ Some x
+last_yes {A} test o [] x yes' = rw yes' refl
+last_yes {A} test o (y ∷ xs) x yes' = go (test y) refl (λ p. last_yes test p xs x yes')
+  where
+    go : (b : Bool) → test y ≡ b → ((p : Option A) → last_or p (filter test (xs ++ x ∷ [])) ≡ Some x) → last_or o (filter test (y ∷ (xs ++ x ∷ []))) ≡ Some x
+    go true is later = rw is (later (Some y))
+    go false is later = rw is (later o)
+
+last_no : {A : Type 0} (test : A → Bool) (o : Option A) (xs : List A) (x : A) → test x ≡ false → last_or o (filter test (xs ++ x ∷ [])) ≡ last_or o (filter test xs)
+last_no {A} test o [] x no' = rw no' refl
+last_no {A} test o (y ∷ xs) x no' = go (test y) refl (λ p. last_no test p xs x no')
+  where
+    go : (b : Bool) → test y ≡ b → ((p : Option A) → last_or p (filter test (xs ++ x ∷ [])) ≡ last_or p (filter test xs))
+        → last_or o (filter test (y ∷ (xs ++ x ∷ []))) ≡ last_or o (filter test (y ∷ xs))
+    go true is later = rw is (later (Some y))
+    go false is later = rw is (later o)
 
 -- the last section passes
 pub last_kept : (keeps : Meta → Bool) (all before : List SectionState) (s : SectionState) → all ≡ before ++ s ∷ [] → keeps s.meta ≡ true → last_or None (passing keeps all) ≡ Some s

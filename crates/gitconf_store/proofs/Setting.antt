@@ -18,7 +18,7 @@ use Rattle.gitconf_state.specs.Edit.{section_with, set_value, with_used}
 use Rattle.gitconf_state.specs.LineEnds.{file_line_end}
 use Rattle.gitconf_state.specs.State.{SectionState, State, HasItems, HasSectionItems}
 use Rattle.gitconf_state.proofs.EditItems.{section_with_is, file_line_end_is}
-use Rattle.gitconf_write.specs.Bodies.{items_of}
+use Rattle.gitconf_parse.specs.Items.{items_of}
 use Rattle.gitconf_body.proofs.Buffers.{extended_fit, extended_items}
 use Rattle.gitconf_store.specs.declared.section.Section.{Section}
 use Rattle.gitconf_store.specs.Edits.{update_at, set_at}

@@ -14,7 +14,7 @@ use Rattle.gitconf_text.proofs.ValuesEscaped.{plain-escaped}
 use Rattle.gitconf_base.specs.Key.{Key}
 use Rattle.gitconf_base.specs.Metadata.{Meta}
 use Rattle.gitconf_parse.specs.declared.items.Item.{Item}
-use Rattle.gitconf_parse.specs.Items.{item_of}
+use Rattle.gitconf_parse.specs.Items.{item_of, items_of}
 use Rattle.gitconf_state.specs.Edit.{is_entry_of, spacing_of}
 use Rattle.gitconf_state.specs.Editors.{Editor, entry_made, written_at}
 use Rattle.gitconf_state.specs.Edits.{WriteAt, apply, items_of_numbered, numbered, with_sections}
@@ -23,7 +23,6 @@ use Rattle.gitconf_state.specs.Lookup.{KeyMissing, Listed, Miss, has_name, is_na
 use Rattle.gitconf_state.specs.State.{HasItems, HasSectionItems, SectionState, State, is_item}
 use Rattle.gitconf_state.proofs.EditItems.{spacing_fits}
 use Rattle.gitconf_state.proofs.EditsKeep.{apply_items}
-use Rattle.gitconf_write.specs.Bodies.{items_of}
 use Rattle.gitconf_body.specs.Places.{IsLastAt}
 use Rattle.gitconf_body.proofs.Entries.{last_shown}
 use Rattle.gitconf_body.proofs.Places.{any_shown}

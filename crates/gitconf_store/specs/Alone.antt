@@ -13,7 +13,7 @@ use Rattle.gitconf_parse.specs.ShownEvents.{IsShown}
 use Rattle.gitconf_state.specs.Edit.{header_bytes, made_header}
 use Rattle.gitconf_state.specs.Edits.{Detached}
 use Rattle.gitconf_state.specs.State.{SectionState, is_header, is_item}
-use Rattle.gitconf_write.specs.Bodies.{items_of}
+use Rattle.gitconf_parse.specs.Items.{items_of}
 use Rattle.gitconf_store.specs.declared.section.Section.{Section}
 use Rattle.gitconf_store.specs.ValueErrors.{edit_numbers}
 use Rattle.gitconf_store.specs.Store.{section_under}

@@ -1,16 +1,14 @@
 -- What an iterator over the events of items has left.
 use Rattle.std.specs.Prelude.{◌≡◌, ℕ, List, [], ◌∷◌, ◌++◌, map, flat_map}
-use Rattle.gitconf_text.specs.Token.{Token, NewlineToken, ValueDoneToken, WhitespaceToken, filled, piece_tokens, assigned_tokens}
+use Rattle.gitconf_text.specs.Token.{Token, NewlineToken, ValueDoneToken, WhitespaceToken, filled, piece_tokens, value_tokens, assigned_tokens}
 use Rattle.gitconf_parse.specs.declared.event.Span.{Span}
 use Rattle.gitconf_parse.specs.declared.event_ref.EventRef.{EventRef}
-use Rattle.gitconf_parse.specs.declared.items.Piece.{Piece}
-use Rattle.gitconf_parse.specs.declared.items.Assigned.{Assigned}
-use Rattle.gitconf_parse.specs.declared.items.Entry.{Entry}
+use Rattle.gitconf_parse.specs.declared.entry.Piece.{Piece}
+use Rattle.gitconf_parse.specs.declared.entry.EntryParts.{EntryParts as Entry}
 use Rattle.gitconf_parse.specs.Events.{bytes_of}
 use Rattle.gitconf_parse.specs.EventRef.{Shown, shown}
-use Rattle.gitconf_parse.specs.Items.{piece_of, assigned_of, tokens_of_value}
+use Rattle.gitconf_parse.specs.Items.{piece_of, assigned_of, items_of, tokens_in}
 use Rattle.gitconf_parse.specs.ShownEvents.{shown_token}
-use Rattle.gitconf_write.specs.Bodies.{items_of, tokens_in}
 use Rattle.gitconf_store.specs.declared.events.Place.{Place}
 use Rattle.gitconf_store.specs.declared.events.Place.TheVariants as kinds
 use Rattle.gitconf_store.specs.declared.events.ItemEvents.{ItemEvents}
@@ -23,17 +21,21 @@ pieces_left buffer pieces last = flat_map piece_tokens (map (piece_of buffer) pi
 abbrev pub named_left : (buffer : List ℕ) → Entry → List Token
 named_left buffer e = filled WhitespaceToken (bytes_of buffer e.blanks) ++ assigned_tokens (assigned_of buffer e.assigned)
 
+-- the tokens of a value, in one piece or in several
+abbrev pub value_left : (buffer : List ℕ) → List Piece → (last : Span) → List Token
+value_left buffer pieces last = value_tokens (map (piece_of buffer) pieces) (bytes_of buffer last)
+
 -- the tokens behind the separator
-abbrev pub separated_left : (buffer : List ℕ) → Assigned → List Token
-separated_left buffer a = filled WhitespaceToken (bytes_of buffer a.blanks) ++ tokens_of_value buffer a.value
+abbrev pub separated_left : (buffer : List ℕ) → (blanks : Span) → List Piece → (last : Span) → List Token
+separated_left buffer blanks pieces last = filled WhitespaceToken (bytes_of buffer blanks) ++ value_left buffer pieces last
 
 -- the tokens that are left of the entry that a place stands in
 abbrev pub tokens_left : (buffer : List ℕ) → Place → List Token
 tokens_left buffer kinds.Between = []
 tokens_left buffer (kinds.BehindName e) = named_left buffer e.now
 tokens_left buffer (kinds.BehindNameBlanks e) = assigned_tokens (assigned_of buffer e.now.assigned)
-tokens_left buffer (kinds.BehindSeparator a) = separated_left buffer a.now
-tokens_left buffer (kinds.BehindSeparatorBlanks a) = tokens_of_value buffer a.now.value
+tokens_left buffer (kinds.BehindSeparator blanks pieces last) = separated_left buffer blanks pieces.now last
+tokens_left buffer (kinds.BehindSeparatorBlanks pieces last) = value_left buffer pieces.now last
 tokens_left buffer (kinds.BehindPiece line_end pieces last) = filled NewlineToken (bytes_of buffer line_end) ++ pieces_left buffer pieces.now last
 tokens_left buffer (kinds.BehindPieceEnd pieces last) = pieces_left buffer pieces.now last
 

@@ -8,7 +8,7 @@ use Rattle.gitconf_parse.specs.ItemsFit.{AreItemsWithin}
 use Rattle.gitconf_table.specs.Sections.{Sections}
 use Rattle.gitconf_state.specs.Edits.{numbered_from}
 use Rattle.gitconf_state.specs.State.{SectionState}
-use Rattle.gitconf_write.specs.Bodies.{items_of}
+use Rattle.gitconf_parse.specs.Items.{items_of}
 use Rattle.gitconf_store.specs.declared.section.Section.{Section}
 use Rattle.gitconf_store.specs.Store.{section_state, AllSectionsFit}
 

@@ -17,7 +17,6 @@ pub mod ItemEvents
 pub mod Finding
 pub mod Misses
 pub mod Lookups
-pub mod Targets
 pub mod Edits
 pub mod SetErrors
 pub mod Several

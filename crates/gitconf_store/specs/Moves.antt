@@ -5,7 +5,7 @@ use Rattle.gitconf_table.specs.Sections.{SectionEntry, Sections}
 use Rattle.gitconf_parse.specs.Events.{HeaderFits}
 use Rattle.gitconf_parse.specs.ItemsFit.{AreItemsWithin}
 use Rattle.gitconf_parse.specs.ShownEvents.{CopyFits}
-use Rattle.gitconf_body.specs.Moves.{AreItemsMoved, IsHeaderMoved}
+use Rattle.gitconf_parse.specs.Moves.{AreItemsMoved, IsHeaderMoved}
 use Rattle.gitconf_store.specs.declared.section.Section.{Section}
 
 -- the same section, where so many bytes stand before those of its buffer, and so many before the decoded copies

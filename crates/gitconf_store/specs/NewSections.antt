@@ -1,7 +1,5 @@
 -- Whether a section may be made behind those of a state.
-use Rattle.std.specs.Prelude.{◌≡◌, ◌⊎◌, ◌↔◌, ◌==◌, ◌+◌, ◌≤◌, ◌^◌, ℕ, true, false, List, length, Option, Result, IfErr, IsErrAnd, IsErrOf}
-use Rattle.std.specs.List.{list_any}
-use Rattle.gitconf_text.specs.HeaderErrors.{header_number}
+use Rattle.std.specs.Prelude.{◌≡◌, ◌⊎◌, ◌↔◌, ◌+◌, ◌≤◌, ◌^◌, ℕ, true, false, List, length, Option, Result, IfErr, IsErrOf}
 use Rattle.gitconf_text.specs.Names.{is_made_name, is_valid_or_none}
 use Rattle.gitconf_text.specs.declared.parse.section.header.Error.{Error as HeaderError}
 use Rattle.gitconf_text.specs.declared.parse.section.header.Error.TheVariants.{InvalidName, InvalidSubSection, Span}

@@ -1,6 +1,6 @@
 -- What a walk over the bytes of a raw text has left.
 use Rattle.std.specs.Prelude.{ℕ, List, ◌++◌, flat_map}
-use Rattle.gitconf_parse.specs.declared.items.Piece.{Piece}
+use Rattle.gitconf_parse.specs.declared.entry.Piece.{Piece}
 use Rattle.gitconf_parse.specs.Events.{bytes_of}
 use Rattle.gitconf_store.specs.declared.equality.RawBytes.{RawBytes}
 

@@ -13,7 +13,7 @@ use Rattle.gitconf_parse.specs.Events.{header_of}
 use Rattle.gitconf_parse.specs.ItemsFit.{AreItemsWithin}
 use Rattle.gitconf_parse.specs.ShownEvents.{IsShown}
 use Rattle.gitconf_state.specs.State.{SectionState, State, HasItems}
-use Rattle.gitconf_write.specs.Bodies.{items_of}
+use Rattle.gitconf_parse.specs.Items.{items_of}
 use Rattle.gitconf_store.specs.declared.section.Section.{Section}
 
 -- a section under a number

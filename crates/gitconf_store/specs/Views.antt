@@ -6,7 +6,7 @@ use Rattle.gitconf_text.specs.Part as parts
 use Rattle.gitconf_parse.specs.Events.{header_of}
 use Rattle.gitconf_table.specs.SectionIters as table
 use Rattle.gitconf_state.specs.State.{SectionState, entries_of}
-use Rattle.gitconf_write.specs.Bodies.{items_of}
+use Rattle.gitconf_parse.specs.Items.{items_of}
 use Rattle.gitconf_store.specs.declared.section.Section.{Section}
 use Rattle.gitconf_store.specs.declared.section.SectionRef.{SectionRef}
 use Rattle.gitconf_store.specs.declared.section.Sections.{Sections}

@@ -6,7 +6,7 @@ use Rattle.gitconf_parse.specs.ShownEvents.{shown_token}
 use Rattle.gitconf_table.specs.SectionIters as table
 use Rattle.gitconf_state.specs.Lookup.{has_name, listing}
 use Rattle.gitconf_state.specs.State.{SectionState}
-use Rattle.gitconf_write.specs.Bodies.{tokens_in}
+use Rattle.gitconf_parse.specs.Items.{tokens_in}
 use Rattle.gitconf_store.specs.declared.events.ItemEvents.{ItemEvents}
 use Rattle.gitconf_store.specs.declared.section.Section.{Section}
 use Rattle.gitconf_store.specs.declared.section.SectionRef.{SectionRef}

@@ -10,7 +10,7 @@ ghost use Rattle.gitconf_parse.specs.declared.event.Event.TheVariants as kinds;
 ghost use Rattle.gitconf_parse.specs.ItemsFit.{AreItemsWithin};
 ghost use Rattle.gitconf_parse.specs.ShownEvents.{IsShown};
 ghost use Rattle.gitconf_state.specs.State.{is_header, is_item};
-ghost use Rattle.gitconf_write.specs.Bodies.{items_of};
+ghost use Rattle.gitconf_parse.specs.Items.{items_of};
 ghost use Rattle.gitconf_body.specs.Copies.{IsCopy, IsLonger};
 ghost use Rattle.gitconf_store.specs.Store.{section_under};
 ghost use Rattle.gitconf_store.specs.Alone.{alone, StandsAlone};

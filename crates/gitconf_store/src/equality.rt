@@ -8,10 +8,9 @@ ghost use Rattle.gitconf_text.specs.Header.{name_of, subsection_of};
 ghost use Rattle.gitconf_text.specs.Names.{is_same_name};
 ghost use Rattle.gitconf_text.specs.Value as grammar;
 ghost use Rattle.gitconf_text.specs.Value.{plain, raw_of};
-ghost use Rattle.gitconf_parse.specs.Items.{entry_of, value_of};
+ghost use Rattle.gitconf_parse.specs.Items.{entry_of, value_of, items_of};
 ghost use Rattle.gitconf_state.specs.Lookup as state;
 ghost use Rattle.gitconf_state.specs.State.{entries_of};
-ghost use Rattle.gitconf_write.specs.Bodies.{items_of};
 ghost use Rattle.gitconf_store.specs.RawBytes.{raw_left};
 ghost use Rattle.gitconf_store.specs.Same as spec;
 ghost use Rattle.gitconf_store.specs.Views.{sections_left, shown, shown_header};
@@ -19,7 +18,8 @@ ghost use Rattle.gitconf_store.specs.Views.{sections_left, shown, shown_header};
 use crate::section::{SectionRef, Sections};
 use crate::store::Store;
 use crate::views::{HeaderRef, next_entry};
-use gitconf_parse::items::{Entry, Item, Piece, Value};
+use gitconf_parse::entry::{AssignedRef, Entry, Piece, Value};
+use gitconf_parse::items::Item;
 use gitconf_text::parse::section::bytes::is_same_name;
 
 /// The bytes of a raw text that are left: those of the piece that a walk stands in, of the pieces behind it, and the last ones.
@@ -39,7 +39,7 @@ fn value_bytes<'a>(buffer: &'a [u8], value: &'a Value) -> RawBytes<'a>
     RawBytes {
         buffer,
         text: &[],
-        pieces: &value.pieces,
+        pieces: value.pieces.as_slice(),
         last,
     }
 }
@@ -48,14 +48,20 @@ fn value_bytes<'a>(buffer: &'a [u8], value: &'a Value) -> RawBytes<'a>
 fn raw_bytes<'a>(buffer: &'a [u8], entry: &'a Entry) -> RawBytes<'a>
     ensures { plain (raw_left result) ≡ state.meaning (document_entry (entry_of buffer.now entry.now)) }
 {
-    match &entry.assigned {
-        Some(assigned) => value_bytes(buffer, &assigned.value),
-        None => RawBytes {
+    match entry.assigned() {
+        AssignedRef::Nothing => RawBytes {
             buffer,
             text: &[],
             pieces: &[],
             last: &[],
         },
+        AssignedRef::Plain { value, .. } => RawBytes {
+            buffer,
+            text: &[],
+            pieces: &[],
+            last: value.bytes_in(buffer),
+        },
+        AssignedRef::Continued(continued) => value_bytes(buffer, &continued.value),
     }
 }
 
@@ -139,8 +145,8 @@ fn same_entry(buffer: &[u8], entry: &Entry, other_buffer: &[u8], other: &Entry) 
     ensures { result ≡ spec.same_entry (document_entry (entry_of buffer.now entry.now)) (document_entry (entry_of other_buffer.now other.now)) }
 {
     is_same_name(
-        entry.name.bytes_in(buffer),
-        other.name.bytes_in(other_buffer),
+        entry.name().bytes_in(buffer),
+        other.name().bytes_in(other_buffer),
     ) && same_meaning(raw_bytes(buffer, entry), raw_bytes(other_buffer, other))
 }
 

@@ -3,14 +3,14 @@ ghost use Rattle.std.specs.Prelude.{◌≡◌, [], ◌++◌, map, IfSome};
 ghost use Rattle.std.specs.Option.{IfNone};
 ghost use Rattle.gitconf_text.specs.Token.{NewlineToken, item_tokens, assigned_tokens, filled};
 ghost use Rattle.gitconf_parse.specs.Events.{bytes_of};
-ghost use Rattle.gitconf_parse.specs.Items.{item_of, assigned_of, tokens_of_value};
+ghost use Rattle.gitconf_parse.specs.Items.{item_of, assigned_of, items_of, tokens_in};
 ghost use Rattle.gitconf_parse.specs.ShownEvents.{shown_token};
-ghost use Rattle.gitconf_write.specs.Bodies.{items_of, tokens_in};
-ghost use Rattle.gitconf_store.specs.ItemEvents.{IsFirst, events_left, named_left, separated_left, pieces_left, tokens_left};
+ghost use Rattle.gitconf_store.specs.ItemEvents.{IsFirst, events_left, named_left, separated_left, pieces_left, tokens_left, value_left};
 
+use gitconf_parse::entry::{AssignedRef, Entry, Piece};
 use gitconf_parse::event::Span;
 use gitconf_parse::event_ref::EventRef;
-use gitconf_parse::items::{Assigned, Entry, Item, Piece, Value};
+use gitconf_parse::items::Item;
 
 /// Where an iterator stands: between items, or behind some events of an entry, the rest of which it still has.
 #[derive(Clone, Copy, Debug)]
@@ -18,8 +18,16 @@ enum Place<'a> {
     Between,
     BehindName(&'a Entry),
     BehindNameBlanks(&'a Entry),
-    BehindSeparator(&'a Assigned),
-    BehindSeparatorBlanks(&'a Assigned),
+    /// Behind `=`: the blanks before the value, and the value's pieces and its last one.
+    BehindSeparator {
+        blanks: Span,
+        pieces: &'a [Piece],
+        last: Span,
+    },
+    BehindSeparatorBlanks {
+        pieces: &'a [Piece],
+        last: Span,
+    },
     /// Behind a piece's text: its line end, and the others of the value.
     BehindPiece {
         line_end: Span,
@@ -84,26 +92,31 @@ fn line_end_event<'a>(
 }
 
 /// The first event of a value.
-fn value_event<'a>(buffer: &'a [u8], value: &'a Value) -> (EventRef<'a>, Place<'a>)
-    ensures { IsFirst buffer.now result (tokens_of_value buffer.now value.now) }
+fn value_event<'a>(buffer: &'a [u8], pieces: &'a [Piece], last: Span) -> (EventRef<'a>, Place<'a>)
+    ensures { IsFirst buffer.now result (value_left buffer.now pieces.now last) }
 {
-    if value.pieces.is_empty() {
-        return (EventRef::Value(value.last.bytes_in(buffer)), Place::Between);
+    if pieces.is_empty() {
+        return (EventRef::Value(last.bytes_in(buffer)), Place::Between);
     }
-    piece_event(buffer, &value.pieces, value.last)
+    piece_event(buffer, pieces, last)
 }
 
 /// The first event behind `=`.
-fn separated_event<'a>(buffer: &'a [u8], assigned: &'a Assigned) -> (EventRef<'a>, Place<'a>)
-    ensures { IsFirst buffer.now result (separated_left buffer.now assigned.now) }
+fn separated_event<'a>(
+    buffer: &'a [u8],
+    blanks: Span,
+    pieces: &'a [Piece],
+    last: Span,
+) -> (EventRef<'a>, Place<'a>)
+    ensures { IsFirst buffer.now result (separated_left buffer.now blanks pieces.now last) }
 {
-    let blanks = assigned.blanks.bytes_in(buffer);
-    if blanks.is_empty() {
-        return value_event(buffer, &assigned.value);
+    let bytes = blanks.bytes_in(buffer);
+    if bytes.is_empty() {
+        return value_event(buffer, pieces, last);
     }
     (
-        EventRef::Whitespace(blanks),
-        Place::BehindSeparatorBlanks(assigned),
+        EventRef::Whitespace(bytes),
+        Place::BehindSeparatorBlanks { pieces, last },
     )
 }
 
@@ -111,12 +124,24 @@ fn separated_event<'a>(buffer: &'a [u8], assigned: &'a Assigned) -> (EventRef<'a
 fn assigned_event<'a>(buffer: &'a [u8], entry: &'a Entry) -> (EventRef<'a>, Place<'a>)
     ensures { IsFirst buffer.now result (assigned_tokens (assigned_of buffer.now entry.now.assigned)) }
 {
-    match &entry.assigned {
-        Some(assigned) => (
+    match entry.assigned() {
+        AssignedRef::Nothing => (EventRef::Value(b""), Place::Between),
+        AssignedRef::Plain { blanks, value } => (
             EventRef::KeyValueSeparator,
-            Place::BehindSeparator(assigned),
+            Place::BehindSeparator {
+                blanks,
+                pieces: &[],
+                last: value,
+            },
         ),
-        None => (EventRef::Value(b""), Place::Between),
+        AssignedRef::Continued(continued) => (
+            EventRef::KeyValueSeparator,
+            Place::BehindSeparator {
+                blanks: continued.blanks,
+                pieces: continued.value.pieces.as_slice(),
+                last: continued.value.last,
+            },
+        ),
     }
 }
 
@@ -124,7 +149,7 @@ fn assigned_event<'a>(buffer: &'a [u8], entry: &'a Entry) -> (EventRef<'a>, Plac
 fn named_event<'a>(buffer: &'a [u8], entry: &'a Entry) -> (EventRef<'a>, Place<'a>)
     ensures { IsFirst buffer.now result (named_left buffer.now entry.now) }
 {
-    let blanks = entry.blanks.bytes_in(buffer);
+    let blanks = entry.blanks().bytes_in(buffer);
     if blanks.is_empty() {
         return assigned_event(buffer, entry);
     }
@@ -146,7 +171,7 @@ fn item_event<'a>(buffer: &'a [u8], item: &'a Item) -> (EventRef<'a>, Place<'a>)
             Place::Between,
         ),
         Item::Entry(entry) => (
-            EventRef::SectionValueName(entry.name.bytes_in(buffer)),
+            EventRef::SectionValueName(entry.name().bytes_in(buffer)),
             Place::BehindName(entry),
         ),
     }
@@ -161,8 +186,12 @@ fn entry_event<'a>(buffer: &'a [u8], place: Place<'a>) -> Option<(EventRef<'a>, 
         Place::Between => None,
         Place::BehindName(entry) => Some(named_event(buffer, entry)),
         Place::BehindNameBlanks(entry) => Some(assigned_event(buffer, entry)),
-        Place::BehindSeparator(assigned) => Some(separated_event(buffer, assigned)),
-        Place::BehindSeparatorBlanks(assigned) => Some(value_event(buffer, &assigned.value)),
+        Place::BehindSeparator {
+            blanks,
+            pieces,
+            last,
+        } => Some(separated_event(buffer, blanks, pieces, last)),
+        Place::BehindSeparatorBlanks { pieces, last } => Some(value_event(buffer, pieces, last)),
         Place::BehindPiece {
             line_end,
             pieces,
@@ -175,7 +204,7 @@ fn entry_event<'a>(buffer: &'a [u8], place: Place<'a>) -> Option<(EventRef<'a>, 
 impl<'a> ItemEvents<'a> {
     ghost use Rattle.std.specs.Prelude.{◌≡◌, map};
     ghost use Rattle.gitconf_parse.specs.ShownEvents.{shown_token};
-    ghost use Rattle.gitconf_write.specs.Bodies.{items_of, tokens_in};
+    ghost use Rattle.gitconf_parse.specs.Items.{items_of, tokens_in};
     ghost use Rattle.gitconf_store.specs.ItemEvents.{events_left};
 
     /// The events of items whose spans are offsets of the buffer.

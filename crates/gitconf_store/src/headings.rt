@@ -1,10 +1,10 @@
 //! Sections of a table that get other headers: where they stand, and their headers.
 ghost use Rattle.std.specs.Fn.{ComputesKey};
 ghost use Rattle.std.specs.List.{list_any, AllByRecursion};
-ghost use Rattle.std.specs.Option.{option_copied, option_map};
-ghost use Rattle.std.specs.Prelude.{◌≡◌, ◌&&◌, ◌<◌, true, Bool, List, Some, length, map, slice_get, IfOk, OnErr};
+ghost use Rattle.std.specs.Option.{option_copied};
+ghost use Rattle.std.specs.Prelude.{◌≡◌, ◌&&◌, ◌<◌, [], ◌∷◌, ◌++◌, true, Bool, List, length, map, IfOk, IfSome, OnErr, OnOk};
 ghost use Rattle.gitconf_base.specs.Metadata.{Meta};
-ghost use Rattle.gitconf_table.specs.Sections.{is_named};
+ghost use Rattle.gitconf_table.specs.Sections.{is_named, place_of};
 ghost use Rattle.gitconf_store.specs.Renamings.{marked_places, with_headers, AreMarks};
 
 use crate::lists::put;
@@ -12,35 +12,31 @@ use crate::lookup::passes;
 use crate::section::Section;
 use gitconf_base::meta::Metadata;
 use gitconf_parse::event::Header;
-use gitconf_table::table::SectionTable;
+use gitconf_table::table::{SectionId, SectionTable};
 use gitconf_text::NoMemory;
 use std::alloc::Global;
 
-/// Whether the section at a place has the name and subsection, and its metadata passes the filter.
-fn is_passing<F: FnMut(&Metadata) -> bool>(
+/// Puts the place of the section of a number, if one has it, behind others.
+///
+/// # Errors
+///
+/// Want of memory. The places are then as they were.
+fn put_place(
     table: &SectionTable<Section>,
-    at: usize,
-    name: &str,
-    subsection: Option<&[u8]>,
-    filter: &mut F,
-) -> bool
-    requires callable { F.IsAlwaysCallable filter.old }
-    requires within { at < length table.now.entries }
-    ensures callable { F.IsAlwaysCallable filter.new }
-    ensures named { result ≡ true → option_map (is_named name.now (option_copied subsection.entry)) (slice_get table.now.entries at) ≡ Some true }
-    ensures exact { (keeps : Meta → Bool) → ComputesKey F.FnMut keeps filter.old
-        → ComputesKey F.FnMut keeps filter.new
-        × (option_map (λ e. is_named name.now (option_copied subsection.entry) e && keeps e.section.meta.value) (slice_get table.now.entries at) ≡ Some result) }
+    id: SectionId,
+    places: &mut Vec<usize>,
+) -> Result<(), NoMemory>
+    ensures ok { OnOk result (IfSome (place_of id table.now) (λ at. places.new.items ≡ places.old.items ++ at ∷ [])) }
+    ensures err { OnErr result (places.new.items ≡ places.old.items) }
 {
-    if !table.is_named_at(at, name, subsection) {
-        return false;
+    match table.position(id) {
+        Some(at) => put(places, at),
+        None => Ok(()),
     }
-    let section = table.at(at);
-    passes(filter, &section.meta)
 }
 
 /// The places of the sections of the name and subsection whose metadata passes the filter, in file order. The filter is asked of each
-/// section of these names. One walk over all sections, which takes memory for the places alone.
+/// section of these names. They are found by the names: a walk over them alone, which takes memory for the places.
 ///
 /// # Errors
 ///
@@ -62,9 +58,12 @@ pub(crate) fn passing_places<F: FnMut(&Metadata) -> bool>(
 {
     let mut filter = filter;
     let mut places = Vec::new(alloc);
-    for at in 0..table.len() {
-        if is_passing(table, at, name, subsection, &mut filter) {
-            put(&mut places, at)?;
+    // No number was given twice, so the place of each is that of its section.
+    prove!(table.next_id() == table.next_id());
+    let mut left = table.named(name, subsection);
+    while let Some(found) = left.next() {
+        if passes(&mut filter, &found.1.meta) {
+            put_place(table, found.0, &mut places)?;
         }
     }
     Ok(places)

@@ -2,8 +2,8 @@
 ghost use Rattle.std.specs.Prelude.{◌≡◌, ◌+◌, ◌<◌, ◌≤◌, ◌↔◌, ◌++◌, [], ◌∷◌, if◌then◌else◌, length, vec_capacity, vec_len, IfErr, IsErrOf, OnErr, OnOk};
 ghost use Rattle.gitconf_text.specs.Part as parts;
 ghost use Rattle.gitconf_state.specs.Edits as edits;
-ghost use Rattle.gitconf_write.specs.Bodies.{items_of};
-ghost use Rattle.gitconf_write.specs.LineEnds.{bytes_of_line_end};
+ghost use Rattle.gitconf_parse.specs.Items.{items_of};
+ghost use Rattle.gitconf_text.specs.LineEnds.{bytes_of_line_end};
 ghost use Rattle.gitconf_store.specs.Joining.{front_then, line_end_item, AreBehind, AreSame};
 ghost use Rattle.gitconf_table.specs.Sections.{no_number};
 
@@ -11,8 +11,9 @@ use crate::section::Section;
 use gitconf_parse::event::Span;
 use gitconf_parse::items::Item;
 use gitconf_table::table::SectionTable;
+use gitconf_text::line_end::LineEnd;
 use gitconf_text::parse::span;
-use gitconf_write::line_end::{LineEnd, ends_line};
+use gitconf_write::line_end::ends_line;
 
 /// Whether items begin with the line end, or there are none. Of a comment the text behind its tag is asked.
 fn begins_with(buffer: &[u8], items: &[Item], line_end: LineEnd) -> bool

@@ -14,7 +14,7 @@ ghost use Rattle.gitconf_base.specs.declared.source.Trust.{Trust};
 ghost use Rattle.gitconf_state.specs.Edits.{Append, DeleteAt, Detached, Push, PushSection, Rename, RenameAll, SetRawValue, SetTrust, SetValue, WriteAt, apply, change_items, items_of_numbered, new_bytes, renamed, with_trust};
 ghost use Rattle.gitconf_state.specs.State.{AreNumbered, State};
 ghost use Rattle.gitconf_store.specs.Alone.{with_items};
-ghost use Rattle.gitconf_write.specs.Bodies.{items_of};
+ghost use Rattle.gitconf_parse.specs.Items.{items_of};
 ghost use Rattle.gitconf_body.specs.declared.editor.Editor.{Editor};
 ghost use Rattle.gitconf_body.specs.Editors.{line_put, set_put};
 ghost use Rattle.gitconf_body.specs.ValuesAt.{rewritten_put, written_put};

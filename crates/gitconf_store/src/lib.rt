@@ -2,7 +2,6 @@
 #![tactic(auto)]
 
 pub mod detached;
-mod edit;
 mod equality;
 pub mod events;
 mod headings;

@@ -44,6 +44,7 @@ fn add_section(
 }
 
 /// The sections in their order, under the numbers from 0 on, with a copy of each subsection that isn't what is spelled.
+/// Room for all of them is made at once, and for an eighth more, so that a section put behind them copies no table.
 pub(crate) fn load_sections(
     alloc: Global,
     buffer: &[u8],
@@ -57,6 +58,7 @@ pub(crate) fn load_sections(
     ensures next { IfOk result (λ table. table.next ≡ length sections.items) }
 {
     let mut table = SectionTable::new(alloc);
+    table.reserve(sections.len().saturating_add(sections.len() / 8))?;
     for section in sections {
         add_section(buffer, copies, &mut table, section, meta.clone()?)?;
     }

@@ -6,9 +6,8 @@ ghost use Rattle.std.specs.Prelude.{◌≡◌, Bool, None, filter};
 ghost use Rattle.gitconf_text.specs.Document.{document_entry};
 ghost use Rattle.gitconf_text.specs.Names.{is_same_name};
 ghost use Rattle.gitconf_base.specs.Metadata.{Meta};
-ghost use Rattle.gitconf_parse.specs.Items.{entry_of};
+ghost use Rattle.gitconf_parse.specs.Items.{entry_of, items_of};
 ghost use Rattle.gitconf_state.specs.State.{entries_of};
-ghost use Rattle.gitconf_write.specs.Bodies.{items_of};
 
 pub(crate) mod entries;
 pub mod existing;
@@ -18,25 +17,20 @@ pub(crate) mod texts;
 pub(crate) mod walk;
 
 use gitconf_base::meta::Metadata;
-use gitconf_parse::items::{Entry, Item};
-use gitconf_text::parse::section::bytes::is_same_name;
+use gitconf_body::entry::last_place;
+use gitconf_parse::entry::Entry;
+use gitconf_parse::items::Item;
 
 /// The last entry of a key among items, if there is one. It walks from the end up to that entry.
-#[tactic(auto, using(crate::proofs::Entries::last_entries))]
 pub(crate) fn last_entry<'a>(buffer: &[u8], items: &'a [Item], key: &[u8]) -> Option<&'a Entry>
     ensures { option_map (λ e. document_entry (entry_of buffer.now e.now)) result
         ≡ last_or None (filter (λ e. is_same_name key.now e.name) (entries_of (items_of buffer.now items.now))) }
 {
-    let mut rest = items;
-    while let Some((item, before)) = rest.split_last() {
-        if let Item::Entry(entry) = item {
-            if is_same_name(key, entry.name.bytes_in(buffer)) {
-                return Some(entry);
-            }
-        }
-        rest = before;
+    let at = last_place(buffer, items, key)?;
+    match items.get(at) {
+        Some(Item::Entry(entry)) => Some(entry),
+        _ => unreachable!(),
     }
-    None
 }
 
 /// Whether the metadata passes the filter. It is asked here alone.

@@ -10,8 +10,8 @@ ghost use Rattle.gitconf_store.specs.Moves.{AreMovable, AreSectionsMoved, IsSect
 ghost use Rattle.gitconf_store.specs.Store.{AllSectionsFit, section_state, section_under};
 
 use crate::section::Section;
-use gitconf_body::moving::{move_items, moved_header};
 use gitconf_parse::events::subsection_name;
+use gitconf_parse::moving::{move_items, moved_header};
 use gitconf_table::table::{SectionId, SectionTable};
 use gitconf_text::parse::span;
 

@@ -4,15 +4,16 @@ ghost use Rattle.std.specs.List.{list_any};
 ghost use Rattle.std.specs.Prelude.{◌≡◌, ℕ, Bool, List, true, IfOk};
 ghost use Rattle.gitconf_parse.specs.Sink.{Writes, Counts};
 ghost use Rattle.gitconf_state.specs.State.{SectionState};
-ghost use Rattle.gitconf_write.specs.Bodies.{items_of};
-ghost use Rattle.gitconf_write.specs.LineEnds.{bytes_of_line_end};
+ghost use Rattle.gitconf_parse.specs.Items.{items_of};
+ghost use Rattle.gitconf_text.specs.LineEnds.{bytes_of_line_end};
 ghost use Rattle.gitconf_store.specs.Texts.{is_front_ended, next_text, ended_behind, sections_text, IsTextOfSome};
 ghost use Rattle.gitconf_store.specs.Views.{shown, sections_left};
 
 use crate::section::{SectionRef, Sections};
 use gitconf_parse::items::Item;
 use gitconf_parse::sink::{Sink, SinkFault};
-use gitconf_write::line_end::{LineEnd, ends_line};
+use gitconf_text::line_end::LineEnd;
+use gitconf_write::line_end::ends_line;
 use gitconf_write::sections::write_line_end_unless;
 
 /// Whether the filter keeps a section. It is asked here alone.

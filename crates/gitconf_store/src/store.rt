@@ -13,11 +13,11 @@ mod trusting;
 mod values_at;
 mod views;
 
-use crate::edit::last_place;
 use crate::events::ItemEvents;
 use crate::load::load_sections;
 use crate::print::{front_is_ended, write_sections};
 use crate::section::{Section, SectionRef, Sections, shared};
+use crate::store::views::last_passing;
 use crate::{set_raw_value, tokens};
 use bstr::BString;
 use gitconf_base::meta::Metadata;
@@ -26,14 +26,15 @@ use gitconf_body::section::section_with;
 use gitconf_parse::error::Error;
 use gitconf_parse::events::{Events, keeps_meaning};
 use gitconf_parse::items::{Item, Items};
+use gitconf_parse::loading::items_of_text;
 use gitconf_parse::sink::{Sink, SinkFault};
 use gitconf_table::table::SectionTable;
 use gitconf_text::NoMemory;
+use gitconf_text::line_end::LineEnd;
 use gitconf_text::parse::section::ValueNameError;
 use gitconf_text::parse::section::bytes::is_value_name;
 use gitconf_text::parse::section::header::{Error as HeaderError, validate};
 use gitconf_text::parse::span;
-use gitconf_write::line_end::LineEnd;
 use gitconf_write::sections::{write_front, write_line_end_unless};
 use std::alloc::Global;
 use std::marker::Model;
@@ -88,8 +89,8 @@ impl Store {
     ghost use Rattle.gitconf_state.specs.Lookup.{is_named, listing};
     ghost use Rattle.gitconf_state.specs.Printing.{printed, printed_kept};
     ghost use Rattle.gitconf_state.specs.State.{HasItems, IsState, State, document_of, document_of_kept, entries_of, SectionState};
-    ghost use Rattle.gitconf_write.specs.Bodies.{tokens_in};
-    ghost use Rattle.gitconf_write.specs.LineEnds.{bytes_of_line_end};
+    ghost use Rattle.gitconf_parse.specs.Items.{tokens_in};
+    ghost use Rattle.gitconf_text.specs.LineEnds.{bytes_of_line_end};
     ghost use Rattle.gitconf_store.specs.Counts.{are_void, section_entries};
     ghost use Rattle.gitconf_store.specs.Edits as edits;
     ghost use Rattle.gitconf_store.specs.Edits.{EditGrows, IsRefusal, IsSet, IsSetSomewhere, UsedGrows, set_numbers};
@@ -162,7 +163,7 @@ impl Store {
     }
 
     /// The state of a text, all of it: its front, and its sections under the numbers from 0 on, each from `meta`. One
-    /// pass, which copies the text once.
+    /// pass, section by section, so that never more than one section's events stand; and the text is copied once.
     ///
     /// # Errors
     ///
@@ -177,8 +178,8 @@ impl Store {
         ensures byte_for_byte { IfOk result (λ s. (parts : List Part) → IsText input.now parts → IsByteForByte parts → printed s ≡ unmarked input.now) }
         ensures refused { IfErr result (IsRefused input.now) }
     {
-        let events = Events::from_bytes(alloc, input, None)?;
-        match Store::from_events(alloc, events, meta) {
+        let (buffer, items) = items_of_text(alloc, input)?;
+        match Store::from_items(alloc, buffer, items, meta) {
             Ok(store) => Ok(store),
             Err(_) => Err(Error::memory()),
         }
@@ -378,7 +379,8 @@ impl Store {
         }
     }
 
-    /// The place of the last section of the name and subsection whose metadata passes, if there is one.
+    /// The place of the last section of the name and subsection whose metadata passes, if there is one. Takes a walk over the
+    /// sections of these names, from the last one up to that one, and no memory.
     fn last_target<F: FnMut(&Metadata) -> bool>(
         &self,
         section_name: &str,
@@ -391,7 +393,13 @@ impl Store {
         ensures exact { (keeps : Meta → Bool) → ComputesKey F.FnMut keeps filter
             → IsLastPlace (is_target section_name.now (option_copied subsection_name.entry) keeps) self.now.sections result }
     {
-        last_place(&self.sections, section_name, subsection_name, filter)
+        let sections = self.sections_named(section_name, subsection_name);
+        let Some(section) = last_passing(sections, filter) else {
+            return None;
+        };
+        // No number was given twice, so its place is that of the section.
+        prove!(section.id < self.sections.next_id());
+        self.sections.position(section.id)
     }
 
     /// Sets the value in the section at a place.

@@ -4,15 +4,16 @@ ghost use Rattle.std.specs.List.{count_by};
 ghost use Rattle.gitconf_text.specs.Token.{item_tokens};
 ghost use Rattle.gitconf_state.specs.State.{entries_of};
 ghost use Rattle.gitconf_state.specs.LineEnds.{line_end_of};
-ghost use Rattle.gitconf_write.specs.Bodies.{items_of};
-ghost use Rattle.gitconf_write.specs.LineEnds.{bytes_of_line_end};
+ghost use Rattle.gitconf_parse.specs.Items.{items_of};
+ghost use Rattle.gitconf_text.specs.LineEnds.{bytes_of_line_end};
 ghost use Rattle.gitconf_store.specs.Views.{sections_left};
 ghost use Rattle.gitconf_body.specs.Spacings.{is_stored_entry};
 ghost use Rattle.gitconf_store.specs.Counts.{are_void, section_entries};
 
 use crate::section::Sections;
 use gitconf_parse::items::Item;
-use gitconf_write::line_end::{LineEnd, first_line_end};
+use gitconf_text::line_end::LineEnd;
+use gitconf_write::line_end::first_line_end;
 
 /// The line end of the first newline of a front and of the sections' bodies; LF where there is none.
 #[tactic(auto, using(crate::proofs::Counting::among))]

@@ -1,12 +1,15 @@
 //! What the values of entries mean.
-ghost use Rattle.std.specs.Prelude.{◌≡◌, IfOk};
+ghost use Rattle.std.specs.Prelude.{◌≡◌, ◌≢◌, ℕ, List, IfOk, MatchResult, OnErr, None, Some};
+ghost use Rattle.std.specs.Option.{option_map};
 ghost use Rattle.bstr.specs.Owned.{bstring_bytes};
+ghost use Rattle.gitconf_text.specs.Document.{document_entry};
 ghost use Rattle.gitconf_text.specs.Value.{raw_of, plain};
-ghost use Rattle.gitconf_parse.specs.Items.{value_of};
+ghost use Rattle.gitconf_parse.specs.Items.{entry_of, value_of};
+ghost use Rattle.gitconf_state.specs.Lookup as state;
 
 use bstr::BString;
 use gitconf_body::values::raw_text;
-use gitconf_parse::items::Value;
+use gitconf_parse::entry::{AssignedRef, Entry, Value};
 use gitconf_text::NoMemory;
 use gitconf_text::value::normalize;
 use std::alloc::Global;
@@ -19,13 +22,42 @@ fn decoded(alloc: Global, raw: &[u8]) -> Result<BString, NoMemory>
     Ok(BString::new(meaning.into_owned(alloc)?))
 }
 
-/// What a value means. Memory is taken for the answer, and for the raw text where it goes on over a line end.
-pub(crate) fn meaning(alloc: Global, buffer: &[u8], value: &Value) -> Result<BString, NoMemory>
+/// What a value means that goes on. Memory is taken for the answer, and for the raw text.
+fn joined(alloc: Global, buffer: &[u8], value: &Value) -> Result<BString, NoMemory>
     ensures { IfOk result (λ text. bstring_bytes text ≡ plain (raw_of (value_of buffer.now value.now))) }
 {
-    if value.pieces.is_empty() {
-        return decoded(alloc, value.last.bytes_in(buffer));
-    }
     let raw = raw_text(alloc, buffer, value)?;
     decoded(alloc, &raw)
+}
+
+/// What an entry means: nothing without `=`, for which no memory is taken. Memory is taken for the answer, and for the raw
+/// text of a value that goes on.
+pub(crate) fn entry_meaning(
+    alloc: Global,
+    buffer: &[u8],
+    entry: &Entry,
+) -> Result<BString, NoMemory>
+    ensures { let e = document_entry (entry_of buffer.now entry.now) in MatchResult result (λ text. bstring_bytes text ≡ state.meaning e) (λ _. e.raw ≢ None) }
+{
+    match entry.assigned() {
+        AssignedRef::Nothing => Ok(BString::new(Vec::new(alloc))),
+        AssignedRef::Plain { value, .. } => decoded(alloc, value.bytes_in(buffer)),
+        AssignedRef::Continued(continued) => joined(alloc, buffer, &continued.value),
+    }
+}
+
+/// What the value of an entry means, if it has one. Memory is taken as for [`entry_meaning`].
+pub(crate) fn entry_value(
+    alloc: Global,
+    buffer: &[u8],
+    entry: &Entry,
+) -> Result<Option<BString>, NoMemory>
+    ensures ok { IfOk result (λ value. option_map bstring_bytes value ≡ option_map plain (document_entry (entry_of buffer.now entry.now)).raw) }
+    ensures err { OnErr result ((bytes : List ℕ) × ((document_entry (entry_of buffer.now entry.now)).raw ≡ Some bytes)) }
+{
+    match entry.assigned() {
+        AssignedRef::Nothing => Ok(None),
+        AssignedRef::Plain { value, .. } => Ok(Some(decoded(alloc, value.bytes_in(buffer))?)),
+        AssignedRef::Continued(continued) => Ok(Some(joined(alloc, buffer, &continued.value)?)),
+    }
 }

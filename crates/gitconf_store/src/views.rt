@@ -1,14 +1,12 @@
 //! Views of a section's header and of its body, and walks over its entries.
-ghost use Rattle.std.specs.Prelude.{◌≡◌, ◌≢◌, ◌<◌, ℕ, List, true, length, IfSome, MatchOption, MatchResult, None, [], ◌∷◌};
+ghost use Rattle.std.specs.Prelude.{◌≡◌, ◌<◌, ℕ, List, true, length, IfSome, MatchOption, [], ◌∷◌};
 ghost use Rattle.std.specs.List.{list_all};
 ghost use Rattle.bstr.specs.Owned.{bstring_bytes};
 ghost use Rattle.gitconf_text.specs.Document.{document_entry};
 ghost use Rattle.gitconf_text.specs.Names.{is_value_name};
 ghost use Rattle.gitconf_parse.specs.Events.{bytes_of};
-ghost use Rattle.gitconf_parse.specs.Items.{entry_of};
-ghost use Rattle.gitconf_state.specs.Lookup as state;
+ghost use Rattle.gitconf_parse.specs.Items.{entry_of, items_of};
 ghost use Rattle.gitconf_state.specs.State.{entries_of, is_item};
-ghost use Rattle.gitconf_write.specs.Bodies.{items_of};
 ghost use Rattle.gitconf_store.specs.Bodies.{IsEntryItem, has_key, values_in, AreFound};
 ghost use Rattle.gitconf_store.specs.Viewed.{IsHeaderViewed, IsHeaderViewed-prop};
 ghost use Rattle.std.proofs.Math.Bool.{Bool-set};
@@ -16,10 +14,11 @@ ghost use Rattle.std.proofs.Math.Bool.{Bool-set};
 use crate::lookup::last_entry;
 use crate::section::{Section, SectionRef};
 use crate::tokens::entry_count;
-use crate::values::meaning;
+use crate::values::{entry_meaning, entry_value};
 use bstr::BString;
+use gitconf_parse::entry::Entry;
 use gitconf_parse::events::subsection_name;
-use gitconf_parse::items::{Entry, Item};
+use gitconf_parse::items::Item;
 use gitconf_text::NoMemory;
 use gitconf_text::parse::section::bytes::is_same_name;
 use gitconf_write::sections::write_header;
@@ -49,17 +48,7 @@ fn name_text<'a>(buffer: &'a [u8], entry: &Entry) -> &'a str
     requires { is_value_name (bytes_of buffer.now entry.now.name) ≡ true }
     ensures { result.now ≡ bytes_of buffer.now entry.now.name }
 {
-    str::from_utf8(entry.name.bytes_in(buffer)).unwrap()
-}
-
-/// What an entry means: nothing without `=`, for which no memory is taken.
-fn entry_meaning(alloc: Global, buffer: &[u8], entry: &Entry) -> Result<BString, NoMemory>
-    ensures { let e = document_entry (entry_of buffer.now entry.now) in MatchResult result (λ text. bstring_bytes text ≡ state.meaning e) (λ _. e.raw ≢ None) }
-{
-    match &entry.assigned {
-        Some(assigned) => meaning(alloc, buffer, &assigned.value),
-        None => Ok(BString::new(Vec::new(alloc))),
-    }
+    str::from_utf8(entry.name().bytes_in(buffer)).unwrap()
 }
 
 /// What all entries of a key mean, in order.
@@ -74,7 +63,7 @@ fn meanings(
     let mut values = Vec::new(alloc);
     let mut rest = items;
     while let Some((entry, behind)) = next_entry(rest) {
-        if is_same_name(key, entry.name.bytes_in(buffer)) {
+        if is_same_name(key, entry.name().bytes_in(buffer)) {
             let value = entry_meaning(alloc, buffer, entry)?;
             values.push(value)?;
         }
@@ -89,7 +78,7 @@ fn contains_key(buffer: &[u8], items: &[Item], key: &[u8]) -> bool
 {
     let mut rest = items;
     while let Some((entry, behind)) = next_entry(rest) {
-        if is_same_name(key, entry.name.bytes_in(buffer)) {
+        if is_same_name(key, entry.name().bytes_in(buffer)) {
             return true;
         }
         rest = behind;
@@ -199,11 +188,8 @@ impl<'a> BodyRef<'a> {
         let Some(entry) = last_entry(self.buffer, items, value_name.as_bytes()) else {
             return Ok(None);
         };
-        let Some(assigned) = &entry.assigned else {
-            return Ok(Some(None));
-        };
-        let value = meaning(*items.allocator(), self.buffer, &assigned.value)?;
-        Ok(Some(Some(value)))
+        let value = entry_value(*items.allocator(), self.buffer, entry)?;
+        Ok(Some(value))
     }
 
     /// The meanings of all entries of the name, without ASCII case, in order; one without `=` is empty. One pass. Where

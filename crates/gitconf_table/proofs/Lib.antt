@@ -1,6 +1,7 @@
 pub mod SectionLemmas
 pub mod TableClones
 pub mod Chains
+pub mod Moves
 pub mod LinkLemmas
 pub mod Walks
 pub mod TableLemmas

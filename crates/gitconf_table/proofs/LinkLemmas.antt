@@ -30,7 +30,7 @@ led_none links behind at none = record {
 }
 
 -- a link that is replaced: what f shows of each
-shown_set : {B : Type 0} (f : Link → B) (links : List Link) (i k : ℕ) (new : Link) → f new ≡ f (link_at links i) → (k ≡ i) ⊎ (k ≢ i) → i < length links → f (link_at (set links i new) k) ≡ f (link_at links k)
+pub shown_set : {B : Type 0} (f : Link → B) (links : List Link) (i k : ℕ) (new : Link) → f new ≡ f (link_at links i) → (k ≡ i) ⊎ (k ≢ i) → i < length links → f (link_at (set links i new) k) ≡ f (link_at links k)
 shown_set f links i k new e (inl same) within = rw (same, get_or-set_same links i new no_link within) e
 shown_set f links i k new e (inr other) within = rw (get_or-set_other links i k new no_link other) refl
 

@@ -5,6 +5,7 @@ pub mod SectionIters
 pub mod SectionLoan
 pub mod Words
 pub mod Links
+pub mod Moves
 pub mod Walk
 pub mod WordIndexes
 pub mod Word

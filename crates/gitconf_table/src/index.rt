@@ -6,9 +6,12 @@ ghost use Rattle.gitconf_table.specs.Links.{bucket_of, words_of, AreLinked, IsLe
 ghost use Rattle.gitconf_table.specs.Renames.{set_each};
 ghost use Rattle.gitconf_table.specs.Words.{places_of};
 
+use crate::index::moving::move_each;
 use crate::lists::put_at;
 use std::alloc::{AllocError, Global};
 use std::marker::Model;
+
+mod moving;
 
 // A place of the list: its word, the next place of its bucket, or the greatest number, and what is directly behind the
 // previous place of its bucket, or 0.
@@ -212,16 +215,16 @@ impl WordIndex {
         relink_all(&mut self.links, &mut self.buckets);
     }
 
-    /// Puts another word at a place. Takes time for all words.
+    /// Puts another word at a place. Takes time for the places of the word's bucket.
     pub fn set(&mut self, at: usize, word: u64)
         requires { at < length self.old.words }
         ensures { self.new.words ≡ slice_set self.old.words at word }
     {
-        self.links[at] = unlinked(word);
-        relink_all(&mut self.links, &mut self.buckets);
+        self.set_each(&[at], word);
     }
 
-    /// Puts another word at all these places. Takes time for all words, once.
+    /// Puts another word at all these places. Where they ascend, takes time for them and, once, for the places of the word's
+    /// bucket; each one that stands before the one named last takes the time of that bucket anew.
     pub fn set_each(&mut self, places: &[usize], word: u64)
         requires { AllByRecursion (λ at. at < length self.old.words) places.now }
         ensures { self.new.words ≡ set_each self.old.words places.now word }
@@ -229,8 +232,7 @@ impl WordIndex {
         if self.links.is_empty() {
             return;
         }
-        put_each(&mut self.links, places, word);
-        relink_all(&mut self.links, &mut self.buckets);
+        move_each(&mut self.links, &mut self.buckets, places, word);
     }
 
     /// Puts all words of another list behind the first `at` ones. Takes time for all words; behind all others, for the other list's alone.
@@ -292,19 +294,6 @@ impl WordIndex {
             front: bucket.first,
             behind: bucket.behind,
         }
-    }
-}
-
-// Puts the word at all these places, in no chain.
-fn put_each(links: &mut Vec<Link>, places: &[usize], word: u64)
-    requires { AllByRecursion (λ at. at < length (words_of links.old.items)) places.now }
-    ensures words { words_of links.new.items ≡ set_each (words_of links.old.items) places.now word }
-    ensures room { (vec_len links.new ≡ vec_len links.old) × (vec_capacity links.new ≡ vec_capacity links.old) }
-{
-    let mut rest = places;
-    while let Some((at, behind)) = rest.split_first() {
-        links[*at] = unlinked(word);
-        rest = behind;
     }
 }
 

@@ -277,15 +277,6 @@ impl<T> SectionTable<T> {
         row.id
     }
 
-    /// Whether the section at a place has that name, without ASCII case, and exactly that subsection.
-    pub fn is_named_at(&self, position: usize, name: &str, subsection: Option<&[u8]>) -> bool
-        requires { position < length self.now.entries }
-        ensures { option_map (is_named name.now (option_copied subsection.entry)) (slice_get self.now.entries position) ≡ Some result }
-    {
-        let row = &self.rows[position];
-        is_named(&self.letters, row, name, subsection)
-    }
-
     /// What the section at a place holds.
     pub fn at(&self, position: usize) -> &T
         requires { position < length self.now.entries }
@@ -303,6 +294,24 @@ impl<T> SectionTable<T> {
     {
         let row = &mut self.rows[position];
         &mut row.section
+    }
+
+    /// Makes room at once for so many more sections, for their places and for the indexes; each of them that is put last
+    /// then takes memory for its names alone.
+    ///
+    /// # Errors
+    ///
+    /// Want of memory. The table is as it was.
+    pub fn reserve(&mut self, more: usize) -> Result<(), NoMemory>
+    where
+        T: Drop,
+        ensures { self.new ≡ self.old }
+    {
+        self.rows.reserve(more)?;
+        self.places.reserve(more)?;
+        self.names.reserve(more)?;
+        self.full.reserve(more)?;
+        Ok(())
     }
 
     /// Puts a section last, under the next number and `name` in ASCII lower case, and answers that number.
@@ -448,7 +457,8 @@ impl<T> SectionTable<T> {
     }
 
     /// Gives the section at a place other names, `name` in ASCII lower case; its number, its place and what it
-    /// holds stay. Takes memory for the names, and links all sections anew. For want of memory the table is as it was.
+    /// holds stay. Takes memory for the names, and time for them and for the sections that have the new name, or share a
+    /// bucket with them. For want of memory the table is as it was.
     pub fn rename(
         &mut self,
         position: usize,

@@ -1,3 +1,6 @@
+pub mod Tests
+pub mod Lists
+pub mod ByteLaws
 pub mod NamesLaws
 pub mod SectionKeysLaws
 pub mod Rows

@@ -15,3 +15,4 @@ pub mod SectionKeys
 pub mod Stripped
 pub mod ValueErrors
 pub mod Typed
+pub mod LineEnds

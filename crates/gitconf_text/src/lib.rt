@@ -2,6 +2,7 @@
 #![tactic(auto)]
 
 pub mod laws;
+pub mod line_end;
 pub mod memory;
 pub mod parse;
 pub mod value;

@@ -6,10 +6,9 @@ use Rattle.std.proofs.lemmas.List.{map-append}
 use Rattle.std.proofs.lemmas.List.Sums.{fold_push}
 use Rattle.gitconf_text.specs.Part as parts
 use Rattle.gitconf_parse.specs.declared.items.Item.{Item}
-use Rattle.gitconf_parse.specs.Items.{item_of}
+use Rattle.gitconf_parse.specs.Items.{item_of, items_of}
 use Rattle.gitconf_state.specs.LineEnds.{holds, ends_line}
 use Rattle.gitconf_state.proofs.LastLines.{ends_with, ends_line-is}
-use Rattle.gitconf_write.specs.Bodies.{items_of}
 
 -- behind items that end with a line end, or don't
 abbrev pub ended_behind : (line_end : List ℕ) → (ended : Bool) → parts.Item → Bool

@@ -1,4 +1,3 @@
-pub mod Bodies
 pub mod LineEnds
 pub mod Open
 pub mod Texts

@@ -1,22 +1,12 @@
--- Line ends as the code has them, and the first newline among tokens.
-use Rattle.std.specs.Prelude.{ℕ, Bool, List, [], ◌∷◌, ◌==◌, Option, Some, None, if◌then◌else◌}
-use Rattle.std.specs.List.{list_any}
+-- The first newline among tokens, and where bodies end with a line end.
+use Rattle.std.specs.Prelude.{ℕ, Bool, List, [], ◌∷◌, Option, Some, None}
 use Rattle.std.specs.Option.{option_or}
+use Rattle.gitconf_text.specs.LineEnds.{line_end_in}
 use Rattle.gitconf_text.specs.Token.{Token, NewlineToken}
 use Rattle.gitconf_text.specs.Part.{Item}
 use Rattle.gitconf_state.specs.State.{SectionState}
 use Rattle.gitconf_state.specs.LineEnds.{ends_line}
-use Rattle.gitconf_write.specs.Bodies.{tokens_in}
-use Rattle.gitconf_write.specs.declared.line_end.LineEnd.{LineEnd}
-use Rattle.gitconf_write.specs.declared.line_end.LineEnd.TheVariants as kinds
-
-abbrev pub bytes_of_line_end : LineEnd → List ℕ
-bytes_of_line_end kinds.Lf = 10 ∷ []
-bytes_of_line_end kinds.CrLf = 13 ∷ 10 ∷ []
-
--- the line end of a newline: CR LF where it holds a CR, else LF
-abbrev pub line_end_in : (run : List ℕ) → List ℕ
-line_end_in run = if list_any (λ b. b == 13) run then 13 ∷ 10 ∷ [] else 10 ∷ []
+use Rattle.gitconf_parse.specs.Items.{tokens_in}
 
 -- the line end of the first newline of tokens, if any
 abbrev pub first_newline : List Token → Option (List ℕ)

@@ -3,20 +3,20 @@ ghost use Rattle.std.specs.Prelude.{◌≡◌, ◌≤◌, ◌++◌, IfOk};
 ghost use Rattle.gitconf_text.specs.Part.{EntryItem, spelled_item};
 ghost use Rattle.gitconf_text.specs.Value.{spelled_value};
 ghost use Rattle.gitconf_parse.specs.Sink.{Writes, Counts};
-ghost use Rattle.gitconf_parse.specs.Items.{piece_of, value_of, entry_of, item_of};
+ghost use Rattle.gitconf_parse.specs.Items.{piece_of, value_of, entry_of, item_of, items_of};
 ghost use Rattle.gitconf_state.specs.Printing.{closed_piece, closed_item};
 ghost use Rattle.gitconf_state.specs.Writing.{Closed};
-ghost use Rattle.gitconf_write.specs.Bodies.{items_of};
-ghost use Rattle.gitconf_write.specs.LineEnds.{bytes_of_line_end};
+ghost use Rattle.gitconf_text.specs.LineEnds.{bytes_of_line_end};
 ghost use Rattle.gitconf_write.specs.Texts.{spelled_piece, closed_value, items_text, line_end_before, open_before, next_text, behind_next};
 ghost use Rattle.gitconf_write.specs.Runs.{run_of, WritesBut};
 ghost use Rattle.gitconf_write.specs.Open.{open_of};
 
-use crate::line_end::LineEnd;
 use crate::open::Open;
 use crate::runs::{Run, item_run};
-use gitconf_parse::items::{Entry, Item, Piece, Value};
+use gitconf_parse::entry::{AssignedRef, Entry, Piece, Value};
+use gitconf_parse::items::Item;
 use gitconf_parse::sink::{Sink, SinkFault, write_all};
+use gitconf_text::line_end::LineEnd;
 
 /// Writes a piece of a value, and a line end behind its backslash: its own, or else this one.
 #[tactic(auto, using(gitconf_parse::proofs::SinkLaws::in_turn))]
@@ -50,7 +50,7 @@ fn write_value<W: Sink>(
     ensures written { Writes result (spelled_value (closed_value (bytes_of_line_end line_end) (value_of buffer.now value.now))) (W.told out.old) (W.told out.new) }
     ensures counted { Counts result (W.faults out.old) (W.faults out.new) }
 {
-    for piece in &value.pieces {
+    for piece in value.pieces.as_slice() {
         write_piece(out, buffer, piece, line_end)?;
     }
     write_all(out, value.last.bytes_in(buffer))
@@ -67,14 +67,19 @@ fn write_entry<W: Sink>(
     ensures written { Writes result (spelled_item (closed_item (bytes_of_line_end line_end) (EntryItem (entry_of buffer.now entry.now)))) (W.told out.old) (W.told out.new) }
     ensures counted { Counts result (W.faults out.old) (W.faults out.new) }
 {
-    write_all(out, entry.name.bytes_in(buffer))?;
-    write_all(out, entry.blanks.bytes_in(buffer))?;
-    match &entry.assigned {
-        None => Ok(()),
-        Some(assigned) => {
+    write_all(out, entry.name().bytes_in(buffer))?;
+    write_all(out, entry.blanks().bytes_in(buffer))?;
+    match entry.assigned() {
+        AssignedRef::Nothing => Ok(()),
+        AssignedRef::Plain { blanks, value } => {
             write_all(out, b"=")?;
-            write_all(out, assigned.blanks.bytes_in(buffer))?;
-            write_value(out, buffer, &assigned.value, line_end)
+            write_all(out, blanks.bytes_in(buffer))?;
+            write_all(out, value.bytes_in(buffer))
+        }
+        AssignedRef::Continued(continued) => {
+            write_all(out, b"=")?;
+            write_all(out, continued.blanks.bytes_in(buffer))?;
+            write_value(out, buffer, &continued.value, line_end)
         }
     }
 }

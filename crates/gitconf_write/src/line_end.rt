@@ -4,50 +4,20 @@ ghost use Rattle.std.specs.Option.{unwrap_or};
 ghost use Rattle.gitconf_text.specs.Token.{item_tokens};
 ghost use Rattle.gitconf_state.specs.LineEnds as spec;
 ghost use Rattle.gitconf_state.specs.LineEnds.{line_end_of};
-ghost use Rattle.gitconf_parse.specs.Items.{item_of, tokens_of_value};
-ghost use Rattle.gitconf_write.specs.Bodies.{items_of, tokens_in};
-ghost use Rattle.gitconf_write.specs.LineEnds.{bytes_of_line_end, line_end_in, first_newline, both_end_line};
+ghost use Rattle.gitconf_parse.specs.Items.{item_of, tokens_of_value, items_of, tokens_in};
+ghost use Rattle.gitconf_text.specs.LineEnds.{bytes_of_line_end, line_end_in};
+ghost use Rattle.gitconf_write.specs.LineEnds.{first_newline, both_end_line};
 
-use gitconf_parse::items::{Item, Value};
-
-/// What a line ends with.
-#[derive(Clone, Copy, Debug, PartialEq, Eq)]
-pub enum LineEnd {
-    /// LF alone.
-    Lf,
-    /// CR and LF.
-    CrLf,
-}
-
-impl LineEnd {
-    /// Its bytes.
-    pub fn as_bytes(self) -> &'static [u8]
-        ensures { result.now ≡ bytes_of_line_end self }
-    {
-        match self {
-            LineEnd::Lf => b"\n",
-            LineEnd::CrLf => b"\r\n",
-        }
-    }
-
-    /// The line end of a newline: CR and LF where a CR stands in it, else LF.
-    fn of_newline(run: &[u8]) -> LineEnd
-        ensures { bytes_of_line_end result ≡ line_end_in run.now }
-    {
-        if run.contains(&b'\r') {
-            LineEnd::CrLf
-        } else {
-            LineEnd::Lf
-        }
-    }
-}
+use gitconf_parse::entry::{AssignedRef, Value};
+use gitconf_parse::items::Item;
+use gitconf_text::line_end::LineEnd;
 
 /// The line end of the first piece of a value that has one.
 #[tactic(auto, using(crate::proofs::Newlines::newlines))]
 fn value_line_end(buffer: &[u8], value: &Value) -> Option<LineEnd>
     ensures { option_map bytes_of_line_end result ≡ first_newline (tokens_of_value buffer.now value.now) }
 {
-    for piece in &value.pieces {
+    for piece in value.pieces.as_slice() {
         let run = piece.line_end.bytes_in(buffer);
         if !run.is_empty() {
             return Some(LineEnd::of_newline(run));
@@ -64,9 +34,9 @@ fn item_line_end(buffer: &[u8], item: &Item) -> Option<LineEnd>
     match item {
         Item::Blanks(_) | Item::Comment { .. } => None,
         Item::LineEnds(run) => Some(LineEnd::of_newline(run.bytes_in(buffer))),
-        Item::Entry(entry) => match &entry.assigned {
-            Some(assigned) => value_line_end(buffer, &assigned.value),
-            None => None,
+        Item::Entry(entry) => match entry.assigned() {
+            AssignedRef::Nothing | AssignedRef::Plain { .. } => None,
+            AssignedRef::Continued(continued) => value_line_end(buffer, &continued.value),
         },
     }
 }

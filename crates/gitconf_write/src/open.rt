@@ -5,7 +5,8 @@ ghost use Rattle.gitconf_state.specs.Writing as spec;
 ghost use Rattle.gitconf_parse.specs.Events.{bytes_of};
 ghost use Rattle.gitconf_write.specs.Open.{open_of};
 
-use gitconf_parse::items::{Entry, Item};
+use gitconf_parse::entry::{AssignedRef, Entry};
+use gitconf_parse::items::Item;
 
 /// What stands before in the same list, with no line end between.
 #[derive(Clone, Copy, Debug)]
@@ -59,11 +60,12 @@ impl Open {
     fn after_entry(self, buffer: &[u8], entry: &Entry) -> Open
         ensures { open_of result ≡ spec.after_entry (open_of self) (bytes_of buffer.now entry.now.blanks) (assigned_of buffer.now entry.now.assigned) }
     {
-        match (self, &entry.assigned) {
-            (Open::Comment, None) => Open::Comment,
-            (Open::Comment, Some(assigned)) if assigned.value.pieces.is_empty() => Open::Comment,
-            (_, None) => Open::Key.after_blanks(entry.blanks.bytes_in(buffer)),
-            (_, Some(_)) => Open::Value,
+        match (self, entry.assigned()) {
+            (Open::Comment, AssignedRef::Nothing | AssignedRef::Plain { .. }) => Open::Comment,
+            (Open::Comment, AssignedRef::Continued(continued))
+                if continued.value.pieces.is_empty() => { Open::Comment }
+            (_, AssignedRef::Nothing) => Open::Key.after_blanks(entry.blanks().bytes_in(buffer)),
+            (_, AssignedRef::Plain { .. } | AssignedRef::Continued(_)) => Open::Value,
         }
     }
 }

@@ -7,8 +7,9 @@ ghost use Rattle.gitconf_state.specs.Printing.{closed_item};
 ghost use Rattle.gitconf_write.specs.Runs.{behind_name, run_of};
 ghost use Rattle.std.specs.Prelude.{◌≡◌, ◌≤◌, List, ℕ, ◌++◌, ◌∷◌, [], IfSome};
 
+use gitconf_parse::entry::{AssignedRef, Entry};
 use gitconf_parse::event::{Header, Span};
-use gitconf_parse::items::{Entry, Item};
+use gitconf_parse::items::Item;
 
 /// A run of bytes: where it begins, and where the byte behind its last one stands.
 #[derive(Clone, Copy, Debug)]
@@ -150,17 +151,14 @@ fn entry_run(buffer: &[u8], entry: &Entry) -> Option<Run>
     ensures value { IfSome result (λ r. (line_end : List ℕ) → run_of buffer.now r ≡ spelled_item (closed_item line_end (EntryItem (entry_of buffer.now entry.now)))) }
     ensures ordered { IfSome result (λ r. r.start ≤ r.end) }
 {
-    let key = Run::of(entry.name).with(entry.blanks)?;
-    match &entry.assigned {
-        None => Some(key),
-        Some(assigned) => {
-            if !assigned.value.pieces.is_empty() {
-                return None;
-            }
-            key.with_byte(buffer, b'=')?
-                .with(assigned.blanks)?
-                .with(assigned.value.last)
-        }
+    let key = Run::of(entry.name()).with(entry.blanks())?;
+    match entry.assigned() {
+        AssignedRef::Nothing => Some(key),
+        AssignedRef::Plain { blanks, value } => key
+            .with_byte(buffer, b'=')?
+            .with(blanks)?
+            .with(value),
+        AssignedRef::Continued(_) => None,
     }
 }
 

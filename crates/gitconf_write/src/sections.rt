@@ -7,17 +7,18 @@ ghost use Rattle.gitconf_parse.specs.Events.{header_of};
 ghost use Rattle.gitconf_state.specs.Printing as spec;
 ghost use Rattle.gitconf_state.specs.Printing.{unless};
 ghost use Rattle.gitconf_state.specs.Writing.{Closed};
-ghost use Rattle.gitconf_write.specs.Bodies.{items_of};
-ghost use Rattle.gitconf_write.specs.LineEnds.{bytes_of_line_end};
+ghost use Rattle.gitconf_parse.specs.Items.{items_of};
+ghost use Rattle.gitconf_text.specs.LineEnds.{bytes_of_line_end};
 ghost use Rattle.gitconf_write.specs.Runs.{run_of, WritesBut};
 ghost use Rattle.gitconf_write.specs.Texts.{items_text, subsection_text, section_text, held_text};
 
 use crate::items::{end_run, write_behind, write_items};
-use crate::line_end::{LineEnd, body_line_end, ends_line};
+use crate::line_end::{body_line_end, ends_line};
 use crate::runs::{Run, header_run};
 use gitconf_parse::event::Header;
 use gitconf_parse::items::Item;
 use gitconf_parse::sink::{Sink, SinkFault, write_all};
+use gitconf_text::line_end::LineEnd;
 
 /// Writes a header as it is spelled: in brackets the name, and the subsection behind a dot or, in quotes, behind blanks.
 ///

@@ -91,7 +91,7 @@ impl File {
     ghost use Rattle.gitconf_store.specs.Made.{IsMade};
     ghost use Rattle.gitconf_store.specs.Texts.{IsTextOfSomeSections};
     ghost use Rattle.gitconf_store.specs.Views.{shown, sections_left};
-    ghost use Rattle.gitconf_write.specs.Bodies.{tokens_in};
+    ghost use Rattle.gitconf_parse.specs.Items.{tokens_in};
     ghost use Rattle.gix_config.specs.Keys.{IsSetByKey};
 
     /// A file without front and sections. Takes no memory.

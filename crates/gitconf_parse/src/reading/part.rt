@@ -1,7 +1,9 @@
 //! The parts of a text, one behind the other.
-ghost use Rattle.std.specs.Prelude.{◌≡◌, ◌≤◌, ◌<◌, ◌^◌, length, drop, IfOk};
-ghost use Rattle.gitconf_parse.specs.declared.reading.Expected.TheVariants.{SectionHeader};
+ghost use Rattle.std.specs.Prelude.{◌≡◌, ◌≤◌, ◌<◌, ◌^◌, [], length, drop, get_or, true, IfOk, IfErr};
+ghost use Rattle.gitconf_parse.specs.declared.reading.Expected.TheVariants.{SectionHeader, Name};
 ghost use Rattle.gitconf_parse.specs.Reading.{Gives, GivesAll, part_at, text_from};
+ghost use Rattle.gitconf_parse.specs.Sections.{is_header_event, is_cut};
+ghost use Rattle.gitconf_parse.specs.Stretches.{IsReadOn, IsBreak};
 
 use super::entry::entry;
 use super::header::header;
@@ -75,4 +77,48 @@ pub fn parts(input: &[u8], start: usize, events: &mut EventVec) -> Result<(), Re
         at = end;
     }
     Ok(())
+}
+
+/// The parts from an offset on, up to a header or the end, and where they end.
+pub fn body_parts(
+    input: &[u8],
+    start: usize,
+    wanted: Expected,
+    events: &mut EventVec,
+) -> Result<usize, ReadError>
+    requires within { start ≤ length input.now }
+    requires fits { length input.now < 2 ^ 32 }
+    ensures read { IfOk result (λ end. IsReadOn input.now start wanted events.old end wanted events.new) }
+    ensures inside { IfOk result (λ end. end ≤ length input.now) }
+    ensures headed { IfOk result (λ end. end < length input.now → get_or input.now end 0 ≡ 91) }
+    ensures broken { IfErr result (IsBreak input.now start wanted) }
+{
+    let mut at = start;
+    while at < input.len() && input[at] != b'[' {
+        at = part(input, at, wanted, events)?;
+    }
+    Ok(at)
+}
+
+/// The header at an offset and the parts behind it, up to the next header or the end, and where they end; `wanted` is
+/// told as looked for where no header stands.
+pub fn section_parts(
+    input: &[u8],
+    start: usize,
+    wanted: Expected,
+    events: &mut EventVec,
+) -> Result<usize, ReadError>
+    requires within { start < length input.now }
+    requires headed { get_or input.now start 0 ≡ 91 }
+    requires fits { length input.now < 2 ^ 32 }
+    requires empty { events.old ≡ [] }
+    ensures read { IfOk result (λ end. IsReadOn input.now start wanted [] end Name events.new) }
+    ensures cut { IfOk result (λ _. is_cut is_header_event events.new ≡ true) }
+    ensures ahead { IfOk result (λ end. start < end) }
+    ensures inside { IfOk result (λ end. end ≤ length input.now) }
+    ensures headed { IfOk result (λ end. end < length input.now → get_or input.now end 0 ≡ 91) }
+    ensures broken { IfErr result (IsBreak input.now start wanted) }
+{
+    let behind = part(input, start, wanted, events)?;
+    body_parts(input, behind, Expected::Name, events)
 }

@@ -8,9 +8,10 @@ use gitconf_body::editor::Editor;
 use gitconf_body::heading::put_header;
 use gitconf_body::{push, set, take_out};
 use gitconf_text::NoMemory;
+use gitconf_text::line_end::LineEnd;
 use gitconf_text::parse::section::header;
 use gitconf_text::parse::span;
-use gitconf_write::line_end::{LineEnd, body_line_end};
+use gitconf_write::line_end::body_line_end;
 
 impl Section {
     ghost use Rattle.std.specs.Option.{option_copied};
@@ -21,7 +22,7 @@ impl Section {
     ghost use Rattle.gitconf_state.specs.Editors.{line_end_pushed, popped, popped_entry, pushed, removed, value_set};
     ghost use Rattle.gitconf_state.specs.Edits.{renamed, with_trust, IsEditor};
     ghost use Rattle.gitconf_state.specs.LineEnds.{section_line_end};
-    ghost use Rattle.gitconf_write.specs.LineEnds.{bytes_of_line_end};
+    ghost use Rattle.gitconf_text.specs.LineEnds.{bytes_of_line_end};
     ghost use Rattle.gitconf_body.specs.Editors.{line_put, set_put};
     ghost use Rattle.gitconf_store.specs.Alone.{is_refusal_of_header, with_items};
     ghost use Rattle.gitconf_store.specs.Edits.{UsedGrows};

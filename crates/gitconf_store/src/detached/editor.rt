@@ -8,9 +8,9 @@ use bstr::BString;
 use gitconf_base::source::Trust;
 use gitconf_body::blanks::Blanks;
 use gitconf_text::NoMemory;
+use gitconf_text::line_end::LineEnd;
 use gitconf_text::parse::section::header;
 use gitconf_text::parse::span;
-use gitconf_write::line_end::LineEnd;
 
 /// An editor of a section that stands in no file. What it writes beside names and values stays as it was when the editor was made, also
 /// while the section changes: the blanks before a name, those around `=`, and the line end, that of the section's first newline, or LF.

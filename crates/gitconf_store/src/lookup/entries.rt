@@ -10,7 +10,8 @@ use crate::lists::put;
 use crate::lookup::found::{Deciding, Found, same_view};
 use crate::lookup::last_entry;
 use crate::section::SectionRef;
-use gitconf_parse::items::{Entry, Item};
+use gitconf_parse::entry::{AssignedRef, Entry};
+use gitconf_parse::items::Item;
 use gitconf_text::NoMemory;
 use gitconf_text::parse::section::bytes::is_same_name;
 
@@ -25,7 +26,7 @@ pub(crate) fn deciding_entry<'a>(
 {
     let entry = last_entry(section.buffer, &section.section.items, key)?;
     match deciding {
-        Deciding::Value if entry.assigned.is_none() => None,
+        Deciding::Value if matches!(entry.assigned(), AssignedRef::Nothing) => None,
         _ => Some(entry),
     }
 }
@@ -42,7 +43,7 @@ pub(crate) fn push_entries<'a>(
     let mut rest: &'a [Item] = &section.section.items;
     while let Some((item, behind)) = rest.split_first() {
         if let Item::Entry(entry) = item {
-            if is_same_name(key, entry.name.bytes_in(section.buffer)) {
+            if is_same_name(key, entry.name().bytes_in(section.buffer)) {
                 let section = same_view(section);
                 let place = Found { section, entry };
                 put(found, place)?;

@@ -2,9 +2,9 @@
 ghost use Rattle.std.specs.Prelude.{◌≡◌, IfOk};
 
 use crate::section::SectionRef;
-use crate::values::meaning;
+use crate::values::{entry_meaning, entry_value};
 use bstr::BString;
-use gitconf_parse::items::Entry;
+use gitconf_parse::entry::Entry;
 use gitconf_text::NoMemory;
 use std::alloc::Global;
 
@@ -55,19 +55,13 @@ impl<'a> Found<'a> {
     pub(crate) fn meaning(&self, alloc: Global) -> Result<BString, NoMemory>
         ensures { IfOk result (λ text. bstring_bytes text ≡ meant (place_of self.now).1) }
     {
-        match &self.entry.assigned {
-            Some(assigned) => meaning(alloc, self.section.buffer, &assigned.value),
-            None => Ok(BString::new(Vec::new(alloc))),
-        }
+        entry_meaning(alloc, self.section.buffer, self.entry)
     }
 
     /// What the entry's value means, if it has one.
     pub(crate) fn value(&self, alloc: Global) -> Result<Option<BString>, NoMemory>
         ensures { IfOk result (λ value. option_map bstring_bytes value ≡ option_map plain (place_of self.now).1.raw) }
     {
-        match &self.entry.assigned {
-            Some(assigned) => Ok(Some(meaning(alloc, self.section.buffer, &assigned.value)?)),
-            None => Ok(None),
-        }
+        entry_value(alloc, self.section.buffer, self.entry)
     }
 }

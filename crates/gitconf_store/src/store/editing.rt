@@ -12,7 +12,7 @@ impl Store {
     ghost use Rattle.gitconf_text.specs.Names.{is_value_name};
     ghost use Rattle.gitconf_state.specs.Edit.{with_used};
     ghost use Rattle.gitconf_state.specs.Edits.{answer, apply, items_of_numbered, Entry, IsEditor, Pop, Push, PushLineEnd, Raw, Remove, SetValue};
-    ghost use Rattle.gitconf_write.specs.LineEnds.{bytes_of_line_end};
+    ghost use Rattle.gitconf_text.specs.LineEnds.{bytes_of_line_end};
     ghost use Rattle.gitconf_body.specs.Editors.{line_put, set_put};
     ghost use Rattle.gitconf_store.specs.Editors.{given_editor, IsGiven, PutsIn};
 

@@ -11,9 +11,9 @@ use crate::moving::move_sections;
 use crate::section::Section;
 use crate::store::Store;
 use gitconf_body::buffer::{append, check_room};
-use gitconf_body::moving::move_items;
 use gitconf_parse::event::Span;
 use gitconf_parse::items::Item;
+use gitconf_parse::moving::move_items;
 use gitconf_table::table::SectionTable;
 use gitconf_text::parse::span;
 

@@ -56,7 +56,8 @@ impl Store {
     /// Gives the section of a number another name and subsection, by a header that is made: the name as given, and a subsection in quotes
     /// behind a space. All else stays as it is; where no section has the number, all does. Later look-ups find it by its new names.
     ///
-    /// A walk over the index of all sections. Takes memory for the header and the names.
+    /// Takes time for the bytes of the names, and for the sections that have the new name, by an index; memory for the header and the
+    /// names.
     ///
     /// # Errors
     ///
@@ -120,8 +121,8 @@ impl Store {
     /// name and subsection, as [`Store::rename`] does. The filter is asked of the sections of these names, in file order; where the new
     /// names are refused, from the last one on, up to the first that passes.
     ///
-    /// A walk over all sections, and one over the index. The new header stands in the buffer once; memory is taken for it, for the names
-    /// and for the places of the sections.
+    /// Walks over the sections of these names and over those that have the new name, by an index, and over no others. The new header
+    /// stands in the buffer once; memory is taken for it, for the names and for the places of the sections.
     ///
     /// # Errors
     ///

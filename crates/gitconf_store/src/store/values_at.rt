@@ -3,7 +3,7 @@ use crate::lookup::existing;
 use crate::lookup::places::{all_value_places, last_value_place, put_in_order};
 use crate::section::SectionRef;
 use crate::store::Store;
-use crate::values::meaning;
+use crate::values::entry_meaning;
 use bstr::BString;
 use gitconf_base::meta::Metadata;
 use gitconf_body::editor::Editor;
@@ -35,11 +35,8 @@ impl SectionRef<'_> {
         let Some(Item::Entry(entry)) = section.items.get(place) else {
             return Ok(None);
         };
-        let alloc = *section.items.allocator();
-        match &entry.assigned {
-            Some(assigned) => Ok(Some(meaning(alloc, self.buffer, &assigned.value)?)),
-            None => Ok(Some(BString::new(Vec::new(alloc)))),
-        }
+        let text = entry_meaning(*section.items.allocator(), self.buffer, entry)?;
+        Ok(Some(text))
     }
 }
 

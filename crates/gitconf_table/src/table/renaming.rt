@@ -11,8 +11,9 @@ use gitconf_text::NoMemory;
 
 impl<T> SectionTable<T> {
     /// Gives the sections at all these places other names, `name` in ASCII lower case; their numbers, their places and what
-    /// they hold stay. Takes memory for the names once, and links all sections anew, once. For want of memory the table is
-    /// as it was.
+    /// they hold stay. Takes memory for the names once. Where the places ascend, takes time for them and, once, for the
+    /// sections that have the new name, or share a bucket with them; no other sections are looked at. For want of memory the
+    /// table is as it was.
     pub fn rename_each(
         &mut self,
         places: &[usize],

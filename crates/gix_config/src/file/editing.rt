@@ -4,9 +4,9 @@ use gitconf_base::source::Trust;
 use gitconf_body::blanks::Blanks;
 use gitconf_body::editor::Editor;
 use gitconf_text::NoMemory;
+use gitconf_text::line_end::LineEnd;
 use gitconf_text::parse::section::header;
 use gitconf_text::parse::span;
-use gitconf_write::line_end::LineEnd;
 
 impl File {
     ghost use Rattle.std.specs.List.{list_any};
@@ -17,7 +17,7 @@ impl File {
     ghost use Rattle.gitconf_state.specs.Edit.{spacing_of, with_used};
     ghost use Rattle.gitconf_state.specs.Edits.{answer, apply, numbered, Entry, IsEditor, NewSection, Pop, Push, PushLineEnd, Raw, Remove, Rename, SetTrust, SetValue};
     ghost use Rattle.gitconf_state.specs.LineEnds.{file_line_end};
-    ghost use Rattle.gitconf_write.specs.LineEnds.{bytes_of_line_end};
+    ghost use Rattle.gitconf_text.specs.LineEnds.{bytes_of_line_end};
     ghost use Rattle.gitconf_text.specs.HeaderErrors.{header_number};
     ghost use Rattle.gitconf_store.specs.NewSections.{HasNoPlace};
     ghost use Rattle.gitconf_store.specs.Renamings.{header_numbers, HeaderGrows};

@@ -16,8 +16,8 @@ impl File {
     /// are made anew, the name as given, and a subsection in quotes behind a space. What else they have stays, and they are found by their
     /// new names from then on.
     ///
-    /// A walk over all sections, and one over the index. The new header stands in the buffer once; memory is taken for it, for the names
-    /// and for the places of the sections.
+    /// Walks over the sections of these names and over those that have the new name, by an index, and over no others. The new header
+    /// stands in the buffer once; memory is taken for it, for the names and for the places of the sections.
     ///
     /// # Errors
     ///

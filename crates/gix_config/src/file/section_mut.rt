@@ -14,10 +14,10 @@ use gitconf_body::blanks::Blanks;
 use gitconf_store::lists::bytes_of;
 use gitconf_store::popped::texts_of;
 use gitconf_text::NoMemory;
+use gitconf_text::line_end::LineEnd;
 use gitconf_text::parse::section::bytes::is_value_name;
 use gitconf_text::parse::section::{ValueNameError, header};
 use gitconf_text::parse::span;
-use gitconf_write::line_end::LineEnd;
 pub use making::Error;
 
 /// An editor of one section of a file. What it writes beside names and values stays as it was when the editor was made, also while the
@@ -225,7 +225,8 @@ impl<'a> SectionMut<'a> {
     /// Gives the section another name and subsection, by a header that is made: the name as given, and a subsection in quotes behind a
     /// space. All else stays as it is, and later look-ups find the section by its new names.
     ///
-    /// A walk over the index of all sections. Takes memory for the header and the names.
+    /// Takes time for the bytes of the names, and for the sections that have the new name, by an index; memory for the header and the
+    /// names.
     ///
     /// # Errors
     ///

@@ -12,8 +12,8 @@ use crate::file::{File, SectionId, SectionRef};
 use crate::lookup::existing;
 use bstr::BString;
 use gitconf_body::value_at::InPlaceOf;
+use gitconf_text::line_end::LineEnd;
 use gitconf_text::parse::span;
-use gitconf_write::line_end::LineEnd;
 use spelling::Spelling;
 
 /// An editor of the value of one entry of a file. It stands on the entry's place in its section. What it writes beside the value stays as

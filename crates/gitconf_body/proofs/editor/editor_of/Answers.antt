@@ -1,7 +1,7 @@
 use Rattle.std.proofs.Common.{rules, ◌≡◌, true, false, ap, sym, ◌∙◌}
 use Rattle.std.specs.List.{list_any}
 use Rattle.gitconf_state.specs.Edit.{Spacing}
-use Rattle.gitconf_write.specs.LineEnds.{bytes_of_line_end}
+use Rattle.gitconf_text.specs.LineEnds.{bytes_of_line_end}
 use Rattle.gitconf_body.specs.Spacings.{is_stored_entry}
 use Rattle.gitconf_body.proofs.Editors.{found_blanks, found_fits, stored_put}
 use Rattle.gitconf_body.proofs.Spacings.{default_spacing, default_put, found_put, none_put, separator_fits, some_put}

@@ -2,7 +2,7 @@ use Rattle.std.proofs.Common.{rules, ◌≡◌, [], ◌∷◌, ◌++◌}
 use Rattle.gitconf_parse.specs.declared.items.Item.TheVariants as kinds
 use Rattle.gitconf_body.proofs.Buffers.{extended_fit}
 use Rattle.gitconf_body.proofs.Standing.{line_ends_stand, pushed_stand}
-use Rattle.gitconf_write.specs.LineEnds.{bytes_of_line_end}
+use Rattle.gitconf_text.specs.LineEnds.{bytes_of_line_end}
 use Rattle.gitconf_body.specs.Buffers.{StandsAt}
 use Rattle.gitconf_body.proofs.push.push_newline.Goals as goal
 

@@ -1,8 +1,7 @@
 use Rattle.std.proofs.Common.{rules, arith, ◌≡◌, ap, length, sym, Some, ◌∙◌}
-use Rattle.gitconf_parse.specs.Items.{item_of}
+use Rattle.gitconf_parse.specs.Items.{item_of, items_of}
 use Rattle.gitconf_state.specs.Edit.{is_entry_of, item_raw}
 use Rattle.gitconf_state.proofs.EditPlaces.{old_value_at}
-use Rattle.gitconf_write.specs.Bodies.{items_of}
 use Rattle.gitconf_body.proofs.Places.{found_at}
 use Rattle.gitconf_body.proofs.Entries.{last_shown}
 use Rattle.gitconf_body.proofs.Changing.{changed_len_is}

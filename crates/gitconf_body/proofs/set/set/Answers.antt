@@ -1,9 +1,8 @@
 use Rattle.std.proofs.Common.{rules, arith, ◌≡◌, false, sym, ◌∙◌}
 use Rattle.std.specs.List.{list_any}
-use Rattle.gitconf_parse.specs.Items.{item_of}
+use Rattle.gitconf_parse.specs.Items.{item_of, items_of}
 use Rattle.gitconf_state.specs.Edit.{is_entry_of}
 use Rattle.gitconf_state.proofs.EditPlaces.{old_value_none}
-use Rattle.gitconf_write.specs.Bodies.{items_of}
 use Rattle.gitconf_body.specs.Editors.{editor_in}
 use Rattle.gitconf_body.proofs.Buffers.{grows_ok, grows_err}
 use Rattle.gitconf_body.proofs.Changing.{value_set_new, set_put_new}

@@ -1,5 +1,4 @@
-use Rattle.std.proofs.Common.{◌≡◌, ◌+◌, take, drop}
-use Rattle.gitconf_body.proofs.ValuesAt.{deleted_shown, deleted_within, none_deleted}
+use Rattle.gitconf_body.proofs.ValuesAt.{deleted_shown}
 use Rattle.gitconf_body.proofs.value_at.delete_at.Goals as goal
 
 pub returns-then-place-len-clause-deleted : goal.returns-then-place-len-clause-deleted

@@ -1,7 +1,7 @@
 use Rattle.std.proofs.Common.{◌≡◌, take}
 use Rattle.std.specs.List.{flat_map}
 use Rattle.gitconf_parse.specs.Events.{bytes_of}
-use Rattle.gitconf_parse.specs.declared.items.Piece.{Piece}
+use Rattle.gitconf_parse.specs.declared.entry.Piece.{Piece}
 use Rattle.gitconf_body.proofs.values.raw_text.Given as goal
 
 -- the pieces before are there

@@ -2,9 +2,7 @@ use Rattle.std.proofs.Common.{◌≡◌, ◌∷◌, true, map}
 use Rattle.gitconf_text.specs.Token.{NewlineToken, filled}
 use Rattle.gitconf_parse.specs.Compact.{events_of}
 use Rattle.gitconf_parse.specs.Events.{bytes_of, token_of}
-use Rattle.gitconf_parse.specs.Items as spec
-use Rattle.gitconf_parse.specs.Items.{item_of, assigned_of}
-use Rattle.gitconf_parse.specs.Grouping.{Place, Between, BehindName, BehindNameBlanks, BehindSeparator, BehindSeparatorBlanks, BehindPiece, BehindPieceEnd, are_items, AreBehind}
+use Rattle.gitconf_parse.specs.Grouping.{BehindPiece, BehindPieceEnd, are_items, AreBehind}
 use Rattle.std.proofs.Common.{subst, sym, ap, ◌∙◌}
 use Rattle.gitconf_parse.specs.declared.event.Event.TheVariants as kinds
 use Rattle.gitconf_parse.proofs.Grouping.{filled_first}

@@ -14,7 +14,7 @@ returns-in-Some-ValueDone-default-clause-tokens c =
     let line_end = c.line_end_first.result.0 in
     let is : events_of c.line_end_first.result.1 ≡ kinds.ValueDone c.in-Some-ValueDone-default.last ∷ behind =
     c.in-Some-ValueDone-default.ensures.cases ∙ ap (λ e. e ∷ behind) c.in-Some-ValueDone-default.field-0-0-is in
-    value_ends b c.loop-pieces.pieces.items _ (record { text = c.loop-pieces.text; line_end = line_end }) _ _ _ _ c.in_ok-push.ensures.items c.loop-pieces.invariant.joined
+    value_ends b c.loop-pieces.pieces.items _ (record { text = c.loop-pieces.text; line_end = line_end }) _ _ _ _ c.in_ok-push.ensures.ok c.loop-pieces.invariant.joined
     (subst (λ es. AreBehind BehindPieceEnd (filled NewlineToken (bytes_of b line_end)) (map (token_of b) es) (map (token_of b) (events_of c.loop-pieces.rest))) is c.line_end_first.ensures.tokens)
 
 pub loop-pieces-smaller : goal.loop-pieces-smaller

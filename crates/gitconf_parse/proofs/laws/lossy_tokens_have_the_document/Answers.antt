@@ -1,4 +1,3 @@
-use Rattle.std.proofs.Common.{refl}
 use Rattle.gitconf_parse.proofs.Documents.{same_tokens, selected_say, lossy_say}
 use Rattle.gitconf_parse.proofs.laws.lossy_tokens_have_the_document.Goals as goal
 

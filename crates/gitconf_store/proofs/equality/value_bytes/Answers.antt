@@ -1,7 +1,7 @@
 use Rattle.std.proofs.Common.{◌++◌, List, ap, ◌∙◌}
 use Rattle.std.specs.Prelude.{flat_map}
 use Rattle.gitconf_text.specs.Value as grammar
-use Rattle.gitconf_parse.specs.declared.items.Piece.{Piece}
+use Rattle.gitconf_parse.specs.declared.entry.Piece.{Piece}
 use Rattle.gitconf_parse.specs.Events.{bytes_of}
 use Rattle.gitconf_parse.specs.Items.{value_of}
 use Rattle.gitconf_store.proofs.Meanings.{pieces_raw}
@@ -11,6 +11,6 @@ pub returns : goal.returns
 returns c =
     let buffer = c.args.buffer.now in
     let value = c.args.value.now in
-    ap (λ (pieces : List Piece). flat_map (λ (p : Piece). bytes_of buffer p.text) pieces ++ c.bytes_in-last.result.now) c.deref.ensures.value
+    ap (λ (pieces : List Piece). flat_map (λ (p : Piece). bytes_of buffer p.text) pieces ++ c.bytes_in-last.result.now) c.as_slice.ensures
     ∙ ap (λ texts. texts ++ c.bytes_in-last.result.now) (pieces_raw buffer value.pieces.items)
     ∙ ap (λ last. flat_map (λ (p : grammar.Piece). p.text) (value_of buffer value).pieces ++ last) c.bytes_in-last.ensures

@@ -1,13 +1,22 @@
-use Rattle.std.proofs.Common.{rules, ◌≡◌, [], ◌∷◌, ◌++◌, true, sym, ◌∙◌}
-use Rattle.gitconf_text.specs.Names.{is_same_name}
-use Rattle.gitconf_parse.specs.declared.items.Item.TheVariants as kinds
-use Rattle.gitconf_parse.specs.Items.{entry_of}
-use Rattle.gitconf_store.proofs.Entries.{last_here}
+use Rattle.std.proofs.Common.{rules, ◌≡◌, Some, None, sym, subst, ◌∙◌}
+use Rattle.gitconf_parse.specs.Items.{item_of}
+use Rattle.gitconf_state.specs.Edit.{is_entry_of}
+use Rattle.gitconf_body.specs.Places.{IsLastAt, IsLastPlace}
+use Rattle.gitconf_body.proofs.Places.{found_at}
+use Rattle.gitconf_store.proofs.Entries.{last_found, last_missing}
 use Rattle.gitconf_store.proofs.lookup.last_entry.Goals as goal
 
-pub returns-then-is_same_name : goal.returns-then-is_same_name
-returns-then-is_same_name c =
-    let e = c.in-Entry.entry in
-    let is : c.loop-item.rest.now ≡ c.in-Some.before.now ++ kinds.Entry e ∷ [] = search rules in
-    let same : is_same_name c.args.key.now (entry_of c.args.buffer.now e).name ≡ true = search rules in
-    sym (c.loop-item.invariant ∙ last_here c.args.buffer.now c.args.key.now c.loop-item.rest.now c.in-Some.before.now e is same)
+pub returns-in_err-at : goal.returns-in_err-at
+returns-in_err-at c =
+    let none : c.last_place.result ≡ None = search rules in
+    let result : c.from_residual.result ≡ None = search rules in
+    let missing = subst (IsLastPlace (λ i. is_entry_of c.args.key.now (item_of c.args.buffer.now i)) c.args.items.now) none c.last_place.ensures in
+    rw result (sym (last_missing c.args.buffer.now c.args.key.now c.args.items.now missing))
+
+pub returns : goal.returns
+returns c =
+    let is : c.last_place.result ≡ Some c.in_ok-at.at = search rules in
+    let l : IsLastAt (λ i. is_entry_of c.args.key.now (item_of c.args.buffer.now i)) c.args.items.now c.in_ok-at.at =
+    subst (IsLastPlace (λ i. is_entry_of c.args.key.now (item_of c.args.buffer.now i)) c.args.items.now) is c.last_place.ensures in
+    let found = found_at (λ i. is_entry_of c.args.key.now (item_of c.args.buffer.now i)) c.args.items.now c.in_ok-at.at c.in-Some-Entry.field-0.now l c.in-Some-Entry.ensures.lookup.1 in
+    sym (last_found c.args.buffer.now c.args.key.now c.args.items.now c.in_ok-at.at c.in-Some-Entry.entry l (sym found ∙ c.in-Some-Entry.field-0-is))

@@ -1,5 +1,5 @@
 use Rattle.std.proofs.Common.{◌≡◌, length, subst, refl, arith, add-one}
-use Rattle.gitconf_body.proofs.Moves.{AreChanged, changed_length}
+use Rattle.gitconf_parse.proofs.Moves.{AreChanged, changed_length}
 use Rattle.gitconf_store.specs.Moves.{IsEntryMoved}
 use Rattle.gitconf_store.proofs.MovedTables.{all_changed, next_movable, next_moved}
 use Rattle.gitconf_store.proofs.moving.move_sections.Goals as goal

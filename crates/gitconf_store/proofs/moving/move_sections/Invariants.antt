@@ -1,5 +1,5 @@
 use Rattle.std.proofs.Common.{◌≡◌}
-use Rattle.gitconf_body.proofs.Moves.{AreChanged}
+use Rattle.gitconf_parse.proofs.Moves.{AreChanged}
 use Rattle.gitconf_store.specs.Moves.{IsEntryMoved}
 use Rattle.gitconf_store.proofs.moving.move_sections.Given as goal
 

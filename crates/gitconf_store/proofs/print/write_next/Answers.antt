@@ -1,5 +1,5 @@
 use Rattle.std.proofs.Common.{◌≡◌, true, false, refl}
-use Rattle.gitconf_write.specs.LineEnds.{bytes_of_line_end}
+use Rattle.gitconf_text.specs.LineEnds.{bytes_of_line_end}
 use Rattle.gitconf_store.specs.Views.{shown}
 use Rattle.gitconf_store.proofs.Texts.{next_fault, kept_fault, refused}
 use Rattle.gitconf_store.proofs.print.write_next.Goals as goal

@@ -1,5 +1,5 @@
 use Rattle.std.proofs.Common.{rules, true, ◌≡◌, [], ◌∷◌, ◌++◌, ap, sym, ◌∙◌}
-use Rattle.gitconf_write.specs.LineEnds.{bytes_of_line_end}
+use Rattle.gitconf_text.specs.LineEnds.{bytes_of_line_end}
 use Rattle.gitconf_write.proofs.Left.{left_behind, left_fault, left_last}
 use Rattle.gitconf_store.specs.Texts.{sections_text, next_text, line_end_unless}
 use Rattle.gitconf_store.specs.Views.{shown, sections_left}

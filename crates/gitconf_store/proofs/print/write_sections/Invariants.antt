@@ -1,7 +1,7 @@
 use Rattle.std.proofs.Common.{◌≡◌, Bool, true}
 use Rattle.std.specs.Fn.{ComputesKey}
 use Rattle.gitconf_state.specs.State.{SectionState}
-use Rattle.gitconf_write.specs.LineEnds.{bytes_of_line_end}
+use Rattle.gitconf_text.specs.LineEnds.{bytes_of_line_end}
 use Rattle.gitconf_write.proofs.Left.{IsLeft}
 use Rattle.gitconf_store.specs.Texts.{sections_text}
 use Rattle.gitconf_store.specs.Views.{shown, sections_left}

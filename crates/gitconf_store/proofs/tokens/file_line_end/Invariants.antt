@@ -2,7 +2,7 @@ use Rattle.std.proofs.Common.{◌≡◌, ◌++◌}
 use Rattle.std.specs.List.{flat_map}
 use Rattle.gitconf_text.specs.Token.{item_tokens}
 use Rattle.gitconf_state.specs.LineEnds.{line_end_of}
-use Rattle.gitconf_write.specs.Bodies.{items_of}
+use Rattle.gitconf_parse.specs.Items.{items_of}
 use Rattle.gitconf_store.specs.Views.{sections_left}
 use Rattle.gitconf_store.proofs.tokens.file_line_end.Given as goal
 

@@ -1,6 +1,6 @@
 use Rattle.std.proofs.Common.{◌≡◌, length}
 use Rattle.gitconf_state.specs.State.{entries_of}
-use Rattle.gitconf_write.specs.Bodies.{items_of}
+use Rattle.gitconf_parse.specs.Items.{items_of}
 use Rattle.gitconf_store.specs.Bodies.{has_key}
 use Rattle.gitconf_store.proofs.views.contains_key.Given as goal
 

@@ -1,7 +1,7 @@
 use Rattle.std.proofs.Common.{◌≡◌, ◌++◌, map, length}
 use Rattle.bstr.specs.Owned.{bstring_bytes}
 use Rattle.gitconf_state.specs.State.{entries_of}
-use Rattle.gitconf_write.specs.Bodies.{items_of}
+use Rattle.gitconf_parse.specs.Items.{items_of}
 use Rattle.gitconf_store.specs.Bodies.{values_in}
 use Rattle.gitconf_store.proofs.views.meanings.Given as goal
 

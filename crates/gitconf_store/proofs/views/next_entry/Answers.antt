@@ -1,9 +1,8 @@
 use Rattle.std.proofs.Common.{rules, ◌≡◌, ℕ, List, [], ◌∷◌, length, refl, ap, ◌∙◌}
 use Rattle.gitconf_parse.specs.declared.items.Item.{Item}
 use Rattle.gitconf_parse.specs.declared.items.Item.TheVariants as kinds
-use Rattle.gitconf_parse.specs.Items.{item_of}
+use Rattle.gitconf_parse.specs.Items.{item_of, items_of}
 use Rattle.gitconf_state.specs.State.{entries_of, item_entries}
-use Rattle.gitconf_write.specs.Bodies.{items_of}
 use Rattle.gitconf_store.proofs.BodyLaws.{entry_fits, other_entries, other_fits}
 use Rattle.gitconf_store.proofs.views.next_entry.Goals as goal
 

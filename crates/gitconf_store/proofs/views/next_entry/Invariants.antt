@@ -1,7 +1,7 @@
 use Rattle.std.proofs.Common.{◌≡◌, ◌≤◌, ℕ, true, List, length}
 use Rattle.std.specs.List.{list_all}
 use Rattle.gitconf_state.specs.State.{entries_of, is_item}
-use Rattle.gitconf_write.specs.Bodies.{items_of}
+use Rattle.gitconf_parse.specs.Items.{items_of}
 use Rattle.gitconf_store.proofs.views.next_entry.Given as goal
 
 -- no entry stands before these items

@@ -1,6 +1,6 @@
 use Rattle.std.proofs.Common.{◌≡◌, ◌≤◌, ◌++◌, drop}
-use Rattle.gitconf_write.specs.Bodies.{items_of}
-use Rattle.gitconf_write.specs.LineEnds.{bytes_of_line_end}
+use Rattle.gitconf_parse.specs.Items.{items_of}
+use Rattle.gitconf_text.specs.LineEnds.{bytes_of_line_end}
 use Rattle.gitconf_write.specs.Open.{open_of}
 use Rattle.gitconf_write.specs.Runs.{run_of, IsLeft}
 use Rattle.gitconf_write.specs.Texts.{items_text}

@@ -1,5 +1,5 @@
 use Rattle.gitconf_parse.specs.Items.{item_of}
-use Rattle.gitconf_write.specs.LineEnds.{bytes_of_line_end}
+use Rattle.gitconf_text.specs.LineEnds.{bytes_of_line_end}
 use Rattle.gitconf_write.specs.Open.{open_of}
 use Rattle.gitconf_write.specs.Runs.{run_of}
 use Rattle.gitconf_write.proofs.RunLemmas.{next_begun, next_err, next_written, but_fault}

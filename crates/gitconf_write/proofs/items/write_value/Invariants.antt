@@ -1,5 +1,5 @@
 use Rattle.std.proofs.Common.{◌≡◌, drop}
-use Rattle.gitconf_write.specs.LineEnds.{bytes_of_line_end}
+use Rattle.gitconf_text.specs.LineEnds.{bytes_of_line_end}
 use Rattle.gitconf_write.specs.Runs.{IsLeft}
 use Rattle.gitconf_write.proofs.Values.{pieces_text}
 use Rattle.gitconf_write.proofs.items.write_value.Given as goal

@@ -1,7 +1,7 @@
 use Rattle.gitconf_parse.specs.Events.{header_of}
 use Rattle.gitconf_parse.proofs.SinkLaws.{Writes-fault}
 use Rattle.gitconf_text.specs.Header.{spelled_header}
-use Rattle.gitconf_write.specs.LineEnds.{bytes_of_line_end}
+use Rattle.gitconf_text.specs.LineEnds.{bytes_of_line_end}
 use Rattle.gitconf_write.specs.Runs.{run_of}
 use Rattle.gitconf_write.proofs.RunLemmas.{but_begun_of_three, but_last, but_last_of_three}
 use Rattle.gitconf_write.proofs.SectionTexts.{section_begun, section_ended}

@@ -5,7 +5,7 @@ ghost use Rattle.gitconf_text.specs.Names.{is_value_name};
 use gitconf_body::blanks::Blanks;
 use gitconf_body::editor::Editor;
 use gitconf_text::NoMemory;
-use gitconf_write::line_end::LineEnd;
+use gitconf_text::line_end::LineEnd;
 use std::alloc::Global;
 use std::marker::Model;
 

@@ -2,7 +2,7 @@ use Rattle.std.proofs.Common.{◌≡◌, true, ap, sym, subst, ◌∙◌}
 use Rattle.std.specs.List.{list_all}
 use Rattle.gitconf_text.specs.Bytes.{is_blank}
 use Rattle.gitconf_state.proofs.EditItems.{spacing_fits}
-use Rattle.gitconf_write.specs.Bodies.{items_of}
+use Rattle.gitconf_parse.specs.Items.{items_of}
 use Rattle.gitconf_body.proofs.blanks.Blanks.of_items.Goals as goal
 
 pub invariant_of-result : goal.invariant_of-result

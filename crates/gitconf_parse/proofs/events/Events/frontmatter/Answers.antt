@@ -1,4 +1,4 @@
-use Rattle.std.proofs.Common.{◌≡◌, ◌∙◌, ap, sym, map, take}
+use Rattle.std.proofs.Common.{◌∙◌, ap, map}
 use Rattle.gitconf_parse.specs.EventList.{EventList}
 use Rattle.gitconf_parse.specs.ShownEvents.{shown_token, shown_event}
 use Rattle.gitconf_parse.specs.Sections.{is_header_event, is_shown_header, front_of}

@@ -1,10 +1,8 @@
-use Rattle.std.proofs.Common.{◌≡◌, ◌++◌, ◌∷◌, [], ◌∙◌, map, sym, subst, append_assoc, append-nil}
+use Rattle.std.proofs.Common.{◌++◌, ◌∷◌, [], ◌∙◌, append_assoc}
 use Rattle.gitconf_parse.specs.Compact.{events_of}
-use Rattle.gitconf_parse.specs.Events.{token_of}
-use Rattle.gitconf_parse.specs.EventList.{IsKept, IsSelection}
 use Rattle.gitconf_parse.proofs.Kept.{kept_step}
 use Rattle.gitconf_parse.proofs.Selections.{selected_step}
-use Rattle.gitconf_parse.proofs.Shown.{all_push_if}
+use Rattle.gitconf_text.proofs.Lists.{all_push_if}
 use Rattle.gitconf_parse.proofs.events.filter.kept_events.Goals as goal
 
 pub loop-event-preserved : goal.loop-event-preserved

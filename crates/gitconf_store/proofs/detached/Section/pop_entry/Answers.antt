@@ -3,7 +3,7 @@ use Rattle.std.specs.Prelude.{option_map, OnOk, IfOk, IsOk}
 use Rattle.gitconf_state.specs.Editors.{popped, popped_entry}
 use Rattle.gitconf_state.proofs.EditorItems.{popped_all}
 use Rattle.gitconf_state.specs.State.{is_item}
-use Rattle.gitconf_write.specs.Bodies.{items_of}
+use Rattle.gitconf_parse.specs.Items.{items_of}
 use Rattle.gitconf_body.proofs.Buffers.{same_extended}
 use Rattle.gitconf_store.specs.declared.section.Section.{Section}
 use Rattle.gitconf_store.proofs.AloneEdits.{edited_alone, kept_alone, stands_still}

@@ -3,7 +3,7 @@ use Rattle.std.specs.Prelude.{OnOk}
 use Rattle.std.specs.Option.{option_copied}
 use Rattle.gitconf_state.specs.Editors.{pushed}
 use Rattle.gitconf_state.proofs.EditorItems.{pushed_is}
-use Rattle.gitconf_write.specs.Bodies.{items_of}
+use Rattle.gitconf_parse.specs.Items.{items_of}
 use Rattle.gitconf_store.specs.declared.section.Section.{Section}
 use Rattle.gitconf_store.specs.Editors.{given_editor}
 use Rattle.gitconf_store.proofs.AloneEdits.{edited_alone, kept_alone, stands_still}

@@ -1,7 +1,7 @@
 use Rattle.std.proofs.Common.{refl, length}
 use Rattle.gitconf_state.specs.Editors.{line_end_pushed}
 use Rattle.gitconf_state.proofs.EditorItems.{line_end_pushed_is}
-use Rattle.gitconf_write.specs.Bodies.{items_of}
+use Rattle.gitconf_parse.specs.Items.{items_of}
 use Rattle.gitconf_store.specs.declared.section.Section.{Section}
 use Rattle.gitconf_store.specs.Editors.{given_editor}
 use Rattle.gitconf_store.proofs.AloneEdits.{edited_alone, kept_alone, stands_still}

@@ -5,7 +5,7 @@ use Rattle.gitconf_state.specs.Editors.{removed}
 use Rattle.gitconf_state.specs.Edits.{Detached}
 use Rattle.gitconf_state.proofs.EditorItems.{removed_all}
 use Rattle.gitconf_state.specs.State.{is_item}
-use Rattle.gitconf_write.specs.Bodies.{items_of}
+use Rattle.gitconf_parse.specs.Items.{items_of}
 use Rattle.gitconf_body.proofs.Buffers.{same_extended}
 use Rattle.gitconf_store.specs.declared.section.Section.{Section}
 use Rattle.gitconf_store.specs.Alone.{detached_of, with_items}

@@ -3,7 +3,7 @@ use Rattle.std.specs.Prelude.{OnOk}
 use Rattle.gitconf_state.specs.Editors.{value_set}
 use Rattle.gitconf_state.specs.Edits.{Detached}
 use Rattle.gitconf_state.proofs.EditorItems.{value_set_is}
-use Rattle.gitconf_write.specs.Bodies.{items_of}
+use Rattle.gitconf_parse.specs.Items.{items_of}
 use Rattle.gitconf_store.specs.declared.section.Section.{Section}
 use Rattle.gitconf_store.specs.Alone.{with_items}
 use Rattle.gitconf_store.specs.Editors.{given_editor}

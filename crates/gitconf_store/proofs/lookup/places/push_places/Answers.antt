@@ -1,9 +1,8 @@
-use Rattle.std.proofs.Common.{rules, ◌≡◌, ◌≢◌, ℕ, ◌+◌, ◌-◌, ◌++◌, true, false, [], ◌∷◌, length, ap, sym, subst, ◌∙◌, arith}
+use Rattle.std.proofs.Common.{rules, ◌≡◌, ◌≢◌, ◌+◌, ◌-◌, ◌++◌, true, false, [], ◌∷◌, length, ap, sym, subst, ◌∙◌, arith}
 use Rattle.std.specs.Prelude.{List}
 use Rattle.gitconf_parse.specs.declared.items.Item.{Item}
-use Rattle.gitconf_parse.specs.Items.{item_of}
+use Rattle.gitconf_parse.specs.Items.{item_of, items_of}
 use Rattle.gitconf_state.specs.Edit.{is_entry_of}
-use Rattle.gitconf_write.specs.Bodies.{items_of}
 use Rattle.gitconf_store.specs.ValuePlaces.{value_places}
 use Rattle.gitconf_store.specs.Views.{shown}
 use Rattle.gitconf_store.proofs.Placing.{IsTaken, taken_more, taken_none, taken_some}

@@ -1,5 +1,5 @@
 use Rattle.std.proofs.Common.{◌≡◌, ℕ, ◌+◌, length}
-use Rattle.gitconf_write.specs.Bodies.{items_of}
+use Rattle.gitconf_parse.specs.Items.{items_of}
 use Rattle.gitconf_store.specs.ValuePlaces.{value_places}
 use Rattle.gitconf_store.specs.Views.{shown}
 use Rattle.gitconf_store.proofs.Placing.{IsTaken}

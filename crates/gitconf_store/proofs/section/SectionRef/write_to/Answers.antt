@@ -1,6 +1,6 @@
 use Rattle.std.proofs.Common.{ap, sym, subst, ◌∙◌}
 use Rattle.gitconf_parse.specs.Sink.{Writes}
-use Rattle.gitconf_write.specs.Bodies.{items_of}
+use Rattle.gitconf_parse.specs.Items.{items_of}
 use Rattle.gitconf_write.specs.Texts.{section_text}
 use Rattle.gitconf_write.proofs.Printed.{printed_section-is}
 use Rattle.gitconf_store.specs.Views.{shown}

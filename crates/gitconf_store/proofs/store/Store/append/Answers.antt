@@ -3,7 +3,7 @@ use Rattle.std.proofs.lemmas.List.{length-map}
 use Rattle.gitconf_table.specs.Sections.{no_number}
 use Rattle.gitconf_state.specs.State.{State}
 use Rattle.gitconf_store.specs.Store.{section_state}
-use Rattle.gitconf_body.specs.Moves.{AreItemsMoved}
+use Rattle.gitconf_parse.specs.Moves.{AreItemsMoved}
 use Rattle.gitconf_state.specs.Edit.{with_used}
 use Rattle.gitconf_state.specs.Edits.{appended}
 use Rattle.gitconf_store.specs.Appends.{appended_bytes, line_between}

@@ -1,4 +1,4 @@
-use Rattle.std.proofs.Common.{rules, ◌≡◌, Some, None, refl, sym, inl, ◌∙◌, length}
+use Rattle.std.proofs.Common.{rules, ◌≡◌, Some, None, refl, sym, inl, length}
 use Rattle.gitconf_table.specs.Sections.{place_of}
 use Rattle.gitconf_table.proofs.SectionLemmas.{number_at-place}
 use Rattle.gitconf_state.specs.Editors.{deleted_at}

@@ -1,6 +1,6 @@
 use Rattle.std.proofs.Common.{ap, sym, ◌∙◌}
 use Rattle.gitconf_state.specs.LineEnds.{file_line_end}
-use Rattle.gitconf_write.specs.LineEnds.{bytes_of_line_end}
+use Rattle.gitconf_text.specs.LineEnds.{bytes_of_line_end}
 use Rattle.gitconf_store.specs.Appends.{last_items, line_between}
 use Rattle.gitconf_store.proofs.AppendedFiles.{line_told}
 use Rattle.gitconf_store.proofs.store.Store.line_between.Goals as goal

@@ -10,7 +10,7 @@ use Rattle.gitconf_state.specs.Edits as states
 use Rattle.gitconf_state.specs.State.{State, is_item}
 use Rattle.gitconf_state.proofs.EditItems.{new_section_is}
 use Rattle.gitconf_state.specs.LineEnds.{file_line_end}
-use Rattle.gitconf_write.specs.LineEnds.{bytes_of_line_end}
+use Rattle.gitconf_text.specs.LineEnds.{bytes_of_line_end}
 use Rattle.gitconf_store.specs.declared.section.Section.{Section}
 use Rattle.gitconf_store.specs.Store.{state_of}
 use Rattle.gitconf_store.proofs.Setting.{if_err_at_all}

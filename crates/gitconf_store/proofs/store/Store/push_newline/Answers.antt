@@ -5,7 +5,7 @@ use Rattle.gitconf_state.specs.Edit.{with_used}
 use Rattle.gitconf_state.specs.Editors.{line_end_pushed}
 use Rattle.gitconf_state.specs.Edits.{PushLineEnd}
 use Rattle.gitconf_state.proofs.EditsKeep.{apply_items}
-use Rattle.gitconf_write.specs.LineEnds.{bytes_of_line_end}
+use Rattle.gitconf_text.specs.LineEnds.{bytes_of_line_end}
 use Rattle.gitconf_store.specs.declared.section.Section.{Section}
 use Rattle.gitconf_store.specs.Editors.{given_editor}
 use Rattle.gitconf_store.specs.Store.{state_of}

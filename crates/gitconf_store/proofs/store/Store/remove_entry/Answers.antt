@@ -6,7 +6,7 @@ use Rattle.gitconf_state.specs.Edit.{old_value}
 use Rattle.gitconf_state.specs.Editors.{removed}
 use Rattle.gitconf_state.specs.Edits.{Raw, Remove}
 use Rattle.gitconf_state.proofs.EditsKeep.{apply_items}
-use Rattle.gitconf_write.specs.Bodies.{items_of}
+use Rattle.gitconf_parse.specs.Items.{items_of}
 use Rattle.gitconf_body.proofs.Buffers.{same_extended}
 use Rattle.gitconf_store.specs.declared.section.Section.{Section}
 use Rattle.gitconf_store.specs.Store.{state_of}

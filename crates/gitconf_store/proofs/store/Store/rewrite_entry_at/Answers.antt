@@ -8,7 +8,7 @@ use Rattle.gitconf_state.specs.Editors.{written_at}
 use Rattle.gitconf_state.specs.Edits.{WriteAt, apply}
 use Rattle.gitconf_state.specs.State.{State}
 use Rattle.gitconf_state.specs.LineEnds.{file_line_end}
-use Rattle.gitconf_write.specs.Bodies.{items_of}
+use Rattle.gitconf_parse.specs.Items.{items_of}
 use Rattle.gitconf_body.specs.ValuesAt.{keeps_line_end, rewritten_put, stands}
 use Rattle.gitconf_store.specs.declared.section.Section.{Section}
 use Rattle.gitconf_store.specs.Edits.{UsedGrows}

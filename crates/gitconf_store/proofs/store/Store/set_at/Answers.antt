@@ -2,8 +2,8 @@ use Rattle.std.proofs.Common.{◌≡◌, refl, sym, ap, subst, ◌∙◌, length
 use Rattle.std.specs.Prelude.{option_map}
 use Rattle.gitconf_state.specs.Edit.{old_value, set_bytes}
 use Rattle.gitconf_state.specs.LineEnds.{file_line_end}
-use Rattle.gitconf_write.specs.Bodies.{items_of}
-use Rattle.gitconf_write.specs.LineEnds.{bytes_of_line_end}
+use Rattle.gitconf_parse.specs.Items.{items_of}
+use Rattle.gitconf_text.specs.LineEnds.{bytes_of_line_end}
 use Rattle.gitconf_store.specs.declared.section.Section.{Section}
 use Rattle.gitconf_store.specs.Edits.{UsedGrows}
 use Rattle.gitconf_store.specs.Store.{state_of}

@@ -6,7 +6,7 @@ use Rattle.gitconf_state.specs.Edit.{old_value, with_used}
 use Rattle.gitconf_state.specs.Editors.{value_set}
 use Rattle.gitconf_state.specs.Edits.{Raw, SetValue}
 use Rattle.gitconf_state.proofs.EditsKeep.{apply_items}
-use Rattle.gitconf_write.specs.Bodies.{items_of}
+use Rattle.gitconf_parse.specs.Items.{items_of}
 use Rattle.gitconf_body.specs.Editors.{set_put}
 use Rattle.gitconf_store.specs.declared.section.Section.{Section}
 use Rattle.gitconf_store.specs.Edits.{UsedGrows}

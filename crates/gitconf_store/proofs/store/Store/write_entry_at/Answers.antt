@@ -6,7 +6,7 @@ use Rattle.gitconf_state.specs.Edit.{with_used}
 use Rattle.gitconf_state.specs.Editors.{written_at}
 use Rattle.gitconf_state.specs.Edits.{WriteAt}
 use Rattle.gitconf_state.proofs.EditsKeep.{apply_items}
-use Rattle.gitconf_write.specs.Bodies.{items_of}
+use Rattle.gitconf_parse.specs.Items.{items_of}
 use Rattle.gitconf_body.specs.ValuesAt.{keeps_line_end, stands, written_put}
 use Rattle.gitconf_store.specs.declared.section.Section.{Section}
 use Rattle.gitconf_store.specs.Editors.{given_editor}

@@ -4,8 +4,8 @@ use Rattle.gitconf_state.specs.Printing.{printed_kept}
 use Rattle.gitconf_state.specs.State.{HasItems, State}
 use Rattle.gitconf_state.specs.Writing.{Closed}
 use Rattle.gitconf_state.proofs.ReadsBack.{kept_reads_back}
-use Rattle.gitconf_write.specs.Bodies.{items_of}
-use Rattle.gitconf_write.specs.LineEnds.{bytes_of_line_end}
+use Rattle.gitconf_parse.specs.Items.{items_of}
+use Rattle.gitconf_text.specs.LineEnds.{bytes_of_line_end}
 use Rattle.gitconf_write.specs.Texts.{items_text}
 use Rattle.gitconf_write.proofs.Left.{left_behind, left_fault, left_last}
 use Rattle.gitconf_store.specs.Texts.{line_end_unless, sections_text}

@@ -7,5 +7,5 @@ returns-then-is_empty c =
     let none : length c.self.inside.links.items ≡ 0 = search rules in
     rw (← c.self.view_is) (none_set c.self.inside.links.items c.args.places.now c.args.word none)
 
-pub put_each-requires : goal.put_each-requires
-put_each-requires c = rw (← c.self.view_is) at c.requires
+pub move_each-requires-clause-within : goal.move_each-requires-clause-within
+move_each-requires-clause-within c = rw (← c.self.view_is) at c.requires

@@ -1,7 +1,7 @@
 use Rattle.std.proofs.Common.{length, refl, ap, ◌∙◌}
 use Rattle.gitconf_state.specs.Edits.{PushLineEnd}
 use Rattle.gitconf_state.specs.Editors.{line_end_pushed}
-use Rattle.gitconf_write.specs.LineEnds.{bytes_of_line_end}
+use Rattle.gitconf_text.specs.LineEnds.{bytes_of_line_end}
 use Rattle.gitconf_store.specs.Editors.{given_editor}
 use Rattle.gix_config.specs.Edited.{has_number}
 use Rattle.gix_config.proofs.Numbers.{edited_in, edited_stands, items_keep_numbers}

@@ -1,4 +1,4 @@
-use Rattle.gitconf_parse.proofs.Compacts.{all_parts}
+use Rattle.gitconf_text.proofs.Lists.{all_parts}
 use Rattle.gitconf_parse.proofs.events.iters.SectionIter.over.Goals as goal
 
 pub invariant_of-result : goal.invariant_of-result

@@ -1,5 +1,5 @@
 use Rattle.std.proofs.Common.{arith, length, ap}
-use Rattle.gitconf_parse.proofs.Compacts.{all_parts}
+use Rattle.gitconf_text.proofs.Lists.{all_parts}
 use Rattle.gitconf_parse.proofs.events.iters.SectionIterIterator.next.Goals as goal
 
 pub invariant_of-self : goal.invariant_of-self

@@ -1,0 +1,70 @@
+-- What stands between two offsets of a text: parts, which are read to events; or why it can't be read on.
+use Rattle.std.specs.Prelude.{◌≡◌, ◌⊎◌, ◌<◌, ◌+◌, ℕ, false, List, [], ◌∷◌, ◌++◌, length, drop, map}
+use Rattle.gitconf_text.specs.Bytes.{is_blank}
+use Rattle.gitconf_text.specs.Text.{begins}
+use Rattle.gitconf_text.specs.Part.{Part, ItemPart, HeaderPart, spelled, AreFit}
+use Rattle.gitconf_text.specs.Stuck.{IsAssignment, spelled_assignment, NoValue, NoPart}
+use Rattle.gitconf_text.specs.Token.{Token, tokens_of}
+use Rattle.gitconf_parse.specs.declared.event.Event.{Event}
+use Rattle.gitconf_parse.specs.declared.reading.Fault.{Fault}
+use Rattle.gitconf_parse.specs.declared.reading.Expected.{Expected}
+use Rattle.gitconf_parse.specs.declared.reading.Expected.TheVariants as expected
+use Rattle.gitconf_parse.specs.declared.reading.ReadError.{ReadError}
+use Rattle.gitconf_parse.specs.declared.reading.ReadError.TheVariants as errors
+use Rattle.gitconf_parse.specs.Events.{token_of}
+use Rattle.gitconf_parse.specs.ItemsFit.{EventsWithin}
+
+-- what is looked for behind a part, where `wanted` was before it
+abbrev pub wanted_part : Expected → Part → Expected
+wanted_part wanted (ItemPart i) = wanted
+wanted_part wanted (HeaderPart h) = expected.Name
+
+abbrev pub wanted_after : Expected → List Part → Expected
+wanted_after wanted [] = wanted
+wanted_after wanted (p ∷ parts) = wanted_after (wanted_part wanted p) parts
+
+-- where a key, blanks, `=` and blanks stand, and no value behind them
+pub record ValueFaultShape (input : List ℕ) (n : ℕ) (f : Fault) : Type 0 where
+  pub name : List ℕ
+  pub blanks : List ℕ
+  pub between : List ℕ
+  pub assignment : IsAssignment name blanks between
+  pub whole : drop n input ≡ spelled_assignment name blanks between ++ drop f.at input
+  pub at_is : f.at ≡ n + length (spelled_assignment name blanks between)
+  pub unblank : begins is_blank (drop f.at input) ≡ false
+  pub nothing : NoValue (drop f.at input)
+  pub kind_is : f.expected ≡ expected.Value
+
+-- why the text can't be read on from the offset m
+abbrev pub IsFaultAt : (input : List ℕ) → (m : ℕ) → Expected → Fault → Type 0
+IsFaultAt input m wanted f = ((record { at = m; expected = wanted } ≡ f) × NoPart (drop m input)) ⊎ ValueFaultShape input m f
+
+-- Parts with these tokens stand from one offset up to another; what is looked for where none stands is told before them and behind them.
+pub record IsStretch (input : List ℕ) (from : ℕ) (first : Expected) (to : ℕ) (last : Expected) (tokens : List Token) : Type 0 where
+  pub parts : List Part
+  pub whole : drop from input ≡ spelled parts ++ drop to input
+  pub fits : AreFit parts (drop to input)
+  pub to_is : to ≡ from + length (spelled parts)
+  pub last_is : last ≡ wanted_after first parts
+  pub tokens_are : tokens ≡ tokens_of parts
+
+-- A stretch was read, and its events stand behind those before it.
+pub record IsReadOn (input : List ℕ) (from : ℕ) (first : Expected) (before : List Event) (to : ℕ) (last : Expected) (behind : List Event) : Type 0 where
+  pub tokens : List Token
+  pub stretch : IsStretch input from first to last tokens
+  pub tokens_are : map (token_of input) behind ≡ map (token_of input) before ++ tokens
+  pub within : EventsWithin (length input) before → EventsWithin (length input) behind
+
+-- Parts stand from an offset on, and behind them the text can't be read on.
+pub record IsBroken (input : List ℕ) (from : ℕ) (first : Expected) (f : Fault) : Type 0 where
+  pub parts : List Part
+  pub rest : List ℕ
+  pub whole : drop from input ≡ spelled parts ++ rest
+  pub fits : AreFit parts rest
+  pub some : 0 < length rest
+  pub fault : IsFaultAt input (from + length (spelled parts)) (wanted_after first parts) f
+
+-- The text is broken from an offset on, or memory was wanting.
+abbrev pub IsBreak : (input : List ℕ) → (from : ℕ) → (first : Expected) → ReadError → Type 0
+IsBreak input from first errors.Memory = Unit {0}
+IsBreak input from first (errors.Fault f) = IsBroken input from first f
