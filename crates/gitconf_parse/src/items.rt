@@ -11,8 +11,9 @@ ghost use Rattle.gitconf_parse.specs.Items.{item_of, assigned_of};
 ghost use Rattle.gitconf_parse.specs.Grouping.{Place, Between, BehindName, BehindNameBlanks, BehindSeparator, BehindSeparatorBlanks, BehindPiece, BehindPieceEnd, are_items, AreBehind};
 
 use crate::compact::EventSlice;
-use crate::entry::{Assigned, Entry, EntryParts, Piece, Value};
+use crate::entry::{Assigned, Continued, Entry, EntryParts, Piece, Value};
 use crate::event::{Event, Header, Span, is_header};
+use crate::section_sink::SectionSink;
 use gitconf_text::NoMemory;
 use smallvec::SmallVec;
 use std::alloc::Global;
@@ -111,31 +112,6 @@ fn pieces_first<'e>(
     }
 }
 
-/// The value that the events begin with, and the events behind it.
-fn value_first<'e>(
-    alloc: Global,
-    buffer: &[u8],
-    events: EventSlice<'e>,
-) -> Result<(Value, EventSlice<'e>), NoMemory>
-    requires items { are_items BehindSeparatorBlanks (map (token_of buffer.now) (events_of events)) ≡ true }
-    requires within { EventsWithin (length buffer.now) (events_of events) }
-    ensures first { IfOk result (λ r. ValueFits (length buffer.now) r.0) }
-    ensures others { IfOk result (λ r. EventsWithin (length buffer.now) (events_of r.1)) }
-    ensures tokens { IfOk result (λ r. AreBehind Between (spec.tokens_of_value buffer.now r.0) (map (token_of buffer.now) (events_of r.1)) (map (token_of buffer.now) (events_of events.entry))) }
-{
-    match events.split_first() {
-        Some((Event::Value(last), behind)) => {
-            let value = Value {
-                pieces: SmallVec::new(alloc),
-                last,
-            };
-            Ok((value, behind))
-        }
-        Some((Event::ValueNotDone(text), behind)) => pieces_first(alloc, buffer, text, behind),
-        _ => unreachable!(),
-    }
-}
-
 /// What the events behind a name assign, and the events behind that.
 fn assigned_first<'e>(
     alloc: Global,
@@ -152,8 +128,16 @@ fn assigned_first<'e>(
         Some((Event::Value(_), behind)) => Ok((Assigned::Nothing, behind)),
         Some((Event::KeyValueSeparator, behind)) => {
             let (blanks, behind) = blanks_first(buffer, behind);
-            let (value, behind) = value_first(alloc, buffer, behind)?;
-            Ok((Assigned::of_value(blanks, value), behind))
+            match behind.split_first() {
+                Some((Event::Value(value), behind)) => {
+                    Ok((Assigned::Plain { blanks, value }, behind))
+                }
+                Some((Event::ValueNotDone(text), behind)) => {
+                    let (value, behind) = pieces_first(alloc, buffer, text, behind)?;
+                    Ok((Assigned::Continued(Continued { blanks, value }), behind))
+                }
+                _ => unreachable!(),
+            }
         }
         _ => unreachable!(),
     }
@@ -238,28 +222,27 @@ pub(crate) fn items_first<'e>(
     Ok((moved_out(alloc, scratch)?, rest))
 }
 
-/// Adds the sections that the events are; their spans are offsets of the buffer.
-pub(crate) fn push_sections(
+/// Hands over the sections that the events are, in order; their spans are offsets of the buffer.
+pub(crate) fn push_sections<S: SectionSink>(
     alloc: Global,
     buffer: &[u8],
     events: EventSlice<'_>,
     scratch: &mut Vec<Item>,
-    sections: &mut Vec<Section>,
+    sections: &mut S,
 ) -> Result<(), NoMemory>
     requires empty { scratch.old.items ≡ [] }
     requires items { are_items Between (map (token_of buffer.now) (events_of events)) ≡ true }
     requires cut { is_cut is_header_event (events_of events) ≡ true }
     requires within { EventsWithin (length buffer.now) (events_of events) }
-    requires fit { AllByRecursion (SectionFits (length buffer.now)) sections.old.items }
-    ensures fit { OnOk result (AllByRecursion (SectionFits (length buffer.now)) sections.new.items) }
-    ensures tokens { OnOk result (flat_map (spec.tokens_of_section buffer.now) sections.new.items
-        ≡ flat_map (spec.tokens_of_section buffer.now) sections.old.items ++ map (token_of buffer.now) (events_of events.entry)) }
+    requires keeps { (first : S) × S.keeps buffer.now first sections.old }
+    ensures keeps { OnOk result ((first : S) → S.keeps buffer.now first sections.old → S.keeps buffer.now first sections.new) }
+    ensures tokens { OnOk result (S.tokens buffer.now sections.new ≡ S.tokens buffer.now sections.old ++ map (token_of buffer.now) (events_of events.entry)) }
     ensures empty { OnOk result (scratch.new.items ≡ []) }
 {
     let mut rest = events;
     while let Some((Event::SectionHeader(header), behind)) = rest.split_first() {
         let (items, behind) = items_first(alloc, buffer, behind, scratch)?;
-        sections.push(Section { header, items })?;
+        sections.take(buffer, Section { header, items })?;
         rest = behind;
     }
     Ok(())

@@ -12,4 +12,5 @@ pub mod laws;
 pub mod loading;
 pub mod moving;
 mod reading;
+pub mod section_sink;
 pub mod sink;

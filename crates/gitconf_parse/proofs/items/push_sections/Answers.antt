@@ -6,7 +6,7 @@ use Rattle.gitconf_parse.specs.Items.{tokens_of_items}
 use Rattle.gitconf_parse.proofs.items.push_sections.Goals as goal
 
 pub loop-header-smaller : goal.loop-header-smaller
-loop-header-smaller c =
+loop-header-smaller g c =
     let b = c.args.buffer.now in
     let read = c.in_ok-items.ensures.items.joined in
     let same = ap length read in

@@ -1,24 +1,22 @@
-use Rattle.std.proofs.Common.{◌≡◌, ◌++◌, [], true, map, flat_map, length}
-use Rattle.std.specs.List.{AllByRecursion}
+use Rattle.std.proofs.Common.{◌≡◌, ◌++◌, [], true, map, length}
 use Rattle.gitconf_parse.specs.Compact.{events_of}
 use Rattle.gitconf_parse.specs.Events.{token_of}
-use Rattle.gitconf_parse.specs.ItemsFit.{SectionFits, EventsWithin}
+use Rattle.gitconf_parse.specs.ItemsFit.{EventsWithin}
 use Rattle.gitconf_parse.specs.Sections.{is_header_event, is_cut}
-use Rattle.gitconf_parse.specs.Items.{tokens_of_section}
 use Rattle.gitconf_parse.specs.Grouping.{Between, are_items}
 use Rattle.gitconf_parse.proofs.items.push_sections.Given as goal
 
--- these sections were read, and behind them go others on
+-- these sections were handed over, and behind them go others on
 abbrev pub invariant-loop-header : goal.invariant-loop-header
-invariant-loop-header l = record {
-  joined : flat_map (tokens_of_section l.buffer) l.sections.items ++ map (token_of l.buffer) (events_of l.rest)
-      ≡ flat_map (tokens_of_section l.buffer) l.fn.sections.items ++ map (token_of l.buffer) (events_of l.events);
+invariant-loop-header g l = record {
+  joined : g.S.SectionSink.tokens l.buffer l.sections ++ map (token_of l.buffer) (events_of l.rest)
+      ≡ g.S.SectionSink.tokens l.buffer l.fn.sections ++ map (token_of l.buffer) (events_of l.events);
   go_on : are_items Between (map (token_of l.buffer) (events_of l.rest)) ≡ true;
   cut : is_cut is_header_event (events_of l.rest) ≡ true;
-  sections : AllByRecursion (SectionFits (length l.buffer)) l.sections.items;
-  others : EventsWithin (length l.buffer) (events_of l.rest);
-  scratch : l.scratch.items ≡ [];
+  keeps : (first : g.row.S.Denot) → g.S.SectionSink.keeps l.buffer first l.fn.sections → g.S.SectionSink.keeps l.buffer first l.sections;
+  within : EventsWithin (length l.buffer) (events_of l.rest);
+  empty : l.scratch.items ≡ [];
 }
 
 abbrev pub decreases-loop-header : goal.decreases-loop-header
-decreases-loop-header l = length (events_of l.rest)
+decreases-loop-header g l = length (events_of l.rest)
