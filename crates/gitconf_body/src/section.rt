@@ -50,10 +50,7 @@ fn copy_of(
     }
     let start = copies.len();
     copies.extend_from_slice(subsection)?;
-    Ok(Some(Copied {
-        start,
-        len: subsection.len(),
-    }))
+    Ok(Some(Copied::behind(copies, start)?))
 }
 
 /// Puts the text of a header without a subsection into the buffer.

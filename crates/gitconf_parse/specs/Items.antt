@@ -1,5 +1,5 @@
 -- Items as the code has them.
-use Rattle.std.specs.Prelude.{ℕ, List, [], ◌∷◌, ◌++◌, map, flat_map, Option, Some, None}
+use Rattle.std.specs.Prelude.{ℕ, List, [], ◌∷◌, map, flat_map, Option, Some, None}
 use Rattle.gitconf_text.specs.Value as grammar
 use Rattle.gitconf_text.specs.Part as parts
 use Rattle.gitconf_text.specs.Token.{Token, HeaderToken, value_tokens, item_tokens}
@@ -12,7 +12,6 @@ use Rattle.gitconf_parse.specs.declared.entry.AssignedRef.TheVariants as refs
 use Rattle.gitconf_parse.specs.declared.entry.EntryParts.{EntryParts}
 use Rattle.gitconf_parse.specs.declared.items.Item.{Item}
 use Rattle.gitconf_parse.specs.declared.items.Section.{Section}
-use Rattle.gitconf_parse.specs.declared.items.Items.{Items}
 use Rattle.gitconf_parse.specs.declared.items.Item.TheVariants as kinds
 use Rattle.gitconf_parse.specs.Events.{bytes_of, header_of}
 
@@ -58,7 +57,3 @@ tokens_of_items buffer items = flat_map (λ i. item_tokens (item_of buffer i)) i
 
 abbrev pub tokens_of_section : (buffer : List ℕ) → Section → List Token
 tokens_of_section buffer s = HeaderToken (header_of buffer s.header) ∷ tokens_of_items buffer s.items.items
-
--- the tokens of the front and of the sections, in order
-abbrev pub tokens_of_all : (buffer : List ℕ) → Items → List Token
-tokens_of_all buffer g = tokens_of_items buffer g.front.items ++ flat_map (tokens_of_section buffer) g.sections.items

@@ -9,7 +9,6 @@ use Rattle.gitconf_parse.specs.declared.entry.Assigned.TheVariants as assigned
 use Rattle.gitconf_parse.specs.declared.entry.EntryParts.{EntryParts}
 use Rattle.gitconf_parse.specs.declared.items.Item.{Item}
 use Rattle.gitconf_parse.specs.declared.items.Section.{Section}
-use Rattle.gitconf_parse.specs.declared.items.Items.{Items}
 use Rattle.gitconf_parse.specs.declared.items.Item.TheVariants as kinds
 use Rattle.gitconf_parse.specs.Events.{SpanFits, HeaderFits, EventFits}
 
@@ -40,11 +39,6 @@ AreItemsWithin limit items = AllByRecursion (ItemFits limit) items
 -- all spans of the section end within a buffer of this many bytes
 abbrev pub SectionFits : (limit : ℕ) → Section → Type 0
 SectionFits limit s = HeaderFits limit s.header × AreItemsWithin limit s.items.items
-
--- the same of the front and of all sections
-pub record ItemsFit (limit : ℕ) (g : Items) : Type 0 where
-  pub front : AreItemsWithin limit g.front.items
-  pub sections : AllByRecursion (SectionFits limit) g.sections.items
 
 -- all spans of the events end within a buffer of this many bytes
 abbrev pub EventsWithin : (limit : ℕ) → List Event → Type 0

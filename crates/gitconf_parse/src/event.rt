@@ -2,6 +2,7 @@
 ghost use Rattle.std.specs.Prelude.{◌≡◌, ◌≤◌, ◌<◌, ◌-◌, ◌^◌};
 ghost use Rattle.gitconf_parse.specs.Sections.{is_header_event};
 
+use gitconf_text::NoMemory;
 use gitconf_text::parse::span;
 
 /// A part of a buffer: where it begins, and how many bytes it has.
@@ -86,9 +87,32 @@ impl Span {
 #[derive(Clone, Copy, Debug)]
 pub struct Copied {
     /// The offset of its first byte.
-    pub start: usize,
+    pub start: u32,
     /// Its length in bytes.
-    pub len: usize,
+    pub len: u32,
+}
+
+impl Copied {
+    ghost use Rattle.std.specs.Prelude.{◌≡◌, ◌≤◌, ◌-◌, length, IfOk};
+
+    /// The copy that stands from an offset up to the end.
+    ///
+    /// # Errors
+    ///
+    /// The end is past 4294967295, which counts as want of memory.
+    pub fn behind(copies: &[u8], start: usize) -> Result<Copied, NoMemory>
+        requires { start ≤ length copies.now }
+        ensures start { IfOk result (λ c. c.start ≡ start) }
+        ensures len { IfOk result (λ c. c.len ≡ length copies.now - start) }
+    {
+        if copies.len() > u32::MAX as usize {
+            return Err(NoMemory);
+        }
+        Ok(Copied {
+            start: start as u32,
+            len: (copies.len() - start) as u32,
+        })
+    }
 }
 
 /// A header as its text has it.

@@ -17,8 +17,9 @@ mod lend;
 use crate::compact::EventVec;
 use crate::error::Error;
 use crate::event_ref::EventRef;
-use crate::items::{Items, grouped};
+use crate::items::{Item, grouped};
 use crate::reading::{Fault, ReadError, read};
+use crate::section_sink::SectionSink;
 pub use decode::decoded_header;
 pub use filter::keeps_meaning;
 use filter::kept_events;
@@ -117,7 +118,7 @@ fn events_of(alloc: Global, input: &[u8]) -> Result<EventVec, Error>
 }
 
 impl Events {
-    ghost use Rattle.std.specs.Prelude.{◌≡◌, ℕ, List, Bool, true, map, IfOk, IfErr, IsNone, OnOk};
+    ghost use Rattle.std.specs.Prelude.{◌≡◌, ◌<◌, ◌^◌, ◌++◌, [], ℕ, List, Bool, true, length, map, IfOk, IfErr, IsNone, OnOk};
     ghost use Rattle.std.specs.Option.{ForSome, ForNone};
     ghost use Rattle.gitconf_text.specs.Part.{Part};
     ghost use Rattle.gitconf_text.specs.Document.{IsText};
@@ -128,9 +129,8 @@ impl Events {
     ghost use Rattle.gitconf_parse.specs.EventIters.{events_left, sections_left};
     ghost use Rattle.gitconf_parse.specs.EventList.{IsParsed, IsWhole, IsFiltered, IsSelected};
     ghost use Rattle.gitconf_parse.specs.EventResult.{IsRefused};
-    ghost use Rattle.std.specs.Prelude.{length, ◌<◌, ◌^◌};
-    ghost use Rattle.gitconf_parse.specs.Items.{tokens_of_all};
-    ghost use Rattle.gitconf_parse.specs.ItemsFit.{ItemsFit};
+    ghost use Rattle.gitconf_parse.specs.Items.{tokens_of_items};
+    ghost use Rattle.gitconf_parse.specs.ItemsFit.{AreItemsWithin};
 
     /// All events of a text.
     fn whole(alloc: Global, input: &[u8]) -> Result<Events, Error>
@@ -221,41 +221,32 @@ impl Events {
         Events::whole(alloc, input.as_bytes())
     }
 
-    /// The items of what was kept, by section, and the buffer that their spans are offsets of.
+    /// The text, and the items of what was kept before its first header; the sections are handed over in order. All spans are
+    /// offsets of the text, and the tokens of both are those that were kept.
     ///
     /// It asks that these are the tokens of some parts of a text; they are where `keeps_entries` is true, by
-    /// `laws::kept_entries_make_items`. One pass.
+    /// `laws::kept_entries_make_items`. One pass, and no byte is copied.
     ///
     /// # Errors
     ///
-    /// Want of memory.
+    /// Want of memory. Some sections may have been handed over.
     #[tactic(auto, using(crate::proofs::GroupLaws::tokens_items))]
-    pub fn items(&self, alloc: Global) -> Result<(Items, &[u8]), NoMemory>
-        requires { (parts : List Part) × (self.now.tokens ≡ tokens_of parts) }
-        ensures tokens { IfOk result (λ r. tokens_of_all r.1.now r.0 ≡ self.now.tokens) }
-        ensures within { IfOk result (λ r. ItemsFit (length r.1.now) r.0) }
-    {
-        let items = grouped(alloc, &self.buffer, self.events.as_slice())?;
-        Ok((items, &self.buffer))
-    }
-
-    /// The text and the items of what was kept, by section; their spans are offsets of the text.
-    ///
-    /// As [`Events::items`], but the text is handed over. One pass, and no byte is copied.
-    ///
-    /// # Errors
-    ///
-    /// Want of memory.
-    #[tactic(auto, using(crate::proofs::GroupLaws::tokens_items))]
-    pub fn into_items(self, alloc: Global) -> Result<(Vec<u8>, Items), NoMemory>
-        requires { (parts : List Part) × (self.tokens ≡ tokens_of parts) }
-        ensures tokens { IfOk result (λ r. tokens_of_all r.0.items r.1 ≡ self.tokens) }
-        ensures within { IfOk result (λ r. ItemsFit (length r.0.items) r.1) }
+    pub fn into_sections<S: SectionSink>(
+        self,
+        alloc: Global,
+        sections: &mut S,
+    ) -> Result<(Vec<u8>, Vec<Item>), NoMemory>
+        requires entries { (parts : List Part) × (self.tokens ≡ tokens_of parts) }
+        requires keeps { (buffer : List ℕ) → (first : S) × S.keeps buffer first sections.old }
+        requires none { (buffer : List ℕ) → S.tokens buffer sections.old ≡ [] }
+        ensures tokens { IfOk result (λ r. tokens_of_items r.0.items r.1.items ++ S.tokens r.0.items sections.new ≡ self.tokens) }
+        ensures within { IfOk result (λ r. AreItemsWithin (length r.0.items) r.1.items) }
+        ensures keeps { IfOk result (λ r. (first : S) → S.keeps r.0.items first sections.old → S.keeps r.0.items first sections.new) }
         ensures used { IfOk result (λ r. length r.0.items ≡ self.used) }
         ensures fits { IfOk result (λ r. length r.0.items < 2 ^ 32) }
     {
-        let items = grouped(alloc, &self.buffer, self.events.as_slice())?;
-        Ok((self.buffer, items))
+        let front = grouped(alloc, &self.buffer, self.events.as_slice(), sections)?;
+        Ok((self.buffer, front))
     }
 
     /// All events in the order of the text.

@@ -5,7 +5,7 @@ ghost use Rattle.gitconf_text.specs.Token.{WhitespaceToken, NewlineToken, ValueN
 ghost use Rattle.gitconf_parse.specs.Compact.{events_of};
 ghost use Rattle.gitconf_parse.specs.Events.{bytes_of, token_of, SpanFits, EventFits};
 ghost use Rattle.gitconf_parse.specs.Sections.{is_header_event, is_cut};
-ghost use Rattle.gitconf_parse.specs.ItemsFit.{EventsWithin, AreItemsWithin, AssignedFits, ItemFits, ItemsFit, SectionFits, ValueFits};
+ghost use Rattle.gitconf_parse.specs.ItemsFit.{EventsWithin, AreItemsWithin, AssignedFits, ItemFits, ValueFits};
 ghost use Rattle.gitconf_parse.specs.Items as spec;
 ghost use Rattle.gitconf_parse.specs.Items.{item_of, assigned_of};
 ghost use Rattle.gitconf_parse.specs.Grouping.{Place, Between, BehindName, BehindNameBlanks, BehindSeparator, BehindSeparatorBlanks, BehindPiece, BehindPieceEnd, are_items, AreBehind};
@@ -35,13 +35,6 @@ const _: () = prove!(size_of::<Item>() == 24);
 pub struct Section {
     pub header: Header,
     pub items: Vec<Item>,
-}
-
-/// What stands before the first header, and the sections.
-#[derive(Debug, Drop)]
-pub struct Items {
-    pub front: Vec<Item>,
-    pub sections: Vec<Section>,
 }
 
 const NOTHING: Span = Span { start: 0, len: 0 };
@@ -248,26 +241,30 @@ pub(crate) fn push_sections<S: SectionSink>(
     Ok(())
 }
 
-/// The items of events by section; the spans are offsets of the buffer. Their tokens are the events' again.
+/// The items of events before their first header; the sections are handed over in order. All spans are offsets of the buffer,
+/// and the tokens of both are the events' again.
 ///
 /// One pass, without a copy of a byte.
 ///
 /// # Errors
 ///
 /// Want of memory.
-pub(crate) fn grouped(
+pub(crate) fn grouped<S: SectionSink>(
     alloc: Global,
     buffer: &[u8],
     events: EventSlice<'_>,
-) -> Result<Items, NoMemory>
+    sections: &mut S,
+) -> Result<Vec<Item>, NoMemory>
     requires items { are_items Between (map (token_of buffer.now) (events_of events)) ≡ true }
     requires within { EventsWithin (length buffer.now) (events_of events) }
-    ensures within { IfOk result (ItemsFit (length buffer.now)) }
-    ensures tokens { IfOk result (λ g. spec.tokens_of_all buffer.now g ≡ map (token_of buffer.now) (events_of events.entry)) }
+    requires keeps { (first : S) × S.keeps buffer.now first sections.old }
+    requires none { S.tokens buffer.now sections.old ≡ [] }
+    ensures within { IfOk result (λ front. AreItemsWithin (length buffer.now) front.items) }
+    ensures keeps { OnOk result ((first : S) → S.keeps buffer.now first sections.old → S.keeps buffer.now first sections.new) }
+    ensures tokens { IfOk result (λ front. spec.tokens_of_items buffer.now front.items ++ S.tokens buffer.now sections.new ≡ map (token_of buffer.now) (events_of events.entry)) }
 {
     let mut scratch = Vec::new(alloc);
     let (front, behind) = items_first(alloc, buffer, events, &mut scratch)?;
-    let mut sections = Vec::new(alloc);
-    push_sections(alloc, buffer, behind, &mut scratch, &mut sections)?;
-    Ok(Items { front, sections })
+    push_sections(alloc, buffer, behind, &mut scratch, sections)?;
+    Ok(front)
 }

@@ -38,8 +38,8 @@ fn moved_option(span: Option<Span>, by: u32) -> Option<Span>
 }
 
 #[tactic(auto, using(crate::proofs::Moves::moving))]
-fn moved_copy(copy: Option<Copied>, by: usize) -> Option<Copied>
-    requires { CopyFits (2 ^ 64 - 1 - by) copy }
+fn moved_copy(copy: Option<Copied>, by: u32) -> Option<Copied>
+    requires { CopyFits (2 ^ 32 - 1 - by) copy }
     ensures { IsMoved copy_of CopyFits by copy result }
 {
     match copy {
@@ -52,9 +52,9 @@ fn moved_copy(copy: Option<Copied>, by: usize) -> Option<Copied>
 }
 
 /// A header of a buffer, where so many bytes stand before those of the buffer, and so many before the decoded copies.
-pub fn moved_header(header: Header, by: u32, copies_by: usize) -> Header
+pub fn moved_header(header: Header, by: u32, copies_by: u32) -> Header
     requires fits { HeaderFits (2 ^ 32 - 1 - by) header }
-    requires copy_fits { CopyFits (2 ^ 64 - 1 - copies_by) header.decoded }
+    requires copy_fits { CopyFits (2 ^ 32 - 1 - copies_by) header.decoded }
     ensures { IsHeaderMoved by copies_by header result }
 {
     Header {

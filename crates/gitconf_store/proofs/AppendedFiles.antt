@@ -96,13 +96,13 @@ front_within n front behind [] first second = within_both n front behind first s
 front_within n front behind (e ∷ es) first second = first
 
 -- All sections of a buffer may be moved, where there is room for the buffer and its copies.
-pub movable : (theirs copies : List ℕ) (by copies_by : ℕ) → length theirs ≤ 2 ^ 32 - 1 - by → length copies ≤ 2 ^ 64 - 1 - copies_by → (es : List (SectionEntry Section))
+pub movable : (theirs copies : List ℕ) (by copies_by : ℕ) → length theirs ≤ 2 ^ 32 - 1 - by → length copies ≤ 2 ^ 32 - 1 - copies_by → (es : List (SectionEntry Section))
     → AllByRecursion (SectionFits theirs copies) es → AllByRecursion (λ (e : SectionEntry Section). IsMovable by copies_by e.section) es
 movable theirs copies by copies_by room copies_room [] fits = tt
 movable theirs copies by copies_by room copies_room (e ∷ es) fits = (
   record {
     header = header_up (length theirs) (2 ^ 32 - 1 - by) room e.section.header fits.0.header.fits;
-    copy = copy_up (length copies) (2 ^ 64 - 1 - copies_by) copies_room e.section.header.decoded fits.0.header.copy_fits;
+    copy = copy_up (length copies) (2 ^ 32 - 1 - copies_by) copies_room e.section.header.decoded fits.0.header.copy_fits;
     items = items_up (length theirs) (2 ^ 32 - 1 - by) room e.section.items.items fits.0.items;
     held = items_up (length theirs) (2 ^ 32 - 1 - by) room e.section.held.items fits.0.held;
   },

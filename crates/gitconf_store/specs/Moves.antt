@@ -18,7 +18,7 @@ pub record IsSectionMoved (by copies_by : ℕ) (old new : Section) : Type 0 wher
 -- a section whose spans may be moved behind so many bytes, and its decoded copy behind so many bytes of copies
 pub record IsMovable (by copies_by : ℕ) (s : Section) : Type 0 where
   pub header : HeaderFits (2 ^ 32 - 1 - by) s.header
-  pub copy : CopyFits (2 ^ 64 - 1 - copies_by) s.header.decoded
+  pub copy : CopyFits (2 ^ 32 - 1 - copies_by) s.header.decoded
   pub items : AreItemsWithin (2 ^ 32 - 1 - by) s.items.items
   pub held : AreItemsWithin (2 ^ 32 - 1 - by) s.held.items
 

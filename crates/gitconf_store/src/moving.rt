@@ -17,9 +17,9 @@ use gitconf_text::parse::span;
 
 /// A section of a buffer, where so many bytes stand before those of the buffer, and so many before the decoded copies. One pass over its
 /// items, which takes no memory.
-pub(crate) fn move_section(section: &mut Section, by: u32, copies_by: usize)
+pub(crate) fn move_section(section: &mut Section, by: u32, copies_by: u32)
     requires header { HeaderFits (2 ^ 32 - 1 - by) section.old.header }
-    requires copy { CopyFits (2 ^ 64 - 1 - copies_by) section.old.header.decoded }
+    requires copy { CopyFits (2 ^ 32 - 1 - copies_by) section.old.header.decoded }
     requires items { AreItemsWithin (2 ^ 32 - 1 - by) section.old.items.items }
     requires held { AreItemsWithin (2 ^ 32 - 1 - by) section.old.held.items }
     ensures { IsSectionMoved by copies_by section.old section.new }
@@ -30,7 +30,7 @@ pub(crate) fn move_section(section: &mut Section, by: u32, copies_by: usize)
 }
 
 /// All sections of a table, moved as [`move_section`] does. One pass over them, which takes no memory.
-pub(crate) fn move_sections(sections: &mut SectionTable<Section>, by: u32, copies_by: usize)
+pub(crate) fn move_sections(sections: &mut SectionTable<Section>, by: u32, copies_by: u32)
     requires { AreMovable by copies_by sections.old }
     ensures { AreSectionsMoved by copies_by sections.old sections.new }
 {

@@ -57,8 +57,7 @@ fn lower_copy(copies: &mut Vec<u8>, spelled: &[u8]) -> Result<Option<Copied>, No
     }
     let start = copies.len();
     append_lower(copies, spelled)?;
-    let len = copies.len() - start;
-    Ok(Some(Copied { start, len }))
+    Ok(Some(Copied::behind(copies, start)?))
 }
 
 /// The copy of a quoted subsection, without its backslashes, where it isn't what is spelled.
@@ -73,8 +72,7 @@ fn unquoted_copy(copies: &mut Vec<u8>, spelled: &[u8]) -> Result<Option<Copied>,
     }
     let start = copies.len();
     append_unquoted(copies, spelled)?;
-    let len = copies.len() - start;
-    Ok(Some(Copied { start, len }))
+    Ok(Some(Copied::behind(copies, start)?))
 }
 
 /// The copy of a header's subsection, where it has one that isn't what is spelled.

@@ -13,7 +13,11 @@ fn copy(copies: &[u8], copied: Copied) -> &[u8]
     requires { copied.start + copied.len ≤ length copies.now }
     ensures { result.now ≡ spec.copied copies.now copied }
 {
-    copies.split_at(copied.start).1.split_at(copied.len).0
+    copies
+        .split_at(copied.start as usize)
+        .1
+        .split_at(copied.len as usize)
+        .0
 }
 
 /// The decoded subsection of a header, if it has one; `copies` has the decoded subsections.

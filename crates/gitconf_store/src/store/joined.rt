@@ -1,5 +1,5 @@
 //! Another store's sections and items put behind those of a store.
-ghost use Rattle.std.specs.Prelude.{◌≡◌, ◌⊎◌, ◌↔◌, ◌+◌, ◌<◌, ◌≤◌, ◌^◌, ◌++◌, length, IfErr, IfOk, IsErrOf, OnErr, OnOk};
+ghost use Rattle.std.specs.Prelude.{◌≡◌, ◌⊎◌, ◌↔◌, ◌+◌, ◌-◌, ◌<◌, ◌≤◌, ◌^◌, ◌++◌, length, IfErr, IfOk, IsErrOf, OnErr, OnOk};
 ghost use Rattle.gitconf_body.specs.Buffers.{Grows};
 ghost use Rattle.gitconf_table.specs.Sections.{no_number};
 ghost use Rattle.gitconf_state.specs.Edit.{with_used};
@@ -15,6 +15,7 @@ use gitconf_parse::event::Span;
 use gitconf_parse::items::Item;
 use gitconf_parse::moving::move_items;
 use gitconf_table::table::SectionTable;
+use gitconf_text::NoMemory;
 use gitconf_text::parse::span;
 
 /// The items that others are put behind: what is held behind the last section, or the front where there is none.
@@ -73,6 +74,21 @@ fn put_bytes(
     Ok(line)
 }
 
+/// How many bytes of copies stand before others that go behind them.
+///
+/// # Errors
+///
+/// All together would be more than 4294967295 bytes, which counts as want of memory.
+fn copies_before(copies: &[u8], others: &[u8]) -> Result<u32, NoMemory>
+    ensures count { IfOk result (λ n. n ≡ length copies.now) }
+    ensures room { IfOk result (λ n. length others.now ≤ 2 ^ 32 - 1 - n) }
+{
+    if copies.len() + others.len() > u32::MAX as usize {
+        return Err(NoMemory);
+    }
+    Ok(copies.len() as u32)
+}
+
 impl Store {
     /// The line end that goes between the items that another's front is put behind and that front; no bytes where none goes there.
     fn line_between(&self, other: &Store) -> &'static [u8]
@@ -114,7 +130,7 @@ impl Store {
         let line_end = self.line_between(&other);
         check_room(&self.buffer, line_end.len() + other.buffer.len())?;
         let by = (self.buffer.len() + line_end.len()) as u32;
-        let copies_by = self.copies.len();
+        let copies_by = copies_before(&self.copies, &other.copies)?;
         let Store {
             buffer,
             copies,
