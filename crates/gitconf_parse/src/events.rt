@@ -94,7 +94,11 @@ fn copied(alloc: Global, input: &[u8]) -> Result<Vec<u8>, NoMemory>
 const ROOM: usize = 4096;
 
 /// A copy of a text with room behind it, so that a first edit copies nothing.
-pub(crate) fn copied_with_room(alloc: Global, input: &[u8]) -> Result<Vec<u8>, NoMemory>
+///
+/// # Errors
+///
+/// Want of memory.
+pub fn copied_with_room(alloc: Global, input: &[u8]) -> Result<Vec<u8>, NoMemory>
     ensures items { IfOk result (λ copy. copy.items ≡ input.now) }
 {
     let mut copy = Vec::with_capacity(alloc, input.len().saturating_add(ROOM))?;

@@ -10,7 +10,7 @@ ghost use Rattle.gitconf_parse.specs.Parsing.{IsMisread};
 
 use crate::compact::EventVec;
 use crate::error::Error;
-use crate::events::{check_len, refusal};
+use crate::events::refusal;
 use crate::items::{Item, items_first, push_sections};
 use crate::reading::part::{body_parts, section_parts};
 use crate::reading::{Expected, ReadError, mark_len};
@@ -57,23 +57,22 @@ fn read_items<S: SectionSink>(
 ///
 /// # Errors
 ///
-/// Refusal 1 where the text has no document, with the line and the data from where it can't be read on; refusal 2 for
-/// more than 4294967295 bytes; refusal 27 for want of memory. Some sections may have been handed over.
+/// Refusal 1 where the text has no document, with the line and the data from where it can't be read on; refusal 27 for
+/// want of memory. Some sections may have been handed over.
 pub fn read_sections<S: SectionSink>(
     alloc: Global,
     input: &[u8],
     sections: &mut S,
 ) -> Result<Vec<Item>, Error>
+    requires fits { length input.now < 2 ^ 32 }
     requires keeps { (first : S) × S.keeps input.now first sections.old }
     requires none { S.tokens input.now sections.old ≡ [] }
     ensures found { IfOk result (λ front. (parts : List Part) × IsText input.now parts
         × (tokens_of_items input.now front.items ++ S.tokens input.now sections.new ≡ tokens_of parts)) }
     ensures within { IfOk result (λ front. AreItemsWithin (length input.now) front.items) }
     ensures keeps { OnOk result ((first : S) → S.keeps input.now first sections.old → S.keeps input.now first sections.new) }
-    ensures fits { OnOk result (length input.now < 2 ^ 32) }
     ensures refused { IfErr result (IsRefused input.now) }
 {
-    check_len(input.len())?;
     match read_items(alloc, input, sections) {
         Ok(front) => Ok(front),
         Err(ReadError::Memory) => Err(Error::memory()),

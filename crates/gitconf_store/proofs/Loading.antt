@@ -1,16 +1,15 @@
 -- A section more in a store's table.
-use Rattle.std.proofs.Common.{◌≡◌, ℕ, suc, ◌+◌, map, List, [], ◌∷◌, ◌++◌, length, Option, refl, ap, sym, subst, ◌∙◌}
+use Rattle.std.proofs.Common.{◌≡◌, ℕ, zero, suc, ◌+◌, map, map-append, length-append, append-nil, arith, List, [], ◌∷◌, ◌++◌, length, Option, refl, ap, sym, subst, ◌∙◌}
 use Rattle.std.specs.List.{AllByRecursion, flat_map, range_with_len}
 use Rattle.std.specs.Option.{option_map}
 use Rattle.gitconf_text.specs.Bytes.{fold}
 use Rattle.gitconf_text.specs.Header.{name_of, subsection_of}
 use Rattle.gitconf_table.specs.Sections.{SectionEntry, Sections, with_last}
-use Rattle.gitconf_text.specs.Token.{HeaderToken, item_tokens}
+use Rattle.gitconf_text.specs.Token.{HeaderToken, Token, item_tokens}
 use Rattle.gitconf_base.specs.Metadata.{Meta}
 use Rattle.gitconf_parse.specs.declared.items.Item.{Item}
-use Rattle.gitconf_parse.specs.declared.items.Items.{Items}
 use Rattle.gitconf_parse.specs.declared.items.Section.{Section as Loaded}
-use Rattle.gitconf_parse.specs.Items.{item_of, tokens_of_items, tokens_of_section, tokens_of_all, items_of}
+use Rattle.gitconf_parse.specs.Items.{item_of, tokens_of_items, tokens_of_section, items_of}
 use Rattle.gitconf_state.specs.Loads.{section_tokens}
 use Rattle.gitconf_parse.specs.declared.event.Event.TheVariants as kinds
 use Rattle.gitconf_parse.specs.Events.{bytes_of, header_of}
@@ -20,7 +19,9 @@ use Rattle.gitconf_parse.specs.ShownEvents.{decoded_or, separator_of, IsShown, I
 use Rattle.gitconf_parse.proofs.Shown.{is_shown_more}
 use Rattle.gitconf_text.proofs.Lists.{all_push}
 use Rattle.gitconf_store.specs.declared.section.Section.{Section}
-use Rattle.gitconf_store.specs.Store.{SectionFits, AllSectionsFit, loaded, loaded_sections}
+use Rattle.gitconf_state.specs.State.{SectionState}
+use Rattle.gitconf_store.specs.Loading.{AreLoaded, IsLoading}
+use Rattle.gitconf_store.specs.Store.{SectionFits, AllSectionsFit, loaded_section, section_state, state_of}
 use Rattle.gitconf_store.specs.Made.{IsMade}
 
 -- the tokens of items, told by what they stand for
@@ -72,40 +73,55 @@ added_fits buffer copies new table after section name subsection all more header
       subsection = subsection_is ∙ subsection_shown _ (name_of h) _ (separator_of h) _ (subsection_of h) header.shown;
     }))
 
--- the sections under the numbers from next on
-loaded_tokens : (buffer : List ℕ) (meta : Meta) (next : ℕ) (sections : List Loaded)
-    → flat_map section_tokens (loaded_sections buffer meta next sections) ≡ flat_map (tokens_of_section buffer) sections
-loaded_tokens buffer meta next [] = refl
-loaded_tokens buffer meta next (s ∷ sections) = ap (λ ts. HeaderToken (header_of buffer s.header) ∷ ts)
-    (ap (λ ts. ts ++ flat_map section_tokens (loaded_sections buffer meta (next + 1) sections)) (items_tokens buffer s.items.items)
-    ∙ ap (λ ts. tokens_of_items buffer s.items.items ++ ts) (loaded_tokens buffer meta (next + 1) sections))
+-- one number more from a number on
+range_more : (a n : ℕ) → range_with_len a (n + 1) ≡ range_with_len a n ++ (a + n) ∷ []
+range_more a zero = ap (λ m. m ∷ []) (let sum : a ≡ a + 0 = omega arith in sum)
+range_more a (suc n) = let sum : a + 1 + n ≡ a + suc n = omega arith in ap (λ r. a ∷ r) (range_more (a + 1) n ∙ ap (λ m. range_with_len (a + 1) n ++ m ∷ []) sum)
 
-loaded_held : (buffer : List ℕ) (meta : Meta) (next : ℕ) (sections : List Loaded) → AllByRecursion (λ s. s.held ≡ []) (loaded_sections buffer meta next sections)
-loaded_held buffer meta next [] = tt
-loaded_held buffer meta next (s ∷ sections) = (refl, loaded_held buffer meta (next + 1) sections)
+-- one section more was loaded
+loaded_more : (place : Meta) (next after : ℕ) (states others : List SectionState) (s : SectionState) → AreLoaded place next states → s.held ≡ [] → s.meta ≡ place → s.number ≡ next
+    → others ≡ states ++ s ∷ [] → after ≡ next + 1 → AreLoaded place after others
+loaded_more place next after states others s l held meta number are after_is = subst (λ ss. AreLoaded place after ss) (sym are)
+    (let count = length-append states (s ∷ []) in record {
+      held = all_push (λ s. s.held ≡ []) states s l.held held;
+      metas = all_push (λ s. s.meta ≡ place) states s l.metas meta;
+      numbers = map-append (λ (s : SectionState). s.number) states (s ∷ [])
+          ∙ ap (λ ns. ns ++ s.number ∷ []) l.numbers
+          ∙ ap (λ n. range_with_len 0 (length states) ++ n ∷ []) (number ∙ l.next)
+          ∙ sym (range_more 0 (length states))
+          ∙ ap (range_with_len 0) (sym count);
+      next = after_is ∙ ap (λ n. n + 1) l.next ∙ sym count;
+    })
 
-loaded_metas : (buffer : List ℕ) (meta : Meta) (next : ℕ) (sections : List Loaded) → AllByRecursion (λ s. s.meta ≡ meta) (loaded_sections buffer meta next sections)
-loaded_metas buffer meta next [] = tt
-loaded_metas buffer meta next (s ∷ sections) = (refl, loaded_metas buffer meta (next + 1) sections)
+pub loading_more : (buffer : List ℕ) (place meta : Meta) (copies more : List ℕ) (table after : Sections Section) (section : Loaded)
+    → IsLoading buffer place copies table → meta ≡ place → AllSectionsFit buffer more after
+    → map (section_state buffer) after.entries ≡ map (section_state buffer) table.entries ++ loaded_section buffer meta table.next section ∷ []
+    → after.next ≡ table.next + 1 → IsLoading buffer place more after
+loading_more buffer place meta copies more table after section l meta_is fits sections next = record {
+  fits = fits;
+  loaded = loaded_more place table.next after.next (map (section_state buffer) table.entries) (map (section_state buffer) after.entries)
+      (loaded_section buffer meta table.next section) l.loaded refl meta_is refl sections next;
+}
 
-loaded_numbers : (buffer : List ℕ) (meta : Meta) (next : ℕ) (sections : List Loaded)
-    → map (λ s. s.number) (loaded_sections buffer meta next sections) ≡ range_with_len next (length (loaded_sections buffer meta next sections))
-loaded_numbers buffer meta next [] = refl
-loaded_numbers buffer meta next (s ∷ sections) = ap (λ ns. next ∷ ns) (loaded_numbers buffer meta (next + 1) sections)
+-- its tokens are those of the section
+pub tokens_more : (buffer : List ℕ) (meta : Meta) (number : ℕ) (states others : List SectionState) (section : Loaded)
+    → others ≡ states ++ loaded_section buffer meta number section ∷ [] → flat_map section_tokens others ≡ flat_map section_tokens states ++ tokens_of_section buffer section
+tokens_more buffer meta number states others section are =
+    ap (flat_map section_tokens) are
+    ∙ flat_map-append section_tokens states (loaded_section buffer meta number section ∷ [])
+    ∙ ap (λ ts. flat_map section_tokens states ++ ts) (append-nil (section_tokens (loaded_section buffer meta number section))
+    ∙ ap (λ ts. HeaderToken (header_of buffer section.header) ∷ ts) (items_tokens buffer section.items.items))
 
-loaded_length : (buffer : List ℕ) (meta : Meta) (next : ℕ) (sections : List Loaded) → length sections ≡ length (loaded_sections buffer meta next sections)
-loaded_length buffer meta next [] = refl
-loaded_length buffer meta next (s ∷ sections) = ap suc (loaded_length buffer meta (next + 1) sections)
-
--- the loaded state has the tokens of its items
-pub loaded_is_made : (buffer : List ℕ) (g : Items) (meta : Meta) → IsMade (tokens_of_all buffer g) meta (length buffer) (loaded buffer g meta)
-loaded_is_made buffer g meta = record {
-  tokens_are = ap (λ ts. ts ++ flat_map section_tokens (loaded_sections buffer meta 0 g.sections.items)) (items_tokens buffer g.front.items)
-      ∙ ap (λ ts. tokens_of_items buffer g.front.items ++ ts) (loaded_tokens buffer meta 0 g.sections.items);
-  held = loaded_held buffer meta 0 g.sections.items;
+-- What was loaded is the state that its tokens make.
+pub loading_is_made : (buffer : List ℕ) (front : List Item) (place : Meta) (copies : List ℕ) (table : Sections Section) (tokens : List Token) → IsLoading buffer place copies table
+    → tokens_of_items buffer front ++ flat_map section_tokens (map (section_state buffer) table.entries) ≡ tokens
+    → IsMade tokens place (length buffer) (state_of buffer front place table)
+loading_is_made buffer front place copies table tokens l are = record {
+  tokens_are = ap (λ ts. ts ++ flat_map section_tokens (map (section_state buffer) table.entries)) (items_tokens buffer front) ∙ are;
+  held = l.loaded.held;
   meta = refl;
-  metas = loaded_metas buffer meta 0 g.sections.items;
-  numbers = loaded_numbers buffer meta 0 g.sections.items;
-  next = loaded_length buffer meta 0 g.sections.items;
+  metas = l.loaded.metas;
+  numbers = l.loaded.numbers;
+  next = l.loaded.next;
   used = refl;
 }

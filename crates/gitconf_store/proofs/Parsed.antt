@@ -7,8 +7,6 @@ use Rattle.gitconf_text.specs.Document.{IsText, Reads, unmarked}
 use Rattle.gitconf_text.specs.Token.{Token, spelled_token, tokens_of}
 use Rattle.gitconf_base.specs.Metadata.{Meta}
 use Rattle.gitconf_parse.specs.EventList.{EventList, keeps_token, IsParsed, IsSelected, IsWhole}
-use Rattle.gitconf_parse.specs.declared.items.Items.{Items}
-use Rattle.gitconf_parse.specs.Items.{tokens_of_all}
 use Rattle.gitconf_parse.specs.TokenDocument.{keeps_meaning}
 use Rattle.gitconf_parse.proofs.OneDocument.{one_tokens}
 use Rattle.gitconf_parse.proofs.Selections.{whole_selected}
@@ -23,8 +21,6 @@ use Rattle.gitconf_state.proofs.LoadingDocument.{part_load_document}
 use Rattle.gitconf_state.proofs.InsertingLineEnds.{printed_inserted}
 use Rattle.gitconf_state.proofs.ExactPrinting.{byte_for_byte}
 use Rattle.gitconf_store.specs.Made.{IsMade}
-use Rattle.gitconf_store.specs.Store.{loaded}
-use Rattle.gitconf_store.proofs.Loading.{loaded_is_made}
 
 -- what was kept of a text, with its entries, is a load of some of its tokens
 selected_load : (input : List ℕ) (list : EventList) (meta : Meta) (s : IsSelected input list) (state : State) → list.keeps_entries ≡ true → IsMade list.tokens meta list.used state → IsPartLoad s.parts state
@@ -72,15 +68,6 @@ whole_exact : (input : List ℕ) (list : EventList) (meta : Meta) → IsWhole in
     → (parts : List Part) → IsText input parts → IsByteForByte parts → printed state ≡ unmarked input
 whole_exact input list meta w state made parts text exact = byte_for_byte input parts state text (other_load input list meta w state made parts text) exact
 
--- a store that is made of the items of events
-pub loaded_made : (buffer : List ℕ) (g : Items) (list : EventList) (meta : Meta) → tokens_of_all buffer g ≡ list.tokens → length buffer ≡ list.used → IsMade list.tokens meta list.used (loaded buffer g meta)
-loaded_made buffer g list meta same size = made_of (tokens_of_all buffer g) list.tokens meta (length buffer) list.used (loaded buffer g meta) same size (loaded_is_made buffer g meta)
-
-pub ok_made : {E : Type 0} (r : Result State E) (buffer : List ℕ) (g : Items) (list : EventList) (meta : Meta) → tokens_of_all buffer g ≡ list.tokens → length buffer ≡ list.used
-    → IfOk r (λ s. s ≡ loaded buffer g meta) → IfOk r (λ s. IsMade list.tokens meta list.used s)
-ok_made (Ok s) buffer g list meta same size is = rw is (loaded_made buffer g list meta same size)
-ok_made (Err e) buffer g list meta same size is = tt
-
 -- what is known of a store that was made of events
 pub record OkLoaded {E : Type 0} (r : Result State E) (list : EventList) : Type 0 where
   pub document : IfOk r (λ s. (text : List ℕ) → IsSelected text list → Reads text (document_of s))
@@ -113,14 +100,12 @@ whole_list : (input : List ℕ) (parts : List Part) → IsText input parts → I
 unfolding text_list
 whole_list input parts text = record { parts = parts; text = text; tokens = refl; entries = refl; used = refl }
 
--- the items of a text are those of a state
-pub text_items : (input buffer : List ℕ) (g : Items) (meta : Meta) → (parts : List Part) × IsText input parts × (tokens_of_all buffer g ≡ tokens_of parts) → buffer ≡ input
-    → HasItems (loaded buffer g meta)
+-- a state of all tokens of a text has items
+pub text_items : (input : List ℕ) (parts : List Part) (meta : Meta) (state : State) → IsText input parts → IsMade (tokens_of parts) meta (length input) state → HasItems state
 unfolding text_list
-text_items input buffer g meta found same =
-    let list = text_list found.0 (length input) in
-    selected_sound input list meta (whole_selected input list (whole_list input found.0 found.1)) refl (loaded buffer g meta)
-    (loaded_made buffer g list meta found.2 (ap length same))
+text_items input parts meta state text made =
+    let list = text_list parts (length input) in
+    selected_sound input list meta (whole_selected input list (whole_list input parts text)) refl state made
 
 -- what is known of the state of a text, all of it
 pub record IsTextLoaded (input : List ℕ) (meta : Meta) (s : State) : Type 0 where
@@ -130,15 +115,13 @@ pub record IsTextLoaded (input : List ℕ) (meta : Meta) (s : State) : Type 0 wh
   pub inserted : (parts : List Part) → IsText input parts → Inserted (map spelled_token (tokens_of parts)) (printed s)
   pub byte_for_byte : (parts : List Part) → IsText input parts → IsByteForByte parts → printed s ≡ unmarked input
 
-pub text_loaded : (input buffer : List ℕ) (g : Items) (meta : Meta) (s : State) → (parts : List Part) × IsText input parts × (tokens_of_all buffer g ≡ tokens_of parts) → buffer ≡ input
-    → s ≡ loaded buffer g meta → IsTextLoaded input meta s
+pub text_loaded : (input : List ℕ) (parts : List Part) (meta : Meta) (s : State) → IsText input parts → IsMade (tokens_of parts) meta (length input) s → IsTextLoaded input meta s
 unfolding text_list
-text_loaded input buffer g meta s found same is =
-    let list = text_list found.0 (length input) in
-    let whole = whole_list input found.0 found.1 in
-    let made : IsMade (tokens_of found.0) meta (length input) s = rw is (loaded_made buffer g list meta found.2 (ap length same)) in
+text_loaded input parts meta s text made =
+    let list = text_list parts (length input) in
+    let whole = whole_list input parts text in
     record {
-      made = (found.0, found.1, made);
+      made = (parts, text, made);
       document = selected_document input list meta (whole_selected input list whole) refl s made;
       clean = whole_clean input list meta whole s made;
       inserted = λ parts. whole_inserted input list meta whole s made parts;

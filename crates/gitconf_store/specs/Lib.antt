@@ -1,4 +1,5 @@
 pub mod Store
+pub mod Loading
 pub mod Viewed
 pub mod Alone
 pub mod Bodies

@@ -1,5 +1,5 @@
 -- What a store stands for, in the buffer that its spans are offsets of.
-use Rattle.std.specs.Prelude.{◌≡◌, ℕ, ◌+◌, ◌<◌, ◌^◌, List, [], ◌∷◌, length, map}
+use Rattle.std.specs.Prelude.{◌≡◌, ℕ, ◌+◌, ◌<◌, ◌^◌, List, [], length, map}
 use Rattle.std.specs.List.{AllByRecursion}
 use Rattle.gitconf_text.specs.Bytes.{fold}
 use Rattle.gitconf_text.specs.Header.{name_of, subsection_of}
@@ -7,7 +7,6 @@ use Rattle.gitconf_base.specs.Metadata.{Meta}
 use Rattle.gitconf_table.specs.Sections.{SectionEntry, Sections}
 use Rattle.gitconf_parse.specs.declared.items.Item.{Item}
 use Rattle.gitconf_parse.specs.declared.items.Section.{Section as Loaded}
-use Rattle.gitconf_parse.specs.declared.items.Items.{Items}
 use Rattle.gitconf_parse.specs.declared.event.Event.TheVariants as kinds
 use Rattle.gitconf_parse.specs.Events.{header_of}
 use Rattle.gitconf_parse.specs.ItemsFit.{AreItemsWithin}
@@ -66,19 +65,4 @@ loaded_section buffer meta number s = record {
   meta = meta;
   items = items_of buffer s.items.items;
   held = [];
-}
-
--- sections as they are loaded under the numbers from the next one on
-abbrev pub loaded_sections : (buffer : List ℕ) → Meta → ℕ → List Loaded → List SectionState
-loaded_sections buffer meta next [] = []
-loaded_sections buffer meta next (s ∷ sections) = loaded_section buffer meta next s ∷ loaded_sections buffer meta (next + 1) sections
-
--- the state that is loaded of items in a buffer
-abbrev pub loaded : (buffer : List ℕ) → Items → Meta → State
-loaded buffer g meta = record {
-  front = items_of buffer g.front.items;
-  meta = meta;
-  next = length g.sections.items;
-  used = length buffer;
-  sections = loaded_sections buffer meta 0 g.sections.items;
 }

@@ -1,17 +1,73 @@
 //! Sections as they are loaded.
-ghost use Rattle.std.specs.Prelude.{◌≡◌, ◌+◌, [], ◌∷◌, ◌++◌, length, map, OnOk, IfOk};
-ghost use Rattle.std.specs.List.{AllByRecursion};
+ghost use Rattle.std.specs.Prelude.{◌≡◌, ◌+◌, [], ◌∷◌, ◌++◌, List, ℕ, flat_map, length, map, OnOk, IfOk};
 ghost use Rattle.gitconf_parse.specs.ItemsFit as items;
-ghost use Rattle.gitconf_store.specs.Store.{AllSectionsFit, section_state, loaded_section, loaded_sections};
+ghost use Rattle.gitconf_state.specs.Loads.{section_tokens};
+ghost use Rattle.gitconf_store.specs.Loading.{IsLoading};
+ghost use Rattle.gitconf_store.specs.Store.{AllSectionsFit, section_state, loaded_section};
 
 use crate::section::Section;
 use gitconf_base::meta::Metadata;
 use gitconf_parse::events::{decoded_header, subsection_name};
 use gitconf_parse::items;
+use gitconf_parse::section_sink::SectionSink;
 use gitconf_table::table::SectionTable;
 use gitconf_text::NoMemory;
 use std::alloc::Global;
 use std::rc::Rc;
+
+/// The sections of a text that is being loaded, as far as they were read, each from the same place.
+#[derive(Drop)]
+pub(crate) struct Loading {
+    pub(crate) meta: Rc<Metadata>,
+    /// The decoded subsections of the headers that need one.
+    pub(crate) copies: Vec<u8>,
+    pub(crate) sections: SectionTable<Section>,
+}
+
+/// How many bytes a section has at the least for which room is made before it is read.
+const BYTES: usize = 32;
+
+/// How many sections a text may be expected to have: one for each bracket, but no more than one for so many bytes.
+fn expected_sections(text: &[u8]) -> usize {
+    let brackets = text.iter().filter(|byte| **byte == b'[').count();
+    brackets.min(text.len() / BYTES)
+}
+
+impl Loading {
+    /// No sections yet. Takes no memory.
+    pub(crate) fn new(alloc: Global, meta: Rc<Metadata>) -> Loading
+        ensures meta { result.meta.value ≡ meta.value }
+        ensures loading { (buffer : List ℕ) → IsLoading buffer meta.value result.copies.items result.sections }
+        ensures none { result.sections.entries ≡ [] }
+    {
+        Loading {
+            meta,
+            copies: Vec::new(alloc),
+            sections: SectionTable::new(alloc),
+        }
+    }
+
+    /// No sections yet, with room for as many as the text may be expected to have and an eighth more, so that a section put
+    /// behind them copies no table.
+    ///
+    /// # Errors
+    ///
+    /// Want of memory.
+    pub(crate) fn of_text(
+        alloc: Global,
+        text: &[u8],
+        meta: Rc<Metadata>,
+    ) -> Result<Loading, NoMemory>
+        ensures meta { IfOk result (λ l. l.meta.value ≡ meta.value) }
+        ensures loading { IfOk result (λ l. (buffer : List ℕ) → IsLoading buffer meta.value l.copies.items l.sections) }
+        ensures none { IfOk result (λ l. l.sections.entries ≡ []) }
+    {
+        let mut loading = Loading::new(alloc, meta);
+        let expected = expected_sections(text);
+        loading.sections.reserve(expected.saturating_add(expected / 8))?;
+        Ok(loading)
+    }
+}
 
 /// Puts a section last, with nothing held behind it.
 fn add_section(
@@ -43,24 +99,15 @@ fn add_section(
     }
 }
 
-/// The sections in their order, under the numbers from 0 on, with a copy of each subsection that isn't what is spelled.
-/// Room for all of them is made at once, and for an eighth more, so that a section put behind them copies no table.
-pub(crate) fn load_sections(
-    alloc: Global,
-    buffer: &[u8],
-    copies: &mut Vec<u8>,
-    sections: Vec<items::Section>,
-    meta: &Rc<Metadata>,
-) -> Result<SectionTable<Section>, NoMemory>
-    requires within { AllByRecursion (items.SectionFits (length buffer.now)) sections.items }
-    ensures fits { IfOk result (λ table. AllSectionsFit buffer.now copies.new.items table) }
-    ensures sections { IfOk result (λ table. map (section_state buffer.now) table.entries ≡ loaded_sections buffer.now meta.now.value 0 sections.items) }
-    ensures next { IfOk result (λ table. table.next ≡ length sections.items) }
-{
-    let mut table = SectionTable::new(alloc);
-    table.reserve(sections.len().saturating_add(sections.len() / 8))?;
-    for section in sections {
-        add_section(buffer, copies, &mut table, section, meta.clone()?)?;
+/// Takes each section under the next number, with a copy of its subsection where that isn't what is spelled.
+impl SectionSink for Loading {
+    ghost tokens = { λ buffer l. flat_map section_tokens (map (section_state buffer) l.sections.entries) };
+
+    ghost keeps = { λ buffer first l. (l.meta.value ≡ first.meta.value) × IsLoading buffer l.meta.value l.copies.items l.sections };
+
+    #[tactic(auto, using(crate::proofs::Loading::loading_more, crate::proofs::Loading::tokens_more))]
+    fn take(&mut self, buffer: &[u8], section: items::Section) -> Result<(), NoMemory> {
+        let meta = self.meta.clone()?;
+        add_section(buffer, &mut self.copies, &mut self.sections, section, meta)
     }
-    Ok(table)
 }

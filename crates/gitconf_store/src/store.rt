@@ -14,7 +14,7 @@ mod values_at;
 mod views;
 
 use crate::events::ItemEvents;
-use crate::load::load_sections;
+use crate::load::Loading;
 use crate::print::{front_is_ended, write_sections};
 use crate::section::{Section, SectionRef, Sections, shared};
 use crate::store::views::last_passing;
@@ -24,9 +24,9 @@ use gitconf_base::meta::Metadata;
 use gitconf_body::entry::set_value;
 use gitconf_body::section::section_with;
 use gitconf_parse::error::Error;
-use gitconf_parse::events::{Events, keeps_meaning};
-use gitconf_parse::items::{Item, Items};
-use gitconf_parse::loading::items_of_text;
+use gitconf_parse::events::{Events, check_len, copied_with_room, keeps_meaning};
+use gitconf_parse::items::Item;
+use gitconf_parse::loading::read_sections;
 use gitconf_parse::sink::{Sink, SinkFault};
 use gitconf_table::table::SectionTable;
 use gitconf_text::NoMemory;
@@ -76,7 +76,7 @@ impl Store {
     ghost use Rattle.gitconf_base.specs.Metadata.{Meta};
     ghost use Rattle.gitconf_parse.specs.EventList.{keeps_token, IsSelected, IsWhole};
     ghost use Rattle.gitconf_parse.specs.EventResult.{IsRefused};
-    ghost use Rattle.gitconf_parse.specs.ItemsFit.{ItemsFit};
+    ghost use Rattle.gitconf_parse.specs.ItemsFit.{AreItemsWithin};
     ghost use Rattle.gitconf_parse.specs.ShownEvents.{shown_token};
     ghost use Rattle.gitconf_parse.specs.Sink.{Writes, Counts};
     ghost use Rattle.gitconf_parse.specs.TokenDocument.{keeps_meaning};
@@ -96,7 +96,8 @@ impl Store {
     ghost use Rattle.gitconf_store.specs.Edits.{EditGrows, IsRefusal, IsSet, IsSetSomewhere, UsedGrows, set_numbers};
     ghost use Rattle.gitconf_store.specs.ItemEvents.{events_left};
     ghost use Rattle.gitconf_store.specs.Made.{IsMade};
-    ghost use Rattle.gitconf_store.specs.Store.{loaded};
+    ghost use Rattle.gitconf_store.specs.Loading.{IsLoading};
+    ghost use Rattle.gitconf_store.specs.Store.{state_of};
     ghost use Rattle.gitconf_store.specs.Texts.{IsTextOfSomeSections};
     ghost use Rattle.gitconf_store.specs.Views.{sections_left, shown};
 
@@ -113,27 +114,26 @@ impl Store {
         }
     }
 
-    /// The state of these items of a buffer.
-    fn from_items(
-        alloc: Global,
-        buffer: Vec<u8>,
-        items: Items,
-        meta: Rc<Metadata>,
-    ) -> Result<Store, NoMemory>
+    /// The state of a text that was loaded: what stands before its first header, and its sections.
+    fn of_loading(buffer: Vec<u8>, front: Vec<Item>, loading: Loading) -> Store
         requires room { length buffer.items < 2 ^ 32 }
-        requires within { ItemsFit (length buffer.items) items }
-        requires items { HasItems (loaded buffer.items items meta.value) }
-        ensures { IfOk result (λ s. s ≡ loaded buffer.items items meta.value) }
+        requires front { AreItemsWithin (length buffer.items) front.items }
+        requires loading { IsLoading buffer.items loading.meta.value loading.copies.items loading.sections }
+        requires items { HasItems (state_of buffer.items front.items loading.meta.value loading.sections) }
+        ensures { result ≡ state_of buffer.items front.items loading.meta.value loading.sections }
     {
-        let mut copies = Vec::new(alloc);
-        let sections = load_sections(alloc, &buffer, &mut copies, items.sections, &meta)?;
-        Ok(Store {
+        let Loading {
+            meta,
+            copies,
+            sections,
+        } = loading;
+        Store {
             buffer,
             copies,
-            front: items.front,
+            front,
             meta,
             sections,
-        })
+        }
     }
 
     /// The state of the events of a text, all of them or those that a filter kept: its front, and its sections under the
@@ -158,17 +158,39 @@ impl Store {
             → IsByteForByte parts → printed s ≡ unmarked text) }
     {
         prove!(events.keeps_entries());
-        let (buffer, items) = events.into_items(alloc)?;
-        Store::from_items(alloc, buffer, items, meta)
+        let mut loading = Loading::new(alloc, meta);
+        let (buffer, front) = events.into_sections(alloc, &mut loading)?;
+        Ok(Store::of_loading(buffer, front, loading))
     }
 
-    /// The state of a text, all of it: its front, and its sections under the numbers from 0 on, each from `meta`. One
-    /// pass, section by section, so that never more than one section's events stand; and the text is copied once.
+    /// The state of a text, all of it: its front, and its sections under the numbers from 0 on, each from `meta`. The text is
+    /// handed over. One pass, section by section, so that never more than one section's events stand.
     ///
     /// # Errors
     ///
     /// Refusal 1 where the text has no document, with the line and the data from where it can't be read on; refusal 2
     /// for more than 4294967295 bytes; refusal 27 for want of memory.
+    pub fn from_text(alloc: Global, text: Vec<u8>, meta: Rc<Metadata>) -> Result<Store, Error>
+        ensures made { IfOk result (λ s. (parts : List Part) × IsText text.items parts × IsMade (tokens_of parts) meta.value (length text.items) s) }
+        ensures document { IfOk result (λ s. Reads text.items (document_of s)) }
+        ensures clean { IfOk result IsClean }
+        // Printed, it is the text with line ends put in, and the text itself, its mark aside, where it needs none.
+        ensures inserted { IfOk result (λ s. (parts : List Part) → IsText text.items parts → Inserted (map spelled_token (tokens_of parts)) (printed s)) }
+        ensures byte_for_byte { IfOk result (λ s. (parts : List Part) → IsText text.items parts → IsByteForByte parts → printed s ≡ unmarked text.items) }
+        ensures refused { IfErr result (IsRefused text.items) }
+    {
+        check_len(text.len())?;
+        let mut loading = Loading::of_text(alloc, &text, meta)?;
+        let front = read_sections(alloc, &text, &mut loading)?;
+        Ok(Store::of_loading(text, front, loading))
+    }
+
+    /// The state of a text as [`Store::from_text`] makes it, of a copy with some room behind the text, so that a first edit
+    /// copies nothing.
+    ///
+    /// # Errors
+    ///
+    /// Those of [`Store::from_text`].
     pub fn from_bytes(alloc: Global, input: &[u8], meta: Rc<Metadata>) -> Result<Store, Error>
         ensures made { IfOk result (λ s. (parts : List Part) × IsText input.now parts × IsMade (tokens_of parts) meta.value (length input.now) s) }
         ensures document { IfOk result (λ s. Reads input.now (document_of s)) }
@@ -178,11 +200,9 @@ impl Store {
         ensures byte_for_byte { IfOk result (λ s. (parts : List Part) → IsText input.now parts → IsByteForByte parts → printed s ≡ unmarked input.now) }
         ensures refused { IfErr result (IsRefused input.now) }
     {
-        let (buffer, items) = items_of_text(alloc, input)?;
-        match Store::from_items(alloc, buffer, items, meta) {
-            Ok(store) => Ok(store),
-            Err(_) => Err(Error::memory()),
-        }
+        check_len(input.len())?;
+        let text = copied_with_room(alloc, input)?;
+        Store::from_text(alloc, text, meta)
     }
 
     /// The state of a text without its blanks, line ends and comments, which has the same document.
