@@ -4,8 +4,9 @@ use crate::events::{read, written};
 use crate::texts::{TEXT, WRITTEN};
 use gitconf_parse::event_ref::EventRef;
 use gitconf_parse::events::Events;
-use gitconf_parse::items::Items;
+use gitconf_parse::items::Section;
 use gitconf_parse::laws::kept_entries_make_items;
+use gitconf_parse::loading::read_sections;
 use gitconf_tests::shim::{Outcome, begin, each_refused, was_refused};
 use gitconf_text::NoMemory;
 use std::alloc::Global;
@@ -52,45 +53,47 @@ fn events(rt: HostRuntime) -> Result<(), Fail> {
     each_refused(rt.alloc(), "a copy of events", events_copied)
 }
 
-/// How many items stand before the first section, and in all sections.
-fn counts(items: &Items) -> (usize, usize) {
-    let mut in_sections: usize = 0;
-    for section in &items.sections {
-        in_sections = in_sections.saturating_add(section.items.len());
+/// How many items stand in all sections.
+fn items_in(sections: &[Section]) -> usize {
+    let mut count: usize = 0;
+    for section in sections {
+        count = count.saturating_add(section.items.len());
     }
-    (items.front.len(), in_sections)
+    count
 }
 
-fn items_shown(alloc: Global) -> Result<Outcome, Fail> {
+fn events_handed_over(alloc: Global) -> Result<Outcome, Fail> {
     kept_entries_make_items();
     let events = Events::from_bytes(alloc, TEXT, None)?;
+    let mut sections: Vec<Section> = Vec::new(alloc);
     begin(alloc)?;
-    let answer = events.items(alloc);
+    let answer = events.into_sections(alloc, &mut sections);
     let refused = was_refused(alloc);
     let fits = match answer {
-        Ok((items, _)) => counts(&items) == (6, 25),
-        Err(NoMemory) => refused && are_whole(alloc, &events)?,
+        Ok((buffer, front)) => {
+            buffer.as_slice() == TEXT && front.len() == 6 && items_in(&sections) == 25
+        }
+        Err(NoMemory) => refused,
     };
     Ok(Outcome { refused, fits })
 }
 
-fn items_handed_over(alloc: Global) -> Result<Outcome, Fail> {
-    kept_entries_make_items();
-    let events = Events::from_bytes(alloc, TEXT, None)?;
+fn sections_read(alloc: Global) -> Result<Outcome, Fail> {
+    let mut sections: Vec<Section> = Vec::new(alloc);
     begin(alloc)?;
-    let answer = events.into_items(alloc);
+    let answer = read_sections(alloc, TEXT, &mut sections);
     let refused = was_refused(alloc);
     let fits = match answer {
-        Ok((buffer, items)) => buffer.as_slice() == TEXT && counts(&items) == (6, 25),
-        Err(NoMemory) => refused,
+        Ok(front) => front.len() == 6 && items_in(&sections) == 25,
+        Err(refusal) => refused && refusal.is_memory(),
     };
     Ok(Outcome { refused, fits })
 }
 
 #[test]
 fn items(rt: HostRuntime) -> Result<(), Fail> {
-    each_refused(rt.alloc(), "items of events", items_shown)?;
-    each_refused(rt.alloc(), "events made into items", items_handed_over)
+    each_refused(rt.alloc(), "events made into items", events_handed_over)?;
+    each_refused(rt.alloc(), "sections of a text", sections_read)
 }
 
 fn a_header_written(alloc: Global) -> Result<Outcome, Fail> {

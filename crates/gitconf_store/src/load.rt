@@ -105,7 +105,6 @@ impl SectionSink for Loading {
 
     ghost keeps = { λ buffer first l. (l.meta.value ≡ first.meta.value) × IsLoading buffer l.meta.value l.copies.items l.sections };
 
-    #[tactic(auto, using(crate::proofs::Loading::loading_more, crate::proofs::Loading::tokens_more))]
     fn take(&mut self, buffer: &[u8], section: items::Section) -> Result<(), NoMemory> {
         let meta = self.meta.clone()?;
         add_section(buffer, &mut self.copies, &mut self.sections, section, meta)

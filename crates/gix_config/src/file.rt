@@ -136,6 +136,26 @@ impl File {
         Ok(File { store })
     }
 
+    /// The same file as [`File::try_from_bytes`] makes it, of the text itself: it is handed over, and no byte of it is copied but the
+    /// names and subsections of sections. An edit that finds no room behind the text makes the buffer larger.
+    ///
+    /// # Errors
+    ///
+    /// Those of [`File::try_from_bytes`].
+    pub fn try_from_bytes_owned(alloc: Global, text: Vec<u8>) -> Result<File, Error>
+        ensures made { IfOk result (λ f. (parts : List Part) × IsText text.items parts × IsMade (tokens_of parts) api_meta (length text.items) f) }
+        ensures document { IfOk result (λ f. Reads text.items (document_of f)) }
+        ensures clean { IfOk result IsClean }
+        ensures inserted { IfOk result (λ f. (parts : List Part) → IsText text.items parts → Inserted (map spelled_token (tokens_of parts)) (printed f)) }
+        ensures byte_for_byte { IfOk result (λ f. (parts : List Part) → IsText text.items parts → IsByteForByte parts → printed f ≡ unmarked text.items) }
+        ensures refused { IfErr result (IsRefused text.items) }
+    {
+        check_len(text.len())?;
+        let meta = shared(alloc, Metadata::api())?;
+        let store = Store::from_text(alloc, text, meta)?;
+        Ok(File { store })
+    }
+
     /// The file of the events of a text, all of them or those that a filter kept; it and its sections come from `meta`,
     /// and no include is followed. What the filter dropped is not in it.
     ///

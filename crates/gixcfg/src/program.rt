@@ -168,14 +168,14 @@ fn execute<R: Read, W: Write>(
     let command = command_of(args)?;
     let text = read_all(alloc, input)?;
     match command {
-        Command::Get(key) => put(&get(&load(alloc, &text)?, key)?, out),
-        Command::All(key) => put(&all(alloc, &load(alloc, &text)?, key)?, out),
-        Command::Bool(key) => put(boolean(&load(alloc, &text)?, key)?, out),
-        Command::Int(key) => put(&integer(alloc, &load(alloc, &text)?, key)?, out),
-        Command::Set(key, value) => put_edited(alloc, &text, key, value, out),
-        Command::Unset(key) => put_without(alloc, &text, key, out),
-        Command::List => put(&list(alloc, &load(alloc, &text)?)?, out),
-        Command::Print => put_file(alloc, &load(alloc, &text)?, out),
+        Command::Get(key) => put(&get(&load(alloc, text)?, key)?, out),
+        Command::All(key) => put(&all(alloc, &load(alloc, text)?, key)?, out),
+        Command::Bool(key) => put(boolean(&load(alloc, text)?, key)?, out),
+        Command::Int(key) => put(&integer(alloc, &load(alloc, text)?, key)?, out),
+        Command::Set(key, value) => put_edited(alloc, text, key, value, out),
+        Command::Unset(key) => put_without(alloc, text, key, out),
+        Command::List => put(&list(alloc, &load(alloc, text)?)?, out),
+        Command::Print => put_file(alloc, &load(alloc, text)?, out),
         Command::Fmt => put(&laid_out(alloc, &text)?, out),
     }
 }
@@ -223,8 +223,8 @@ fn read_all<R: Read>(alloc: Global, input: &mut R) -> Result<Vec<u8>, Fault> {
 }
 
 /// Standard input as a file.
-fn load(alloc: Global, text: &[u8]) -> Result<File, Fault> {
-    Ok(File::try_from_bytes(alloc, text)?)
+fn load(alloc: Global, text: Vec<u8>) -> Result<File, Fault> {
+    Ok(File::try_from_bytes_owned(alloc, text)?)
 }
 
 /// The value of a key, on a line.
@@ -361,7 +361,7 @@ fn put<W: Write>(answer: &[u8], out: &mut W) -> Result<(), Fault> {
 /// Writes the text as a file in which a key has the value.
 fn put_edited<W: Write>(
     alloc: Global,
-    text: &[u8],
+    text: Vec<u8>,
     key: KeyRef<'_>,
     value: &str,
     out: &mut W,
@@ -374,7 +374,7 @@ fn put_edited<W: Write>(
 /// Writes the text as a file without a key's last entry in the last section that has one.
 fn put_without<W: Write>(
     alloc: Global,
-    text: &[u8],
+    text: Vec<u8>,
     key: KeyRef<'_>,
     out: &mut W,
 ) -> Result<(), Fault> {
