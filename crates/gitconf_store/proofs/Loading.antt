@@ -1,5 +1,7 @@
 -- A section more in a store's table.
-use Rattle.std.proofs.Common.{◌≡◌, ℕ, zero, suc, ◌+◌, map, map-append, length-append, append-nil, arith, List, [], ◌∷◌, ◌++◌, length, Option, refl, ap, sym, subst, ◌∙◌}
+use Rattle.std.proofs.Common.{◌≡◌, ℕ, zero, suc, ◌+◌, map, length-append, append-nil, arith, List, [], ◌∷◌, ◌++◌, length, Option, refl, ap, sym, subst, ◌∙◌}
+use Rattle.std.proofs.lemmas.Grind.{flat_map-append}
+use Rattle.std.proofs.lemmas.List.{map-append}
 use Rattle.std.specs.List.{AllByRecursion, flat_map, range_with_len}
 use Rattle.std.specs.Option.{option_map}
 use Rattle.gitconf_text.specs.Bytes.{fold}
@@ -74,7 +76,7 @@ added_fits buffer copies new table after section name subsection all more header
     }))
 
 -- one number more from a number on
-range_more : (a n : ℕ) → range_with_len a (n + 1) ≡ range_with_len a n ++ (a + n) ∷ []
+range_more : (a n : ℕ) → range_with_len a (suc n) ≡ range_with_len a n ++ (a + n) ∷ []
 range_more a zero = ap (λ m. m ∷ []) (let sum : a ≡ a + 0 = omega arith in sum)
 range_more a (suc n) = let sum : a + 1 + n ≡ a + suc n = omega arith in ap (λ r. a ∷ r) (range_more (a + 1) n ∙ ap (λ m. range_with_len (a + 1) n ++ m ∷ []) sum)
 
@@ -82,15 +84,18 @@ range_more a (suc n) = let sum : a + 1 + n ≡ a + suc n = omega arith in ap (λ
 loaded_more : (place : Meta) (next after : ℕ) (states others : List SectionState) (s : SectionState) → AreLoaded place next states → s.held ≡ [] → s.meta ≡ place → s.number ≡ next
     → others ≡ states ++ s ∷ [] → after ≡ next + 1 → AreLoaded place after others
 loaded_more place next after states others s l held meta number are after_is = subst (λ ss. AreLoaded place after ss) (sym are)
-    (let count = length-append states (s ∷ []) in record {
+    (let count = length-append states (s ∷ []) in
+    let one : suc (length states) ≡ length (states ++ s ∷ []) = omega (arith, count) in
+    let here : length states ≡ 0 + length states = omega arith in
+    record {
       held = all_push (λ s. s.held ≡ []) states s l.held held;
       metas = all_push (λ s. s.meta ≡ place) states s l.metas meta;
       numbers = map-append (λ (s : SectionState). s.number) states (s ∷ [])
           ∙ ap (λ ns. ns ++ s.number ∷ []) l.numbers
-          ∙ ap (λ n. range_with_len 0 (length states) ++ n ∷ []) (number ∙ l.next)
+          ∙ ap (λ n. range_with_len 0 (length states) ++ n ∷ []) (number ∙ l.counted ∙ here)
           ∙ sym (range_more 0 (length states))
-          ∙ ap (range_with_len 0) (sym count);
-      next = after_is ∙ ap (λ n. n + 1) l.next ∙ sym count;
+          ∙ ap (range_with_len 0) one;
+      counted = after_is ∙ ap (λ n. n + 1) l.counted ∙ sym count;
     })
 
 pub loading_more : (buffer : List ℕ) (place meta : Meta) (copies more : List ℕ) (table after : Sections Section) (section : Loaded)
@@ -122,6 +127,6 @@ loading_is_made buffer front place copies table tokens l are = record {
   meta = refl;
   metas = l.loaded.metas;
   numbers = l.loaded.numbers;
-  next = l.loaded.next;
+  next = l.loaded.counted;
   used = refl;
 }

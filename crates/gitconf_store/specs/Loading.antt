@@ -12,7 +12,7 @@ pub record AreLoaded (place : Meta) (next : ℕ) (sections : List SectionState) 
   pub held : AllByRecursion (λ s. s.held ≡ []) sections
   pub metas : AllByRecursion (λ s. s.meta ≡ place) sections
   pub numbers : map (λ s. s.number) sections ≡ range_with_len 0 (length sections)
-  pub next : next ≡ length sections
+  pub counted : next ≡ length sections
 
 -- the sections that were read so far of this buffer
 pub record IsLoading (buffer : List ℕ) (place : Meta) (copies : List ℕ) (table : Sections Section) : Type 0 where

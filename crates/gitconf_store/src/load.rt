@@ -107,6 +107,13 @@ impl SectionSink for Loading {
 
     fn take(&mut self, buffer: &[u8], section: items::Section) -> Result<(), NoMemory> {
         let meta = self.meta.clone()?;
-        add_section(buffer, &mut self.copies, &mut self.sections, section, meta)
+        add_section(
+            buffer,
+            &mut self.copies,
+            &mut self.sections,
+            section,
+            meta,
+        )?;
+        Ok(())
     }
 }

@@ -1,6 +1,6 @@
 //! Sections whose bytes stand behind others, and put behind those of a table.
 ghost use Rattle.std.specs.Option.{option_copied};
-ghost use Rattle.std.specs.Prelude.{◌≡◌, ◌+◌, ◌-◌, ◌^◌, ◌<◌, ◌↔◌, [], ◌∷◌, ◌++◌, length, map, IfErr, IfOk, IsErrOf, OnErr, OnOk};
+ghost use Rattle.std.specs.Prelude.{◌≡◌, ◌+◌, ◌-◌, ◌^◌, ◌<◌, ◌≤◌, ◌↔◌, [], ◌∷◌, ◌++◌, length, map, IfErr, IfOk, IsErrOf, OnErr, OnOk};
 ghost use Rattle.gitconf_parse.specs.declared.event.Event.TheVariants as kinds;
 ghost use Rattle.gitconf_parse.specs.Events.{HeaderFits};
 ghost use Rattle.gitconf_parse.specs.ItemsFit.{AreItemsWithin};
@@ -13,7 +13,23 @@ use crate::section::Section;
 use gitconf_parse::events::subsection_name;
 use gitconf_parse::moving::{move_items, moved_header};
 use gitconf_table::table::{SectionId, SectionTable};
+use gitconf_text::NoMemory;
 use gitconf_text::parse::span;
+
+/// How many bytes of copies stand before others that go behind them.
+///
+/// # Errors
+///
+/// All together would be more than 4294967295 bytes, which counts as want of memory.
+pub(crate) fn copies_before(copies: &[u8], others: &[u8]) -> Result<u32, NoMemory>
+    ensures count { IfOk result (λ n. n ≡ length copies.now) }
+    ensures room { IfOk result (λ n. length others.now ≤ 2 ^ 32 - 1 - n) }
+{
+    if copies.len() + others.len() > u32::MAX as usize {
+        return Err(NoMemory);
+    }
+    Ok(copies.len() as u32)
+}
 
 /// A section of a buffer, where so many bytes stand before those of the buffer, and so many before the decoded copies. One pass over its
 /// items, which takes no memory.

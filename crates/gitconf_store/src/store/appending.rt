@@ -5,7 +5,7 @@ ghost use Rattle.gitconf_state.specs.Edit.{with_used};
 ghost use Rattle.gitconf_state.specs.Edits.{Number, PushSection, answer, apply};
 
 use crate::detached;
-use crate::moving::{move_section, put_last};
+use crate::moving::{copies_before, move_section, put_last};
 use crate::store::Store;
 use gitconf_body::buffer::{append, check_room};
 use gitconf_table::table::SectionId;
@@ -55,7 +55,7 @@ impl Store {
         } = section;
         check_room(&self.buffer, buffer.len())?;
         let by = self.buffer.len() as u32;
-        let copies_by = self.copies.len();
+        let copies_by = copies_before(&self.copies, &copies)?;
         append(&mut self.buffer, &buffer)?;
         self.copies.extend_from_slice(&copies)?;
         move_section(&mut section, by, copies_by);

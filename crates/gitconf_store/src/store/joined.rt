@@ -1,5 +1,5 @@
 //! Another store's sections and items put behind those of a store.
-ghost use Rattle.std.specs.Prelude.{◌≡◌, ◌⊎◌, ◌↔◌, ◌+◌, ◌-◌, ◌<◌, ◌≤◌, ◌^◌, ◌++◌, length, IfErr, IfOk, IsErrOf, OnErr, OnOk};
+ghost use Rattle.std.specs.Prelude.{◌≡◌, ◌⊎◌, ◌↔◌, ◌+◌, ◌<◌, ◌≤◌, ◌^◌, ◌++◌, length, IfErr, IfOk, IsErrOf, OnErr, OnOk};
 ghost use Rattle.gitconf_body.specs.Buffers.{Grows};
 ghost use Rattle.gitconf_table.specs.Sections.{no_number};
 ghost use Rattle.gitconf_state.specs.Edit.{with_used};
@@ -7,7 +7,7 @@ ghost use Rattle.gitconf_state.specs.Edits.{Append, apply};
 ghost use Rattle.gitconf_store.specs.Appends.{appended_bytes, last_items, line_between, IsLineAt};
 
 use crate::joining::{parts_lines, put_behind};
-use crate::moving::move_sections;
+use crate::moving::{copies_before, move_sections};
 use crate::section::Section;
 use crate::store::Store;
 use gitconf_body::buffer::{append, check_room};
@@ -15,7 +15,6 @@ use gitconf_parse::event::Span;
 use gitconf_parse::items::Item;
 use gitconf_parse::moving::move_items;
 use gitconf_table::table::SectionTable;
-use gitconf_text::NoMemory;
 use gitconf_text::parse::span;
 
 /// The items that others are put behind: what is held behind the last section, or the front where there is none.
@@ -72,21 +71,6 @@ fn put_bytes(
     append(buffer, other)?;
     copies.extend_from_slice(other_copies)?;
     Ok(line)
-}
-
-/// How many bytes of copies stand before others that go behind them.
-///
-/// # Errors
-///
-/// All together would be more than 4294967295 bytes, which counts as want of memory.
-fn copies_before(copies: &[u8], others: &[u8]) -> Result<u32, NoMemory>
-    ensures count { IfOk result (λ n. n ≡ length copies.now) }
-    ensures room { IfOk result (λ n. length others.now ≤ 2 ^ 32 - 1 - n) }
-{
-    if copies.len() + others.len() > u32::MAX as usize {
-        return Err(NoMemory);
-    }
-    Ok(copies.len() as u32)
 }
 
 impl Store {
