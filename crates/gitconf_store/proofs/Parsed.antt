@@ -1,7 +1,6 @@
 -- What is loaded of the events of a text.
-use Rattle.std.proofs.Common.{◌≡◌, ℕ, true, List, length, map, [], Result, Ok, Err, refl, ap, subst, ◌∙◌}
+use Rattle.std.proofs.Common.{◌≡◌, ◌++◌, ℕ, true, List, length, map, flat_map, [], refl, ap, subst, sym, ◌∙◌}
 use Rattle.std.specs.Prelude.{filter}
-use Rattle.std.specs.Result.{IfOk}
 use Rattle.gitconf_text.specs.Part.{Part}
 use Rattle.gitconf_text.specs.Document.{IsText, Reads, unmarked}
 use Rattle.gitconf_text.specs.Token.{Token, spelled_token, tokens_of}
@@ -20,7 +19,15 @@ use Rattle.gitconf_state.proofs.LoadingClean.{full_is_clean, part_load_has_items
 use Rattle.gitconf_state.proofs.LoadingDocument.{part_load_document}
 use Rattle.gitconf_state.proofs.InsertingLineEnds.{printed_inserted}
 use Rattle.gitconf_state.proofs.ExactPrinting.{byte_for_byte}
+use Rattle.gitconf_parse.specs.Items.{tokens_of_items}
+use Rattle.gitconf_parse.specs.declared.items.Item.{Item}
+use Rattle.gitconf_table.specs.Sections.{Sections}
+use Rattle.gitconf_state.specs.Loads.{section_tokens}
+use Rattle.gitconf_store.specs.declared.section.Section.{Section}
+use Rattle.gitconf_store.specs.Loading.{IsLoading}
 use Rattle.gitconf_store.specs.Made.{IsMade}
+use Rattle.gitconf_store.specs.Store.{section_state, state_of}
+use Rattle.gitconf_store.proofs.Loading.{loading_is_made}
 
 -- what was kept of a text, with its entries, is a load of some of its tokens
 selected_load : (input : List ℕ) (list : EventList) (meta : Meta) (s : IsSelected input list) (state : State) → list.keeps_entries ≡ true → IsMade list.tokens meta list.used state → IsPartLoad s.parts state
@@ -29,11 +36,11 @@ selected_load input list meta s state whole made = record { tokens = rw made.tok
 pub selected_sound : (input : List ℕ) (list : EventList) (meta : Meta) → IsSelected input list → list.keeps_entries ≡ true → (state : State) → IsMade list.tokens meta list.used state → HasItems state
 selected_sound input list meta s whole state made = part_load_has_items s.parts state s.text.fits (selected_load input list meta s state whole made)
 
-selected_document : (input : List ℕ) (list : EventList) (meta : Meta) → IsSelected input list → list.keeps_entries ≡ true → (state : State) → IsMade list.tokens meta list.used state
+pub selected_document : (input : List ℕ) (list : EventList) (meta : Meta) → IsSelected input list → list.keeps_entries ≡ true → (state : State) → IsMade list.tokens meta list.used state
     → Reads input (document_of state)
 selected_document input list meta s whole state made = (s.parts, s.text, part_load_document s.parts state (selected_load input list meta s state whole made))
 
-selected_clean : (input : List ℕ) (list : EventList) (meta : Meta) → IsSelected input list → list.keeps_entries ≡ true → (state : State) → IsMade list.tokens meta list.used state
+pub selected_clean : (input : List ℕ) (list : EventList) (meta : Meta) → IsSelected input list → list.keeps_entries ≡ true → (state : State) → IsMade list.tokens meta list.used state
     → entries_of state.front ≡ [] → IsClean state
 selected_clean input list meta s whole state made none = part_load_is_clean s.parts state s.text.fits (selected_load input list meta s state whole made) none
 
@@ -56,36 +63,17 @@ other_load input list meta w state made parts text = record {
   held = made.held;
 }
 
-whole_clean : (input : List ℕ) (list : EventList) (meta : Meta) → IsWhole input list → (state : State) → IsMade list.tokens meta list.used state → IsClean state
+pub whole_clean : (input : List ℕ) (list : EventList) (meta : Meta) → IsWhole input list → (state : State) → IsMade list.tokens meta list.used state → IsClean state
 whole_clean input list meta w state made = full_is_clean w.parts state w.text.fits (whole_load input list meta w state made)
 
-whole_inserted : (input : List ℕ) (list : EventList) (meta : Meta) → IsWhole input list → (state : State) → IsMade list.tokens meta list.used state
+pub whole_inserted : (input : List ℕ) (list : EventList) (meta : Meta) → IsWhole input list → (state : State) → IsMade list.tokens meta list.used state
     → (parts : List Part) → IsText input parts → Inserted (map spelled_token (tokens_of parts)) (printed state)
 whole_inserted input list meta w state made parts text =
     subst (λ tokens. Inserted (map spelled_token tokens) (printed state)) (other_load input list meta w state made parts text).tokens (printed_inserted state made.held)
 
-whole_exact : (input : List ℕ) (list : EventList) (meta : Meta) → IsWhole input list → (state : State) → IsMade list.tokens meta list.used state
+pub whole_exact : (input : List ℕ) (list : EventList) (meta : Meta) → IsWhole input list → (state : State) → IsMade list.tokens meta list.used state
     → (parts : List Part) → IsText input parts → IsByteForByte parts → printed state ≡ unmarked input
 whole_exact input list meta w state made parts text exact = byte_for_byte input parts state text (other_load input list meta w state made parts text) exact
-
--- what is known of a store that was made of events
-pub record OkLoaded {E : Type 0} (r : Result State E) (list : EventList) : Type 0 where
-  pub document : IfOk r (λ s. (text : List ℕ) → IsSelected text list → Reads text (document_of s))
-  pub clean : IfOk r (λ s. entries_of s.front ≡ [] → IsClean s)
-  pub whole_clean : IfOk r (λ s. (text : List ℕ) → IsWhole text list → IsClean s)
-  pub inserted : IfOk r (λ s. (text : List ℕ) (parts : List Part) → IsWhole text list → IsText text parts → Inserted (map spelled_token (tokens_of parts)) (printed s))
-  pub byte_for_byte : IfOk r (λ s. (text : List ℕ) (parts : List Part) → IsWhole text list → IsText text parts → IsByteForByte parts → printed s ≡ unmarked text)
-
-pub ok_loaded : {E : Type 0} (r : Result State E) (list : EventList) (meta : Meta) (text : List ℕ) → IsSelected text list → list.keeps_entries ≡ true
-    → IfOk r (λ s. IsMade list.tokens meta list.used s) → OkLoaded r list
-ok_loaded (Ok s) list meta text is whole made = record {
-  document = λ text is. selected_document text list meta is whole s made;
-  clean = selected_clean text list meta is whole s made;
-  whole_clean = λ text is. whole_clean text list meta is s made;
-  inserted = λ text parts is. whole_inserted text list meta is s made parts;
-  byte_for_byte = λ text parts is. whole_exact text list meta is s made parts;
-}
-ok_loaded (Err e) list meta text is whole made = record { document = tt; clean = tt; whole_clean = tt; inserted = tt; byte_for_byte = tt }
 
 -- a state of what has a meaning
 pub lossy_made : (input : List ℕ) (list : EventList) (meta : Meta) (state : State) → IsParsed keeps_meaning input list → IsMade list.tokens meta list.used state
@@ -100,15 +88,9 @@ whole_list : (input : List ℕ) (parts : List Part) → IsText input parts → I
 unfolding text_list
 whole_list input parts text = record { parts = parts; text = text; tokens = refl; entries = refl; used = refl }
 
--- a state of all tokens of a text has items
-pub text_items : (input : List ℕ) (parts : List Part) (meta : Meta) (state : State) → IsText input parts → IsMade (tokens_of parts) meta (length input) state → HasItems state
-unfolding text_list
-text_items input parts meta state text made =
-    let list = text_list parts (length input) in
-    selected_sound input list meta (whole_selected input list (whole_list input parts text)) refl state made
-
 -- what is known of the state of a text, all of it
 pub record IsTextLoaded (input : List ℕ) (meta : Meta) (s : State) : Type 0 where
+  pub items : HasItems s
   pub made : (parts : List Part) × IsText input parts × IsMade (tokens_of parts) meta (length input) s
   pub document : Reads input (document_of s)
   pub clean : IsClean s
@@ -121,9 +103,28 @@ text_loaded input parts meta s text made =
     let list = text_list parts (length input) in
     let whole = whole_list input parts text in
     record {
+      items = selected_sound input list meta (whole_selected input list whole) refl s made;
       made = (parts, text, made);
       document = selected_document input list meta (whole_selected input list whole) refl s made;
       clean = whole_clean input list meta whole s made;
       inserted = λ parts. whole_inserted input list meta whole s made parts;
       byte_for_byte = λ parts. whole_exact input list meta whole s made parts;
     }
+
+-- What was read of a text and put into a table is the state of the text.
+pub read_state : (text buffer : List ℕ) (front : List Item) (place meta : Meta) (copies : List ℕ) (table : Sections Section) (s : State) → buffer ≡ text → meta ≡ place
+    → (parts : List Part) × IsText buffer parts × (tokens_of_items buffer front ++ flat_map section_tokens (map (section_state buffer) table.entries) ≡ tokens_of parts)
+    → IsLoading buffer meta copies table → s ≡ state_of text front meta table → IsTextLoaded text place s
+read_state text buffer front place meta copies table s same from found l is =
+    subst (λ m. IsTextLoaded text m s) from
+    (subst (λ t. IsTextLoaded text meta t) (sym is)
+    (subst (λ b. IsTextLoaded b meta (state_of b front meta table)) same
+    (text_loaded buffer found.0 meta (state_of buffer front meta table) found.1 (loading_is_made buffer front meta copies table (tokens_of found.0) l found.2))))
+
+-- the same of the events of a text
+pub read_made : (list : EventList) (buffer : List ℕ) (front : List Item) (place meta : Meta) (copies : List ℕ) (table : Sections Section) → meta ≡ place → length buffer ≡ list.used
+    → tokens_of_items buffer front ++ flat_map section_tokens (map (section_state buffer) table.entries) ≡ list.tokens
+    → IsLoading buffer meta copies table → IsMade list.tokens place list.used (state_of buffer front meta table)
+read_made list buffer front place meta copies table from size tokens l =
+    subst (λ m. IsMade list.tokens m list.used (state_of buffer front meta table)) from
+    (subst (λ n. IsMade list.tokens meta n (state_of buffer front meta table)) size (loading_is_made buffer front meta copies table list.tokens l tokens))
