@@ -16,7 +16,7 @@ ghost use Rattle.gitconf_table.specs.Words.{places_of};
 ghost use Rattle.gitconf_table.specs.SectionIters.{ids_left, named_left, sections_left, shown_section, with_name_left};
 
 use crate::index::{Places, WordIndex};
-use crate::letters::{Names, bytes_at, make_room, put, put_names, subsection_at};
+use crate::letters::{Names, make_room, name_at, put, put_names, subsection_at};
 use crate::lists::put_at;
 use crate::word::{full_word, name_word};
 use gitconf_text::NoMemory;
@@ -24,6 +24,7 @@ use gitconf_text::parse::section::bytes::is_same_name;
 use gitconf_text::parse::span;
 use std::alloc::{AllocError, Global};
 use std::marker::Model;
+use std::mem::size_of;
 
 mod by_name;
 mod renaming;
@@ -63,6 +64,9 @@ struct Row<T> {
     names: Names,
     section: T,
 }
+
+// 24 bytes beside what the section holds.
+const _: () = prove!(size_of::<Row<u64>>() == 32);
 
 impl<T: Clone> Clone for Row<T> {
     ghost use Rattle.gitconf_table.specs.Rows.{IsRowClone};
@@ -551,7 +555,7 @@ fn is_named<T>(letters: &[u8], row: &Row<T>, name: &str, subsection: Option<&[u8
 fn has_name<T>(letters: &[u8], row: &Row<T>, name: &str) -> bool
     ensures { result ≡ has_name name.now (entry_of_row letters.now row.now) }
 {
-    is_same_name(name.as_bytes(), bytes_at(letters, row.names.name))
+    is_same_name(name.as_bytes(), name_at(letters, row.names))
 }
 
 // Whether both are none, or the same bytes.
