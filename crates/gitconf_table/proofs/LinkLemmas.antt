@@ -43,7 +43,7 @@ led_some links behind at some within = record {
 }
 
 -- one more link in its chain
-linked_at : (links led : List Link) (buckets : List Bucket) (at m : ℕ) → at < length links → length led ≡ length links → length links < no_place
+linked_at : (links led : List Link) (buckets : List Bucket) (at m : ℕ) → at < length links → length led ≡ length links → length links ≤ no_place
     → bucket_of (length buckets) (link_at links at).word < length buckets → m ≡ min (ends_of buckets (bucket_of (length buckets) (link_at links at).word)).first at
     → IsLed links (ends_of buckets (bucket_of (length buckets) (link_at links at).word)).behind at led → AreLinked at links buckets
     → AreLinked (at + 1) (set led at (record { word = (link_at links at).word; next = no_place; before = (ends_of buckets (bucket_of (length buckets) (link_at links at).word)).behind }))
@@ -73,7 +73,7 @@ linked_at links led buckets at m within long fits inside least l h =
     subst (λ size. Chained (λ k. bucket_of size (link_at (set led at new) k).word) size) sizes
     (subst (λ g. Chained g (length buckets)) (λ j k. bucket_of (length buckets) (words k j)) chained)
 
-pub linked_more : (links led : List Link) (buckets : List Bucket) (at b m : ℕ) → at < length links → length led ≡ length links → length links < no_place
+pub linked_more : (links led : List Link) (buckets : List Bucket) (at b m : ℕ) → at < length links → length led ≡ length links → length links ≤ no_place
     → b ≡ bucket_of (length buckets) (link_at links at).word → b < length buckets → m ≡ min (ends_of buckets b).first at
     → IsLed links (ends_of buckets b).behind at led → AreLinked at links buckets
     → AreLinked (at + 1) (set led at (record { word = (link_at links at).word; next = no_place; before = (ends_of buckets b).behind }))

@@ -12,7 +12,7 @@ use Rattle.gitconf_table.proofs.LinkLemmas.{behind_within, no_link, shown_set, w
 use Rattle.gitconf_table.proofs.Walks.{differs, word_is}
 
 -- the next place of a bucket stands behind
-pub later : (g : ℕ → ℕ) (b at n j : ℕ) → n < no_place → at < n → IsFirst g b (at + 1) n j → at < j
+pub later : (g : ℕ → ℕ) (b at n j : ℕ) → n ≤ no_place → at < n → IsFirst g b (at + 1) n j → at < j
 later g b at n j fits within next = go (cases_eq j no_place)
   where
     go : (j ≡ no_place) ⊎ (j ≢ no_place) → at < j
@@ -20,7 +20,7 @@ later g b at n j fits within next = go (cases_eq j no_place)
     go (inr stands) = let s = next.stands stands in omega (arith, s.0)
 
 -- A place `at` gets another bucket. Between `e` and `j` no other place of bucket b stands.
-module _ (g h : ℕ → ℕ) (at b n e j : ℕ) (fits : n < no_place) (within : at < n) (same : (k : ℕ) → k ≢ at → h k ≡ g k)
+module _ (g h : ℕ → ℕ) (at b n e j : ℕ) (fits : n ≤ no_place) (within : at < n) (same : (k : ℕ) → k ≢ at → h k ≡ g k)
     (prev : IsBehindLast g b at e) (next : IsFirst g b (at + 1) n j) where
   e_within : e ≤ at
   e_within = behind_within g b at e prev
@@ -171,7 +171,7 @@ last_beside g h at b e same f = record {
 
 -- The place is taken out of its chain: those beside it lead to each other.
 pub chain_out : (g h : ℕ → ℕ) (at : ℕ) (first behind next before first' behind' next' before' : ℕ → ℕ) (size n : ℕ)
-    → n < no_place → at < n → ((k : ℕ) → k ≢ at → h k ≡ g k) → g at < size → h at ≡ size → ((k : ℕ) → g k < size)
+    → n ≤ no_place → at < n → ((k : ℕ) → k ≢ at → h k ≡ g k) → g at < size → h at ≡ size → ((k : ℕ) → g k < size)
     → AreChained g first behind next before size n
     → (before at ≡ 0 → first' (g at) ≡ next at) → ((b : ℕ) → (b ≢ g at) ⊎ (before at ≢ 0) → first' b ≡ first b)
     → ((k : ℕ) → before at ≡ k + 1 → next' k ≡ next at) → ((k : ℕ) → before at ≢ k + 1 → next' k ≡ next k)
@@ -228,7 +228,7 @@ chain_out g h at first behind next before first' behind' next' before' size n fi
 
 -- The place is put into a chain, between two that led to each other.
 pub chain_in : (g h : ℕ → ℕ) (at b e j : ℕ) (first behind next before first' behind' next' before' : ℕ → ℕ) (size n : ℕ)
-    → n < no_place → at < n → ((k : ℕ) → k ≢ at → h k ≡ g k) → b < size → g at ≡ size → h at ≡ b → ((k : ℕ) → k ≢ at → g k < size)
+    → n ≤ no_place → at < n → ((k : ℕ) → k ≢ at → h k ≡ g k) → b < size → g at ≡ size → h at ≡ b → ((k : ℕ) → k ≢ at → g k < size)
     → AreChainedBut at g first behind next before size n → IsBehindLast g b at e → IsFirst g b (at + 1) n j
     → (e ≡ 0 → first' b ≡ at) → ((i : ℕ) → (i ≢ b) ⊎ (e ≢ 0) → first' i ≡ first i)
     → (next' at ≡ j) → ((k : ℕ) → e ≡ k + 1 → next' k ≡ at) → ((k : ℕ) → k ≢ at → e ≢ k + 1 → next' k ≡ next k)
@@ -295,7 +295,7 @@ pub others_of : (size at k : ℕ) (links : List Link) → k ≢ at → bucket_bu
 others_of size at k links other = rw (differs k at other) refl
 
 -- the links and buckets behind the steps that take a place out
-pub taken_out : (links led back : List Link) (buckets ends closed : List Bucket) (at b n : ℕ) → at < length links → length links < no_place → 0 < length buckets
+pub taken_out : (links led back : List Link) (buckets ends closed : List Bucket) (at b n : ℕ) → at < length links → length links ≤ no_place → 0 < length buckets
     → length led ≡ length links → length back ≡ length links → length closed ≡ length buckets → b ≡ bucket_of (length buckets) (link_at links at).word → n ≡ length links
     → words_of back ≡ words_of links → IsLed links (link_at links at).before (link_at links at).next led → IsLedBack led (link_at links at).next (link_at links at).before back
     → LeadsOn buckets b (link_at links at).before (link_at links at).next ends → LeadsBack ends b n (link_at links at).next (link_at links at).before closed
@@ -322,7 +322,7 @@ taken_out links led back buckets ends closed at b n within fits some long long' 
     subst (Chained (length closed)) (sym long') (subst (λ size. Chained size (length links)) (sym wide) chained)
 
 -- the links and buckets behind the steps that put it in under a word
-pub put_between : (links led back : List Link) (buckets ends closed : List Bucket) (at word b n e j : ℕ) → at < length links → length links < no_place → 0 < length buckets
+pub put_between : (links led back : List Link) (buckets ends closed : List Bucket) (at word b n e j : ℕ) → at < length links → length links ≤ no_place → 0 < length buckets
     → length led ≡ length links → length back ≡ length links → length closed ≡ length buckets → b ≡ bucket_of (length buckets) word → n ≡ length links
     → words_of back ≡ words_of (set links at (record { word = word; next = j; before = e })) → IsLed (set links at (record { word = word; next = j; before = e })) e at led → IsLedBack led j (at + 1) back
     → LeadsOn buckets b e at ends → LeadsBack ends b n j (at + 1) closed

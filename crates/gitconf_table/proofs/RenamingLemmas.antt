@@ -6,7 +6,7 @@ use Rattle.gitconf_text.specs.Bytes.{fold}
 use Rattle.gitconf_table.specs.declared.letters.Names.{Names}
 use Rattle.gitconf_table.specs.declared.table.Row.{Row}
 use Rattle.gitconf_table.specs.declared.index.Link.{Link}
-use Rattle.gitconf_table.specs.Letters.{part_of, ArePut, NamesFit}
+use Rattle.gitconf_table.specs.Letters.{name_part, part_of, subsection_part, ArePut, NamesFit}
 use Rattle.gitconf_table.specs.Links.{words_of}
 use Rattle.gitconf_table.specs.Renames.{named_at, named_each, set_each, with_names_at}
 use Rattle.gitconf_table.specs.Rows.{entries_of, entry_of_row, RowsFit}
@@ -48,13 +48,13 @@ module _ {T : Type 0} where
   row_step names rows places rest at r first is = ap (λ ys. named_each names ys rest) (row_named names rows at r is) ∙ sym (ap (named_each names rows) first)
 
   -- rows under other names are entries under them
-  entry_named : (letters name : List ℕ) (s : Option (List ℕ)) (names : Names) (rows : List (Row T)) (at : ℕ) → part_of letters names.name ≡ fold name → option_map (part_of letters) names.subsection ≡ s
+  entry_named : (letters name : List ℕ) (s : Option (List ℕ)) (names : Names) (rows : List (Row T)) (at : ℕ) → part_of letters (name_part names) ≡ fold name → option_map (part_of letters) (subsection_part names) ≡ s
       → entries_of letters (named_at names rows at) ≡ changed_at (λ e. record e { name = fold name; subsection = s }) (entries_of letters rows) at
   entry_named letters name s names [] at is has = refl
   entry_named letters name s names (r ∷ rows) zero is has = λ j. record { number = r.id; name = is j; subsection = has j; section = r.section } ∷ entries_of letters rows
   entry_named letters name s names (r ∷ rows) (suc at) is has = ap (λ ys. entry_of_row letters r ∷ ys) (entry_named letters name s names rows at is has)
 
-  entries_named : (letters name : List ℕ) (s : Option (List ℕ)) (names : Names) (next : ℕ) (rows : List (Row T)) (places : List ℕ) → part_of letters names.name ≡ fold name → option_map (part_of letters) names.subsection ≡ s
+  entries_named : (letters name : List ℕ) (s : Option (List ℕ)) (names : Names) (next : ℕ) (rows : List (Row T)) (places : List ℕ) → part_of letters (name_part names) ≡ fold name → option_map (part_of letters) (subsection_part names) ≡ s
       → (record { entries = entries_of letters (named_each names rows places); next = next }) ≡ with_names_at (record { entries = entries_of letters rows; next = next }) places name s
   entries_named letters name s names next rows [] is has = refl
   entries_named letters name s names next rows (at ∷ places) is has =

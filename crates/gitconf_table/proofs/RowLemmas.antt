@@ -10,7 +10,7 @@ use Rattle.gitconf_text.specs.Bytes.{fold}
 use Rattle.gitconf_table.specs.declared.letters.Part.{Part}
 use Rattle.gitconf_table.specs.declared.letters.Names.{Names}
 use Rattle.gitconf_table.specs.declared.table.Row.{Row}
-use Rattle.gitconf_table.specs.Letters.{moved_names, moved_part, part_of, ArePut, IsPut, IsSubsectionPut, NamesFit, PartFits, SubsectionFits}
+use Rattle.gitconf_table.specs.Letters.{moved_names, name_part, part_of, subsection_part, ArePut, IsPut, IsSubsectionPut, NamesFit, PartFits, SubsectionFits}
 use Rattle.gitconf_table.specs.Sections.{SectionEntry, AreNumbered, changed_at, entry_of, has_number, numbered_from}
 use Rattle.gitconf_table.specs.Rows.{entries_of, entry_of_row, moved_rows, numbers_in, IsRowClone, RowsFit}
 use Rattle.gitconf_table.specs.Tables.{numbers_of, AreApart, ArePlaced}
@@ -28,6 +28,13 @@ subsection_more letters more None fits = refl
 subsection_more letters more (Some p) fits = ap (λ (b : List ℕ). Some b) (part_more letters more p fits)
 
 -- so it does behind others
+abbrev moved_part : (by : ℕ) → Part → Part
+moved_part by p = record { start = by + p.start; len = p.len }
+
+subsection_part_moved : (by start len : ℕ) (s : Option ℕ) → subsection_part (record { start = by + start; name_len = len; subsection_len = s }) ≡ option_map (moved_part by) (subsection_part (record { start = start; name_len = len; subsection_len = s }))
+subsection_part_moved by start len None = refl
+subsection_part_moved by start len (Some n) = let sum : by + start + len ≡ by + (start + len) = omega arith in λ j. Some (record { start = sum j; len = n })
+
 part_moved : (before letters : List ℕ) (p : Part) → part_of (before ++ letters) (moved_part (length before) p) ≡ part_of letters p
 part_moved before letters p = ap (take p.len) (drop-append-add before letters p.start)
 
@@ -44,7 +51,7 @@ subsection_fits m n None more fits = tt
 subsection_fits m n (Some p) more fits = part_fits m n p more fits
 
 pub names_fit : (m n : ℕ) (names : Names) → m ≤ n → NamesFit m names → NamesFit n names
-names_fit m n names more fits = (part_fits m n names.name more fits.0, subsection_fits m n names.subsection more fits.1)
+names_fit m n names more fits = (part_fits m n (name_part names) more fits.0, subsection_fits m n (subsection_part names) more fits.1)
 
 part_fits_moved : (by n : ℕ) (p : Part) → PartFits n p → PartFits (by + n) (moved_part by p)
 part_fits_moved by n p fits = omega (arith, fits)
@@ -64,14 +71,16 @@ part_put bytes old new p put = (
     whole = Rattle.std.proofs.lemmas.List.take_all (length bytes) bytes (omega arith)
 
 -- a name, and then a subsection
-pub names_put : (name : List ℕ) (subsection : Option (List ℕ)) (old mid new : List ℕ) (p : Part) (s : Option Part)
-    → IsPut name old mid p → IsSubsectionPut subsection mid new s → ArePut name subsection old new (record { name = p; subsection = s })
+pub names_put : (name : List ℕ) (subsection : Option (List ℕ)) (old mid new : List ℕ) (p : Part) (s : Option ℕ)
+    → IsPut name old mid p → IsSubsectionPut subsection mid new s → ArePut name subsection old new (record { start = p.start; name_len = p.len; subsection_len = s })
 names_put name None old mid new p None first second =
     let read = part_put name old mid p first in
     rw second (record { more = name; new_is = first.new_is; name_is = read.0; subsection_is = refl; fit = (read.1, tt) })
-names_put name (Some bytes) old mid new p (Some q) first second =
+names_put name (Some bytes) old mid new p (Some len) first second =
     let read = part_put name old mid p first in
-    let other = part_put bytes mid new q second in
+    let before : length mid ≡ length old + length name = ap length first.new_is ∙ rw length-append refl in
+    let behind : length mid ≡ p.start + p.len = omega (arith, before, first.start_is, first.len_is) in
+    let other = part_put bytes mid new (record { start = p.start + p.len; len = len }) (record { new_is = second.new_is; start_is = sym behind; len_is = second.len_is }) in
     let count : length new ≡ length mid + length bytes = ap length second.new_is ∙ rw length-append refl in
     record {
       more = name ++ bytes;
@@ -80,7 +89,7 @@ names_put name (Some bytes) old mid new p (Some q) first second =
       subsection_is = ap (λ (b : List ℕ). Some b) other.0;
       fit = (part_fits (length mid) (length new) p (omega (arith, count)) read.1, other.1);
     }
-names_put name None old mid new p (Some q) first second = elim second [ ]
+names_put name None old mid new p (Some len) first second = elim second [ ]
 names_put name (Some bytes) old mid new p None first second = elim second [ ]
 
 -- what holds of each element
@@ -144,7 +153,9 @@ module _ {T : Type 0} where
 
   pub fit_moved : (n next by : ℕ) (rows : List (Row T)) → RowsFit n rows → RowsFit (by + n) (moved_rows next by rows)
   fit_moved n next by [] fit = tt
-  fit_moved n next by (r ∷ rows) fit = ((part_fits_moved by n r.names.name fit.0.0, subsection_fits_moved by n r.names.subsection fit.0.1), fit_moved n (next + 1) by rows fit.1)
+  fit_moved n next by (r ∷ rows) fit =
+      let behind = subst (SubsectionFits (by + n)) (sym (subsection_part_moved by r.names.start r.names.name_len r.names.subsection_len)) (subsection_fits_moved by n (subsection_part r.names) fit.0.1) in
+      ((part_fits_moved by n (name_part r.names) fit.0.0, behind), fit_moved n (next + 1) by rows fit.1)
 
   pub fit_cloned : (C : T → T → Type 0) (n : ℕ) (rows copies : List (Row T)) → AllZip (IsRowClone C) rows copies → RowsFit n rows → RowsFit n copies
   fit_cloned C n [] [] all fit = tt
@@ -162,15 +173,16 @@ module _ {T : Type 0} where
   pub entries_more : (letters more : List ℕ) (rows : List (Row T)) → RowsFit (length letters) rows → entries_of (letters ++ more) rows ≡ entries_of letters rows
   entries_more letters more [] fit = refl
   entries_more letters more (r ∷ rows) fit = λ j.
-      record { number = r.id; name = part_more letters more r.names.name fit.0.0 j; subsection = subsection_more letters more r.names.subsection fit.0.1 j; section = r.section }
+      record { number = r.id; name = part_more letters more (name_part r.names) fit.0.0 j; subsection = subsection_more letters more (subsection_part r.names) fit.0.1 j; section = r.section }
       ∷ entries_more letters more rows fit.1 j
 
   -- rows of another table behind these letters
   pub entries_moved : (before letters : List ℕ) (next : ℕ) (rows : List (Row T)) → entries_of (before ++ letters) (moved_rows next (length before) rows) ≡ numbered_from next (entries_of letters rows)
   entries_moved before letters next [] = refl
-  entries_moved before letters next (r ∷ rows) = λ j.
-      record { number = next; name = part_moved before letters r.names.name j; subsection = subsection_moved before letters r.names.subsection j; section = r.section }
-      ∷ entries_moved before letters (next + 1) rows j
+  entries_moved before letters next (r ∷ rows) =
+      let part = subsection_part_moved (length before) r.names.start r.names.name_len r.names.subsection_len in
+      let subsection = ap (option_map (part_of (before ++ letters))) part ∙ subsection_moved before letters (subsection_part r.names) in
+      λ j. record { number = next; name = part_moved before letters (name_part r.names) j; subsection = subsection j; section = r.section } ∷ entries_moved before letters (next + 1) rows j
 
   -- the first n rows under the numbers from `next` on, with their names behind others
   abbrev pub moved_until : ℕ → (next by : ℕ) → List (Row T) → List (Row T)
@@ -227,8 +239,8 @@ module _ {T : Type 0} where
 
     -- other names of a row
     set_names : (rows : List (Row T)) (i : ℕ) (r : Row T) (names : Names) → r ≡ get_or rows i r
-        → entries_of letters (set rows i (record r { names = names })) ≡ changed_at (λ e. record e { name = part_of letters names.name; subsection = option_map (part_of letters) names.subsection }) (entries_of letters rows) i
-    set_names rows i r names is = set_changes (λ e. record e { name = part_of letters names.name; subsection = option_map (part_of letters) names.subsection }) rows i r (record r { names = names }) is refl
+        → entries_of letters (set rows i (record r { names = names })) ≡ changed_at (λ e. record e { name = part_of letters (name_part names); subsection = option_map (part_of letters) (subsection_part names) }) (entries_of letters rows) i
+    set_names rows i r names is = set_changes (λ e. record e { name = part_of letters (name_part names); subsection = option_map (part_of letters) (subsection_part names) }) rows i r (record r { names = names }) is refl
 
     -- the entry at a place is that of the row there
     pub entry_at : (rows : List (Row T)) (i : ℕ) (r : Row T) → i < length (entries_of letters rows) → r ≡ get_or rows i r → slice_get (entries_of letters rows) i ≡ Some (entry_of_row letters r)

@@ -4,7 +4,7 @@ use Rattle.std.specs.List.{AllByRecursion, AllZip}
 use Rattle.std.specs.Option.{option_map}
 use Rattle.gitconf_table.specs.declared.letters.Names.{Names}
 use Rattle.gitconf_table.specs.declared.table.Row.{Row}
-use Rattle.gitconf_table.specs.Letters.{part_of}
+use Rattle.gitconf_table.specs.Letters.{name_part, part_of, subsection_part}
 use Rattle.gitconf_table.specs.Sections.{SectionEntry, AreNumbered, IsEntryClone}
 use Rattle.gitconf_table.specs.Rows.{entries_of, IsRowClone}
 
@@ -16,8 +16,8 @@ cloned_rows C letters (r ∷ rows) [] all = elim all [ ]
 cloned_rows C letters (r ∷ rows) (s ∷ copies) all = (
   record {
     number = all.0.number;
-    name = ap (λ (n : Names). part_of letters n.name) all.0.names;
-    subsection = ap (λ (n : Names). option_map (part_of letters) n.subsection) all.0.names;
+    name = ap (λ (n : Names). part_of letters (name_part n)) all.0.names;
+    subsection = ap (λ (n : Names). option_map (part_of letters) (subsection_part n)) all.0.names;
     section = all.0.section;
   },
   cloned_rows C letters rows copies all.1,

@@ -164,7 +164,7 @@ pub fewer : (xs : List ℕ) (x : ℕ) → length xs < length (xs ++ x ∷ [])
 fewer xs x = rw length-append (omega arith)
 
 -- the walk from the first place of a bucket to its last one
-pub whole_walk : (links : List Link) (buckets : List Bucket) (word b : ℕ) → AreLinked (length links) links buckets → length links < no_place → b ≡ bucket_of (length buckets) word → b < length buckets
+pub whole_walk : (links : List Link) (buckets : List Bucket) (word b : ℕ) → AreLinked (length links) links buckets → length links ≤ no_place → b ≡ bucket_of (length buckets) word → b < length buckets
     → IsWalk (length buckets) links word (ends_of buckets b).first (ends_of buckets b).behind
 whole_walk links buckets word b h long is within =
     let first = h.firsts b within in

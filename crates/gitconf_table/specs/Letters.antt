@@ -16,8 +16,16 @@ abbrev pub SubsectionFits : (count : ℕ) → Option Part → Type 0
 SubsectionFits count None = Unit {0}
 SubsectionFits count (Some p) = PartFits count p
 
+-- where the name stands, and behind it the subsection, if there is one
+abbrev pub name_part : Names → Part
+name_part n = record { start = n.start; len = n.name_len }
+
+abbrev pub subsection_part : Names → Option Part
+subsection_part n = option_map (λ len. record { start = n.start + n.name_len; len = len }) n.subsection_len
+
+-- both are among so many bytes
 abbrev pub NamesFit : (count : ℕ) → Names → Type 0
-NamesFit count n = PartFits count n.name × SubsectionFits count n.subsection
+NamesFit count n = PartFits count (name_part n) × SubsectionFits count (subsection_part n)
 
 -- bytes were put behind the others, to that place
 pub record IsPut (bytes old new : List ℕ) (p : Part) : Type 0 where
@@ -25,9 +33,9 @@ pub record IsPut (bytes old new : List ℕ) (p : Part) : Type 0 where
   pub start_is : p.start ≡ length old
   pub len_is : p.len ≡ length bytes
 
--- so were those of a subsection, if there is one
-abbrev pub IsSubsectionPut : (subsection : Option (List ℕ)) (old new : List ℕ) → Option Part → Type 0
-IsSubsectionPut (Some bytes) old new (Some p) = IsPut bytes old new p
+-- so were those of a subsection, if there is one: so many
+abbrev pub IsSubsectionPut : (subsection : Option (List ℕ)) (old new : List ℕ) → Option ℕ → Type 0
+IsSubsectionPut (Some bytes) old new (Some len) = IsPut bytes old new (record { start = length old; len = len })
 IsSubsectionPut None old new None = new ≡ old
 IsSubsectionPut _ old new _ = ⊥
 
@@ -40,13 +48,10 @@ subsection_len None = 0
 pub record ArePut (name : List ℕ) (subsection : Option (List ℕ)) (old new : List ℕ) (n : Names) : Type 0 where
   pub more : List ℕ
   pub new_is : new ≡ old ++ more
-  pub name_is : part_of new n.name ≡ name
-  pub subsection_is : option_map (part_of new) n.subsection ≡ subsection
+  pub name_is : part_of new (name_part n) ≡ name
+  pub subsection_is : option_map (part_of new) (subsection_part n) ≡ subsection
   pub fit : NamesFit (length new) n
 
 -- the same places among bytes that stand behind so many others
-abbrev pub moved_part : (by : ℕ) → Part → Part
-moved_part by p = record { start = by + p.start; len = p.len }
-
 abbrev pub moved_names : (by : ℕ) → Names → Names
-moved_names by n = record { name = moved_part by n.name; subsection = option_map (moved_part by) n.subsection }
+moved_names by n = record n { start = by + n.start }

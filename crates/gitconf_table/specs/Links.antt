@@ -5,9 +5,9 @@ use Rattle.std.specs.List.{slice_index_or}
 use Rattle.gitconf_table.specs.declared.index.Link.{Link}
 use Rattle.gitconf_table.specs.declared.index.Bucket.{Bucket}
 
--- stands for no place in `next` and `first`
+-- stands for no place in `next` and `first`; there are at most so many links
 abbrev pub no_place : ℕ
-no_place = 18446744073709551615
+no_place = 4294967295
 
 -- the first place of the bucket from `from` on and below `count`, or `no_place`
 pub record IsFirst (bucket_at : ℕ → ℕ) (bucket from count place : ℕ) : Type 0 where

@@ -3,12 +3,12 @@ use Rattle.std.specs.Prelude.{◌≡◌, ℕ, ◌+◌, List, [], ◌∷◌, map,
 use Rattle.std.specs.List.{filter_map, AllByRecursion}
 use Rattle.std.specs.Option.{option_map}
 use Rattle.gitconf_table.specs.declared.table.Row.{Row}
-use Rattle.gitconf_table.specs.Letters.{moved_names, part_of, NamesFit}
+use Rattle.gitconf_table.specs.Letters.{moved_names, name_part, part_of, subsection_part, NamesFit}
 use Rattle.gitconf_table.specs.Sections.{SectionEntry}
 
 -- a row as an entry of the list
 abbrev pub entry_of_row : {T : Type 0} → (letters : List ℕ) → Row T → SectionEntry T
-entry_of_row letters r = record { number = r.id; name = part_of letters r.names.name; subsection = option_map (part_of letters) r.names.subsection; section = r.section }
+entry_of_row letters r = record { number = r.id; name = part_of letters (name_part r.names); subsection = option_map (part_of letters) (subsection_part r.names); section = r.section }
 
 -- the rows as the list, in file order
 abbrev pub entries_of : {T : Type 0} → (letters : List ℕ) → List (Row T) → List (SectionEntry T)

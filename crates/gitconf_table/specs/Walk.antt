@@ -13,7 +13,7 @@ bucket_at size links k = bucket_of size (link_at links k).word
 pub record IsWalk (size : ℕ) (links : List Link) (word front behind : ℕ) : Type 0 where
   pub nexts : (k : ℕ) → k < length links → IsFirst (bucket_at size links) (bucket_at size links k) (k + 1) (length links) (link_at links k).next
   pub befores : (k : ℕ) → k < length links → IsBehindLast (bucket_at size links) (bucket_at size links k) k (link_at links k).before
-  pub long : length links < no_place
+  pub long : length links ≤ no_place
   pub within : behind ≤ length links
   pub front_is : front < behind → bucket_at size links front ≡ bucket_of size word
   pub back_is : (k : ℕ) → behind ≡ k + 1 → front < behind → bucket_at size links k ≡ bucket_of size word

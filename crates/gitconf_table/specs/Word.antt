@@ -4,7 +4,7 @@ use Rattle.gitconf_text.specs.Bytes.{fold}
 
 -- a word with one byte more
 unfoldable pub with_byte : ℕ → ℕ → ℕ
-with_byte word byte = (bit_xor word byte * 1099511628211) % 2 ^ 64
+with_byte word byte = (bit_xor word byte * 16777619) % 2 ^ 32
 
 -- a word with all bytes of a text more
 abbrev pub with_bytes : ℕ → List ℕ → ℕ
@@ -13,7 +13,7 @@ with_bytes word (b ∷ bs) = with_bytes (with_byte word b) bs
 
 -- the word of no bytes
 abbrev pub no_bytes : ℕ
-no_bytes = 14695981039346656037
+no_bytes = 2166136261
 
 -- the word of a name, without its case
 unfoldable pub name_word : List ℕ → ℕ

@@ -2,7 +2,7 @@
 ghost use Rattle.std.specs.Prelude.{◌≡◌, ◌+◌, ◌<◌, ◌≤◌, [], ◌∷◌, ◌++◌, drop, insert, length, remove, slice_set, take, vec_capacity, vec_len, IfOk, OnOk};
 ghost use Rattle.std.specs.Iterator.{item_count, YieldsFirst, YieldsLast};
 ghost use Rattle.std.specs.List.{AllByRecursion};
-ghost use Rattle.gitconf_table.specs.Links.{bucket_of, words_of, AreLinked, IsLed};
+ghost use Rattle.gitconf_table.specs.Links.{bucket_of, no_place, words_of, AreLinked, IsLed};
 ghost use Rattle.gitconf_table.specs.Renames.{set_each};
 ghost use Rattle.gitconf_table.specs.Words.{places_of};
 
@@ -10,65 +10,75 @@ use crate::index::moving::move_each;
 use crate::lists::put_at;
 use std::alloc::{AllocError, Global};
 use std::marker::Model;
+use std::mem::size_of;
 
 mod moving;
 
-// A place of the list: its word, the next place of its bucket, or the greatest number, and what is directly behind the
-// previous place of its bucket, or 0.
+// Stands for no place: the greatest number of 32 bits. So a list has at most as many words.
+const NO_PLACE: u32 = u32::MAX;
+
+// A place of the list: its word, the next place of its bucket, or `NO_PLACE`, and what is directly behind the previous
+// place of its bucket, or 0.
 #[derive(Clone, Copy)]
 struct Link {
-    word: u64,
-    next: usize,
-    before: usize,
+    word: u32,
+    next: u32,
+    before: u32,
 }
 
-// The first place of a bucket, or the greatest number, and what is directly behind its last place, or 0.
+// The first place of a bucket, or `NO_PLACE`, and what is directly behind its last place, or 0.
 #[derive(Clone, Copy)]
 struct Bucket {
-    first: usize,
-    behind: usize,
+    first: u32,
+    behind: u32,
 }
 
+// A list has as many links as words, and about as many buckets.
+const _: () = prove!(size_of::<Link>() == 12);
+
+const _: () = prove!(size_of::<Bucket>() == 8);
+
 const EMPTY: Bucket = Bucket {
-    first: usize::MAX,
+    first: NO_PLACE,
     behind: 0,
 };
 
 // The bucket of a word, of so many.
-fn bucket_of(word: u64, size: usize) -> usize
+fn bucket_of(word: u32, size: usize) -> usize
     requires { 0 < size }
     ensures bucket { result ≡ bucket_of size word }
     ensures within { result < size }
 {
-    (word & (size as u64 - 1)) as usize
+    word as usize & (size - 1)
 }
 
 // Leads from the place before `behind`, if there is one, on to the place.
-fn lead(links: &mut [Link], behind: usize, at: usize)
+fn lead(links: &mut [Link], behind: u32, at: u32)
     requires { behind ≤ length links.old }
     ensures words { words_of links.new ≡ words_of links.old }
     ensures led { IsLed links.old behind at links.new }
 {
     if behind > 0 {
-        links[behind - 1].next = at;
+        links[behind as usize - 1].next = at;
     }
 }
 
 // Puts the place behind the last one of its bucket.
-fn chain(links: &mut [Link], buckets: &mut [Bucket], at: usize)
+fn chain(links: &mut [Link], buckets: &mut [Bucket], at: u32)
     requires within { at < length links.old }
+    requires long { length links.old ≤ no_place }
     requires some { 0 < length buckets.old }
     requires linked { AreLinked at links.old buckets.old }
     ensures words { words_of links.new ≡ words_of links.old }
     ensures linked { AreLinked (at + 1) links.new buckets.new }
 {
-    let word = links[at].word;
+    let word = links[at as usize].word;
     let bucket = bucket_of(word, buckets.len());
     let Bucket { first, behind } = buckets[bucket];
     lead(links, behind, at);
-    links[at] = Link {
+    links[at as usize] = Link {
         word,
-        next: usize::MAX,
+        next: NO_PLACE,
         before: behind,
     };
     buckets[bucket] = Bucket {
@@ -80,19 +90,21 @@ fn chain(links: &mut [Link], buckets: &mut [Bucket], at: usize)
 // Chains the places from one on, behind those before it, which are chained.
 fn link_from(links: &mut [Link], buckets: &mut [Bucket], from: usize)
     requires within { from ≤ length links.old }
+    requires long { length links.old ≤ no_place }
     requires some { 0 < length buckets.old }
     requires linked { AreLinked from links.old buckets.old }
     ensures words { words_of links.new ≡ words_of links.old }
     ensures linked { AreLinked (length links.old) links.new buckets.new }
 {
     for at in from..links.len() {
-        chain(links, buckets, at);
+        chain(links, buckets, at as u32);
     }
 }
 
 // Chains all places anew.
 fn relink(links: &mut [Link], buckets: &mut [Bucket])
-    requires { 0 < length buckets.old }
+    requires long { length links.old ≤ no_place }
+    requires some { 0 < length buckets.old }
     ensures words { words_of links.new ≡ words_of links.old }
     ensures linked { AreLinked (length links.old) links.new buckets.new }
 {
@@ -105,6 +117,7 @@ fn relink(links: &mut [Link], buckets: &mut [Bucket])
 // Chains the places of a list from one on.
 fn link_rest(links: &mut Vec<Link>, buckets: &mut Vec<Bucket>, from: usize)
     requires within { from ≤ length links.old.items }
+    requires long { vec_len links.old ≤ no_place }
     requires some { 0 < vec_len buckets.old }
     requires linked { AreLinked from links.old.items buckets.old.items }
     ensures words { words_of links.new.items ≡ words_of links.old.items }
@@ -117,7 +130,8 @@ fn link_rest(links: &mut Vec<Link>, buckets: &mut Vec<Bucket>, from: usize)
 
 // Chains all places of a list anew.
 fn relink_all(links: &mut Vec<Link>, buckets: &mut Vec<Bucket>)
-    requires { 0 < vec_len buckets.old }
+    requires long { vec_len links.old ≤ no_place }
+    requires some { 0 < vec_len buckets.old }
     ensures words { words_of links.new.items ≡ words_of links.old.items }
     ensures linked { AreLinked (length links.new.items) links.new.items buckets.new.items }
     ensures room { (vec_len links.new ≡ vec_len links.old) × (vec_capacity links.new ≡ vec_capacity links.old) }
@@ -137,7 +151,8 @@ fn empty_buckets(alloc: Global, places: usize) -> Result<Vec<Bucket>, AllocError
     vec![in alloc; EMPTY; size]
 }
 
-/// A list of words, with its places by word.
+/// A list of at most 4294967295 words, with its places by word. Takes 12 bytes for each word that there is room for, and 8
+/// for each bucket.
 #[derive(Drop)]
 pub struct WordIndex {
     links: Vec<Link>,
@@ -172,12 +187,16 @@ impl WordIndex {
     ///
     /// # Errors
     ///
-    /// Want of memory. The words are as they were.
+    /// Want of memory, also where there would be more than 4294967295 words. The words are as they were.
     pub fn reserve(&mut self, more: usize) -> Result<(), AllocError>
         ensures words { self.new.words ≡ self.old.words }
         ensures ok { OnOk result (more ≤ self.new.room) }
+        ensures fits { OnOk result (length self.new.words + more ≤ no_place) }
     {
         let count = self.links.len().checked_add(more).ok_or(AllocError)?;
+        if count > NO_PLACE as usize {
+            return Err(AllocError);
+        }
         if self.buckets.is_empty() || self.buckets.len() < count {
             let mut buckets = empty_buckets(*self.links.allocator(), count)?;
             relink_all(&mut self.links, &mut buckets);
@@ -187,17 +206,17 @@ impl WordIndex {
     }
 
     /// Puts a word last, in constant time.
-    pub fn push(&mut self, word: u64)
+    pub fn push(&mut self, word: u32)
         requires { 0 < self.old.room }
         ensures { self.new.words ≡ self.old.words ++ word ∷ [] }
     {
-        let at = self.links.len();
+        let at = self.links.len() as u32;
         self.links.push(unlinked(word)).unwrap();
         chain(&mut self.links, &mut self.buckets, at);
     }
 
     /// Puts a word at a place. Takes time for all words.
-    pub fn insert(&mut self, at: usize, word: u64)
+    pub fn insert(&mut self, at: usize, word: u32)
         requires room { 0 < self.old.room }
         requires within { at ≤ length self.old.words }
         ensures { self.new.words ≡ insert self.old.words at word }
@@ -209,14 +228,15 @@ impl WordIndex {
     /// Takes the word at a place out. Takes time for all words.
     pub fn remove(&mut self, at: usize)
         requires { at < length self.old.words }
-        ensures { self.new.words ≡ remove self.old.words at }
+        ensures words { self.new.words ≡ remove self.old.words at }
+        ensures fits { length self.old.words ≤ no_place }
     {
         self.links.remove(at);
         relink_all(&mut self.links, &mut self.buckets);
     }
 
     /// Puts another word at a place. Takes time for the places of the word's bucket.
-    pub fn set(&mut self, at: usize, word: u64)
+    pub fn set(&mut self, at: usize, word: u32)
         requires { at < length self.old.words }
         ensures { self.new.words ≡ slice_set self.old.words at word }
     {
@@ -225,7 +245,7 @@ impl WordIndex {
 
     /// Puts another word at all these places. Where they ascend, takes time for them and, once, for the places of the word's
     /// bucket; each one that stands before the one named last takes the time of that bucket anew.
-    pub fn set_each(&mut self, places: &[usize], word: u64)
+    pub fn set_each(&mut self, places: &[usize], word: u32)
         requires { AllByRecursion (λ at. at < length self.old.words) places.now }
         ensures { self.new.words ≡ set_each self.old.words places.now word }
     {
@@ -276,7 +296,7 @@ impl WordIndex {
     }
 
     /// The places of a word. Takes the time to compute its bucket.
-    pub fn places(&self, word: u64) -> Places<'_>
+    pub fn places(&self, word: u32) -> Places<'_>
         ensures { result ≡ places_of word self.now.words }
     {
         if self.buckets.is_empty() {
@@ -298,12 +318,12 @@ impl WordIndex {
 }
 
 // A link in no chain.
-fn unlinked(word: u64) -> Link
+fn unlinked(word: u32) -> Link
     ensures { result.word ≡ word }
 {
     Link {
         word,
-        next: usize::MAX,
+        next: NO_PLACE,
         before: 0,
     }
 }
@@ -312,10 +332,10 @@ fn unlinked(word: u64) -> Link
 #[derive(Drop)]
 pub struct Places<'a> {
     links: &'a [Link],
-    word: u64,
+    word: u32,
     // The first place that is left, if it is before `behind`.
-    front: usize,
-    behind: usize,
+    front: u32,
+    behind: u32,
 }
 
 impl<'a> Model for Places<'a> {
@@ -340,7 +360,7 @@ impl Iterator for Places<'_> {
     /// Takes time for the places of the bucket up to the next one with the word.
     fn next(&mut self) -> Option<usize> {
         while self.front < self.behind {
-            let at = self.front;
+            let at = self.front as usize;
             let link = self.links[at];
             self.front = link.next;
             if link.word == self.word {
@@ -356,7 +376,7 @@ impl DoubleEndedIterator for Places<'_> {
 
     fn next_back(&mut self) -> Option<usize> {
         while self.front < self.behind {
-            let at = self.behind - 1;
+            let at = self.behind as usize - 1;
             let link = self.links[at];
             self.behind = link.before;
             if link.word == self.word {

@@ -2,41 +2,52 @@
 ghost use Rattle.std.specs.Prelude.{◌≡◌, ◌+◌, ◌<◌, ◌≤◌, ◌^◌, ◌++◌, drop, length, take, vec_capacity, vec_len, IfOk, OnOk, OnErr};
 ghost use Rattle.std.specs.Option.{option_copied, option_map};
 ghost use Rattle.gitconf_text.specs.Bytes.{fold};
-ghost use Rattle.gitconf_table.specs.Letters.{part_of, subsection_len, ArePut, IsPut, IsSubsectionPut};
+ghost use Rattle.gitconf_table.specs.Letters.{name_part, part_of, subsection_len, subsection_part, ArePut, IsPut, IsSubsectionPut};
 
 use std::alloc::AllocError;
+use std::mem::size_of;
 
-/// Where a name stands: the place of its first byte, and how many bytes it has.
+/// Where bytes stand: the place of the first one, and how many there are.
 #[derive(Clone, Copy)]
 pub(crate) struct Part {
     pub(crate) start: u32,
     pub(crate) len: u32,
 }
 
-/// Where the name of a section stands, and its subsection, if it has one.
+/// Where the name of a section stands, in ASCII lower case, and how many bytes its subsection has, if it has one. That
+/// stands directly behind the name.
 #[derive(Clone, Copy)]
 pub(crate) struct Names {
-    // In ASCII lower case.
-    pub(crate) name: Part,
-    pub(crate) subsection: Option<Part>,
+    pub(crate) start: u32,
+    pub(crate) name_len: u32,
+    pub(crate) subsection_len: Option<u32>,
 }
 
-/// The bytes at a place.
-pub(crate) fn bytes_at(letters: &[u8], part: Part) -> &[u8]
-    ensures { result.now ≡ part_of letters.now part }
+// Each row of a table has its own.
+const _: () = prove!(size_of::<Names>() == 16);
+
+/// So many bytes from a place on.
+fn bytes_from(letters: &[u8], start: usize, len: usize) -> &[u8]
+    ensures { result.now ≡ take len (drop start letters.now) }
 {
-    let start = (part.start as usize).min(letters.len());
-    let behind = letters.split_at(start).1;
-    let len = (part.len as usize).min(behind.len());
-    behind.split_at(len).0
+    let behind = letters.split_at(start.min(letters.len())).1;
+    behind.split_at(len.min(behind.len())).0
+}
+
+/// The name at its place.
+pub(crate) fn name_at(letters: &[u8], names: Names) -> &[u8]
+    ensures { result.now ≡ part_of letters.now (name_part names) }
+{
+    bytes_from(letters, names.start as usize, names.name_len as usize)
 }
 
 /// The subsection at its place, if there is one.
 pub(crate) fn subsection_at(letters: &[u8], names: Names) -> Option<&[u8]>
-    ensures { option_copied result ≡ option_map (part_of letters.now) names.subsection }
+    ensures { option_copied result ≡ option_map (part_of letters.now) (subsection_part names) }
 {
-    match names.subsection {
-        Some(part) => Some(bytes_at(letters, part)),
+    let start = names.start as usize + names.name_len as usize;
+    match names.subsection_len {
+        Some(len) => Some(bytes_from(letters, start, len as usize)),
         None => None,
     }
 }
@@ -108,14 +119,14 @@ fn names_len(name: &[u8], subsection: Option<&[u8]>) -> Result<usize, AllocError
     }
 }
 
-/// Puts a subsection behind the other bytes, if there is one.
-fn put_subsection(letters: &mut Vec<u8>, subsection: Option<&[u8]>) -> Option<Part>
+/// Puts a subsection behind the other bytes, if there is one, and answers how many bytes it has.
+fn put_subsection(letters: &mut Vec<u8>, subsection: Option<&[u8]>) -> Option<u32>
     requires room { vec_len letters.old + subsection_len (option_copied subsection) ≤ vec_capacity letters.old }
     requires places { vec_len letters.old + subsection_len (option_copied subsection) < 2 ^ 32 }
     ensures { IsSubsectionPut (option_copied subsection.entry) letters.old.items letters.new.items result }
 {
     match subsection {
-        Some(bytes) => Some(put(letters, bytes)),
+        Some(bytes) => Some(put(letters, bytes).len),
         None => None,
     }
 }
@@ -134,25 +145,13 @@ pub(crate) fn put_names(
     ensures err { OnErr result (letters.new.items ≡ letters.old.items) }
 {
     make_room(letters, names_len(name, subsection)?)?;
-    let name = put_folded(letters, name);
-    let subsection = put_subsection(letters, subsection);
-    Ok(Names { name, subsection })
-}
-
-impl Part {
-    ghost use Rattle.std.specs.Prelude.{◌≡◌, ◌+◌, ◌<◌, ◌^◌};
-    ghost use Rattle.gitconf_table.specs.Letters.{moved_part};
-
-    /// The same place among bytes that stand behind so many others.
-    fn moved(self, by: u32) -> Part
-        requires { by + self.start < 2 ^ 32 }
-        ensures { result ≡ moved_part by self }
-    {
-        Part {
-            start: by + self.start,
-            len: self.len,
-        }
-    }
+    let part = put_folded(letters, name);
+    let subsection_len = put_subsection(letters, subsection);
+    Ok(Names {
+        start: part.start,
+        name_len: part.len,
+        subsection_len,
+    })
 }
 
 impl Names {
@@ -165,11 +164,9 @@ impl Names {
         ensures { result ≡ moved_names by self }
     {
         Names {
-            name: self.name.moved(by),
-            subsection: match self.subsection {
-                Some(part) => Some(part.moved(by)),
-                None => None,
-            },
+            start: by + self.start,
+            name_len: self.name_len,
+            subsection_len: self.subsection_len,
         }
     }
 }

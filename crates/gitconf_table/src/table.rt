@@ -7,6 +7,7 @@ ghost use Rattle.std.specs.Option.{option_copied, option_eq, option_map};
 ghost use Rattle.std.specs.Str.{bytes_eq};
 ghost use Rattle.std.specs.Borrow.{sem};
 ghost use Rattle.gitconf_text.specs.Bytes.{fold};
+ghost use Rattle.gitconf_table.specs.Links.{no_place};
 ghost use Rattle.gitconf_table.specs.Sections.{all_named, entry_of, has_name, ids, is_named, named, no_number, number_at, numbered_from, place_of, section_at, section_of, sections_of, with_all, with_behind, with_last, with_names, without, IsNumbered, IsTableClone};
 ghost use Rattle.gitconf_table.specs.Rows.{entry_of_row, moved_rows, numbers_in, RowsFit};
 ghost use Rattle.gitconf_table.specs.Tables.{AreApart, ArePlaced, ArePlacedTo};
@@ -15,7 +16,7 @@ ghost use Rattle.gitconf_table.specs.Words.{places_of};
 ghost use Rattle.gitconf_table.specs.SectionIters.{ids_left, named_left, sections_left, shown_section, with_name_left};
 
 use crate::index::{Places, WordIndex};
-use crate::letters::{Names, bytes_at, make_room, put, put_names, subsection_at};
+use crate::letters::{Names, make_room, name_at, put, put_names, subsection_at};
 use crate::lists::put_at;
 use crate::word::{full_word, name_word};
 use gitconf_text::NoMemory;
@@ -23,6 +24,7 @@ use gitconf_text::parse::section::bytes::is_same_name;
 use gitconf_text::parse::span;
 use std::alloc::{AllocError, Global};
 use std::marker::Model;
+use std::mem::size_of;
 
 mod by_name;
 mod renaming;
@@ -63,6 +65,9 @@ struct Row<T> {
     section: T,
 }
 
+// 24 bytes beside what the section holds.
+const _: () = prove!(size_of::<Row<u64>>() == 32);
+
 impl<T: Clone> Clone for Row<T> {
     ghost use Rattle.gitconf_table.specs.Rows.{IsRowClone};
 
@@ -77,14 +82,15 @@ impl<T: Clone> Clone for Row<T> {
     }
 }
 
-/// The sections of a file, each with its number, in file order.
+/// The sections of a file, each with its number, in file order. At most 4294967295 of them stand at a time: one more is
+/// refused for want of memory.
 #[derive(Drop)]
 pub struct SectionTable<T> {
     rows: Vec<Row<T>>,
     // The names and subsections of all rows, also those that no row has any more.
     letters: Vec<u8>,
-    // The place of each number that stands; of another one some place.
-    places: Vec<usize>,
+    // The place of each number that stands; of another one some place. Of 32 bits, since the indexes take no more words.
+    places: Vec<u32>,
     // The rows by the words of their names, and by those of their names and subsections.
     names: WordIndex,
     full: WordIndex,
@@ -179,7 +185,7 @@ impl<T> SectionTable<T> {
         if id.number >= self.places.len() {
             return None;
         }
-        let at = self.places[id.number];
+        let at = self.places[id.number] as usize;
         if at >= self.rows.len() {
             return None;
         }
@@ -301,7 +307,7 @@ impl<T> SectionTable<T> {
     ///
     /// # Errors
     ///
-    /// Want of memory. The table is as it was.
+    /// Want of memory, also where there would be more than 4294967295 sections. The table is as it was.
     pub fn reserve(&mut self, more: usize) -> Result<(), NoMemory>
     where
         T: Drop,
@@ -318,7 +324,7 @@ impl<T> SectionTable<T> {
     /// Takes memory for the names, and constant time and memory on average for its place and the indexes.
     ///
     /// Errors: a [`span::Error`], number 3 where only the greatest number is left, and else 27 for want of
-    /// memory. The table then is as it was.
+    /// memory, also where 4294967295 sections stand. The table then is as it was.
     pub fn push(
         &mut self,
         name: &[u8],
@@ -343,7 +349,7 @@ impl<T> SectionTable<T> {
         self.full.reserve(1)?;
         let names = put_names(&mut self.letters, name, subsection)?;
         let row = Row { id, names, section };
-        let at = self.rows.len();
+        let at = self.rows.len() as u32;
         let word = name_word(name);
         self.rows.push(row).unwrap();
         self.places.push(at).unwrap();
@@ -358,7 +364,7 @@ impl<T> SectionTable<T> {
     /// indexes; moves what stands behind, and links all sections anew.
     ///
     /// Errors: a [`span::Error`], number 3 where only the greatest number is left, and else 27 for want of
-    /// memory. The table then is as it was.
+    /// memory, also where 4294967295 sections stand. The table then is as it was.
     pub fn insert_behind(
         &mut self,
         position: usize,
@@ -388,7 +394,8 @@ impl<T> SectionTable<T> {
         let at = position + 1;
         let word = name_word(name);
         self.rows.insert(at, row).unwrap();
-        self.places.push(at).unwrap();
+        // Some place for now: all are written down once the row stands.
+        self.places.push(0).unwrap();
         relocate(&self.rows, &mut self.places, 0);
         self.names.insert(at, word);
         self.full.insert(at, full_word(name, word, subsection));
@@ -401,7 +408,8 @@ impl<T> SectionTable<T> {
     /// behind, and links all sections anew; behind all others, those of the other table alone.
     ///
     /// Errors: a [`span::Error`], number 3 where fewer numbers are left than the other has sections, and else
-    /// 27 for want of memory. The table then is as it was, and the other is dropped.
+    /// 27 for want of memory, also where there would be more than 4294967295 sections. The table then is as it was, and
+    /// the other is dropped.
     pub fn insert_all(&mut self, position: usize, other: SectionTable<T>) -> Result<(), span::Error>
     where
         T: Drop,
@@ -450,9 +458,9 @@ impl<T> SectionTable<T> {
             names: _,
             section,
         } = self.rows.remove(at);
-        relocate(&self.rows, &mut self.places, 0);
         self.names.remove(at);
         self.full.remove(at);
+        relocate(&self.rows, &mut self.places, 0);
         Some(section)
     }
 
@@ -489,7 +497,8 @@ impl<T> SectionTable<T> {
 }
 
 // Writes down the place of each row from one on under its number, behind those that have theirs.
-fn relocate<T>(rows: &Vec<Row<T>>, places: &mut Vec<usize>, from: usize)
+fn relocate<T>(rows: &Vec<Row<T>>, places: &mut Vec<u32>, from: usize)
+    requires long { vec_len rows.now ≤ no_place }
     requires from { from ≤ length (numbers_in rows.now.items) }
     requires within { (k : ℕ) → k < length (numbers_in rows.now.items) → slice_index (numbers_in rows.now.items) k < length places.old.items }
     requires once { AreApart (numbers_in rows.now.items) }
@@ -500,12 +509,12 @@ fn relocate<T>(rows: &Vec<Row<T>>, places: &mut Vec<usize>, from: usize)
     for at in from..rows.len() {
         let row = &rows[at];
         let id = row.id;
-        places[id.number] = at;
+        places[id.number] = at as u32;
     }
 }
 
 // Makes room for the places of so many numbers more, behind those below `next`.
-fn add_places(places: &mut Vec<usize>, next: usize, count: usize) -> Result<(), AllocError>
+fn add_places(places: &mut Vec<u32>, next: usize, count: usize) -> Result<(), AllocError>
     requires { next + count ≤ no_number }
     ensures ok { OnOk result (vec_len places.new ≡ next + count) }
     ensures kept { OnOk result (length places.old.items ≤ next + count → take (length places.old.items) places.new.items ≡ places.old.items) }
@@ -546,7 +555,7 @@ fn is_named<T>(letters: &[u8], row: &Row<T>, name: &str, subsection: Option<&[u8
 fn has_name<T>(letters: &[u8], row: &Row<T>, name: &str) -> bool
     ensures { result ≡ has_name name.now (entry_of_row letters.now row.now) }
 {
-    is_same_name(name.as_bytes(), bytes_at(letters, row.names.name))
+    is_same_name(name.as_bytes(), name_at(letters, row.names))
 }
 
 // Whether both are none, or the same bytes.

@@ -4,21 +4,21 @@ ghost use Rattle.std.specs.Option.{option_copied};
 ghost use Rattle.gitconf_text.specs.Bytes.{fold};
 ghost use Rattle.gitconf_table.specs.Word.{full_word, name_word, with_byte, with_bytes};
 
-// FNV-1a: its word of no bytes, and its prime.
-const NO_BYTES: u64 = 14695981039346656037;
+// FNV-1a of 32 bits: its word of no bytes, and its prime.
+const NO_BYTES: u32 = 2166136261;
 
-const PRIME: u64 = 1099511628211;
+const PRIME: u32 = 16777619;
 
 // A word with one byte more.
 #[tactic(auto, unfolding(crate::specs::Word::with_byte))]
-fn with_byte(word: u64, byte: u8) -> u64
+fn with_byte(word: u32, byte: u8) -> u32
     ensures { result ≡ with_byte word byte }
 {
-    (word ^ u64::from(byte)).wrapping_mul(PRIME)
+    (word ^ u32::from(byte)).wrapping_mul(PRIME)
 }
 
 // A word with all bytes of a text more.
-fn with_bytes(word: u64, bytes: &[u8]) -> u64
+fn with_bytes(word: u32, bytes: &[u8]) -> u32
     ensures { result ≡ with_bytes word bytes.now }
 {
     let mut word = word;
@@ -32,7 +32,7 @@ fn with_bytes(word: u64, bytes: &[u8]) -> u64
 
 /// The word of a name, without ASCII case.
 #[tactic(auto, unfolding(crate::specs::Word::name_word))]
-pub fn name_word(name: &[u8]) -> u64
+pub fn name_word(name: &[u8]) -> u32
     ensures { result ≡ name_word name.now }
 {
     let mut word = NO_BYTES;
@@ -46,7 +46,7 @@ pub fn name_word(name: &[u8]) -> u64
 
 /// The word of a name, without ASCII case, and a subsection, if `word` is that of the name.
 #[tactic(auto, unfolding(crate::specs::Word::full_word))]
-pub fn full_word(name: &[u8], word: u64, subsection: Option<&[u8]>) -> u64
+pub fn full_word(name: &[u8], word: u32, subsection: Option<&[u8]>) -> u32
     requires { word ≡ name_word name.now }
     ensures { result ≡ full_word name.now (option_copied subsection.entry) }
 {

@@ -12,12 +12,12 @@ use crate::index::{Bucket, Link, bucket_of, lead};
 // the greatest number.
 #[derive(Clone, Copy)]
 struct Gap {
-    behind: usize,
-    next: usize,
+    behind: u32,
+    next: u32,
 }
 
 // Where nothing stands before `behind`, the bucket leads on to the place.
-fn lead_bucket(buckets: &mut [Bucket], bucket: usize, behind: usize, at: usize)
+fn lead_bucket(buckets: &mut [Bucket], bucket: usize, behind: u32, at: u32)
     requires { bucket < length buckets.old }
     ensures { LeadsOn buckets.old bucket behind at buckets.new }
 {
@@ -27,34 +27,35 @@ fn lead_bucket(buckets: &mut [Bucket], bucket: usize, behind: usize, at: usize)
 }
 
 // Leads back from the place, if there is one, to what stands before `behind`.
-fn lead_back(links: &mut [Link], at: usize, behind: usize)
+fn lead_back(links: &mut [Link], at: u32, behind: u32)
     ensures words { words_of links.new ≡ words_of links.old }
     ensures led { IsLedBack links.old at behind links.new }
 {
-    if at < links.len() {
-        links[at].before = behind;
+    if (at as usize) < links.len() {
+        links[at as usize].before = behind;
     }
 }
 
 // Where there is no such place among so many, the bucket leads back to what stands before `behind`.
-fn lead_bucket_back(buckets: &mut [Bucket], bucket: usize, count: usize, at: usize, behind: usize)
+fn lead_bucket_back(buckets: &mut [Bucket], bucket: usize, count: usize, at: u32, behind: u32)
     requires { bucket < length buckets.old }
     ensures { LeadsBack buckets.old bucket count at behind buckets.new }
 {
-    if count <= at {
+    if count <= at as usize {
         buckets[bucket].behind = behind;
     }
 }
 
 // Takes the place out of its chain: those beside it lead to each other.
-fn take_out(links: &mut [Link], buckets: &mut [Bucket], at: usize)
+fn take_out(links: &mut [Link], buckets: &mut [Bucket], at: u32)
     requires within { at < length links.old }
+    requires long { length links.old ≤ no_place }
     requires some { 0 < length buckets.old }
     requires linked { AreLinked (length links.old) links.old buckets.old }
     ensures words { words_of links.new ≡ words_of links.old }
     ensures linked { AreLinkedBut at links.new buckets.new }
 {
-    let Link { word, next, before } = links[at];
+    let Link { word, next, before } = links[at as usize];
     let bucket = bucket_of(word, buckets.len());
     lead(links, before, next);
     lead_bucket(buckets, bucket, before, next);
@@ -63,9 +64,9 @@ fn take_out(links: &mut [Link], buckets: &mut [Bucket], at: usize)
 }
 
 // Puts the place, which is in no chain, under a word into the chain of its bucket.
-fn put_in(links: &mut [Link], buckets: &mut [Bucket], at: usize, word: u64, gap: Gap)
+fn put_in(links: &mut [Link], buckets: &mut [Bucket], at: u32, word: u32, gap: Gap)
     requires within { at < length links.old }
-    requires long { length links.old < no_place }
+    requires long { length links.old ≤ no_place }
     requires some { 0 < length buckets.old }
     requires linked { AreLinkedBut at links.old buckets.old }
     requires behind { IsBehindLast (bucket_but (length buckets.old) at links.old) (bucket_of (length buckets.old) word) at gap.behind }
@@ -75,7 +76,7 @@ fn put_in(links: &mut [Link], buckets: &mut [Bucket], at: usize, word: u64, gap:
 {
     let Gap { behind, next } = gap;
     let bucket = bucket_of(word, buckets.len());
-    links[at] = Link {
+    links[at as usize] = Link {
         word,
         next,
         before: behind,
@@ -87,8 +88,9 @@ fn put_in(links: &mut [Link], buckets: &mut [Bucket], at: usize, word: u64, gap:
 }
 
 // Where a place of another bucket would stand in the chain of a bucket. Walks from what stands before `from`.
-fn find_gap(links: &[Link], buckets: &[Bucket], bucket: usize, from: usize, at: usize) -> Gap
+fn find_gap(links: &[Link], buckets: &[Bucket], bucket: usize, from: u32, at: u32) -> Gap
     requires within { at < length links.now }
+    requires long { length links.now ≤ no_place }
     requires bucket { bucket < length buckets.now }
     requires linked { AreLinked (length links.now) links.now buckets.now }
     requires other { bucket_at (length buckets.now) links.now at ≢ bucket }
@@ -101,13 +103,13 @@ fn find_gap(links: &[Link], buckets: &[Bucket], bucket: usize, from: usize, at: 
     let mut next = first_from(links, buckets, bucket, from);
     while next < at {
         behind = next + 1;
-        next = links[next].next;
+        next = links[next as usize].next;
     }
     Gap { behind, next }
 }
 
 // The first place of a bucket behind the one before `from`, which is of it, or the first of all.
-fn first_from(links: &[Link], buckets: &[Bucket], bucket: usize, from: usize) -> usize
+fn first_from(links: &[Link], buckets: &[Bucket], bucket: usize, from: u32) -> u32
     requires within { from ≤ length links.now }
     requires bucket { bucket < length buckets.now }
     requires linked { AreLinked (length links.now) links.now buckets.now }
@@ -117,14 +119,15 @@ fn first_from(links: &[Link], buckets: &[Bucket], bucket: usize, from: usize) ->
     if from == 0 {
         buckets[bucket].first
     } else {
-        links[from - 1].next
+        links[from as usize - 1].next
     }
 }
 
 // Puts a word at the place, and the place into the word's chain. A walk along that chain from what stands before `from`, or,
 // where the place stands before that, from its front.
-fn move_one(links: &mut [Link], buckets: &mut [Bucket], at: usize, word: u64, from: usize)
+fn move_one(links: &mut [Link], buckets: &mut [Bucket], at: u32, word: u32, from: u32)
     requires within { at < length links.old }
+    requires long { length links.old ≤ no_place }
     requires some { 0 < length buckets.old }
     requires linked { AreLinked (length links.old) links.old buckets.old }
     requires from { (k : ℕ) → from ≡ k + 1 → bucket_at (length buckets.old) links.old k ≡ bucket_of (length buckets.old) word }
@@ -132,8 +135,8 @@ fn move_one(links: &mut [Link], buckets: &mut [Bucket], at: usize, word: u64, fr
     ensures linked { AreLinked (length links.old) links.new buckets.new }
 {
     let bucket = bucket_of(word, buckets.len());
-    if bucket_of(links[at].word, buckets.len()) == bucket {
-        links[at].word = word;
+    if bucket_of(links[at as usize].word, buckets.len()) == bucket {
+        links[at as usize].word = word;
         return;
     }
     let from = if from <= at { from } else { 0 };
@@ -143,8 +146,9 @@ fn move_one(links: &mut [Link], buckets: &mut [Bucket], at: usize, word: u64, fr
 }
 
 // Puts a word at all these places, each behind a walk along the word's chain from where the one before it stands.
-fn move_places(links: &mut [Link], buckets: &mut [Bucket], places: &[usize], word: u64)
+fn move_places(links: &mut [Link], buckets: &mut [Bucket], places: &[usize], word: u32)
     requires within { AllByRecursion (λ at. at < length (words_of links.old)) places.now }
+    requires long { length links.old ≤ no_place }
     requires some { 0 < length buckets.old }
     requires linked { AreLinked (length links.old) links.old buckets.old }
     ensures words { words_of links.new ≡ set_each (words_of links.old) places.now word }
@@ -153,8 +157,9 @@ fn move_places(links: &mut [Link], buckets: &mut [Bucket], places: &[usize], wor
     let mut from = 0;
     let mut rest = places;
     while let Some((at, behind)) = rest.split_first() {
-        move_one(links, buckets, *at, word, from);
-        from = *at + 1;
+        let place = *at as u32;
+        move_one(links, buckets, place, word, from);
+        from = place + 1;
         rest = behind;
     }
 }
@@ -164,9 +169,10 @@ pub(crate) fn move_each(
     links: &mut Vec<Link>,
     buckets: &mut Vec<Bucket>,
     places: &[usize],
-    word: u64,
+    word: u32,
 )
     requires within { AllByRecursion (λ at. at < length (words_of links.old.items)) places.now }
+    requires long { vec_len links.old ≤ no_place }
     requires some { 0 < vec_len buckets.old }
     requires linked { AreLinked (length links.old.items) links.old.items buckets.old.items }
     ensures words { words_of links.new.items ≡ set_each (words_of links.old.items) places.now word }

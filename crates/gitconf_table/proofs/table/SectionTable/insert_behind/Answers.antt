@@ -15,7 +15,7 @@ relocate-requires-clause-within g c =
     let rows : c.insert.new.self.items ≡ insert old.rows.items (c.args.position + 1) (record { id = old.next; names = c.in_ok-names.names; section = c.args.section }) = grind (arith, common_steps) in
     let entries = entries_inserted letters _ c.args.name.now (option_copied c.args.subsection) c.in_ok-names.names c.in_ok-names.ensures.ok (c.args.position + 1) old.rows.items _ old.next c.args.section rows c.self.invariant.fit in
     let once = inserted_numbered old.next (c.args.position + 1) (entries_of letters old.rows.items) _ _ _ _ entries c.self.invariant.table.numbered.once in
-    let places : c.push.new.self.items ≡ old.places.items ++ (c.args.position + 1) ∷ [] = grind (arith, common_steps) in
+    let places : c.push.new.self.items ≡ old.places.items ++ 0 ∷ [] = grind (arith, common_steps) in
     let count : length c.push.new.self.items ≡ old.next + 1 = rw (places, length-append) (omega (arith, c.self.invariant.table.counted)) in
     rows_within c.put_names.new.letters.items (old.next + 1) c.insert.new.self.items c.push.new.self.items once count
 
@@ -34,7 +34,7 @@ invariant_of-self-2 g c =
     let letters = old.letters.items in
     let rows : c.insert.new.self.items ≡ insert old.rows.items (c.args.position + 1) (record { id = old.next; names = c.in_ok-names.names; section = c.args.section }) = grind (arith, common_steps) in
     let entries = entries_inserted letters _ c.args.name.now (option_copied c.args.subsection) c.in_ok-names.names c.in_ok-names.ensures.ok (c.args.position + 1) old.rows.items _ old.next c.args.section rows c.self.invariant.fit in
-    let places : c.push.new.self.items ≡ old.places.items ++ (c.args.position + 1) ∷ [] = grind (arith, common_steps) in
+    let places : c.push.new.self.items ≡ old.places.items ++ 0 ∷ [] = grind (arith, common_steps) in
     let count : length c.push.new.self.items ≡ old.next + 1 = rw (places, length-append) (omega (arith, c.self.invariant.table.counted)) in
     record {
       table = table_inserted old.next (c.args.position + 1) (entries_of letters old.rows.items) _ old.places.items c.relocate.new.places.items old.names.words _ old.full.words _ c.args.name.now (option_copied c.args.subsection) c.args.section

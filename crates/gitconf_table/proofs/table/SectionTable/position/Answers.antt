@@ -14,27 +14,27 @@ pub returns-then-at-len-clause-place : goal.returns-then-at-len-clause-place
 returns-then-at-len-clause-place g c =
     let letters = c.self.inside.letters.items in
     let rows = c.self.inside.rows.items in
-    let at : c.index-at.result.now ≡ slice_index c.self.inside.places.items c.args.id =
-    get_or_read_under _ _ c.len.result _ 0 c.index-at.ensures c.if-id-len.false (omega (arith, c.len.ensures, c.self.inside.places.ok)) ∙ ap (slice_index c.self.inside.places.items) c.id.view_is in
-    let past : length (entries_of letters rows) ≤ c.index-at.result.now = omega (arith, c.if-at-len.true, c.len-2.ensures, c.self.inside.rows.ok, length-map rows (entry_of_row letters)) in
-    rw (← c.self.view_is) (sym (past_rows c.self.inside.next c.args.id _ _ _ _ c.self.invariant.table c.index-at.result.now at past))
+    let at : c.index.result.now ≡ slice_index c.self.inside.places.items c.args.id =
+    get_or_read_under _ _ c.len.result _ 0 c.index.ensures c.if-id-len.false (omega (arith, c.len.ensures, c.self.inside.places.ok)) ∙ ap (slice_index c.self.inside.places.items) c.id.view_is in
+    let past : length (entries_of letters rows) ≤ c.index.result.now = omega (arith, c.if-at-len.true, c.len-2.ensures, c.self.inside.rows.ok, length-map rows (entry_of_row letters)) in
+    rw (← c.self.view_is) (sym (past_rows c.self.inside.next c.args.id _ _ _ _ c.self.invariant.table c.index.result.now at past))
 
 pub returns-then-eq-clause-place : goal.returns-then-eq-clause-place
 returns-then-eq-clause-place g c =
     let letters = c.self.inside.letters.items in
     let rows = c.self.inside.rows.items in
-    let at : c.index-at.result.now ≡ slice_index c.self.inside.places.items c.args.id =
-    get_or_read_under _ _ c.len.result _ 0 c.index-at.ensures c.if-id-len.false (omega (arith, c.len.ensures, c.self.inside.places.ok)) ∙ ap (slice_index c.self.inside.places.items) c.id.view_is in
-    let within : c.index-at.result.now < length (entries_of letters rows) = omega (arith, c.if-at-len.false, c.len-2.ensures, c.self.inside.rows.ok, length-map rows (entry_of_row letters)) in
-    let stands = entry_at letters rows c.index-at.result.now c.index-row.result.now within c.index-row.ensures in
-    rw (← c.self.view_is) (sym (stands_there c.self.inside.next c.args.id _ _ _ _ c.self.invariant.table c.index-at.result.now (entry_of_row letters c.index-row.result.now) at stands (sym c.eq.ensures ∙ c.if-eq.true)))
+    let at : c.index.result.now ≡ slice_index c.self.inside.places.items c.args.id =
+    get_or_read_under _ _ c.len.result _ 0 c.index.ensures c.if-id-len.false (omega (arith, c.len.ensures, c.self.inside.places.ok)) ∙ ap (slice_index c.self.inside.places.items) c.id.view_is in
+    let within : c.index.result.now < length (entries_of letters rows) = omega (arith, c.if-at-len.false, c.len-2.ensures, c.self.inside.rows.ok, length-map rows (entry_of_row letters)) in
+    let stands = entry_at letters rows c.index.result.now c.index-row.result.now within c.index-row.ensures in
+    rw (← c.self.view_is) (sym (stands_there c.self.inside.next c.args.id _ _ _ _ c.self.invariant.table c.index.result.now (entry_of_row letters c.index-row.result.now) at stands (sym c.eq.ensures ∙ c.if-eq.true)))
 
 pub returns-else-eq-clause-place : goal.returns-else-eq-clause-place
 returns-else-eq-clause-place g c =
     let letters = c.self.inside.letters.items in
     let rows = c.self.inside.rows.items in
-    let at : c.index-at.result.now ≡ slice_index c.self.inside.places.items c.args.id =
-    get_or_read_under _ _ c.len.result _ 0 c.index-at.ensures c.if-id-len.false (omega (arith, c.len.ensures, c.self.inside.places.ok)) ∙ ap (slice_index c.self.inside.places.items) c.id.view_is in
-    let within : c.index-at.result.now < length (entries_of letters rows) = omega (arith, c.if-at-len.false, c.len-2.ensures, c.self.inside.rows.ok, length-map rows (entry_of_row letters)) in
-    let stands = entry_at letters rows c.index-at.result.now c.index-row.result.now within c.index-row.ensures in
-    rw (← c.self.view_is) (sym (other_there c.self.inside.next c.args.id _ _ _ _ c.self.invariant.table c.index-at.result.now (entry_of_row letters c.index-row.result.now) at stands (sym c.eq.ensures ∙ c.if-eq.false)))
+    let at : c.index.result.now ≡ slice_index c.self.inside.places.items c.args.id =
+    get_or_read_under _ _ c.len.result _ 0 c.index.ensures c.if-id-len.false (omega (arith, c.len.ensures, c.self.inside.places.ok)) ∙ ap (slice_index c.self.inside.places.items) c.id.view_is in
+    let within : c.index.result.now < length (entries_of letters rows) = omega (arith, c.if-at-len.false, c.len-2.ensures, c.self.inside.rows.ok, length-map rows (entry_of_row letters)) in
+    let stands = entry_at letters rows c.index.result.now c.index-row.result.now within c.index-row.ensures in
+    rw (← c.self.view_is) (sym (other_there c.self.inside.next c.args.id _ _ _ _ c.self.invariant.table c.index.result.now (entry_of_row letters c.index-row.result.now) at stands (sym c.eq.ensures ∙ c.if-eq.false)))

@@ -46,7 +46,7 @@ invariant_of-self g c =
     let fit : RowsFit (length letters) c.remove-section.new.self.items = rw c.remove-section.ensures.items (fit_remove (length letters) old.rows.items at c.self.invariant.fit) in
     record {
       table = table_removed old.next at (entries_of letters old.rows.items) _ old.places.items c.relocate.new.places.items old.names.words _ old.full.words _
-          (ap (entries_of letters) c.remove-section.ensures.items ∙ entries_of-remove letters old.rows.items at) c.remove.ensures c.remove-2.ensures once c.self.invariant.table
+          (ap (entries_of letters) c.remove-section.ensures.items ∙ entries_of-remove letters old.rows.items at) c.remove.ensures.words c.remove-2.ensures.words once c.self.invariant.table
           (c.relocate.ensures.len ∙ c.self.invariant.table.counted) (rows_placed letters _ _ c.relocate.ensures.placed);
       fit = fit;
     }
