@@ -46,8 +46,8 @@ move_sections-requires c =
     let is : c.put_bytes.new.buffer.items ≡ (b ++ bytes) ++ theirs = search rules in
     let by : c.len-3.result ≡ length b = search rules in
     let room = c.put_bytes.ensures.grows.room in
-    let copied : length c.other.inside.copies.items ≤ 18446744073709551615 - c.len-copies_by.result = search rules in
-    movable theirs c.other.inside.copies.items (c.len-3.result + length bytes) c.len-copies_by.result
+    let copied : length c.other.inside.copies.items ≤ 4294967295 - c.in_ok-copies_by.copies_by = search rules in
+    movable theirs c.other.inside.copies.items (c.len-3.result + length bytes) c.in_ok-copies_by.copies_by
     (let l = ap length is in let k = length-append (b ++ bytes) theirs in let m = length-append b bytes in omega (arith, l, k, m, by, room)) copied
     c.other.inside.sections.entries c.other.invariant.sections_within
 
@@ -64,7 +64,7 @@ invariant_of-self-2 c =
     let is : new ≡ (b ++ bytes) ++ theirs = search rules in
     let are : more ≡ copies ++ there.copies.items = search rules in
     let by : c.len-3.result + length bytes ≡ length (b ++ bytes) = (let l : c.len-3.result ≡ length b = search rules in let m = length-append b bytes in omega (arith, l, m)) in
-    let copies_by : c.len-copies_by.result ≡ length copies = search rules in
+    let copies_by : c.in_ok-copies_by.copies_by ≡ length copies = search rules in
     let told = c.line_between-line_end.ensures.bytes ∙ (λ i. line_between (sym c.other.view_is i) (sym c.self.view_is i)) in
     let front_moved = subst (λ n. AreItemsMoved n there.front.items c.move_items.new.items.items) by c.move_items.ensures in
     let moved : AreSectionsMoved (length (b ++ bytes)) (length copies) there.sections c.move_sections.new.sections = subst (λ n. AreSectionsMoved n (length copies) there.sections c.move_sections.new.sections) by
@@ -89,7 +89,7 @@ returns-clause-ok c =
     let is : new ≡ (b ++ bytes) ++ theirs = search rules in
     let are : more ≡ copies ++ there.copies.items = search rules in
     let by : c.len-3.result + length bytes ≡ length (b ++ bytes) = (let l : c.len-3.result ≡ length b = search rules in let m = length-append b bytes in omega (arith, l, m)) in
-    let copies_by : c.len-copies_by.result ≡ length copies = search rules in
+    let copies_by : c.in_ok-copies_by.copies_by ≡ length copies = search rules in
     let told = c.line_between-line_end.ensures.bytes ∙ (λ i. line_between (sym c.other.view_is i) (sym c.self.view_is i)) in
     let front_moved = subst (λ n. AreItemsMoved n there.front.items c.move_items.new.items.items) by c.move_items.ensures in
     let moved : AreSectionsMoved (length (b ++ bytes)) (length copies) there.sections c.move_sections.new.sections = subst (λ n. AreSectionsMoved n (length copies) there.sections c.move_sections.new.sections) by
@@ -136,5 +136,5 @@ returns-clause-too_large c =
     λ passed. absurd (let fault = c.in_ok-check_room.ensures.too_large.1 (omega (arith, passed, used, theirs, bytes, lent, c.len-2.ensures)) in cc) in
     let no_numbers : (no_number < c.args.self.now.next + length c.args.other.sections) → ⊥ =
     λ passed. absurd (omega (arith, passed, next, count, c.if-numbers_left-len.false, c.numbers_left.ensures, c.len.ensures)) in
-    let moved = moved_count (c.len-3.result + length c.line_between-line_end.result.now) c.len-copies_by.result c.other.inside.sections.entries c.move_sections.new.sections.entries c.move_sections.ensures.entries in
+    let moved = moved_count (c.len-3.result + length c.line_between-line_end.result.now) c.in_ok-copies_by.copies_by c.other.inside.sections.entries c.move_sections.new.sections.entries c.move_sections.ensures.entries in
     neither c.put_behind.result (λ fault. no_numbers (let passed = c.put_behind.ensures.numbers fault in omega (arith, passed, next, count, moved))) no_room no_numbers

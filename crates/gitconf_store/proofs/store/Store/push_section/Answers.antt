@@ -61,9 +61,9 @@ put_last-requires-clause-header c =
     let are : more ≡ copies ++ others = search rules in
     let t = c.move_section.new.section in
     let by : c.len-by.result ≡ length b = search rules in
-    let copies_by : c.len-copies_by.result ≡ length copies = search rules in
+    let copies_by : c.in_ok-copies_by.copies_by ≡ length copies = search rules in
     let moved : IsSectionMoved (length b) (length copies) s t = subst (λ n. IsSectionMoved n (length copies) s t) by (subst (λ m. IsSectionMoved c.len-by.result m s t) copies_by c.move_section.ensures) in
-    rw (c.deref-4.ensures.value, c.deref-5.ensures.value) (shown_there b theirs copies others new more inside.front.items inside.meta.value inside.sections inside.sections c.section.inside.id s t is are c.self.invariant c.section.invariant moved)
+    rw (c.deref-6.ensures.value, c.deref-7.ensures.value) (shown_there b theirs copies others new more inside.front.items inside.meta.value inside.sections inside.sections c.section.inside.id s t is are c.self.invariant c.section.invariant moved)
 
 pub put_last-requires-clause-items : goal.put_last-requires-clause-items
 put_last-requires-clause-items c =
@@ -79,9 +79,9 @@ put_last-requires-clause-items c =
     let are : more ≡ copies ++ others = search rules in
     let t = c.move_section.new.section in
     let by : c.len-by.result ≡ length b = search rules in
-    let copies_by : c.len-copies_by.result ≡ length copies = search rules in
+    let copies_by : c.in_ok-copies_by.copies_by ≡ length copies = search rules in
     let moved : IsSectionMoved (length b) (length copies) s t = subst (λ n. IsSectionMoved n (length copies) s t) by (subst (λ m. IsSectionMoved c.len-by.result m s t) copies_by c.move_section.ensures) in
-    rw c.deref-4.ensures.value (within_there b theirs copies others new more inside.front.items inside.meta.value inside.sections inside.sections c.section.inside.id s t is are c.self.invariant c.section.invariant moved)
+    rw c.deref-6.ensures.value (within_there b theirs copies others new more inside.front.items inside.meta.value inside.sections inside.sections c.section.inside.id s t is are c.self.invariant c.section.invariant moved)
 
 pub put_last-requires-clause-held : goal.put_last-requires-clause-held
 put_last-requires-clause-held c =
@@ -97,7 +97,7 @@ put_last-requires-clause-held c =
     let are : more ≡ copies ++ others = search rules in
     let t = c.move_section.new.section in
     let by : c.len-by.result ≡ length b = search rules in
-    let copies_by : c.len-copies_by.result ≡ length copies = search rules in
+    let copies_by : c.in_ok-copies_by.copies_by ≡ length copies = search rules in
     let moved : IsSectionMoved (length b) (length copies) s t = subst (λ n. IsSectionMoved n (length copies) s t) by (subst (λ m. IsSectionMoved c.len-by.result m s t) copies_by c.move_section.ensures) in
     none_there b theirs copies others new more inside.front.items inside.meta.value inside.sections inside.sections c.section.inside.id s t is are c.self.invariant c.section.invariant moved
 
@@ -113,7 +113,7 @@ put_last-requires-clause-fits c =
     let s = c.section.inside.section in
     let is : new ≡ b ++ theirs = search rules in
     let are : more ≡ copies ++ others = search rules in
-    rw (c.deref-4.ensures.value, c.deref-5.ensures.value) (sections_fit_more new copies more inside.sections.entries (others, are)
+    rw (c.deref-6.ensures.value, c.deref-7.ensures.value) (sections_fit_more new copies more inside.sections.entries (others, are)
     (sections_fit_in b new copies inside.sections.entries c.append.ensures.grows.extended c.self.invariant.sections_within))
 
 pub invariant_of-self-2 : goal.invariant_of-self-2
@@ -130,12 +130,12 @@ invariant_of-self-2 c =
     let are : more ≡ copies ++ others = search rules in
     let t = c.move_section.new.section in
     let by : c.len-by.result ≡ length b = search rules in
-    let copies_by : c.len-copies_by.result ≡ length copies = search rules in
+    let copies_by : c.in_ok-copies_by.copies_by ≡ length copies = search rules in
     let moved : IsSectionMoved (length b) (length copies) s t = subst (λ n. IsSectionMoved n (length copies) s t) by (subst (λ m. IsSectionMoved c.len-by.result m s t) copies_by c.move_section.ensures) in
     ok_or_err c.put_last.result
     (λ within put next. pushed_fits b theirs copies others new more inside.front.items inside.meta.value inside.sections c.put_last.new.table c.section.inside.id s t is are c.self.invariant c.section.invariant moved c.append.ensures.grows.room within put next)
     (λ same. rw same (longer_fits b new copies more inside.front.items inside.meta.value inside.sections c.append.ensures.grows.extended (others, are) c.append.ensures.grows.room c.self.invariant))
-    (rw (c.deref-4.ensures.value, c.deref-5.ensures.value) at c.put_last.ensures.fits) (rw c.deref-4.ensures.value at c.put_last.ensures.sections) c.put_last.ensures.next c.put_last.ensures.err
+    (rw (c.deref-6.ensures.value, c.deref-7.ensures.value) at c.put_last.ensures.fits) (rw c.deref-6.ensures.value at c.put_last.ensures.sections) c.put_last.ensures.next c.put_last.ensures.err
 
 pub returns-clause-ok : goal.returns-clause-ok
 returns-clause-ok c =
@@ -151,12 +151,12 @@ returns-clause-ok c =
     let are : more ≡ copies ++ others = search rules in
     let t = c.move_section.new.section in
     let by : c.len-by.result ≡ length b = search rules in
-    let copies_by : c.len-copies_by.result ≡ length copies = search rules in
+    let copies_by : c.in_ok-copies_by.copies_by ≡ length copies = search rules in
     let moved : IsSectionMoved (length b) (length copies) s t = subst (λ n. IsSectionMoved n (length copies) s t) by (subst (λ m. IsSectionMoved c.len-by.result m s t) copies_by c.move_section.ensures) in
     two_ok c.put_last.result
     (λ put next. pushed_state b theirs copies others new more inside.front.items inside.meta.value inside.sections c.put_last.new.table c.section.inside.id s t is are c.self.invariant c.section.invariant moved put next
     ∙ (λ i. with_used (length new) (with_last (c.section.view_is i).section (c.self.view_is i))))
-    (rw c.deref-4.ensures.value at c.put_last.ensures.sections) c.put_last.ensures.next
+    (rw c.deref-6.ensures.value at c.put_last.ensures.sections) c.put_last.ensures.next
 
 pub returns-clause-err : goal.returns-clause-err
 returns-clause-err c =
