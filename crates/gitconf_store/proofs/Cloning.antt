@@ -28,7 +28,7 @@ cloned_section buffer e d c = λ i. record {
   header = header_of buffer (c.section.0 i);
   meta = c.section.1.0 i;
   items = cloned_items buffer e.section.items.items d.section.items.items c.section.1.1.0.0 i;
-  held = cloned_items buffer e.section.held.items d.section.held.items c.section.1.1.1.0 i;
+  held = cloned_items buffer e.section.held.items d.section.held.items c.section.1.1.1 i;
 }
 
 cloned_sections : (buffer : List ℕ) (es ds : List (SectionEntry Section)) → AllZip IsClonedEntry es ds → map (section_state buffer) ds ≡ map (section_state buffer) es
@@ -41,7 +41,7 @@ section_fits : (buffer copies : List ℕ) (e d : SectionEntry Section) → IsClo
 section_fits buffer copies e d c h = record {
   header = subst (λ t. IsShown buffer copies (kinds.SectionHeader t)) (sym c.section.0) h.header;
   items = items_within (length buffer) e.section.items.items d.section.items.items c.section.1.1.0.0 h.items;
-  held = items_within (length buffer) e.section.held.items d.section.held.items c.section.1.1.1.0 h.held;
+  held = items_within (length buffer) e.section.held.items d.section.held.items c.section.1.1.1 h.held;
   name = c.name ∙ h.name ∙ ap (λ t. fold (name_of (header_of buffer t))) (sym c.section.0);
   subsection = c.subsection ∙ h.subsection ∙ ap (λ t. subsection_of (header_of buffer t)) (sym c.section.0);
 }

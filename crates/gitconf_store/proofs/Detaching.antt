@@ -62,7 +62,7 @@ cloned_alone buffer other number s t same c = ap (λ b. detached_of b number t) 
     header = header_of buffer (c.0 i);
     meta = c.1.0 i;
     items = cloned_items buffer s.items.items t.items.items c.1.1.0.0 i;
-    held = cloned_items buffer s.held.items t.held.items c.1.1.1.0 i;
+    held = cloned_items buffer s.held.items t.held.items c.1.1.1 i;
   };
   used = length buffer;
 })
@@ -75,7 +75,7 @@ clone_stands buffer other copies others s t same alike c h =
       within = items_within (length buffer) s.items.items t.items.items c.1.1.0.0 h.within;
       spelled = ap (λ d. is_header (header_of buffer d)) c.0 ∙ h.spelled;
       items = ap (list_all is_item) (cloned_items buffer s.items.items t.items.items c.1.1.0.0) ∙ h.items;
-      none_held = none_cloned s.held.items t.held.items c.1.1.1.0 h.none_held;
+      none_held = none_cloned s.held.items t.held.items c.1.1.1 h.none_held;
     })
 
 pub ruleset detaching = (items_same, items_stand, section_same, section_stands, alone_viewed, cloned_alone, clone_stands)

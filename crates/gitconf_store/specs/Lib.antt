@@ -1,3 +1,4 @@
+pub mod Held
 pub mod Store
 pub mod Loading
 pub mod Viewed

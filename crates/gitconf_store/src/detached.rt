@@ -20,6 +20,7 @@ pub mod editor;
 mod editor_views;
 mod writing;
 
+use crate::held::Held;
 use crate::lists::bytes_of;
 use crate::section;
 use crate::section::{SectionRef, shared};
@@ -88,7 +89,7 @@ fn owned_section(
         header,
         meta,
         items,
-        held: Vec::new(*to.allocator()),
+        held: Held::none(),
     })
 }
 
@@ -182,7 +183,7 @@ impl Section {
                 header,
                 meta,
                 items: Vec::new(alloc),
-                held: Vec::new(alloc),
+                held: Held::none(),
             },
         })
     }

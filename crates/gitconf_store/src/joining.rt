@@ -109,11 +109,11 @@ pub(crate) fn put_behind_last(
     let mut others = others;
     let last = sections.len() - 1;
     let section = sections.at_mut(last);
-    section.held.reserve(others.len() + 1)?;
+    section.held.reserve(*others.allocator(), others.len() + 1)?;
     let count = sections.len();
     sections.insert_all(count, other)?;
     let section = sections.at_mut(last);
-    join(&mut section.held, line_end, &mut others);
+    section.held.join(line_end, &mut others);
     Ok(())
 }
 

@@ -5,6 +5,7 @@ ghost use Rattle.gitconf_state.specs.Loads.{section_tokens};
 ghost use Rattle.gitconf_store.specs.Loading.{IsLoading};
 ghost use Rattle.gitconf_store.specs.Store.{AllSectionsFit, section_state, loaded_section};
 
+use crate::held::Held;
 use crate::section::Section;
 use gitconf_base::meta::Metadata;
 use gitconf_parse::events::{decoded_header, subsection_name};
@@ -91,7 +92,7 @@ fn add_section(
         header,
         meta,
         items: section.items,
-        held: Vec::new(*copies.allocator()),
+        held: Held::none(),
     };
     match table.push(name, subsection, section) {
         Ok(_) => Ok(()),

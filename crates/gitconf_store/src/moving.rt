@@ -42,7 +42,7 @@ pub(crate) fn move_section(section: &mut Section, by: u32, copies_by: u32)
 {
     section.header = moved_header(section.header, by, copies_by);
     move_items(&mut section.items, by);
-    move_items(&mut section.held, by);
+    section.held.move_by(by);
 }
 
 /// All sections of a table, moved as [`move_section`] does. One pass over them, which takes no memory.

@@ -6,6 +6,7 @@ ghost use Rattle.gitconf_store.specs.Viewed.{AreViewed, AreViewed-prop, IsViewed
 pub mod value;
 
 use crate::events::ItemEvents;
+use crate::held::Held;
 use bstr::BString;
 use gitconf_base::meta::Metadata;
 use gitconf_base::source::Trust;
@@ -27,7 +28,7 @@ pub(crate) struct Section {
     pub(crate) header: Header,
     pub(crate) meta: Rc<Metadata>,
     pub(crate) items: Vec<Item>,
-    pub(crate) held: Vec<Item>,
+    pub(crate) held: Held,
 }
 
 /// The same metadata with one owner more.
@@ -105,7 +106,7 @@ impl<'a> SectionRef<'a> {
     pub fn held_events(&self) -> ItemEvents<'a>
         ensures { events_left result ≡ map shown_token (tokens_in (shown self.now).held) }
     {
-        ItemEvents::over(self.buffer, &self.section.held)
+        ItemEvents::over(self.buffer, self.section.held.as_slice())
     }
 
     /// The blanks that its body has, with memory of their own. One walk over its items.
@@ -165,7 +166,8 @@ impl<'a> SectionRef<'a> {
     {
         self.write_to(out)?;
         let section = self.section;
-        write_held(out, self.buffer, &section.items, &section.held, line_end)
+        let held = section.held.as_slice();
+        write_held(out, self.buffer, &section.items, held, line_end)
     }
 
     /// Whether the section ends with a line end, what is held behind it counted in.
@@ -174,7 +176,8 @@ impl<'a> SectionRef<'a> {
         ensures { result ≡ ends_with_line (bytes_of_line_end line_end) (shown self.now) }
     {
         let section = self.section;
-        items::ends_with_line(self.buffer, &section.items, &section.held, line_end)
+        let held = section.held.as_slice();
+        items::ends_with_line(self.buffer, &section.items, held, line_end)
     }
 }
 

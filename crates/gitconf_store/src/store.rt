@@ -14,6 +14,7 @@ mod values_at;
 mod views;
 
 use crate::events::ItemEvents;
+use crate::held::Held;
 use crate::load::Loading;
 use crate::print::{front_is_ended, write_sections};
 use crate::section::{Section, SectionRef, Sections, shared};
@@ -477,7 +478,7 @@ impl Store {
             header: section.header,
             meta: shared(&self.meta)?,
             items: section.items,
-            held: Vec::new(*self.buffer.allocator()),
+            held: Held::none(),
         };
         self.sections
             .push(section_name.as_bytes(), subsection_name, section)?;

@@ -24,7 +24,7 @@ fn last_items<'a>(front: &'a [Item], sections: &'a SectionTable<Section>) -> &'a
     if sections.is_empty() {
         front
     } else {
-        &sections.at(sections.len() - 1).held
+        sections.at(sections.len() - 1).held.as_slice()
     }
 }
 

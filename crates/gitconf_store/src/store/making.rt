@@ -1,4 +1,5 @@
 //! Sections that are made.
+use crate::held::Held;
 use crate::section::{Section, shared};
 use crate::store::Store;
 use gitconf_body::blanks::Blanks;
@@ -62,7 +63,7 @@ impl Store {
             header: section.header,
             meta: shared(&self.meta)?,
             items: section.items,
-            held: Vec::new(*self.buffer.allocator()),
+            held: Held::none(),
         };
         let id = self
             .sections

@@ -9,10 +9,10 @@ use Rattle.gitconf_store.proofs.detached.owned_section.Goals as goal
 pub returns-clause-same : goal.returns-clause-same
 returns-clause-same c =
     let lent = subst (λ is. IsCopy items_of AreItemsWithin c.args.from.now c.owned_items.new.to.items is c.in_ok-items.items.items) c.deref.ensures.value c.in_ok-items.ensures.copies in
-    let s : Section = record { header = c.in_ok-header.header; meta = c.in_ok-meta.meta; items = c.in_ok-items.items; held = c.new.result } in
+    let s : Section = record { header = c.in_ok-header.header; meta = c.in_ok-meta.meta; items = c.in_ok-items.items; held = c.none.result } in
     section_same c.args.from.now c.owned_header.new.to.items c.args.source.now s c.in_ok-header.ensures.same c.in_ok-meta.ensures
     (items_same c.args.from.now c.owned_items.new.to.items c.owned_header.new.to.items c.args.source.now.items.items c.in_ok-items.items.items lent c.in_ok-header.ensures.longer.extended)
-    c.new.ensures.items
+    c.none.ensures
 
 pub returns-clause-stands : goal.returns-clause-stands
 returns-clause-stands c =
@@ -22,4 +22,4 @@ returns-clause-stands c =
     (items_stand c.args.from.now c.owned_items.new.to.items c.owned_header.new.to.items c.args.source.now.items.items c.in_ok-items.items.items lent longer.extended)
     c.in_ok-header.ensures.same c.requires.header
     (items_same c.args.from.now c.owned_items.new.to.items c.owned_header.new.to.items c.args.source.now.items.items c.in_ok-items.items.items lent longer.extended)
-    c.requires.items c.new.ensures.items
+    c.requires.items c.none.ensures

@@ -39,7 +39,7 @@ join-requires c =
     let same = same_there old c.args.other c.insert_all.new.self (c.len-last.result - 1) c.len-count.result s t c.at_mut-section.ensures.value holds c.len-count.ensures c.in_ok-insert_all.ensures.ok
     c.at_mut-section-2.result.now c.at_mut-section-2.ensures.value in
     let room = c.in_ok-reserve.ensures.ok in
-    record { room = subst (λ (w : Section). vec_len w.held + vec_len c.args.others + 1 ≤ vec_capacity w.held) (sym same) (omega (arith, room, c.len.ensures)) }
+    record { room = subst (λ (w : Section). vec_len c.args.others + 1 ≤ w.held.room) (sym same) (omega (arith, room, c.len.ensures)) }
 
 pub returns-clause-ok : goal.returns-clause-ok
 returns-clause-ok c =
@@ -47,7 +47,7 @@ returns-clause-ok c =
     let s = c.at_mut-section.result.now in
     let u = c.at_mut-section-2.result.now in
     let t : Section = record { header = s.header; meta = s.meta; items = s.items; held = c.reserve.new.self } in
-    let v : Section = record { header = u.header; meta = u.meta; items = u.items; held = c.join.new.items } in
+    let v : Section = record { header = u.header; meta = u.meta; items = u.items; held = c.join.new.self } in
     let more = line_end_item c.args.line_end ++ c.args.others.items in
     let holds : HoldsMore [] s t = record { header = refl; meta = refl; items = refl; held = c.reserve.ensures.items ∙ sym (append-nil s.held.items) } in
     let same = same_there old c.args.other c.insert_all.new.self (c.len-last.result - 1) c.len-count.result s t c.at_mut-section.ensures.value holds c.len-count.ensures c.in_ok-insert_all.ensures.ok u

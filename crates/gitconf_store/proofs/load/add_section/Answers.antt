@@ -11,6 +11,6 @@ returns-in-Ok-clause-fits c =
     added_fits c.args.buffer.now c.args.copies.now.items c.decoded_header.new.copies.items c.args.table.now c.push.new.self _ _ (option_copied c.subsection_name-subsection.result)
     c.requires.fits h.extended
     (record { fits = h.fits; copy_fits = h.copy_fits; shown = h.shown ∙ ap (λ t. shown_token (HeaderToken t)) (sym h.same) })
-    c.requires.within.1 c.new.ensures.items c.bytes_in-name.ensures
+    c.requires.within.1 c.none.ensures c.bytes_in-name.ensures
     (search rules)
     c.in-Ok.ensures.ok

@@ -57,7 +57,7 @@ pub invariant_of-self-2 : goal.invariant_of-self-2
 invariant_of-self-2 c =
     let name = c.args.name.now in
     let subsection = option_copied c.args.subsection_name in
-    let s : Section = record { header = c.in_ok-section.section.header; meta = c.in_ok-shared.field-0; items = c.in_ok-section.section.items; held = c.new.result } in
+    let s : Section = record { header = c.in_ok-section.section.header; meta = c.in_ok-shared.field-0; items = c.in_ok-section.section.items; held = c.none.result } in
     let items = LineEndsItem (bytes_of_line_end c.line_end-line_end.result) ∷ [] in
     let header : header_of c.new_section.new.buffer.items s.header ≡ made_header name subsection = search rules in
     let meta : s.meta.value ≡ c.self.inside.meta.value = search rules in
@@ -85,7 +85,7 @@ pub returns-clause-ok : goal.returns-clause-ok
 returns-clause-ok c =
     let name = c.args.name.now in
     let subsection = option_copied c.args.subsection_name in
-    let s : Section = record { header = c.in_ok-section.section.header; meta = c.in_ok-shared.field-0; items = c.in_ok-section.section.items; held = c.new.result } in
+    let s : Section = record { header = c.in_ok-section.section.header; meta = c.in_ok-shared.field-0; items = c.in_ok-section.section.items; held = c.none.result } in
     let items = LineEndsItem (bytes_of_line_end c.line_end-line_end.result) ∷ [] in
     let header : header_of c.new_section.new.buffer.items s.header ≡ made_header name subsection = search rules in
     let meta : s.meta.value ≡ c.self.inside.meta.value = search rules in

@@ -6,4 +6,4 @@ pub returns-else-is_empty : goal.returns-else-is_empty
 returns-else-is_empty c =
     let some = c.if-is_empty.false in
     let last : suc (c.len.result - 1) ≡ length c.args.sections.now.entries = search rules in
-    c.deref.ensures.value ∙ last_there c.args.front.now c.args.sections.now.entries (c.len.result - 1) c.at.result.now last c.at.ensures
+    c.as_slice.ensures ∙ last_there c.args.front.now c.args.sections.now.entries (c.len.result - 1) c.at.result.now last c.at.ensures
