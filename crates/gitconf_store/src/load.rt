@@ -65,7 +65,9 @@ impl Loading {
     {
         let mut loading = Loading::new(alloc, meta);
         let expected = expected_sections(text);
-        loading.sections.reserve(expected.saturating_add(expected / 8))?;
+        loading
+            .sections
+            .reserve(expected.saturating_add(expected / 8))?;
         Ok(loading)
     }
 }
@@ -108,13 +110,7 @@ impl SectionSink for Loading {
 
     fn take(&mut self, buffer: &[u8], section: items::Section) -> Result<(), NoMemory> {
         let meta = self.meta.clone()?;
-        add_section(
-            buffer,
-            &mut self.copies,
-            &mut self.sections,
-            section,
-            meta,
-        )?;
+        add_section(buffer, &mut self.copies, &mut self.sections, section, meta)?;
         Ok(())
     }
 }
