@@ -11,7 +11,7 @@ ghost use Rattle.gitconf_parse.specs.Items.{item_of, assigned_of};
 ghost use Rattle.gitconf_parse.specs.Grouping.{Place, Between, BehindName, BehindNameBlanks, BehindSeparator, BehindSeparatorBlanks, BehindPiece, BehindPieceEnd, are_items, AreBehind};
 
 use crate::compact::EventSlice;
-use crate::entry::{Assigned, Continued, Entry, EntryParts, Piece, Value};
+use crate::entry::{Assigned, Entry, EntryParts, Piece, Value};
 use crate::event::{Event, Header, Span, is_header};
 use crate::section_sink::SectionSink;
 use gitconf_text::NoMemory;
@@ -105,6 +105,31 @@ fn pieces_first<'e>(
     }
 }
 
+/// The value that the events begin with, and the events behind it.
+fn value_first<'e>(
+    alloc: Global,
+    buffer: &[u8],
+    events: EventSlice<'e>,
+) -> Result<(Value, EventSlice<'e>), NoMemory>
+    requires items { are_items BehindSeparatorBlanks (map (token_of buffer.now) (events_of events)) ≡ true }
+    requires within { EventsWithin (length buffer.now) (events_of events) }
+    ensures first { IfOk result (λ r. ValueFits (length buffer.now) r.0) }
+    ensures others { IfOk result (λ r. EventsWithin (length buffer.now) (events_of r.1)) }
+    ensures tokens { IfOk result (λ r. AreBehind Between (spec.tokens_of_value buffer.now r.0) (map (token_of buffer.now) (events_of r.1)) (map (token_of buffer.now) (events_of events.entry))) }
+{
+    match events.split_first() {
+        Some((Event::Value(last), behind)) => {
+            let value = Value {
+                pieces: SmallVec::new(alloc),
+                last,
+            };
+            Ok((value, behind))
+        }
+        Some((Event::ValueNotDone(text), behind)) => pieces_first(alloc, buffer, text, behind),
+        _ => unreachable!(),
+    }
+}
+
 /// What the events behind a name assign, and the events behind that.
 fn assigned_first<'e>(
     alloc: Global,
@@ -121,16 +146,8 @@ fn assigned_first<'e>(
         Some((Event::Value(_), behind)) => Ok((Assigned::Nothing, behind)),
         Some((Event::KeyValueSeparator, behind)) => {
             let (blanks, behind) = blanks_first(buffer, behind);
-            match behind.split_first() {
-                Some((Event::Value(value), behind)) => {
-                    Ok((Assigned::Plain { blanks, value }, behind))
-                }
-                Some((Event::ValueNotDone(text), behind)) => {
-                    let (value, behind) = pieces_first(alloc, buffer, text, behind)?;
-                    Ok((Assigned::Continued(Continued { blanks, value }), behind))
-                }
-                _ => unreachable!(),
-            }
+            let (value, behind) = value_first(alloc, buffer, behind)?;
+            Ok((Assigned::of_value(blanks, value), behind))
         }
         _ => unreachable!(),
     }

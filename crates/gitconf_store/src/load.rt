@@ -28,10 +28,19 @@ pub(crate) struct Loading {
 /// How many bytes a section has at the least for which room is made before it is read.
 const BYTES: usize = 32;
 
-/// How many sections a text may be expected to have: one for each bracket, but no more than one for so many bytes.
+/// So many bytes of a text tell how many sections all of it may have.
+const HEAD: usize = 4096;
+
+/// How many sections a text may be expected to have: as many for each byte as its first bytes have brackets, but no more
+/// than one for so many bytes.
 fn expected_sections(text: &[u8]) -> usize {
-    let brackets = text.iter().filter(|byte| **byte == b'[').count();
-    brackets.min(text.len() / BYTES)
+    let head = text.split_at(text.len().min(HEAD)).0;
+    let brackets = head.iter().filter(|byte| **byte == b'[').count();
+    let most = text.len() / BYTES;
+    match brackets.checked_mul(text.len() / HEAD + 1) {
+        Some(expected) => expected.min(most),
+        None => most,
+    }
 }
 
 impl Loading {

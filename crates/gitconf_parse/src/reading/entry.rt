@@ -47,6 +47,7 @@ fn assigned(input: &[u8], at: usize, events: &mut EventVec) -> Result<usize, Rea
 }
 
 /// The entry whose name begins, with a letter, at an offset.
+#[inline(always)]
 #[tactic(auto, unfolding(crate::specs::Reading::entry_at))]
 pub fn entry(input: &[u8], at: usize, events: &mut EventVec) -> Result<usize, ReadError>
     requires within { at < length input.now }

@@ -13,6 +13,7 @@ use crate::compact::EventVec;
 use crate::event::{Event, Span};
 
 /// One part, and the offset behind it; `wanted` is told as looked for where none stands.
+#[inline(always)]
 #[tactic(auto, unfolding(crate::specs::Reading::part_at))]
 fn part(
     input: &[u8],
