@@ -33,6 +33,8 @@ pub mod Clones
 pub mod OneFault
 pub mod Classes
 pub mod Plain
+pub mod Pieces
 pub mod Documents
 pub mod Stretches
+pub mod ItemReading
 pub mod Moves

@@ -12,7 +12,9 @@ use Rattle.gitconf_text.specs.Part.{Assigned, Entry, Item, BlanksItem, LineEndsI
 use Rattle.gitconf_parse.specs.declared.event.Event.{Event}
 use Rattle.gitconf_parse.specs.declared.event.Event.TheVariants as kinds
 use Rattle.gitconf_parse.specs.declared.reading.Expected.{Expected}
-use Rattle.gitconf_parse.specs.Reading.{span, end_of_run, with_blanks, value_at, assigned_at, entry_at, opening_of, OpensBlanks, OpensLineEnds, OpensComment, OpensHeader, OpensEntry, part_at}
+use Rattle.gitconf_parse.specs.declared.reading.part.Opening.{Opening}
+use Rattle.gitconf_parse.specs.declared.reading.part.Opening.TheVariants as openings
+use Rattle.gitconf_parse.specs.Reading.{span, end_of_run, with_blanks, value_at, assigned_at, entry_at, opening_of, part_at}
 use Rattle.gitconf_parse.proofs.RunLaws.{run_again, line_ends_places, line_end_stops, is_comment_text, comment_places}
 use Rattle.gitconf_text.proofs.ByteLaws.{line_end_more, letter_no_blank, letter_no_line_end, letter_no_mark, letter_no_bracket, mark_no_blank, mark_no_line_end, line_end_no_blank, blank_no_name_byte}
 use Rattle.gitconf_parse.proofs.At.{behind_front, behind_byte, byte_at}
@@ -102,16 +104,16 @@ entry_again e b name rest input events n name_is names stands blanks fits = rw (
     there = behind_front input e.blanks (spelled_assigned e.assigned ++ rest) (n + length e.name) between
 
 -- how a text with a letter in front opens
-pub letter_opens : (b : ℕ) (rest : List ℕ) → is_ascii_alphabetic b ≡ true → opening_of (b ∷ rest) ≡ OpensEntry
+pub letter_opens : (b : ℕ) (rest : List ℕ) → is_ascii_alphabetic b ≡ true → opening_of (b ∷ rest) ≡ openings.Entry
 letter_opens b rest h = rw (letter_no_blank b h, letter_no_line_end b rest h, letter_no_mark b h, letter_no_bracket b h, h) refl
 
-mark_opens : (b : ℕ) (rest : List ℕ) → is_mark b ≡ true → opening_of (b ∷ rest) ≡ OpensComment
+mark_opens : (b : ℕ) (rest : List ℕ) → is_mark b ≡ true → opening_of (b ∷ rest) ≡ openings.Comment
 mark_opens b rest h = rw (mark_no_blank b h, mark_no_line_end b rest h, h) refl
 
-line_end_opens : (b : ℕ) (rest : List ℕ) → begins_line_end (b ∷ rest) ≡ true → opening_of (b ∷ rest) ≡ OpensLineEnds
+line_end_opens : (b : ℕ) (rest : List ℕ) → begins_line_end (b ∷ rest) ≡ true → opening_of (b ∷ rest) ≡ openings.LineEnds
 line_end_opens b rest h = rw (line_end_no_blank b rest h, h) refl
 
-blank_opens : (b : ℕ) (rest : List ℕ) → is_blank b ≡ true → opening_of (b ∷ rest) ≡ OpensBlanks
+blank_opens : (b : ℕ) (rest : List ℕ) → is_blank b ≡ true → opening_of (b ∷ rest) ≡ openings.Blanks
 blank_opens b rest h = rw h refl
 
 pub item_again : (i : Item) (rest input : List ℕ) (n : ℕ) (wanted : Expected) (events : List Event) → drop n input ≡ spelled_item i ++ rest → FitsItem i rest
@@ -146,7 +148,7 @@ item_again (EntryItem e) rest input n wanted events stands fits = go e.name refl
     go [] is = absurd (let x = rw is at fits.0 in cc)
     go (b ∷ name) is =
         let good = both_true (is_ascii_alphabetic b) (list_all is_name_byte name) (rw is at fits.0) in
-        let opens : opening_of (drop n input) ≡ OpensEntry = ap opening_of (whole ∙ ap (λ t. t ++ behind) is) ∙ letter_opens b (name ++ behind) good.0 in
+        let opens : opening_of (drop n input) ≡ openings.Entry = ap opening_of (whole ∙ ap (λ t. t ++ behind) is) ∙ letter_opens b (name ++ behind) good.0 in
         rw (opens, part_at) (entry_again e b name rest input events n is good.1 whole fits.1 fits.2)
 
 -- Each part is read to its events.
@@ -157,7 +159,7 @@ part_again (ItemPart i) rest input n wanted events stands fits = item_again i re
 part_again (HeaderPart h) rest input n wanted events stands fits =
     rw (ap opening_of stands ∙ header_opens h rest, part_at, header_again h rest input n stands fits) refl
   where
-    header_opens : (h : Header) (rest : List ℕ) → opening_of (spelled_header h ++ rest) ≡ OpensHeader
+    header_opens : (h : Header) (rest : List ℕ) → opening_of (spelled_header h ++ rest) ≡ openings.Header
     header_opens (PlainHeader name) rest = refl
     header_opens (DottedHeader name subsection) rest = refl
     header_opens (QuotedHeader name blanks spelling) rest = refl

@@ -17,7 +17,9 @@ use Rattle.gitconf_parse.specs.declared.event.Header.{Header as Spans}
 use Rattle.gitconf_parse.specs.declared.reading.Fault.{Fault}
 use Rattle.gitconf_parse.specs.declared.reading.Expected.{Expected}
 use Rattle.gitconf_parse.specs.declared.reading.Expected.TheVariants as expected
-use Rattle.gitconf_parse.specs.Reading.{end_of_run, with_blanks, Opening, OpensBlanks, OpensLineEnds, OpensComment, OpensHeader, OpensEntry, OpensNothing, opening_of, value_from, value_at, value_end, Behind, NothingBehind, LineFeedBehind, CrLfBehind, EscapeBehind, OtherBehind, behind, assigned_at, entry_at, header_at, part_at}
+use Rattle.gitconf_parse.specs.declared.reading.part.Opening.{Opening}
+use Rattle.gitconf_parse.specs.declared.reading.part.Opening.TheVariants as openings
+use Rattle.gitconf_parse.specs.Reading.{end_of_run, with_blanks, opening_of, value_from, value_at, value_end, Behind, NothingBehind, LineFeedBehind, CrLfBehind, EscapeBehind, OtherBehind, behind, assigned_at, entry_at, header_at, part_at}
 use Rattle.gitconf_parse.proofs.RunLaws.{Run, run_takes, places_all, stops_begins, places_line_ends, stops_line_end, is_comment_text, places_comment, places_ended}
 use Rattle.gitconf_parse.proofs.At.{behind_front, behind_byte}
 use Rattle.gitconf_text.proofs.Tests.{both_true}
@@ -36,34 +38,34 @@ pub record PartShape (text : List ℕ) : Type 0 where
 
 -- how a text opens, by what it opens
 abbrev pub IsOpening : Opening → List ℕ → Type 0
-IsOpening OpensBlanks text = (b : ℕ) × (rest : List ℕ) × (text ≡ b ∷ rest) × (is_blank b ≡ true)
-IsOpening OpensLineEnds text = (b : ℕ) × (rest : List ℕ) × (text ≡ b ∷ rest) × (begins_line_end (b ∷ rest) ≡ true)
-IsOpening OpensComment text = (b : ℕ) × (rest : List ℕ) × (text ≡ b ∷ rest) × (is_mark b ≡ true)
-IsOpening OpensHeader text = (rest : List ℕ) × (text ≡ 91 ∷ rest)
-IsOpening OpensEntry text = (b : ℕ) × (rest : List ℕ) × (text ≡ b ∷ rest) × (is_ascii_alphabetic b ≡ true)
-IsOpening OpensNothing text = Unit {0}
+IsOpening openings.Blanks text = (b : ℕ) × (rest : List ℕ) × (text ≡ b ∷ rest) × (is_blank b ≡ true)
+IsOpening openings.LineEnds text = (b : ℕ) × (rest : List ℕ) × (text ≡ b ∷ rest) × (begins_line_end (b ∷ rest) ≡ true)
+IsOpening openings.Comment text = (b : ℕ) × (rest : List ℕ) × (text ≡ b ∷ rest) × (is_mark b ≡ true)
+IsOpening openings.Header text = (rest : List ℕ) × (text ≡ 91 ∷ rest)
+IsOpening openings.Entry text = (b : ℕ) × (rest : List ℕ) × (text ≡ b ∷ rest) × (is_ascii_alphabetic b ≡ true)
+IsOpening openings.Nothing text = Unit {0}
 
 pub opening_is : (text : List ℕ) → IsOpening (opening_of text) text
 opening_is [] = tt
 opening_is (b ∷ rest) = blank (is_blank b) refl
   where
-    letter : (t : Bool) → is_ascii_alphabetic b ≡ t → IsOpening (if t then OpensEntry else OpensNothing) (b ∷ rest)
+    letter : (t : Bool) → is_ascii_alphabetic b ≡ t → IsOpening (if t then openings.Entry else openings.Nothing) (b ∷ rest)
     letter true e = (b, rest, refl, e)
     letter false e = tt
 
-    bracket : (t : Bool) → (b == 91) ≡ t → IsOpening (if t then OpensHeader else if is_ascii_alphabetic b then OpensEntry else OpensNothing) (b ∷ rest)
+    bracket : (t : Bool) → (b == 91) ≡ t → IsOpening (if t then openings.Header else if is_ascii_alphabetic b then openings.Entry else openings.Nothing) (b ∷ rest)
     bracket true e = (rest, ap (λ x. x ∷ rest) (eqb-true b 91 e))
     bracket false e = letter (is_ascii_alphabetic b) refl
 
-    mark : (t : Bool) → is_mark b ≡ t → IsOpening (if t then OpensComment else if b == 91 then OpensHeader else if is_ascii_alphabetic b then OpensEntry else OpensNothing) (b ∷ rest)
+    mark : (t : Bool) → is_mark b ≡ t → IsOpening (if t then openings.Comment else if b == 91 then openings.Header else if is_ascii_alphabetic b then openings.Entry else openings.Nothing) (b ∷ rest)
     mark true e = (b, rest, refl, e)
     mark false e = bracket (b == 91) refl
 
-    line_end : (t : Bool) → begins_line_end (b ∷ rest) ≡ t → IsOpening (if t then OpensLineEnds else if is_mark b then OpensComment else if b == 91 then OpensHeader else if is_ascii_alphabetic b then OpensEntry else OpensNothing) (b ∷ rest)
+    line_end : (t : Bool) → begins_line_end (b ∷ rest) ≡ t → IsOpening (if t then openings.LineEnds else if is_mark b then openings.Comment else if b == 91 then openings.Header else if is_ascii_alphabetic b then openings.Entry else openings.Nothing) (b ∷ rest)
     line_end true e = (b, rest, refl, e)
     line_end false e = mark (is_mark b) refl
 
-    blank : (t : Bool) → is_blank b ≡ t → IsOpening (if t then OpensBlanks else if begins_line_end (b ∷ rest) then OpensLineEnds else if is_mark b then OpensComment else if b == 91 then OpensHeader else if is_ascii_alphabetic b then OpensEntry else OpensNothing) (b ∷ rest)
+    blank : (t : Bool) → is_blank b ≡ t → IsOpening (if t then openings.Blanks else if begins_line_end (b ∷ rest) then openings.LineEnds else if is_mark b then openings.Comment else if b == 91 then openings.Header else if is_ascii_alphabetic b then openings.Entry else openings.Nothing) (b ∷ rest)
     blank true e = (b, rest, refl, e)
     blank false e = line_end (begins_line_end (b ∷ rest)) refl
 
@@ -182,7 +184,7 @@ pub part_takes : (input : List ℕ) (n : ℕ) (wanted : Expected) (events more :
 unfolding part_at
 part_takes input n wanted events more end read = go (opening_of (drop n input)) refl (opening_is (drop n input))
   where
-    headed : (rest : List ℕ) → drop n input ≡ 91 ∷ rest → opening_of (drop n input) ≡ OpensHeader → (o : Option (Spans × ℕ)) → header_at input n ≡ o → PartShape (drop n input)
+    headed : (rest : List ℕ) → drop n input ≡ 91 ∷ rest → opening_of (drop n input) ≡ openings.Header → (o : Option (Spans × ℕ)) → header_at input n ≡ o → PartShape (drop n input)
     headed rest stands e None h = absurd (let x = rw h at (rw (e, part_at) at read) in cc)
     headed rest stands e (Some found) h =
         let s = header_takes input rest n found stands h in
@@ -220,12 +222,12 @@ part_takes input n wanted events more end read = go (opening_of (drop n input)) 
         }
 
     go : (k : Opening) → opening_of (drop n input) ≡ k → IsOpening k (drop n input) → PartShape (drop n input)
-    go OpensBlanks e is = blank is.0 is.1 is.2 is.3
-    go OpensLineEnds e is = line_end is.0 is.1 is.2 is.3
-    go OpensComment e is = comment is.0 is.1 is.2 is.3
-    go OpensHeader e is = headed is.0 is.1 e (header_at input n) refl
-    go OpensEntry e is = entry_takes input n events more end (name_takes input n is.0 is.1 is.2 is.3) (rw (e, part_at) at read)
-    go OpensNothing e is = absurd (let x = rw (e, part_at) at read in cc)
+    go openings.Blanks e is = blank is.0 is.1 is.2 is.3
+    go openings.LineEnds e is = line_end is.0 is.1 is.2 is.3
+    go openings.Comment e is = comment is.0 is.1 is.2 is.3
+    go openings.Header e is = headed is.0 is.1 e (header_at input n) refl
+    go openings.Entry e is = entry_takes input n events more end (name_takes input n is.0 is.1 is.2 is.3) (rw (e, part_at) at read)
+    go openings.Nothing e is = absurd (let x = rw (e, part_at) at read in cc)
 
 -- a value's only fault is told at its beginning
 end_fault : (first : ℕ) (events : List Event) (joined : Bool) (from kept : ℕ) (quoted : Bool) (f : Fault) → value_end first events joined from kept quoted ≡ Err f → record { at = first; expected = expected.Value } ≡ f
@@ -310,7 +312,7 @@ unfolding entry_at
 entry_fault input n events f s read = assigned_fault s.name s.blanks input _ n (blanks_end input n) f s.name_is s.blanks_are s.whole s.end read
 
 -- where a text opens otherwise, no key stands
-no_entry : (text : List ℕ) (k : Opening) → opening_of text ≡ k → (k ≡ OpensEntry → ⊥) → (name blanks behind : List ℕ) → IsAssignment name blanks [] → text ≡ spelled_assignment name blanks behind → ⊥
+no_entry : (text : List ℕ) (k : Opening) → opening_of text ≡ k → (k ≡ openings.Entry → ⊥) → (name blanks behind : List ℕ) → IsAssignment name blanks [] → text ≡ spelled_assignment name blanks behind → ⊥
 no_entry text k e other [] blanks behind is whole = let x = IsAssignment.name_is is in cc
 no_entry text k e other (b ∷ name) blanks behind is whole =
     let letter = (both_true (is_ascii_alphabetic b) (list_all is_name_byte name) (IsAssignment.name_is is)).0 in
@@ -325,17 +327,17 @@ part_fault input n wanted events f read = go (opening_of (drop n input)) refl (o
     no_part : (p : Part) (behind : List ℕ) → drop n input ≡ spelled_part p ++ behind → FitsPart p behind → ⊥
     no_part p behind whole fits = let x = part_again p behind input n wanted events whole fits in cc
 
-    none : (k : Opening) → opening_of (drop n input) ≡ k → (k ≡ OpensEntry → ⊥) → NoPart (drop n input)
+    none : (k : Opening) → opening_of (drop n input) ≡ k → (k ≡ openings.Entry → ⊥) → NoPart (drop n input)
     none k e other = record { part = no_part; assignment = no_entry (drop n input) k e other }
 
-    headed : opening_of (drop n input) ≡ OpensHeader → (o : Option (Spans × ℕ)) → header_at input n ≡ o → ((record { at = n; expected = wanted } ≡ f) × NoPart (drop n input)) ⊎ ValueFaultShape input n f
-    headed e None h = inl ((let x = rw h at (rw (e, part_at) at read) in cc), none OpensHeader e (λ k. cc))
+    headed : opening_of (drop n input) ≡ openings.Header → (o : Option (Spans × ℕ)) → header_at input n ≡ o → ((record { at = n; expected = wanted } ≡ f) × NoPart (drop n input)) ⊎ ValueFaultShape input n f
+    headed e None h = inl ((let x = rw h at (rw (e, part_at) at read) in cc), none openings.Header e (λ k. cc))
     headed e (Some found) h = absurd (let x = rw h at (rw (e, part_at) at read) in cc)
 
     go : (k : Opening) → opening_of (drop n input) ≡ k → IsOpening k (drop n input) → ((record { at = n; expected = wanted } ≡ f) × NoPart (drop n input)) ⊎ ValueFaultShape input n f
-    go OpensBlanks e is = absurd (let x = rw (e, part_at) at read in cc)
-    go OpensLineEnds e is = absurd (let x = rw (e, part_at) at read in cc)
-    go OpensComment e is = absurd (let x = rw (e, part_at) at read in cc)
-    go OpensHeader e is = headed e (header_at input n) refl
-    go OpensEntry e is = inr (entry_fault input n events f (name_takes input n is.0 is.1 is.2 is.3) (rw (e, part_at) at read))
-    go OpensNothing e is = inl ((let x = rw (e, part_at) at read in cc), none OpensNothing e (λ k. cc))
+    go openings.Blanks e is = absurd (let x = rw (e, part_at) at read in cc)
+    go openings.LineEnds e is = absurd (let x = rw (e, part_at) at read in cc)
+    go openings.Comment e is = absurd (let x = rw (e, part_at) at read in cc)
+    go openings.Header e is = headed e (header_at input n) refl
+    go openings.Entry e is = inr (entry_fault input n events f (name_takes input n is.0 is.1 is.2 is.3) (rw (e, part_at) at read))
+    go openings.Nothing e is = inl ((let x = rw (e, part_at) at read in cc), none openings.Nothing e (λ k. cc))

@@ -1,29 +1,30 @@
 -- Stretches of a text, one behind the other.
 use Rattle.std.proofs.Common.{◌≡◌, ℕ, ◌+◌, ◌≤◌, ◌<◌, true, List, [], ◌∷◌, ◌++◌, length, take, drop, get_or, map, Result, Ok, Err, refl, ap, sym, subst, ◌∙◌, arith, append_assoc, append-nil, length-append}
-use Rattle.std.specs.Prelude.{◌==◌, count_by, IfErr}
+use Rattle.std.specs.Prelude.{◌==◌, false, Some, None, count_by}
 use Rattle.std.proofs.lemmas.List.{length-drop}
 use Rattle.std.proofs.lemmas.Grind.{flat_map-append}
 use Rattle.gitconf_text.specs.Part.{Part, ItemPart, HeaderPart, spelled_part, spelled, FitsPart, AreFit}
 use Rattle.gitconf_text.specs.Document.{unmarked, IsText}
-use Rattle.gitconf_text.specs.Token.{Token, part_tokens, tokens_of}
+use Rattle.gitconf_text.specs.Token.{Token, HeaderToken, item_tokens, part_tokens, tokens_of}
 use Rattle.gitconf_parse.specs.declared.event.Event.{Event}
+use Rattle.gitconf_parse.specs.declared.event.Header.{Header as Spans}
 use Rattle.gitconf_parse.specs.declared.event.Event.TheVariants as kinds
 use Rattle.gitconf_parse.specs.declared.reading.Fault.{Fault}
 use Rattle.gitconf_parse.specs.declared.reading.Expected.{Expected}
 use Rattle.gitconf_parse.specs.declared.reading.Expected.TheVariants as expected
 use Rattle.gitconf_parse.specs.declared.reading.ReadError.{ReadError}
 use Rattle.gitconf_parse.specs.declared.reading.ReadError.TheVariants as errors
-use Rattle.gitconf_parse.specs.Events.{token_of}
-use Rattle.gitconf_parse.specs.EventList.{is_header_token}
-use Rattle.gitconf_parse.specs.Grouping.{Between, are_items}
-use Rattle.gitconf_parse.specs.ItemsFit.{EventsWithin}
+use Rattle.gitconf_parse.specs.declared.items.Item.{Item}
+use Rattle.gitconf_parse.specs.Events.{header_of, token_of, HeaderFits}
+use Rattle.gitconf_parse.specs.ItemReading.{IsReadTo, IsItemRead}
+use Rattle.gitconf_parse.specs.Items.{item_of, tokens_of_items}
+use Rattle.gitconf_parse.specs.ItemsFit.{AreItemsWithin, EventsWithin}
 use Rattle.gitconf_parse.specs.Parsing.{IsFault, IsMisread}
-use Rattle.gitconf_parse.specs.Reading.{Gives, part_at, wanted_behind}
-use Rattle.gitconf_parse.specs.Sections.{is_header_event, is_cut}
-use Rattle.gitconf_parse.specs.Stretches.{wanted_part, wanted_after, IsFaultAt, IsStretch, IsReadOn, IsBroken, IsBreak}
+use Rattle.gitconf_parse.specs.Reading.{Gives, header_at, part_at, wanted_behind}
+use Rattle.gitconf_parse.specs.Stretches.{wanted_part, wanted_after, IsFaultAt, IsStretch, IsBroken, IsBreak}
 use Rattle.gitconf_parse.proofs.At.{behind_front, byte_at}
+use Rattle.gitconf_parse.proofs.Runs.{cut_at}
 use Rattle.gitconf_parse.proofs.Fitting.{part_events_fit}
-use Rattle.gitconf_parse.proofs.GroupLaws.{tokens_items}
 use Rattle.gitconf_parse.proofs.OneFault.{stuck_undocumented}
 use Rattle.gitconf_parse.proofs.PartAgain.{after_part, part_again}
 use Rattle.gitconf_parse.proofs.PartTakes.{part_takes, part_fault}
@@ -84,58 +85,56 @@ broken_behind input a b u v some (errors.Fault f) x y =
       fault = subst (λ w. IsFaultAt input (a + length (spelled (x.parts ++ y.parts))) w f) wanted (subst (λ m. IsFaultAt input m (wanted_after v y.parts) f) at y.fault);
     }
 
-pub broken_after : (input : List ℕ) (a b : ℕ) (u v : Expected) (some : List Token) (r : Result ℕ ReadError) → IsStretch input a u b v some → IfErr r (IsBreak input b v) → IfErr r (IsBreak input a u)
-broken_after input a b u v some (Ok n) x broken = broken
-broken_after input a b u v some (Err e) x broken = broken_behind input a b u v some e x broken
-
--- nothing was read
-pub nothing_read : (input : List ℕ) (n : ℕ) (wanted : Expected) (events : List Event) → IsReadOn input n wanted events n wanted events
-nothing_read input n wanted events = record { tokens = []; stretch = no_stretch input n wanted; tokens_are = sym (append-nil _); within = λ fits. fits }
-
--- a stretch was read behind another
-pub both_read : (input : List ℕ) (a b c : ℕ) (u v w : Expected) (old mid new : List Event) → IsReadOn input a u old b v mid → IsReadOn input b v mid c w new → IsReadOn input a u old c w new
-both_read input a b c u v w old mid new x y = record {
-  tokens = x.tokens ++ y.tokens;
-  stretch = both_stretches input a b c u v w x.tokens y.tokens x.stretch y.stretch;
-  tokens_are = y.tokens_are ∙ ap (λ t. t ++ y.tokens) x.tokens_are ∙ append_assoc (map (token_of input) old) x.tokens y.tokens;
-  within = λ fits. y.within (x.within fits);
-}
-
--- one part was read
-pub part_read : (input : List ℕ) (n : ℕ) (wanted : Expected) (old new : List Event) (end : ℕ) → n < length input → part_at input n wanted old ≡ Ok (new, end)
-    → IsReadOn input n wanted old end (wanted_behind (get_or input n 0) wanted) new
-part_read input n wanted old new end within read =
-    let s = part_takes input n wanted old new end read in
-    let again = part_again s.part s.rest input n wanted old s.whole s.fits in
-    let new_is : (after_part old n s.part).0 ≡ new = (let e = sym again ∙ read in cc) in
-    let end_is : (after_part old n s.part).1 ≡ end = (let e = sym again ∙ read in cc) in
-    let here : end ≡ n + length (spelled_part s.part) = sym end_is ∙ part_end s.part old n in
+-- One part was read.
+pub part_read : (input : List ℕ) (n : ℕ) (wanted : Expected) (new : List Event) (end : ℕ) → n < length input → part_at input n wanted [] ≡ Ok (new, end)
+    → IsStretch input n wanted end (wanted_behind (get_or input n 0) wanted) (map (token_of input) new) × EventsWithin (length input) new
+part_read input n wanted new end within read =
+    let s = part_takes input n wanted [] new end read in
+    let again = part_again s.part s.rest input n wanted [] s.whole s.fits in
+    let new_is : (after_part [] n s.part).0 ≡ new = (let e = sym again ∙ read in cc) in
+    let end_is : (after_part [] n s.part).1 ≡ end = (let e = sym again ∙ read in cc) in
+    let here : end ≡ n + length (spelled_part s.part) = sym end_is ∙ part_end s.part [] n in
     let behind : drop end input ≡ s.rest = ap (λ m. drop m input) here ∙ behind_front input (spelled_part s.part) s.rest n s.whole in
     let first = part_first s.part s.rest s.fits in
     let byte : get_or input n 0 ≡ first.0 = byte_at input first.0 (first.1 ++ s.rest) n (s.whole ∙ ap (λ t. t ++ s.rest) first.2) in
     let one : spelled (s.part ∷ []) ≡ spelled_part s.part = append-nil (spelled_part s.part) in
     let long : length (drop n input) ≡ length (spelled_part s.part) + length s.rest = ap length s.whole ∙ length-append (spelled_part s.part) s.rest in
     let left = length-drop n input in
-    record {
-      tokens = part_tokens s.part;
-      stretch = record {
+    (
+      record {
         parts = s.part ∷ [];
         whole = s.whole ∙ ap (λ t. spelled_part s.part ++ t) (sym behind) ∙ ap (λ t. t ++ drop end input) (sym one);
         fits = (subst (λ t. FitsPart s.part t) (sym behind) s.fits, tt);
         to_is = here ∙ ap (λ t. n + length t) (sym one);
         last_is = ap (λ b. wanted_behind b wanted) byte ∙ first.3 wanted;
-        tokens_are = sym (append-nil (part_tokens s.part));
-      };
-      tokens_are = ap (λ es. map (token_of input) es) (sym new_is) ∙ part_events_tokens s.part s.rest input old n s.whole s.fits;
-      within = λ fits. subst (λ es. EventsWithin (length input) es) new_is (part_events_fit (length input) s.part old n fits (omega (arith, within, long, left)));
-    }
+        tokens_are = ap (λ es. map (token_of input) es) (sym new_is) ∙ part_events_tokens s.part s.rest input [] n s.whole s.fits ∙ sym (append-nil (part_tokens s.part));
+      },
+      subst (λ es. EventsWithin (length input) es) new_is (part_events_fit (length input) s.part [] n tt (omega (arith, within, long, left))),
+    )
 
--- a header was read, where a bracket stands
-pub header_read : (input : List ℕ) (n : ℕ) (wanted : Expected) (old new : List Event) (end : ℕ) → n < length input → get_or input n 0 ≡ 91 → old ≡ [] → part_at input n wanted old ≡ Ok (new, end)
-    → IsReadOn input n wanted [] end expected.Name new
-header_read input n wanted old new end within byte none read =
-    subst (λ es. IsReadOn input n wanted es end expected.Name new) none
-    (subst (λ b. IsReadOn input n wanted old end (wanted_behind b wanted) new) byte (part_read input n wanted old new end within read))
+-- An item was read, where no bracket stands.
+pub item_read : (input : List ℕ) (n : ℕ) (wanted : Expected) (end : ℕ) (tokens : List Token) → n < length input → (get_or input n 0 == 91) ≡ false → IsReadTo input (part_at input n wanted []) end tokens
+    → IsStretch input n wanted end wanted tokens
+item_read input n wanted end tokens within byte r =
+    subst (λ t. IsStretch input n wanted end wanted t) r.tokens_are (rw byte at (part_read input n wanted r.events end within r.read).0)
+
+-- the part at a bracket is a header
+header_part : (input : List ℕ) (n : ℕ) (wanted : Expected) {h : Spans} {end : ℕ} → get_or input n 0 ≡ 91 → n < length input → header_at input n ≡ Some (h, end)
+    → part_at input n wanted [] ≡ Ok (kinds.SectionHeader h ∷ [], end)
+unfolding part_at
+header_part input n wanted byte within found = rw (cut_at input n within, byte, part_at, found) refl
+
+header_refused : (input : List ℕ) (n : ℕ) (wanted : Expected) → get_or input n 0 ≡ 91 → n < length input → header_at input n ≡ None
+    → part_at input n wanted [] ≡ Err (record { at = n; expected = wanted })
+unfolding part_at
+header_refused input n wanted byte within none = rw (cut_at input n within, byte, part_at, none) refl
+
+-- A header was read, where a bracket stands.
+pub header_read : (input : List ℕ) (n : ℕ) (wanted : Expected) (h : Spans) (end : ℕ) → n < length input → get_or input n 0 ≡ 91 → header_at input n ≡ Some (h, end)
+    → IsStretch input n wanted end expected.Name (HeaderToken (header_of input h) ∷ []) × HeaderFits (length input) h
+header_read input n wanted h end within byte found =
+    let read = part_read input n wanted (kinds.SectionHeader h ∷ []) end within (header_part input n wanted byte within found) in
+    (subst (λ b. IsStretch input n wanted end (wanted_behind b wanted) (HeaderToken (header_of input h) ∷ [])) byte read.0, read.1.0)
 
 -- no part can be read
 pub part_broken : (input : List ℕ) (n : ℕ) (wanted : Expected) (events old : List Event) (e : ReadError) → n < length input → Gives (Err e) events (part_at input n wanted old) → IsBreak input n wanted e
@@ -152,45 +151,9 @@ part_broken input n wanted events old (errors.Fault f) within given =
       fault = subst (λ m. IsFaultAt input m wanted f) here (part_fault input n wanted old f given);
     }
 
--- Behind nothing, the events are those of the stretch.
-pub read_stretch : (input : List ℕ) (a b : ℕ) (u v : Expected) (events : List Event) → IsReadOn input a u [] b v events → IsStretch input a u b v (map (token_of input) events)
-read_stretch input a b u v events x = subst (λ t. IsStretch input a u b v t) (sym x.tokens_are) x.stretch
-
--- and they go on as items
-pub read_items : (input : List ℕ) (a b : ℕ) (u v : Expected) (old events shown : List Event) → old ≡ [] → IsReadOn input a u old b v events → shown ≡ events → are_items Between (map (token_of input) shown) ≡ true
-read_items input a b u v old events shown none x same =
-    let y : IsReadOn input a u [] b v events = subst (λ es. IsReadOn input a u es b v events) none x in
-    tokens_items _ (y.stretch.parts, ap (λ es. map (token_of input) es) same ∙ y.tokens_are ∙ y.stretch.tokens_are)
-
--- tokens that begin with a header are those of such events
-cut_events : (input : List ℕ) (events : List Event) → is_cut is_header_token (map (token_of input) events) ≡ true → is_cut is_header_event events ≡ true
-cut_events input [] h = refl
-cut_events input (kinds.SectionHeader spans ∷ events) h = refl
-cut_events input (kinds.Comment tag text ∷ events) h = h
-cut_events input (kinds.SectionValueName s ∷ events) h = h
-cut_events input (kinds.Value s ∷ events) h = h
-cut_events input (kinds.Newline s ∷ events) h = h
-cut_events input (kinds.ValueNotDone s ∷ events) h = h
-cut_events input (kinds.ValueDone s ∷ events) h = h
-cut_events input (kinds.Whitespace s ∷ events) h = h
-cut_events input (kinds.KeyValueSeparator ∷ events) h = h
-
--- a part that begins with a bracket is a header
-headed_parts : (input : List ℕ) (n to : ℕ) (parts : List Part) → drop n input ≡ spelled parts ++ drop to input → AreFit parts (drop to input) → to ≡ n + length (spelled parts) → n < to → get_or input n 0 ≡ 91
-    → is_cut is_header_token (tokens_of parts) ≡ true
-headed_parts input n to [] whole fits to_is ahead byte = absurd (omega (arith, to_is, ahead))
-headed_parts input n to (HeaderPart h ∷ parts) whole fits to_is ahead byte = refl
-headed_parts input n to (ItemPart i ∷ parts) whole fits to_is ahead byte =
-    let first = part_first (ItemPart i) (spelled parts ++ drop to input) fits.0 in
-    let here : drop n input ≡ first.0 ∷ (first.1 ++ (spelled parts ++ drop to input)) = whole ∙ append_assoc (spelled_part (ItemPart i)) (spelled parts) (drop to input) ∙ ap (λ t. t ++ (spelled parts ++ drop to input)) first.2 in
-    let is : first.0 ≡ 91 = sym (byte_at input first.0 _ n here) ∙ byte in
-    let wrong : expected.Name ≡ expected.SectionHeader = sym (ap (λ b. wanted_behind b expected.SectionHeader) is) ∙ first.3 expected.SectionHeader in
-    absurd (cc)
-
--- events that were read from a bracket on begin with a header
-pub read_cut : (input : List ℕ) (a b : ℕ) (u v : Expected) (events : List Event) → IsReadOn input a u [] b v events → a < b → get_or input a 0 ≡ 91 → is_cut is_header_event events ≡ true
-read_cut input a b u v events x ahead byte =
-    cut_events input events (ap (is_cut is_header_token) (x.tokens_are ∙ x.stretch.tokens_are) ∙ headed_parts input a b x.stretch.parts x.stretch.whole x.stretch.fits x.stretch.to_is ahead byte)
+-- or none can be
+pub no_header_read : (input : List ℕ) (n : ℕ) (wanted : Expected) → n < length input → get_or input n 0 ≡ 91 → header_at input n ≡ None → IsBreak input n wanted (errors.Fault (record { at = n; expected = wanted }))
+no_header_read input n wanted within byte none = part_broken input n wanted [] [] (errors.Fault (record { at = n; expected = wanted })) within (header_refused input n wanted byte within none)
 
 -- A stretch from the front to the end is the whole text.
 pub whole_text : (input : List ℕ) (start : ℕ) (u v : Expected) (to : ℕ) (tokens : List Token) → drop start input ≡ unmarked input → length input ≤ to → IsStretch input start u to v tokens
@@ -221,17 +184,26 @@ misread input start (errors.Fault f) no_line inside mark x =
     let fault = broken_stuck input start f no_line inside mark x in
     (fault, λ parts text. stuck_undocumented input _ _ _ fault.stuck parts text)
 
--- The front was read, and what stands behind its items.
-pub front_stretch : (input : List ℕ) (a b : ℕ) (u v : Expected) (old events shown : List Event) (items rest more : List Token) → old ≡ [] → IsReadOn input a u old b v events → shown ≡ events
-    → items ++ rest ≡ map (token_of input) shown → more ≡ rest → IsStretch input a u b v (items ++ more)
-front_stretch input a b u v old events shown items rest more none x same whole is =
-    subst (λ t. IsStretch input a u b v t) (ap (λ es. map (token_of input) es) (sym same) ∙ sym whole ∙ ap (λ t. items ++ t) (sym is))
-    (read_stretch input a b u v events (subst (λ es. IsReadOn input a u es b v events) none x))
+-- An item more was read.
+pub more_items : (input : List ℕ) (a b c : ℕ) (wanted : Expected) (old new : List Item) → IsStretch input a wanted b wanted (tokens_of_items input old) → b < length input → (get_or input b 0 == 91) ≡ false
+    → IsItemRead input b wanted old new c → IsStretch input a wanted c wanted (tokens_of_items input new)
+more_items input a b c wanted old new x within byte r =
+    let one = item_read input b wanted c (item_tokens (item_of input r.item)) within byte r.read in
+    let tokens : tokens_of_items input new ≡ tokens_of_items input old ++ item_tokens (item_of input r.item)
+    = ap (tokens_of_items input) r.put ∙ flat_map-append (λ i. item_tokens (item_of input i)) old (r.item ∷ []) ∙ ap (λ t. tokens_of_items input old ++ t) (append-nil _) in
+    subst (λ t. IsStretch input a wanted c wanted t) (sym tokens) (both_stretches input a b c wanted wanted wanted _ _ x one)
+
+pub items_fit : (input : List ℕ) (at end : ℕ) (wanted : Expected) (old new : List Item) → AreItemsWithin (length input) old → IsItemRead input at wanted old new end → AreItemsWithin (length input) new
+items_fit input at end wanted old new fits r = subst (λ is. AreItemsWithin (length input) is) (sym r.put) (all_put old fits)
+  where
+    all_put : (is : List Item) → AreItemsWithin (length input) is → AreItemsWithin (length input) (is ++ r.item ∷ [])
+    all_put [] h = (r.fits, tt)
+    all_put (i ∷ is) h = (h.0, all_put is h.1)
 
 -- A section more was read.
-pub more_stretch : (input : List ℕ) (a b c : ℕ) (u v w : Expected) (events shown : List Event) (front some more : List Token) → IsStretch input a u b v (front ++ some) → IsReadOn input b v [] c w events
-    → shown ≡ events → more ≡ some ++ map (token_of input) shown → IsStretch input a u c w (front ++ more)
-more_stretch input a b c u v w events shown front some more x y same is =
-    subst (λ t. IsStretch input a u c w t)
-    (append_assoc front some (map (token_of input) events) ∙ ap (λ t. front ++ t) (ap (λ es. some ++ map (token_of input) es) (sym same) ∙ sym is))
-    (both_stretches input a b c u v w (front ++ some) (map (token_of input) events) x (read_stretch input b c v w events y))
+pub more_stretch : (input : List ℕ) (a b c d : ℕ) (u v : Expected) (front some more body : List Token) (h : Spans) → IsStretch input a u b v (front ++ some)
+    → IsStretch input b v c expected.Name (HeaderToken (header_of input h) ∷ []) → IsStretch input c expected.Name d expected.Name body
+    → more ≡ some ++ HeaderToken (header_of input h) ∷ body → IsStretch input a u d expected.Name (front ++ more)
+more_stretch input a b c d u v front some more body h x y z is =
+    let section = both_stretches input b c d v expected.Name expected.Name _ _ y z in
+    subst (λ t. IsStretch input a u d expected.Name t) (append_assoc front some _ ∙ ap (λ t. front ++ t) (sym is)) (both_stretches input a b d u v expected.Name _ _ x section)

@@ -25,7 +25,7 @@ pub bytes_span : (input front rest : List ℕ) (n end : ℕ) → drop n input �
 bytes_span input front rest n end stands end_is = let e : end - n ≡ length front = omega arith in rw (e, stands) (take_at front rest (length front) refl)
 
 -- no bytes
-bytes_none : (input : List ℕ) (n : ℕ) → bytes_of input (span n n) ≡ []
+pub bytes_none : (input : List ℕ) (n : ℕ) → bytes_of input (span n n) ≡ []
 bytes_none input n = let e : n - n ≡ 0 = omega arith in rw e refl
 
 newline_tokens : (input line_end rest : List ℕ) (events : List Event) (n : ℕ) → drop n input ≡ line_end ++ rest
@@ -34,7 +34,7 @@ newline_tokens input [] rest events n stands = sym (append-nil _)
 newline_tokens input (b ∷ bytes) rest events n stands =
     map-append (token_of input) events _ ∙ ap (λ t. map (token_of input) events ++ NewlineToken t ∷ []) (bytes_span input (b ∷ bytes) rest n _ stands refl)
 
-blanks_tokens : (input blanks rest : List ℕ) (events : List Event) (n end : ℕ) → drop n input ≡ blanks ++ rest → n + length blanks ≡ end
+pub blanks_tokens : (input blanks rest : List ℕ) (events : List Event) (n end : ℕ) → drop n input ≡ blanks ++ rest → n + length blanks ≡ end
     → map (token_of input) (with_blanks events n end) ≡ map (token_of input) events ++ filled WhitespaceToken blanks
 blanks_tokens input [] rest events n end stands end_is = rw (le-ltb n end (omega arith)) (sym (append-nil _))
 blanks_tokens input (b ∷ blanks) rest events n end stands end_is =

@@ -17,6 +17,7 @@ pub mod Items
 pub mod ItemsFit
 pub mod Grouping
 pub mod Stretches
+pub mod ItemReading
 pub mod Moves
 pub mod Forms
 pub mod Alike

@@ -15,6 +15,10 @@ use Rattle.gitconf_parse.specs.declared.reading.Expected.{Expected}
 use Rattle.gitconf_parse.specs.declared.reading.Expected.TheVariants as expected
 use Rattle.gitconf_parse.specs.declared.reading.run.Run.{Run}
 use Rattle.gitconf_parse.specs.declared.reading.run.Run.TheVariants as runs
+use Rattle.gitconf_parse.specs.declared.reading.part.Opening.{Opening}
+use Rattle.gitconf_parse.specs.declared.reading.part.Opening.TheVariants as openings
+use Rattle.gitconf_parse.specs.declared.reading.value.PieceEnd.{PieceEnd}
+use Rattle.gitconf_parse.specs.declared.reading.value.PieceEnd.TheVariants as ends
 use Rattle.gitconf_parse.specs.declared.reading.ReadError.{ReadError}
 use Rattle.gitconf_parse.specs.declared.reading.ReadError.TheVariants as errors
 
@@ -78,6 +82,38 @@ value_from first events joined from kept quoted n zero (b ∷ rest) = elim (clas
 
 abbrev pub value_at : (first : ℕ) → List Event → List ℕ → Read
 value_at first events text = value_from first events false first first false first 0 text
+
+-- how the piece of a value ends that goes on at the offset `n`; `kept`: behind its last byte that isn't white; `skip`: how many
+-- of the bytes were read already
+unfoldable pub piece_from : (kept : ℕ) → (quoted : Bool) → (n skip : ℕ) → List ℕ → PieceEnd
+piece_from kept quoted n skip [] = if quoted then ends.Refused else ends.Last kept
+piece_from kept quoted n (suc skip) (b ∷ rest) = piece_from kept quoted (n + 1) skip rest
+piece_from kept quoted n zero (b ∷ rest) = elim (class_of b) [
+  | LineFeed ↦ if quoted then ends.Refused else ends.Last kept
+  | Mark ↦ elim quoted [
+    | true ↦ piece_from (n + 1) true (n + 1) 0 rest
+    | false ↦ ends.Last kept
+  ]
+  | Quote ↦ piece_from (n + 1) (not quoted) (n + 1) 0 rest
+  | White ↦ piece_from kept quoted (n + 1) 0 rest
+  | Other ↦ piece_from (n + 1) quoted (n + 1) 0 rest
+  | Backslash ↦ elim (behind rest) [
+    | NothingBehind ↦ if quoted then ends.Refused else ends.Unended n
+    | LineFeedBehind ↦ ends.GoesOn n 1 quoted
+    | CrLfBehind ↦ ends.GoesOn n 2 quoted
+    | EscapeBehind ↦ piece_from (n + 1 + 1) quoted (n + 1) 1 rest
+    | OtherBehind ↦ ends.Refused
+  ]
+]
+
+-- what the value that began at `first` is read to where its piece, which began at `from`, ends so
+abbrev pub value_behind : (input : List ℕ) → (first : ℕ) → List Event → (joined : Bool) → (from : ℕ) → PieceEnd → Read
+value_behind input first events joined from (ends.Last kept) = value_end first events joined from kept false
+value_behind input first events joined from (ends.GoesOn at line_end quoted) =
+    let n = at + 1 + line_end in
+    value_from first (events ++ kinds.ValueNotDone (span from at) ∷ [] ++ kinds.Newline (span (at + 1) n) ∷ []) true n n quoted n 0 (drop n input)
+value_behind input first events joined from (ends.Unended at) = Ok (events ++ kinds.ValueNotDone (span from at) ∷ [] ++ kinds.ValueDone (span (at + 1) (at + 1)) ∷ [], at + 1)
+value_behind input first events joined from ends.Refused = Err (record { at = first; expected = expected.Value })
 
 -- a byte that stands for itself in a value, quotes or not
 abbrev pub is_plain : ℕ → Bool
@@ -171,37 +207,29 @@ header_at input n =
     else quoted_header input (n + 1) name_end
 
 -- which part may begin here
-pub data Opening : Type 0 where
-  OpensBlanks : Opening
-  OpensLineEnds : Opening
-  OpensComment : Opening
-  OpensHeader : Opening
-  OpensEntry : Opening
-  OpensNothing : Opening
-
 abbrev pub opening_of : List ℕ → Opening
-opening_of [] = OpensNothing
+opening_of [] = openings.Nothing
 opening_of (b ∷ rest) =
-    if is_blank b then OpensBlanks else
-    if begins_line_end (b ∷ rest) then OpensLineEnds else
-    if is_mark b then OpensComment else
-    if b == 91 then OpensHeader else
-    if is_ascii_alphabetic b then OpensEntry else OpensNothing
+    if is_blank b then openings.Blanks else
+    if begins_line_end (b ∷ rest) then openings.LineEnds else
+    if is_mark b then openings.Comment else
+    if b == 91 then openings.Header else
+    if is_ascii_alphabetic b then openings.Entry else openings.Nothing
 
 -- one part, from the offset n on; wanted: what is told as looked for where none stands
 unfoldable pub part_at : (input : List ℕ) → (n : ℕ) → Expected → List Event → Read
 part_at input n wanted events = elim (opening_of (drop n input)) [
-  | OpensBlanks ↦ let end = run_end_at input runs.Blanks (n + 1) in Ok (events ++ kinds.Whitespace (span n end) ∷ [], end)
-  | OpensLineEnds ↦ let end = run_end_at input runs.LineEnds (n + 1) in Ok (events ++ kinds.Newline (span n end) ∷ [], end)
-  | OpensComment ↦
+  | openings.Blanks ↦ let end = run_end_at input runs.Blanks (n + 1) in Ok (events ++ kinds.Whitespace (span n end) ∷ [], end)
+  | openings.LineEnds ↦ let end = run_end_at input runs.LineEnds (n + 1) in Ok (events ++ kinds.Newline (span n end) ∷ [], end)
+  | openings.Comment ↦
       let end = run_end_at input runs.CommentText (n + 1) in
       Ok (events ++ kinds.Comment (slice_index input n) (span (n + 1) end) ∷ [], end)
-  | OpensHeader ↦ elim (header_at input n) [
+  | openings.Header ↦ elim (header_at input n) [
     | None ↦ Err (record { at = n; expected = wanted })
     | Some found ↦ Ok (events ++ kinds.SectionHeader found.0 ∷ [], found.1)
   ]
-  | OpensEntry ↦ entry_at input n events
-  | OpensNothing ↦ Err (record { at = n; expected = wanted })
+  | openings.Entry ↦ entry_at input n events
+  | openings.Nothing ↦ Err (record { at = n; expected = wanted })
 ]
 
 -- what is looked for behind a part that begins with b

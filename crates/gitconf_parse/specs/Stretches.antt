@@ -1,18 +1,15 @@
 -- What stands between two offsets of a text: parts, which are read to events; or why it can't be read on.
-use Rattle.std.specs.Prelude.{◌≡◌, ◌⊎◌, ◌<◌, ◌+◌, ℕ, false, List, [], ◌∷◌, ◌++◌, length, drop, map}
+use Rattle.std.specs.Prelude.{◌≡◌, ◌⊎◌, ◌<◌, ◌+◌, ℕ, false, List, [], ◌∷◌, ◌++◌, length, drop}
 use Rattle.gitconf_text.specs.Bytes.{is_blank}
 use Rattle.gitconf_text.specs.Text.{begins}
 use Rattle.gitconf_text.specs.Part.{Part, ItemPart, HeaderPart, spelled, AreFit}
 use Rattle.gitconf_text.specs.Stuck.{IsAssignment, spelled_assignment, NoValue, NoPart}
 use Rattle.gitconf_text.specs.Token.{Token, tokens_of}
-use Rattle.gitconf_parse.specs.declared.event.Event.{Event}
 use Rattle.gitconf_parse.specs.declared.reading.Fault.{Fault}
 use Rattle.gitconf_parse.specs.declared.reading.Expected.{Expected}
 use Rattle.gitconf_parse.specs.declared.reading.Expected.TheVariants as expected
 use Rattle.gitconf_parse.specs.declared.reading.ReadError.{ReadError}
 use Rattle.gitconf_parse.specs.declared.reading.ReadError.TheVariants as errors
-use Rattle.gitconf_parse.specs.Events.{token_of}
-use Rattle.gitconf_parse.specs.ItemsFit.{EventsWithin}
 
 -- what is looked for behind a part, where `wanted` was before it
 abbrev pub wanted_part : Expected → Part → Expected
@@ -47,13 +44,6 @@ pub record IsStretch (input : List ℕ) (from : ℕ) (first : Expected) (to : �
   pub to_is : to ≡ from + length (spelled parts)
   pub last_is : last ≡ wanted_after first parts
   pub tokens_are : tokens ≡ tokens_of parts
-
--- A stretch was read, and its events stand behind those before it.
-pub record IsReadOn (input : List ℕ) (from : ℕ) (first : Expected) (before : List Event) (to : ℕ) (last : Expected) (behind : List Event) : Type 0 where
-  pub tokens : List Token
-  pub stretch : IsStretch input from first to last tokens
-  pub tokens_are : map (token_of input) behind ≡ map (token_of input) before ++ tokens
-  pub within : EventsWithin (length input) before → EventsWithin (length input) behind
 
 -- Parts stand from an offset on, and behind them the text can't be read on.
 pub record IsBroken (input : List ℕ) (from : ℕ) (first : Expected) (f : Fault) : Type 0 where

@@ -201,14 +201,6 @@ impl EventVec {
         }
     }
 
-    /// Takes all events out. The memory stays, for others.
-    pub fn clear(&mut self)
-        ensures { self.new ≡ [] }
-    {
-        self.list.clear();
-        self.headers.clear();
-    }
-
     /// Adds an event behind the others.
     ///
     /// # Errors

@@ -143,6 +143,18 @@ impl Entry {
         })
     }
 
+    /// The entry of a name and a value, the blanks before `=` and behind it, where it takes no memory.
+    #[inline(always)]
+    pub(crate) fn of_line(name: Span, before: Span, behind: Span, value: Span) -> Option<Entry>
+        ensures told { IfSome result (λ e. (buffer : List ℕ) → entry_of buffer e ≡ entry_of buffer (record { name = name; blanks = before; assigned = assigned.Plain behind value })) }
+        ensures fits { IfSome result (λ e. (limit : ℕ) → SpanFits limit value → EntryFits limit e) }
+    {
+        match line_form(name, before, behind, value) {
+            Some(form) => Some(Entry { form }),
+            None => None,
+        }
+    }
+
     /// Its value name.
     pub fn name(&self) -> Span
         ensures { result ≡ self.now.name }
@@ -258,6 +270,7 @@ fn name_form(name: Span, blanks: Span) -> Option<Form>
 }
 
 /// A name and its value, where they stand as a line has them and are short.
+#[inline(always)]
 fn line_form(name: Span, before: Span, behind: Span, value: Span) -> Option<Form>
     ensures told { IfSome result (λ f. (buffer : List ℕ) → entry_of buffer (parts_in f) ≡ entry_of buffer (record { name = name; blanks = before; assigned = assigned.Plain behind value })) }
     ensures fits { IfSome result (λ f. (limit : ℕ) → SpanFits limit value → EntryFits limit (parts_in f)) }

@@ -190,7 +190,7 @@ fn item_first<'e>(
 const MANY: usize = 64;
 
 /// The items in a list of just their length, or in the list itself where they are many. None are left where they stood.
-fn moved_out(alloc: Global, items: &mut Vec<Item>) -> Result<Vec<Item>, NoMemory>
+pub(crate) fn moved_out(alloc: Global, items: &mut Vec<Item>) -> Result<Vec<Item>, NoMemory>
     ensures moved { IfOk result (λ moved. moved.items ≡ items.old.items) }
     ensures empty { OnOk result (items.new.items ≡ []) }
 {
@@ -205,7 +205,7 @@ fn moved_out(alloc: Global, items: &mut Vec<Item>) -> Result<Vec<Item>, NoMemory
 /// The items that the events begin with, up to a header or the end, and the events behind them.
 ///
 /// They are put together in `scratch`, which holds nothing before and behind that.
-pub(crate) fn items_first<'e>(
+fn items_first<'e>(
     alloc: Global,
     buffer: &[u8],
     events: EventSlice<'e>,
@@ -233,7 +233,7 @@ pub(crate) fn items_first<'e>(
 }
 
 /// Hands over the sections that the events are, in order; their spans are offsets of the buffer.
-pub(crate) fn push_sections<S: SectionSink>(
+fn push_sections<S: SectionSink>(
     alloc: Global,
     buffer: &[u8],
     events: EventSlice<'_>,

@@ -1,4 +1,4 @@
-//! A text read to its items, section by section, so that never more than one section's events stand.
+//! A text read to its items, section by section.
 ghost use Rattle.std.specs.Prelude.{◌≡◌, ◌<◌, ◌^◌, ◌++◌, [], List, length, IfOk, IfErr, OnOk};
 ghost use Rattle.gitconf_text.specs.Part.{Part};
 ghost use Rattle.gitconf_text.specs.Document.{IsText};
@@ -8,17 +8,15 @@ ghost use Rattle.gitconf_parse.specs.Items.{tokens_of_items};
 ghost use Rattle.gitconf_parse.specs.ItemsFit.{AreItemsWithin};
 ghost use Rattle.gitconf_parse.specs.Parsing.{IsMisread};
 
-use crate::compact::EventVec;
 use crate::error::Error;
 use crate::events::refusal;
-use crate::items::{Item, items_first, push_sections};
-use crate::reading::part::{body_parts, section_parts};
+use crate::items::{Item, Section, moved_out};
+use crate::reading::item::{header_first, push_items};
 use crate::reading::{Expected, ReadError, mark_len};
 use crate::section_sink::SectionSink;
 use std::alloc::Global;
 
-/// The items before the first header; the sections are handed over as they are read. The list of events is used again for
-/// each section.
+/// The items before the first header; the sections are handed over as they are read.
 fn read_items<S: SectionSink>(
     alloc: Global,
     input: &[u8],
@@ -33,17 +31,16 @@ fn read_items<S: SectionSink>(
     ensures keeps { OnOk result ((first : S) → S.keeps input.now first sections.old → S.keeps input.now first sections.new) }
     ensures misread { IfErr result (IsMisread input.now) }
 {
-    let mut events = EventVec::new(alloc);
     let mut scratch = Vec::new(alloc);
     let start = mark_len(input);
-    let mut at = body_parts(input, start, Expected::SectionHeader, &mut events)?;
-    let (front, behind) = items_first(alloc, input, events.as_slice(), &mut scratch)?;
-    push_sections(alloc, input, behind, &mut scratch, sections)?;
+    let mut at = push_items(alloc, input, start, Expected::SectionHeader, &mut scratch)?;
+    let front = moved_out(alloc, &mut scratch)?;
     let mut wanted = Expected::SectionHeader;
     while at < input.len() {
-        events.clear();
-        at = section_parts(input, at, wanted, &mut events)?;
-        push_sections(alloc, input, events.as_slice(), &mut scratch, sections)?;
+        let (header, behind) = header_first(input, at, wanted)?;
+        at = push_items(alloc, input, behind, Expected::Name, &mut scratch)?;
+        let items = moved_out(alloc, &mut scratch)?;
+        sections.take(input, Section { header, items })?;
         wanted = Expected::Name;
     }
     Ok(front)
@@ -52,8 +49,7 @@ fn read_items<S: SectionSink>(
 /// The items of a text before its first header; its sections are handed over in order, each as soon as it is read. All
 /// spans are offsets of the text.
 ///
-/// The text is read once, section by section; memory is taken for the events of the longest section alone, and for the
-/// items.
+/// The text is read once, section by section; memory is taken for the items, and once more for those of the longest section.
 ///
 /// # Errors
 ///

@@ -8,6 +8,7 @@ ghost use Rattle.gitconf_parse.specs.declared.reading.ReadError.TheVariants.{Mem
 use crate::compact::EventVec;
 use gitconf_text::NoMemory;
 use part::parts;
+use std::alloc::AllocFailed;
 
 /// What was looked for where the text was refused.
 #[derive(Clone, Copy, Debug, PartialEq, Eq)]
@@ -38,10 +39,19 @@ impl From<NoMemory> for ReadError {
     }
 }
 
+impl<T: Drop> From<AllocFailed<T>> for ReadError {
+    ghost from_gives = { λ _ e. e ≡ Memory };
+
+    fn from(_refused: AllocFailed<T>) -> ReadError {
+        ReadError::Memory
+    }
+}
+
 mod class;
 mod entry;
 mod header;
-pub mod part;
+pub mod item;
+mod part;
 mod run;
 mod value;
 

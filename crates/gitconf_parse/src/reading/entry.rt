@@ -1,5 +1,6 @@
 //! Blanks, and entries: a value name, and what is assigned to it.
-ghost use Rattle.std.specs.Prelude.{◌≡◌, ◌≤◌, ◌<◌, ◌^◌, length, drop, IfOk, IsOkUnless};
+ghost use Rattle.std.specs.Prelude.{◌≡◌, ◌≤◌, ◌<◌, ◌^◌, ◌==◌, length, drop, IfOk, IsOkUnless};
+ghost use Rattle.gitconf_text.specs.Text.{begins};
 ghost use Rattle.gitconf_parse.specs.declared.reading.ReadError.TheVariants.{Memory};
 ghost use Rattle.gitconf_parse.specs.declared.reading.run.Run.TheVariants.{Blanks};
 ghost use Rattle.gitconf_parse.specs.Reading.{Gives, with_blanks, run_end_at, assigned_at, entry_at};
@@ -27,6 +28,15 @@ fn blanks(input: &[u8], at: usize, events: &mut EventVec) -> Result<usize, ReadE
     Ok(end)
 }
 
+/// Whether `=` stands at an offset.
+#[inline(always)]
+pub fn is_assignment(input: &[u8], at: usize) -> bool
+    requires { at ≤ length input.now }
+    ensures { result ≡ begins (λ b. b == 61) (drop at input.now) }
+{
+    at < input.len() && input[at] == b'='
+}
+
 /// What is assigned behind a name and its blanks: `=`, blanks and a value, or nothing.
 #[tactic(auto, unfolding(crate::specs::Reading::assigned_at))]
 fn assigned(input: &[u8], at: usize, events: &mut EventVec) -> Result<usize, ReadError>
@@ -36,7 +46,7 @@ fn assigned(input: &[u8], at: usize, events: &mut EventVec) -> Result<usize, Rea
     ensures behind { IfOk result (λ end. at ≤ end) }
     ensures inside { IfOk result (λ end. end ≤ length input.now) }
 {
-    if input.get(at).copied() == Some(b'=') {
+    if is_assignment(input, at) {
         events.push(Event::KeyValueSeparator)?;
         let first = blanks(input, at + 1, events)?;
         value_events(input, first, events)

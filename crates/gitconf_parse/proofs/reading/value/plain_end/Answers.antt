@@ -3,6 +3,6 @@ use Rattle.std.proofs.Common.{◌∙◌}
 use Rattle.gitconf_parse.proofs.reading.value.plain_end.Goals as goal
 
 pub returns-clause-goes_on : goal.returns-clause-goes_on
-returns-clause-goes_on c = λ first events joined from kept quoted.
+returns-clause-goes_on c = λ kept quoted.
     rw c.run_end.ensures.end
-    (plain_step c.args.input.now c.args.at first events joined from kept quoted c.requires.within c.requires.plain ∙ plain_goes_on c.args.input.now _ first events joined from quoted)
+    (plain_step c.args.input.now c.args.at kept quoted c.requires.within c.requires.plain ∙ plain_goes_on c.args.input.now _ quoted)

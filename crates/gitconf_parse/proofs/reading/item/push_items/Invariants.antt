@@ -1,0 +1,16 @@
+use Rattle.std.proofs.Common.{◌-◌, ◌≤◌, length}
+use Rattle.gitconf_parse.specs.Items.{tokens_of_items}
+use Rattle.gitconf_parse.specs.ItemsFit.{AreItemsWithin}
+use Rattle.gitconf_parse.specs.Stretches.{IsStretch}
+use Rattle.gitconf_parse.proofs.reading.item.push_items.Given as goal
+
+-- the items up to here were read
+abbrev pub invariant-loop-at : goal.invariant-loop-at
+invariant-loop-at l = record {
+  inside : l.at ≤ length l.input;
+  read : IsStretch l.input l.start l.wanted l.at l.wanted (tokens_of_items l.input l.items.items);
+  items : AreItemsWithin (length l.input) l.items.items;
+}
+
+abbrev pub decreases-loop-at : goal.decreases-loop-at
+decreases-loop-at l = length l.input - l.at
