@@ -1,5 +1,5 @@
 -- What is read to items is what the functional reader reads.
-use Rattle.std.proofs.Common.{◌≡◌, ℕ, ◌+◌, ◌-◌, ◌≤◌, ◌<◌, Bool, true, false, List, [], ◌∷◌, ◌++◌, length, take, drop, map, Ok, Err, get_or, refl, ap, sym, subst, inl, inr, ◌∙◌, arith, append_assoc, append-nil}
+use Rattle.std.proofs.Common.{◌≡◌, ℕ, ◌+◌, ◌-◌, ◌≤◌, ◌<◌, Bool, true, false, List, [], ◌∷◌, ◌++◌, length, drop, map, Ok, Err, get_or, refl, ap, sym, subst, inl, inr, ◌∙◌, arith, append_assoc, append-nil}
 use Rattle.std.specs.Prelude.{◌==◌, ◌⊎◌, None, slice_index}
 use Rattle.std.specs.List.{flat_map, AllByRecursion}
 use Rattle.std.proofs.lemmas.Grind.{flat_map-append}
@@ -7,7 +7,6 @@ use Rattle.std.proofs.lemmas.List.{length-drop, length-take-le, map-append, take
 use Rattle.gitconf_text.specs.Part.{EntryItem}
 use Rattle.gitconf_text.specs.Text.{begins}
 use Rattle.gitconf_text.specs.Token.{Token, NameToken, NewlineToken, ValueToken, ValueNotDoneToken, ValueDoneToken, WhitespaceToken, SeparatorToken, CommentToken, filled, piece_tokens, value_tokens, item_tokens}
-use Rattle.gitconf_parse.specs.declared.event.Span.{Span}
 use Rattle.gitconf_parse.specs.declared.event.Event.{Event}
 use Rattle.gitconf_parse.specs.declared.event.Event.TheVariants as kinds
 use Rattle.gitconf_parse.specs.declared.entry.EntryParts.{EntryParts}
@@ -23,7 +22,7 @@ use Rattle.gitconf_parse.specs.declared.reading.value.PieceEnd.TheVariants as en
 use Rattle.gitconf_parse.specs.Events.{bytes_of, token_of}
 use Rattle.gitconf_parse.specs.ItemReading.{IsReadTo, IsValueRead, IsValueRefusal, IsEntryWith, IsRefusal}
 use Rattle.gitconf_parse.specs.Items.{entry_of, piece_of}
-use Rattle.gitconf_parse.specs.Reading.{Read, span, with_blanks, run_end_at, value_at, value_from, value_behind, piece_from, assigned_at, entry_at, opening_of, part_at}
+use Rattle.gitconf_parse.specs.Reading.{span, with_blanks, run_end_at, value_at, value_from, value_behind, piece_from, assigned_at, entry_at, opening_of, part_at}
 use Rattle.gitconf_parse.proofs.At.{byte_at}
 use Rattle.gitconf_parse.proofs.PartTakes.{IsOpening, opening_is}
 use Rattle.gitconf_parse.proofs.Pieces.{value_piece}

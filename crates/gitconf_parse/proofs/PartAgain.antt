@@ -12,7 +12,6 @@ use Rattle.gitconf_text.specs.Part.{Assigned, Entry, Item, BlanksItem, LineEndsI
 use Rattle.gitconf_parse.specs.declared.event.Event.{Event}
 use Rattle.gitconf_parse.specs.declared.event.Event.TheVariants as kinds
 use Rattle.gitconf_parse.specs.declared.reading.Expected.{Expected}
-use Rattle.gitconf_parse.specs.declared.reading.part.Opening.{Opening}
 use Rattle.gitconf_parse.specs.declared.reading.part.Opening.TheVariants as openings
 use Rattle.gitconf_parse.specs.Reading.{span, end_of_run, with_blanks, value_at, assigned_at, entry_at, opening_of, part_at}
 use Rattle.gitconf_parse.proofs.RunLaws.{run_again, line_ends_places, line_end_stops, is_comment_text, comment_places}

@@ -1,9 +1,9 @@
 -- Stretches of a text, one behind the other.
-use Rattle.std.proofs.Common.{◌≡◌, ℕ, ◌+◌, ◌≤◌, ◌<◌, true, List, [], ◌∷◌, ◌++◌, length, take, drop, get_or, map, Result, Ok, Err, refl, ap, sym, subst, ◌∙◌, arith, append_assoc, append-nil, length-append}
+use Rattle.std.proofs.Common.{◌≡◌, ℕ, ◌+◌, ◌≤◌, ◌<◌, List, [], ◌∷◌, ◌++◌, length, take, drop, get_or, map, Ok, Err, refl, ap, sym, subst, ◌∙◌, arith, append_assoc, append-nil, length-append}
 use Rattle.std.specs.Prelude.{◌==◌, false, Some, None, count_by}
 use Rattle.std.proofs.lemmas.List.{length-drop}
 use Rattle.std.proofs.lemmas.Grind.{flat_map-append}
-use Rattle.gitconf_text.specs.Part.{Part, ItemPart, HeaderPart, spelled_part, spelled, FitsPart, AreFit}
+use Rattle.gitconf_text.specs.Part.{Part, spelled_part, spelled, FitsPart, AreFit}
 use Rattle.gitconf_text.specs.Document.{unmarked, IsText}
 use Rattle.gitconf_text.specs.Token.{Token, HeaderToken, item_tokens, part_tokens, tokens_of}
 use Rattle.gitconf_parse.specs.declared.event.Event.{Event}

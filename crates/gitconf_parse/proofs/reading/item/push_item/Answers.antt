@@ -1,4 +1,4 @@
-use Rattle.std.proofs.Common.{◌≡◌, ◌∙◌, [], ◌∷◌, ◌++◌, Ok, sym, ap, refl, arith}
+use Rattle.std.proofs.Common.{◌∙◌, sym, arith}
 use Rattle.std.proofs.lemmas.Result.{err_from_is_err_and}
 use Rattle.gitconf_parse.proofs.ItemReading.{blanks_read, comment_read, entry_part, line_ends_read, no_item_read}
 use Rattle.gitconf_parse.proofs.Pieces.{span_is}

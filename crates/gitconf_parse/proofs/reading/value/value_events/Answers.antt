@@ -1,4 +1,4 @@
-use Rattle.std.proofs.Common.{◌∙◌, ap, sym, refl, arith}
+use Rattle.std.proofs.Common.{◌∙◌, sym, arith}
 use Rattle.gitconf_parse.proofs.Pieces.{span_is, value_goes}
 use Rattle.gitconf_parse.proofs.reading.value.value_events.Goals as goal
 
