@@ -99,8 +99,7 @@ part_read input n wanted new end within read =
     let byte : get_or input n 0 ≡ first.0 = byte_at input first.0 (first.1 ++ s.rest) n (s.whole ∙ ap (λ t. t ++ s.rest) first.2) in
     let one : spelled (s.part ∷ []) ≡ spelled_part s.part = append-nil (spelled_part s.part) in
     let long : length (drop n input) ≡ length (spelled_part s.part) + length s.rest = ap length s.whole ∙ length-append (spelled_part s.part) s.rest in
-    let left = length-drop n input in
-    (
+    let left = length-drop n input in (
       record {
         parts = s.part ∷ [];
         whole = s.whole ∙ ap (λ t. spelled_part s.part ++ t) (sym behind) ∙ ap (λ t. t ++ drop end input) (sym one);

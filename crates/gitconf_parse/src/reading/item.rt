@@ -133,12 +133,7 @@ fn assigned_entry(
 
 /// The entry without a value, and the offset behind it.
 #[cold]
-fn bare_entry(
-    alloc: Global,
-    input: &[u8],
-    name: Span,
-    blanks: Span,
-) -> Result<Entry, ReadError>
+fn bare_entry(alloc: Global, input: &[u8], name: Span, blanks: Span) -> Result<Entry, ReadError>
     requires spans { SpanFits (length input.now) name × SpanFits (length input.now) blanks }
     ensures told { IfOk result (λ e. entry_of input.now e ≡ record { name = bytes_of input.now name; blanks = bytes_of input.now blanks; assigned = None }) }
     ensures spans { IfOk result (EntryFits (length input.now)) }
@@ -210,7 +205,10 @@ fn push_item(
         Opening::Comment => {
             let end = run_end(input, at + 1, Run::CommentText);
             let text = Span::between(at + 1, end);
-            items.push(Item::Comment { tag: input[at], text })?;
+            items.push(Item::Comment {
+                tag: input[at],
+                text,
+            })?;
             Ok(end)
         }
         Opening::Entry => {
@@ -250,11 +248,7 @@ pub fn push_items(
 }
 
 /// The header whose bracket stands at an offset, and the offset behind it; `wanted` is told as looked for where none stands.
-pub fn header_first(
-    input: &[u8],
-    at: usize,
-    wanted: Expected,
-) -> Result<(Header, usize), ReadError>
+pub fn header_first(input: &[u8], at: usize, wanted: Expected) -> Result<(Header, usize), ReadError>
     requires within { at < length input.now }
     requires headed { get_or input.now at 0 ≡ 91 }
     requires fits { length input.now < 2 ^ 32 }

@@ -75,7 +75,10 @@ fn part(
         Opening::Comment => {
             let end = run_end(input, at + 1, Run::CommentText);
             let text = Span::between(at + 1, end);
-            events.push(Event::Comment { tag: input[at], text })?;
+            events.push(Event::Comment {
+                tag: input[at],
+                text,
+            })?;
             Ok(end)
         }
         Opening::Header => match header(input, at) {
