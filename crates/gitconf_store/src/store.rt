@@ -165,7 +165,7 @@ impl Store {
     }
 
     /// The state of a text, all of it: its front, and its sections under the numbers from 0 on, each from `meta`. The text is
-    /// handed over. One pass, section by section, so that never more than one section's events stand.
+    /// handed over. One pass, section by section.
     ///
     /// # Errors
     ///
