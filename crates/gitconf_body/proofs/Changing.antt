@@ -111,6 +111,11 @@ changed_len_is buffer editor key value is at (kinds.LineEnds run) n l here len =
 changed_len_is buffer editor key value is at (kinds.Comment tag text) n l here len =
     absurd (let no : false ≡ true = ap (λ i. is_entry_of key (item_of buffer i)) (found_at (λ i. is_entry_of key (item_of buffer i)) is at (kinds.Comment tag text) l here) ∙ l.passes in cc)
 
+-- how long the buffer would be, told of the buffer and the items as they are read
+pub room_asked : (editor : Editor) (key value seen buffer : List ℕ) (read is : List Item) → seen ≡ buffer → read ≡ is
+    → length seen + set_put editor key value (items_of seen read) ≡ length buffer + set_put editor key value (items_of buffer is)
+room_asked editor key value seen buffer read is same items = λ i. length (same i) + set_put editor key value (items_of (same i) (items i))
+
 -- The body in which the key's last entry has another value.
 pub entry_replaced : (old new : List ℕ) (is js : List Item) (at : ℕ) (e d : Entry) (editor : states.Editor) (key value : List ℕ)
     → IsLastAt (λ i. is_entry_of key (item_of old i)) is at → kinds.Entry e ≡ get_or is at (kinds.Entry e) → IsExtended old new → AreItemsWithin (length old) is

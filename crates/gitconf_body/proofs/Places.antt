@@ -1,8 +1,9 @@
 -- The last element that passes a test, looked for from the end.
-use Rattle.std.proofs.Common.{◌≡◌, ℕ, Bool, true, false, List, [], ◌∷◌, ◌++◌, length, map, get_or, slice_set, refl, ap, sym, ◌∙◌, append-nil, append_assoc}
+use Rattle.std.proofs.Common.{◌≡◌, ℕ, Bool, true, false, List, [], ◌∷◌, ◌++◌, length, map, get_or, slice_set, Option, Some, None, refl, ap, sym, ◌∙◌, append-nil, append_assoc}
 use Rattle.std.specs.Prelude.{◌||◌}
 use Rattle.std.specs.List.{list_any}
-use Rattle.gitconf_body.specs.Places.{IsLastAt, IsFront}
+use Rattle.std.specs.Option.{is_some}
+use Rattle.gitconf_body.specs.Places.{IsLastAt, IsLastPlace, IsFront}
 
 pub front_all : {A : Type 0} (test : A → Bool) (xs : List A) → IsFront test xs xs
 front_all test xs = record { behind = []; is = sym (append-nil xs); none = refl }
@@ -37,6 +38,11 @@ set_at (z ∷ before) x y behind = ap (λ t. z ∷ t) (set_at before x y behind)
 pub found_at : {A : Type 0} (test : A → Bool) (xs : List A) (at : ℕ) (x : A) (l : IsLastAt test xs at) → x ≡ get_or xs at x → x ≡ l.found
 found_at test xs at x l here =
     here ∙ ap (λ ys. get_or ys at x) l.is ∙ ap (λ n. get_or (l.before ++ l.found ∷ l.behind) n x) (sym l.place) ∙ get_at l.before l.found l.behind x
+
+-- none passes where no place was found
+pub none_found : {A : Type 0} (test : A → Bool) (xs : List A) (place : Option ℕ) → IsLastPlace test xs place → is_some place ≡ false → list_any test xs ≡ false
+none_found test xs None l none = l
+none_found test xs (Some at) l none = absurd (cc)
 
 -- a test of what elements stand for
 pub any_shown : {A B : Type 0} (test : B → Bool) (f : A → B) (xs : List A) → list_any test (map f xs) ≡ list_any (λ x. test (f x)) xs

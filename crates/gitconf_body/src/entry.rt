@@ -1,5 +1,5 @@
 //! Setting the value of a key in a body.
-ghost use Rattle.std.specs.Prelude.{◌≡◌, ◌+◌, ◌-◌, ◌<◌, ◌≤◌, ◌^◌, min, length, IfOk, OnOk, OnErr, IsErrOf, option_map};
+ghost use Rattle.std.specs.Prelude.{◌≡◌, ◌↔◌, ◌+◌, ◌-◌, ◌<◌, ◌≤◌, ◌^◌, min, length, IfOk, IfErr, OnOk, OnErr, IsErrOf, option_map};
 ghost use Rattle.gitconf_text.specs.Value.{escaped};
 ghost use Rattle.gitconf_parse.specs.Items.{item_of, items_of};
 ghost use Rattle.gitconf_parse.specs.ItemsFit.{AreItemsWithin};
@@ -9,7 +9,7 @@ ghost use Rattle.gitconf_body.specs.Buffers.{Grows};
 ghost use Rattle.gitconf_body.specs.Places.{IsLastPlace};
 
 use crate::editor::editor_of;
-use crate::set::set;
+use crate::set::{check_set, set};
 use gitconf_parse::items::Item;
 use gitconf_text::line_end::LineEnd;
 use gitconf_text::parse::section::bytes::is_same_name;
@@ -46,6 +46,27 @@ pub(crate) fn entry_len(blanks: usize, line_end: LineEnd, key: &[u8], value: &[u
         .saturating_add(key.len())
         .saturating_add(escaped_len(value))
         .saturating_add(line_end.as_bytes().len())
+}
+
+/// Asks whether what [`set_value`] puts may be put behind the bytes of a buffer. Two walks over the items. Takes no memory.
+///
+/// # Errors
+///
+/// A [`span::Error`], number 3, where the buffer would be longer than 4294967295 bytes.
+pub fn check_set_value(
+    buffer: &[u8],
+    items: &[Item],
+    line_end: LineEnd,
+    key: &[u8],
+    value: &[u8],
+) -> Result<(), span::Error>
+    requires room { length buffer.now < 2 ^ 32 }
+    ensures too_large { IsErrOf result 3
+        ↔ (2 ^ 32 ≤ length buffer.now + state.set_bytes (bytes_of_line_end line_end) key.now value.now (items_of buffer.now items.now)) }
+    ensures only { IfErr result (λ e. e ≡ 3) }
+{
+    let editor = editor_of(items, line_end);
+    check_set(buffer, items, &editor, key, value)
 }
 
 /// Gives the last entry of a key another value: what stands behind `=` is replaced, and `=` is put in where there is none, with the

@@ -1,5 +1,5 @@
 //! Lines that are pushed behind the items of a body.
-ghost use Rattle.std.specs.Prelude.{◌≡◌, ℕ, List, ◌+◌, ◌-◌, ◌<◌, ◌≤◌, ◌^◌, min, not, Option, Some, None, ◌∷◌, ◌++◌, [], length, IfOk, OnOk, OnErr, IsErrOf};
+ghost use Rattle.std.specs.Prelude.{◌≡◌, ◌↔◌, ℕ, List, ◌+◌, ◌-◌, ◌<◌, ◌≤◌, ◌^◌, min, not, Option, Some, None, ◌∷◌, ◌++◌, [], length, IfOk, IfErr, OnOk, OnErr, IsErrOf};
 ghost use Rattle.std.specs.Option.{option_copied};
 ghost use Rattle.gitconf_text.specs.Text.{begins};
 ghost use Rattle.gitconf_text.specs.Bytes.{is_whitespace};
@@ -330,6 +330,26 @@ fn line_len(editor: &Editor<'_>, key: &[u8], value: Option<&[u8]>, comment: Opti
         .saturating_add(end_len(editor))
 }
 
+/// Asks whether what [`push`] puts may be put behind the bytes of a buffer. Takes no memory.
+///
+/// # Errors
+///
+/// A [`span::Error`], number 3, where the buffer would be longer than 4294967295 bytes.
+pub fn check_push(
+    buffer: &[u8],
+    editor: &Editor<'_>,
+    key: &[u8],
+    value: Option<&[u8]>,
+    comment: Option<&[u8]>,
+) -> Result<(), span::Error>
+    requires room { length buffer.now < 2 ^ 32 }
+    ensures too_large { IsErrOf result 3
+        ↔ (2 ^ 32 ≤ length buffer.now + spec.line_put editor.now key.now (option_copied value.entry) (option_copied comment.entry)) }
+    ensures only { IfErr result (λ e. e ≡ 3) }
+{
+    check_room(buffer, line_len(editor, key, value, comment))
+}
+
 /// Pushes a line behind the items: the editor's blanks, the key, and where a value is given `=` with the editor's blanks around it and the
 /// value as a file spells it; then the comment, if one is given, behind a space and `#`, with a space before a first byte that is no white
 /// space, and each LF turned to a space; then the editor's line end, unless it is switched off. The key is written as it is.
@@ -360,10 +380,23 @@ pub fn push(
         → IsErrOf result 3 }
     ensures err { OnErr result (items.new.items ≡ items.old.items) }
 {
-    check_room(buffer, line_len(editor, key, value, comment))?;
+    check_push(buffer, editor, key, value, comment)?;
     let line = put_line(buffer, editor, key, value, comment)?;
     push_items(items, line)?;
     Ok(())
+}
+
+/// Asks whether what [`push_newline`] puts may be put behind the bytes of a buffer. Takes no memory.
+///
+/// # Errors
+///
+/// Those of [`check_push`].
+pub fn check_newline(buffer: &[u8], editor: &Editor<'_>) -> Result<(), span::Error>
+    requires room { length buffer.now < 2 ^ 32 }
+    ensures too_large { IsErrOf result 3 ↔ (2 ^ 32 ≤ length buffer.now + length (bytes_of_line_end editor.now.line_end)) }
+    ensures only { IfErr result (λ e. e ≡ 3) }
+{
+    check_room(buffer, editor.line_end.as_bytes().len())
 }
 
 /// Pushes the editor's line end behind the items, also where it is switched off behind lines. It looks at no item. Takes memory for the

@@ -1,5 +1,5 @@
 //! Values that are set in a body by its editor.
-ghost use Rattle.std.specs.Prelude.{◌≡◌, ℕ, List, ◌+◌, ◌-◌, ◌<◌, ◌≤◌, ◌^◌, min, true, Option, Some, None, ◌∷◌, [], length, IfOk, OnOk, OnErr, IsErrOf, option_map};
+ghost use Rattle.std.specs.Prelude.{◌≡◌, ◌↔◌, ℕ, List, ◌+◌, ◌-◌, ◌<◌, ◌≤◌, ◌^◌, min, true, Option, Some, None, ◌∷◌, [], length, IfOk, IfErr, OnOk, OnErr, IsErrOf, option_map};
 ghost use Rattle.gitconf_text.specs.Part as parts;
 ghost use Rattle.gitconf_text.specs.Value.{escaped};
 ghost use Rattle.gitconf_parse.specs.declared.items.Item.TheVariants as kinds;
@@ -16,7 +16,7 @@ ghost use Rattle.gitconf_body.specs.Standing.{Stand};
 use crate::buffer::check_room;
 use crate::editor::{Around, Editor};
 use crate::entry::last_place;
-use crate::push::{around_len, entry_with, push, put_around, put_value};
+use crate::push::{around_len, check_push, entry_with, push, put_around, put_value};
 use crate::values::item_text;
 use gitconf_parse::entry::{AssignedRef, Entry};
 use gitconf_parse::event::Span;
@@ -80,6 +80,24 @@ fn changed_len(around: &Around<'_>, item: &Item, value: &[u8]) -> usize
     }
 }
 
+/// Asks whether what [`change`] puts may be put behind the bytes of a buffer.
+fn check_change(
+    buffer: &[u8],
+    items: &[Item],
+    at: usize,
+    editor: &Editor<'_>,
+    key: &[u8],
+    value: &[u8],
+) -> Result<(), span::Error>
+    requires room { length buffer.now < 2 ^ 32 }
+    requires last { IsLastAt (λ i. is_entry_of key.now (item_of buffer.now i)) items.now at }
+    ensures too_large { IsErrOf result 3
+        ↔ (2 ^ 32 ≤ length buffer.now + spec.set_put editor.now key.now value.now (items_of buffer.now items.now)) }
+    ensures only { IfErr result (λ e. e ≡ 3) }
+{
+    check_room(buffer, changed_len(&editor.around, &items[at], value))
+}
+
 /// Gives the entry at a place another value.
 fn change(
     buffer: &mut Vec<u8>,
@@ -128,10 +146,33 @@ fn change_checked(
     ensures refused { 2 ^ 32 ≤ length buffer.old.items + spec.set_put editor.now key.now value.now (items_of buffer.old.items items.old.items) → IsErrOf result 3 }
     ensures err { OnErr result (items.new.items ≡ items.old.items) }
 {
-    check_room(buffer, changed_len(&editor.around, &items[at], value))?;
+    check_change(buffer, items, at, editor, key, value)?;
     let old = item_text(*buffer.allocator(), buffer, &items[at])?;
     change(buffer, items, at, editor, key, value)?;
     Ok(old)
+}
+
+/// Asks whether what [`set`] puts may be put behind the bytes of a buffer. One walk over the items. Takes no memory.
+///
+/// # Errors
+///
+/// A [`span::Error`], number 3, where the buffer would be longer than 4294967295 bytes.
+pub fn check_set(
+    buffer: &[u8],
+    items: &[Item],
+    editor: &Editor<'_>,
+    key: &[u8],
+    value: &[u8],
+) -> Result<(), span::Error>
+    requires room { length buffer.now < 2 ^ 32 }
+    ensures too_large { IsErrOf result 3
+        ↔ (2 ^ 32 ≤ length buffer.now + spec.set_put editor.now key.now value.now (items_of buffer.now items.now)) }
+    ensures only { IfErr result (λ e. e ≡ 3) }
+{
+    match last_place(buffer, items, key) {
+        Some(at) => check_change(buffer, items, at, editor, key, value),
+        None => check_push(buffer, editor, key, Some(value), None),
+    }
 }
 
 /// Gives the last entry of a key another value: what stands behind `=` is replaced, and `=` is put in where there is none, with the

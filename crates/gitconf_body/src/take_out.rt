@@ -1,5 +1,5 @@
 //! Entries that are taken out of a body.
-ghost use Rattle.std.specs.Prelude.{◌≡◌, ◌≤◌, ◌<◌, ◌+◌, ◌++◌, length, take, drop, Some, None, IfOk, OnOk, OnErr, IsOk, option_map};
+ghost use Rattle.std.specs.Prelude.{◌≡◌, ℕ, List, [], false, ◌≤◌, ◌<◌, ◌+◌, ◌++◌, length, take, drop, Some, None, IfOk, OnOk, OnErr, IsOk, option_map};
 ghost use Rattle.gitconf_text.specs.Part as parts;
 ghost use Rattle.gitconf_text.specs.Value.{plain};
 ghost use Rattle.gitconf_parse.specs.Items.{entry_of, item_of, items_of};
@@ -66,6 +66,15 @@ fn take_out(items: &mut Vec<Item>, at: usize)
     drop_blanks(items, at);
 }
 
+/// Whether there is an entry of a key, for [`remove`] to take out. It walks from the end up to that entry. Takes no memory.
+pub fn has_entry(buffer: &[u8], items: &[Item], key: &[u8]) -> bool
+    ensures none { result ≡ false → old_value key.now (items_of buffer.now items.now) ≡ None }
+    ensures some { old_value key.now (items_of buffer.now items.now) ≡ None → result ≡ false }
+    ensures kept { result ≡ false → removed key.now (items_of buffer.now items.now) ≡ items_of buffer.now items.now }
+{
+    last_place(buffer, items, key).is_some()
+}
+
 /// Takes out the last entry of a key, with the blanks directly before it and the line ends directly behind it. What else stands in the
 /// body stays. Answers the raw text of its value: its pieces joined, not decoded; nothing for an entry without `=`. Where no entry has
 /// the key, nothing is taken out, and the answer is `None`.
@@ -103,6 +112,15 @@ fn last_entry(items: &[Item]) -> Option<usize>
         rest = before;
     }
     None
+}
+
+/// Whether there is an entry, for [`pop`] to take out. It walks from the end up to that entry. Takes no memory.
+pub fn has_entries(items: &[Item]) -> bool
+    ensures none { (buffer : List ℕ) → result ≡ false → popped_entry (items_of buffer items.now) ≡ None }
+    ensures some { (buffer : List ℕ) → popped_entry (items_of buffer items.now) ≡ None → result ≡ false }
+    ensures emptied { (buffer : List ℕ) → result ≡ false → popped (items_of buffer items.now) ≡ [] }
+{
+    last_entry(items).is_some()
 }
 
 /// What a value means. Memory is taken for the answer, and for its raw text.

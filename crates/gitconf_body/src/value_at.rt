@@ -1,5 +1,5 @@
 //! Entries that are written and deleted at a place among the items of a body.
-ghost use Rattle.std.specs.Prelude.{◌≡◌, ℕ, List, ◌+◌, ◌-◌, ◌<◌, ◌≤◌, ◌^◌, ◌∷◌, ◌++◌, min, drop, take, length, true, OnOk, OnErr, IsErrOf};
+ghost use Rattle.std.specs.Prelude.{◌≡◌, ◌↔◌, ℕ, List, ◌+◌, ◌-◌, ◌<◌, ◌≤◌, ◌^◌, ◌∷◌, ◌++◌, min, drop, take, length, true, IfErr, OnOk, OnErr, IsErrOf};
 ghost use Rattle.gitconf_text.specs.Value.{escaped};
 ghost use Rattle.gitconf_parse.specs.declared.items.Item.TheVariants as kinds;
 ghost use Rattle.gitconf_parse.specs.Items.{assigned_of, items_of};
@@ -129,6 +129,24 @@ fn written_len(editor: &Editor<'_>, key: &[u8], value: &[u8]) -> usize
         .saturating_add(value_len(&editor.around, Some(value)))
 }
 
+/// Asks whether what [`write_at`] puts may be put behind the bytes of a buffer. Takes no memory.
+///
+/// # Errors
+///
+/// A [`span::Error`], number 3, where the buffer would be longer than 4294967295 bytes.
+pub fn check_write(
+    buffer: &[u8],
+    editor: &Editor<'_>,
+    key: &[u8],
+    value: &[u8],
+) -> Result<(), span::Error>
+    requires room { length buffer.now < 2 ^ 32 }
+    ensures too_large { IsErrOf result 3 ↔ (2 ^ 32 ≤ length buffer.now + written_put editor.now key.now value.now) }
+    ensures only { IfErr result (λ e. e ≡ 3) }
+{
+    check_room(buffer, written_len(editor, key, value))
+}
+
 /// Writes an entry at a place among the items, which is counted in items from the first one, 0; behind all of them where there are fewer.
 /// The entry has the key as it is given, and `=` with the editor's blanks around it and the value as a file spells it. It stands in place
 /// of the entry there, as it is asked for; where no entry stands there, it stands before what does. All other items stay.
@@ -160,12 +178,32 @@ pub fn write_at(
     ensures refused { 2 ^ 32 ≤ length buffer.old.items + written_put editor.now key.now value.now → IsErrOf result 3 }
     ensures err { OnErr result (items.new.items ≡ items.old.items) }
 {
-    check_room(buffer, written_len(editor, key, value))?;
+    check_write(buffer, editor, key, value)?;
     let entry = put_entry(buffer, &editor.around, key, Some(value))?;
     let at = place.min(items.len());
     let way = way_before(items.split_at(at).1, in_place_of);
     put(items, at, entry, way)?;
     Ok(())
+}
+
+/// Asks whether what [`rewrite_at`] puts may be put behind the bytes of a buffer. One walk over the items. Takes no memory.
+///
+/// # Errors
+///
+/// Those of [`check_write`].
+pub fn check_rewrite(
+    buffer: &[u8],
+    items: &[Item],
+    key: &[u8],
+    value: &[u8],
+) -> Result<(), span::Error>
+    requires room { length buffer.now < 2 ^ 32 }
+    ensures too_large { IsErrOf result 3 ↔ (2 ^ 32 ≤ length buffer.now + rewritten_put key.now value.now (items_of buffer.now items.now)) }
+    ensures only { IfErr result (λ e. e ≡ 3) }
+{
+    // No line end is written.
+    let editor = editor_of(items, LineEnd::Lf);
+    check_write(buffer, &editor, key, value)
 }
 
 /// As [`write_at`], with the blanks around `=` that the items have: those around their first one; none where they have entries, but no `=`;

@@ -10,6 +10,7 @@ use Rattle.gitconf_parse.specs.declared.entry.Assigned.TheVariants as assigned
 use Rattle.gitconf_parse.specs.declared.entry.AssignedRef.{AssignedRef}
 use Rattle.gitconf_parse.specs.declared.entry.AssignedRef.TheVariants as refs
 use Rattle.gitconf_parse.specs.declared.entry.EntryParts.{EntryParts}
+use Rattle.gitconf_parse.specs.declared.event.Header.{Header}
 use Rattle.gitconf_parse.specs.declared.items.Item.{Item}
 use Rattle.gitconf_parse.specs.declared.items.Section.{Section}
 use Rattle.gitconf_parse.specs.declared.items.Item.TheVariants as kinds
@@ -55,5 +56,9 @@ tokens_of_value buffer v = value_tokens (map (piece_of buffer) v.pieces.items) (
 abbrev pub tokens_of_items : (buffer : List ℕ) → List Item → List Token
 tokens_of_items buffer items = flat_map (λ i. item_tokens (item_of buffer i)) items
 
+-- the tokens of a header and of the items behind it, in order
+abbrev pub headed_tokens : (buffer : List ℕ) → Header → List Item → List Token
+headed_tokens buffer header items = HeaderToken (header_of buffer header) ∷ tokens_of_items buffer items
+
 abbrev pub tokens_of_section : (buffer : List ℕ) → Section → List Token
-tokens_of_section buffer s = HeaderToken (header_of buffer s.header) ∷ tokens_of_items buffer s.items.items
+tokens_of_section buffer s = headed_tokens buffer s.header s.items.items

@@ -229,7 +229,7 @@ impl Events {
     /// offsets of the text, and the tokens of both are those that were kept.
     ///
     /// It asks that these are the tokens of some parts of a text; they are where `keeps_entries` is true, by
-    /// `laws::kept_entries_make_items`. One pass, and no byte is copied.
+    /// `laws::kept_entries_make_items`. One pass, and no byte is copied; memory is taken as by `loading::read_sections`.
     ///
     /// # Errors
     ///

@@ -190,10 +190,15 @@ fn item_first<'e>(
 const MANY: usize = 64;
 
 /// The items in a list of just their length, or in the list itself where they are many. None are left where they stood.
-pub(crate) fn moved_out(alloc: Global, items: &mut Vec<Item>) -> Result<Vec<Item>, NoMemory>
+///
+/// # Errors
+///
+/// Want of memory.
+pub fn moved_out(items: &mut Vec<Item>) -> Result<Vec<Item>, NoMemory>
     ensures moved { IfOk result (λ moved. moved.items ≡ items.old.items) }
     ensures empty { OnOk result (items.new.items ≡ []) }
 {
+    let alloc = *items.allocator();
     if items.len() > MANY {
         return Ok(replace(items, Vec::new(alloc)));
     }
@@ -202,23 +207,20 @@ pub(crate) fn moved_out(alloc: Global, items: &mut Vec<Item>) -> Result<Vec<Item
     Ok(moved)
 }
 
-/// The items that the events begin with, up to a header or the end, and the events behind them.
-///
-/// They are put together in `scratch`, which holds nothing before and behind that.
-fn items_first<'e>(
+/// Adds the items that the events begin with, up to a header or the end, and answers the events behind them.
+fn push_items<'e>(
     alloc: Global,
     buffer: &[u8],
     events: EventSlice<'e>,
-    scratch: &mut Vec<Item>,
-) -> Result<(Vec<Item>, EventSlice<'e>), NoMemory>
-    requires empty { scratch.old.items ≡ [] }
+    items: &mut Vec<Item>,
+) -> Result<EventSlice<'e>, NoMemory>
+    requires empty { items.old.items ≡ [] }
     requires items { are_items Between (map (token_of buffer.now) (events_of events)) ≡ true }
     requires within { EventsWithin (length buffer.now) (events_of events) }
-    ensures first { IfOk result (λ r. AreItemsWithin (length buffer.now) r.0.items) }
-    ensures others { IfOk result (λ r. EventsWithin (length buffer.now) (events_of r.1)) }
-    ensures items { IfOk result (λ r. AreBehind Between (spec.tokens_of_items buffer.now r.0.items) (map (token_of buffer.now) (events_of r.1)) (map (token_of buffer.now) (events_of events.entry))) }
-    ensures cut { IfOk result (λ r. is_cut is_header_event (events_of r.1) ≡ true) }
-    ensures empty { OnOk result (scratch.new.items ≡ []) }
+    ensures first { OnOk result (AreItemsWithin (length buffer.now) items.new.items) }
+    ensures others { IfOk result (λ behind. EventsWithin (length buffer.now) (events_of behind)) }
+    ensures items { IfOk result (λ behind. AreBehind Between (spec.tokens_of_items buffer.now items.new.items) (map (token_of buffer.now) (events_of behind)) (map (token_of buffer.now) (events_of events.entry))) }
+    ensures cut { IfOk result (λ behind. is_cut is_header_event (events_of behind) ≡ true) }
 {
     let mut rest = events;
     while let Some((first, behind)) = rest.split_first() {
@@ -226,10 +228,10 @@ fn items_first<'e>(
             break;
         }
         let (item, behind) = item_first(alloc, buffer, first, behind)?;
-        scratch.push(item)?;
+        items.push(item)?;
         rest = behind;
     }
-    Ok((moved_out(alloc, scratch)?, rest))
+    Ok(rest)
 }
 
 /// Hands over the sections that the events are, in order; their spans are offsets of the buffer.
@@ -237,23 +239,20 @@ fn push_sections<S: SectionSink>(
     alloc: Global,
     buffer: &[u8],
     events: EventSlice<'_>,
-    scratch: &mut Vec<Item>,
     sections: &mut S,
 ) -> Result<(), NoMemory>
-    requires empty { scratch.old.items ≡ [] }
     requires items { are_items Between (map (token_of buffer.now) (events_of events)) ≡ true }
     requires cut { is_cut is_header_event (events_of events) ≡ true }
     requires within { EventsWithin (length buffer.now) (events_of events) }
     requires keeps { (first : S) × S.keeps buffer.now first sections.old }
     ensures keeps { OnOk result ((first : S) → S.keeps buffer.now first sections.old → S.keeps buffer.now first sections.new) }
     ensures tokens { OnOk result (S.tokens buffer.now sections.new ≡ S.tokens buffer.now sections.old ++ map (token_of buffer.now) (events_of events.entry)) }
-    ensures empty { OnOk result (scratch.new.items ≡ []) }
 {
+    let mut scratch = Vec::new(alloc);
     let mut rest = events;
     while let Some((Event::SectionHeader(header), behind)) = rest.split_first() {
-        let (items, behind) = items_first(alloc, buffer, behind, scratch)?;
-        sections.take(buffer, Section { header, items })?;
-        rest = behind;
+        rest = push_items(alloc, buffer, behind, &mut scratch)?;
+        sections.take(buffer, header, &mut scratch)?;
     }
     Ok(())
 }
@@ -280,8 +279,8 @@ pub(crate) fn grouped<S: SectionSink>(
     ensures keeps { OnOk result ((first : S) → S.keeps buffer.now first sections.old → S.keeps buffer.now first sections.new) }
     ensures tokens { IfOk result (λ front. spec.tokens_of_items buffer.now front.items ++ S.tokens buffer.now sections.new ≡ map (token_of buffer.now) (events_of events.entry)) }
 {
-    let mut scratch = Vec::new(alloc);
-    let (front, behind) = items_first(alloc, buffer, events, &mut scratch)?;
-    push_sections(alloc, buffer, behind, &mut scratch, sections)?;
+    let mut front = Vec::new(alloc);
+    let behind = push_items(alloc, buffer, events, &mut front)?;
+    push_sections(alloc, buffer, behind, sections)?;
     Ok(front)
 }

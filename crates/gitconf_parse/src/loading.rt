@@ -10,7 +10,7 @@ ghost use Rattle.gitconf_parse.specs.Parsing.{IsMisread};
 
 use crate::error::Error;
 use crate::events::refusal;
-use crate::items::{Item, Section, moved_out};
+use crate::items::Item;
 use crate::reading::item::{header_first, push_items};
 use crate::reading::{Expected, ReadError, mark_len};
 use crate::section_sink::SectionSink;
@@ -31,16 +31,15 @@ fn read_items<S: SectionSink>(
     ensures keeps { OnOk result ((first : S) → S.keeps input.now first sections.old → S.keeps input.now first sections.new) }
     ensures misread { IfErr result (IsMisread input.now) }
 {
-    let mut scratch = Vec::new(alloc);
+    let mut front = Vec::new(alloc);
     let start = mark_len(input);
-    let mut at = push_items(alloc, input, start, Expected::SectionHeader, &mut scratch)?;
-    let front = moved_out(alloc, &mut scratch)?;
+    let mut at = push_items(alloc, input, start, Expected::SectionHeader, &mut front)?;
+    let mut scratch = Vec::new(alloc);
     let mut wanted = Expected::SectionHeader;
     while at < input.len() {
         let (header, behind) = header_first(input, at, wanted)?;
         at = push_items(alloc, input, behind, Expected::Name, &mut scratch)?;
-        let items = moved_out(alloc, &mut scratch)?;
-        sections.take(input, Section { header, items })?;
+        sections.take(input, header, &mut scratch)?;
         wanted = Expected::Name;
     }
     Ok(front)
@@ -49,7 +48,8 @@ fn read_items<S: SectionSink>(
 /// The items of a text before its first header; its sections are handed over in order, each as soon as it is read. All
 /// spans are offsets of the text.
 ///
-/// The text is read once, section by section; memory is taken for the items, and once more for those of the longest section.
+/// The text is read once, section by section. Memory is taken for the items before the first header, for one list that holds the
+/// items of a section until they are handed over, so for those of the longest section, and for what the sections are handed over to.
 ///
 /// # Errors
 ///

@@ -184,9 +184,10 @@ fn moved_item(item: Item, by: u32) -> Item
 const NOTHING: Span = Span { start: 0, len: 0 };
 
 /// Items of a buffer, where so many bytes stand before those of the buffer. One pass, which takes no memory.
-pub fn move_items(items: &mut Vec<Item>, by: u32)
-    requires { AreItemsWithin (2 ^ 32 - 1 - by) items.old.items }
-    ensures { AreItemsMoved by items.old.items items.new.items }
+pub fn move_items(items: &mut [Item], by: u32)
+    requires { AreItemsWithin (2 ^ 32 - 1 - by) items.old }
+    ensures moved { AreItemsMoved by items.old items.new }
+    ensures len { length items.new ≡ length items.old }
 {
     for at in 0..items.len() {
         let item = replace(&mut items[at], Item::LineEnds(NOTHING));

@@ -21,15 +21,14 @@ use Rattle.gitconf_parse.specs.Items.{items_of}
 use Rattle.gitconf_body.specs.declared.editor.Editor.{Editor}
 use Rattle.gitconf_body.specs.Editors.{set_put}
 use Rattle.gitconf_body.proofs.Buffers.{extended_fit, extended_items}
-use Rattle.gitconf_store.specs.declared.section.Section.{Section}
-use Rattle.gitconf_store.specs.Alone.{detached_of, made_alone, with_items, IsEditedAlone, StandsAlone}
+use Rattle.gitconf_store.specs.declared.section.Section.{Section as Own}
+use Rattle.gitconf_store.specs.Alone.{detached_of, made_alone, whole, with_items, IsEditedAlone, StandsAlone}
 use Rattle.gitconf_store.specs.Editors.{given_editor}
 use Rattle.gitconf_store.specs.Edits.{UsedGrows}
 use Rattle.gitconf_store.specs.Store.{section_under}
 use Rattle.gitconf_store.specs.ValueErrors.{edit_numbers}
 use Rattle.gitconf_store.proofs.Append.{header_more, header_shown_more}
 use Rattle.gitconf_store.proofs.LineBytes.{set_within}
-use Rattle.gitconf_store.proofs.Setting.{HasOthers}
 
 -- its header in the longer buffer
 header_in : (b new copies : List ℕ) (h : Header) → IsExtended b new → IsShown b copies (kinds.SectionHeader h) → header_of new h ≡ header_of b h
@@ -41,27 +40,33 @@ shown_in b new copies h x shown = subst (λ n. IsShown n copies (kinds.SectionHe
 shown_by_more : (b copies more : List ℕ) (h : Header) → IsExtended copies more → IsShown b copies (kinds.SectionHeader h) → IsShown b more (kinds.SectionHeader h)
 shown_by_more b copies more h y shown = subst (λ n. IsShown b n (kinds.SectionHeader h)) (sym y.1) (is_shown_more b copies y.0 (kinds.SectionHeader h) shown)
 
+-- a section with other items
+pub record HasOwn (limit : ℕ) (s t : Own) : Type 0 where
+  pub header : t.header ≡ s.header
+  pub meta : t.meta ≡ s.meta
+  pub within : AreItemsWithin limit t.items.items
+
 -- the section with the change
-pub edited_alone : (b new copies : List ℕ) (number : ℕ) (s t : Section) (change : List parts.Item → List parts.Item) → IsExtended b new → HasOthers (length new) s t → StandsAlone b copies s
-    → items_of new t.items.items ≡ change (items_of b s.items.items) → section_under new number t ≡ with_items change (section_under b number s)
+pub edited_alone : (b new copies : List ℕ) (number : ℕ) (s t : Own) (change : List parts.Item → List parts.Item) → IsExtended b new → HasOwn (length new) s t → StandsAlone b copies s
+    → items_of new t.items.items ≡ change (items_of b s.items.items) → section_under new number (whole t) ≡ with_items change (section_under b number (whole s))
 edited_alone b new copies number s t change x others old set = λ i. record {
   number = number;
   header = (ap (header_of new) others.header ∙ header_in b new copies s.header x old.header) i;
   meta = ap (λ m. m.value) others.meta i;
   items = set i;
-  held = (ap (λ h. items_of new h.items) others.held ∙ ap (items_of new) old.none_held ∙ sym (ap (items_of b) old.none_held)) i;
+  held = [];
 }
 
 -- one that was refused
-same_items : (b new copies : List ℕ) (s t : Section) → IsExtended b new → StandsAlone b copies s → t.items.items ≡ s.items.items → items_of new t.items.items ≡ items_of b s.items.items
+same_items : (b new copies : List ℕ) (s t : Own) → IsExtended b new → StandsAlone b copies s → t.items.items ≡ s.items.items → items_of new t.items.items ≡ items_of b s.items.items
 same_items b new copies s t x old kept = ap (items_of new) kept ∙ extended_items b new s.items.items x old.within
 
-pub kept_alone : (b new copies : List ℕ) (number : ℕ) (s t : Section) → IsExtended b new → HasOthers (length new) s t → StandsAlone b copies s → t.items.items ≡ s.items.items
-    → section_under new number t ≡ section_under b number s
+pub kept_alone : (b new copies : List ℕ) (number : ℕ) (s t : Own) → IsExtended b new → HasOwn (length new) s t → StandsAlone b copies s → t.items.items ≡ s.items.items
+    → section_under new number (whole t) ≡ section_under b number (whole s)
 kept_alone b new copies number s t x others old kept = edited_alone b new copies number s t (λ items. items) x others old (same_items b new copies s t x old kept)
 
 -- Either way it stands alone.
-pub stands_still : (b new copies : List ℕ) (s t : Section) (change : List parts.Item → List parts.Item) → IsExtended b new → length new < 2 ^ 32 → HasOthers (length new) s t → StandsAlone b copies s
+pub stands_still : (b new copies : List ℕ) (s t : Own) (change : List parts.Item → List parts.Item) → IsExtended b new → length new < 2 ^ 32 → HasOwn (length new) s t → StandsAlone b copies s
     → list_all is_item (change (items_of b s.items.items)) ≡ true
     → (items_of new t.items.items ≡ change (items_of b s.items.items)) ⊎ (t.items.items ≡ s.items.items) → StandsAlone new copies t
 stands_still b new copies s t change x room others old are either = record {
@@ -73,32 +78,30 @@ stands_still b new copies s t change x room others old are either = record {
     | inl set ↦ ap (list_all is_item) set ∙ are
     | inr kept ↦ ap (list_all is_item) (same_items b new copies s t x old kept) ∙ old.items
   ];
-  none_held = ap (λ h. h.items) others.held ∙ old.none_held;
 }
 
 -- More bytes stand behind it, and more copies.
-pub longer_stands : (b new copies more : List ℕ) (s : Section) → IsExtended b new → IsExtended copies more → length new < 2 ^ 32 → StandsAlone b copies s → StandsAlone new more s
+pub longer_stands : (b new copies more : List ℕ) (s : Own) → IsExtended b new → IsExtended copies more → length new < 2 ^ 32 → StandsAlone b copies s → StandsAlone new more s
 longer_stands b new copies more s x y room old = record {
   room = room;
   header = shown_by_more new copies more s.header y (shown_in b new copies s.header x old.header);
   within = extended_fit b new s.items.items x old.within;
   spelled = ap is_header (header_in b new copies s.header x old.header) ∙ old.spelled;
   items = ap (list_all is_item) (extended_items b new s.items.items x old.within) ∙ old.items;
-  none_held = old.none_held;
 }
 
 -- It has another header.
-pub renamed_alone : (b new copies : List ℕ) (number : ℕ) (s : Section) (h : Header) (name : List ℕ) (subsection : Option (List ℕ)) → IsExtended b new → StandsAlone b copies s
-    → header_of new h ≡ made_header name subsection → section_under new number (record s { header = h }) ≡ renamed name subsection (section_under b number s)
+pub renamed_alone : (b new copies : List ℕ) (number : ℕ) (s : Own) (h : Header) (name : List ℕ) (subsection : Option (List ℕ)) → IsExtended b new → StandsAlone b copies s
+    → header_of new h ≡ made_header name subsection → section_under new number (whole (record s { header = h })) ≡ renamed name subsection (section_under b number (whole s))
 renamed_alone b new copies number s h name subsection x old made = λ i. record {
   number = number;
   header = made i;
   meta = s.meta.value;
   items = extended_items b new s.items.items x old.within i;
-  held = (ap (items_of new) old.none_held ∙ sym (ap (items_of b) old.none_held)) i;
+  held = [];
 }
 
-pub renamed_stands : (b new copies more : List ℕ) (s : Section) (h : Header) (name : List ℕ) (subsection : Option (List ℕ)) → IsExtended b new → length new < 2 ^ 32 → StandsAlone b copies s
+pub renamed_stands : (b new copies more : List ℕ) (s : Own) (h : Header) (name : List ℕ) (subsection : Option (List ℕ)) → IsExtended b new → length new < 2 ^ 32 → StandsAlone b copies s
     → header_of new h ≡ made_header name subsection → IsShown new more (kinds.SectionHeader h) → is_made_name name ≡ true → is_valid_or_none subsection ≡ true
     → StandsAlone new more (record s { header = h })
 renamed_stands b new copies more s h name subsection x room old made shown named valid = record {
@@ -107,25 +110,23 @@ renamed_stands b new copies more s h name subsection x room old made shown named
   within = extended_fit b new s.items.items x old.within;
   spelled = ap is_header made ∙ made_header_is name subsection named valid;
   items = ap (list_all is_item) (extended_items b new s.items.items x old.within) ∙ old.items;
-  none_held = old.none_held;
 }
 
 -- One that is made stands alone.
-pub made_stands : (b copies : List ℕ) (s : Section) (name : List ℕ) (subsection : Option (List ℕ)) → length b < 2 ^ 32 → header_of b s.header ≡ made_header name subsection
-    → IsShown b copies (kinds.SectionHeader s.header) → s.items.items ≡ [] → s.held.items ≡ [] → is_made_name name ≡ true → is_valid_or_none subsection ≡ true → StandsAlone b copies s
-made_stands b copies s name subsection room made shown empty none named valid = record {
+pub made_stands : (b copies : List ℕ) (s : Own) (name : List ℕ) (subsection : Option (List ℕ)) → length b < 2 ^ 32 → header_of b s.header ≡ made_header name subsection
+    → IsShown b copies (kinds.SectionHeader s.header) → s.items.items ≡ [] → is_made_name name ≡ true → is_valid_or_none subsection ≡ true → StandsAlone b copies s
+made_stands b copies s name subsection room made shown empty named valid = record {
   room = room;
   header = shown;
   within = subst (AreItemsWithin (length b)) (sym empty) tt;
   spelled = ap is_header made ∙ made_header_is name subsection named valid;
   items = ap (λ is. list_all is_item (items_of b is)) empty;
-  none_held = none;
 }
 
-pub made_alone_is : (b : List ℕ) (s : Section) (name : List ℕ) (subsection : Option (List ℕ)) (meta : Meta) → header_of b s.header ≡ made_header name subsection → s.meta.value ≡ meta
-    → s.items.items ≡ [] → s.held.items ≡ [] → length b ≡ header_bytes name subsection → detached_of b no_number s ≡ made_alone name subsection meta
-made_alone_is b s name subsection meta made from empty none count = λ i. record {
-  section = record { number = no_number; header = made i; meta = from i; items = items_of b (empty i); held = items_of b (none i) };
+pub made_alone_is : (b : List ℕ) (s : Own) (name : List ℕ) (subsection : Option (List ℕ)) (meta : Meta) → header_of b s.header ≡ made_header name subsection → s.meta.value ≡ meta
+    → s.items.items ≡ [] → length b ≡ header_bytes name subsection → detached_of b no_number s ≡ made_alone name subsection meta
+made_alone_is b s name subsection meta made from empty count = λ i. record {
+  section = record { number = no_number; header = made i; meta = from i; items = items_of b (empty i); held = [] };
   used = count i;
 }
 

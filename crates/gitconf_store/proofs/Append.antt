@@ -15,7 +15,7 @@ use Rattle.gitconf_parse.specs.Events.{bytes_of, header_of, header_form, OptionF
 use Rattle.gitconf_parse.specs.EventRef.{ShownHeader}
 use Rattle.gitconf_parse.specs.ShownEvents.{decoded_or, shown_token, IsShown}
 use Rattle.gitconf_body.proofs.Append.{bytes_more, span_more, items_more, items_fit_more}
-use Rattle.gitconf_store.specs.declared.section.Section.{Section}
+use Rattle.gitconf_sections.specs.Section.{Section}
 use Rattle.gitconf_store.specs.Store.{section_state, SectionFits}
 
 form_more : (buffer more name : List ℕ) (separator subsection : Option Span) → OptionFits (length buffer) separator → OptionFits (length buffer) subsection

@@ -24,10 +24,12 @@ use Rattle.gitconf_parse.specs.Items.{items_of}
 use Rattle.gitconf_parse.specs.Moves.{AreItemsMoved}
 use Rattle.gitconf_body.proofs.Append.{items_fit_more, items_more}
 use Rattle.gitconf_body.proofs.Buffers.{extended_fit, extended_items}
-use Rattle.gitconf_store.specs.declared.section.Section.{Section}
+use Rattle.gitconf_sections.specs.Section.{Section}
 use Rattle.gitconf_store.specs.Appends.{held_or, items_before, kept_or, last_items, line_between, line_bytes, line_items, IsLineAt}
-use Rattle.gitconf_store.specs.Joining.{front_then, held_last, line_end_item, AreBehind, AreSame}
-use Rattle.gitconf_store.specs.Moves.{AreSectionsMoved, IsEntryMoved, IsMovable}
+use Rattle.gitconf_sections.specs.Held.{line_end_item}
+use Rattle.gitconf_store.specs.Joining.{front_then, held_last, AreBehind, AreSame}
+use Rattle.gitconf_sections.specs.Moves.{IsMovable}
+use Rattle.gitconf_store.specs.Moves.{AreSectionsMoved, IsEntryMoved}
 use Rattle.gitconf_store.specs.Store.{section_state, state_of, AllSectionsFit, SectionFits, StoreFits}
 use Rattle.gitconf_store.proofs.Appending.{copy_up, header_same, header_shown, header_up, items_there, items_up}
 use Rattle.gitconf_store.proofs.Joined.{is_at, items_both, within_both}

@@ -28,9 +28,10 @@ use Rattle.gitconf_state.specs.State.{HasItems, HasSectionItems, SectionState, S
 use Rattle.gitconf_parse.specs.Items.{items_of}
 use Rattle.gitconf_parse.specs.Moves.{copy_of, AreItemsMoved, IsHeaderMoved}
 use Rattle.gitconf_body.proofs.Buffers.{extended_fit, extended_items}
-use Rattle.gitconf_store.specs.declared.section.Section.{Section}
-use Rattle.gitconf_store.specs.Alone.{detached_of, StandsAlone}
-use Rattle.gitconf_store.specs.Moves.{IsSectionMoved}
+use Rattle.gitconf_sections.specs.Section.{Section}
+use Rattle.gitconf_store.specs.declared.section.Section.{Section as Own}
+use Rattle.gitconf_store.specs.Alone.{StandsAlone, detached_of, whole}
+use Rattle.gitconf_sections.specs.Moves.{IsSectionMoved}
 use Rattle.gitconf_store.specs.Store.{section_state, section_under, state_of, AllSectionsFit, StoreFits}
 use Rattle.gitconf_store.proofs.Setting.{sections_in}
 
@@ -126,24 +127,20 @@ items_there before buffer by old new is moved within =
     let count : by + length buffer ≡ length (before ++ buffer) = (let l = length-append before buffer in omega (arith, l, is)) in
     subst (λ n. AreItemsWithin n new) count (moved.within (length buffer) within)
 
--- no items are none
-pub none_moved : (before buffer : List ℕ) (by : ℕ) (old new : List Item) → length before ≡ by → AreItemsMoved by old new → old ≡ [] → new ≡ []
-none_moved before buffer by old [] is moved none = refl
-none_moved before buffer by old (x ∷ new) is moved none = absurd (let h = moved.same before buffer is ∙ ap (items_of buffer) none in cc)
+-- no items are moved
+pub nothing_moved : (by : ℕ) → AreItemsMoved by [] []
+nothing_moved by = record { same = λ before buffer is. refl; within = λ limit fits. fits }
 
 -- The section in its own buffer, and where it was put.
-module _ (b theirs copies their_copies new more : List ℕ) (front : List Item) (meta : Meta) (old after : Sections Section) (id : ℕ) (s t : Section)
-    (is : new ≡ b ++ theirs) (are : more ≡ copies ++ their_copies) (fits : StoreFits b copies front meta old) (alone : StandsAlone theirs their_copies s) (moved : IsSectionMoved (length b) (length copies) s t) where
+module _ (b theirs copies their_copies new more : List ℕ) (front : List Item) (meta : Meta) (old after : Sections Section) (id : ℕ) (s : Own) (t : Section)
+    (is : new ≡ b ++ theirs) (are : more ≡ copies ++ their_copies) (fits : StoreFits b copies front meta old) (alone : StandsAlone theirs their_copies s) (moved : IsSectionMoved (length b) (length copies) (whole s) t) where
   pub shown_there : IsShown new more (kinds.SectionHeader t.header)
   shown_there = rw (is, are) (header_shown b theirs copies their_copies (length b) (length copies) s.header t.header refl refl moved.header alone.header)
 
   pub within_there : AreItemsWithin (length new) t.items.items
   within_there = rw is (items_there b theirs (length b) s.items.items t.items.items refl moved.items alone.within)
 
-  pub none_there : t.held.items ≡ []
-  none_there = none_moved b theirs (length b) s.held.items t.held.items refl moved.held alone.none_held
-
-  same_section : (number : ℕ) → section_under new number t ≡ record { number = number; header = header_of theirs s.header; meta = s.meta.value; items = items_of theirs s.items.items; held = items_of theirs s.held.items }
+  same_section : (number : ℕ) → section_under new number t ≡ record { number = number; header = header_of theirs s.header; meta = s.meta.value; items = items_of theirs s.items.items; held = [] }
   same_section number = λ i. record {
     number = number;
     header = (ap (λ n. header_of n t.header) is ∙ header_same b theirs (length b) (length copies) s.header t.header refl moved.header) i;
@@ -174,7 +171,7 @@ module _ (b theirs copies their_copies new more : List ℕ) (front : List Item) 
     items = subst HasItems (sym (pushed_state put next)) (record {
       front = fits.items.front;
       sections = all_push HasSectionItems (state_of b front meta old).sections _ fits.items.sections
-          (record { header = alone.spelled; items = alone.items; held = ap (λ h. Rattle.std.specs.List.list_all Rattle.gitconf_state.specs.State.is_item (items_of theirs h)) alone.none_held });
+          (record { header = alone.spelled; items = alone.items; held = refl });
     });
   }
 
@@ -182,6 +179,10 @@ module _ (b theirs copies their_copies new more : List ℕ) (front : List Item) 
 pub two_ok : {T E : Type 0} {P Q R : Type 0} (r : Result T E) → (P → Q → R) → OnOk r P → OnOk r Q → OnOk r R
 two_ok (Ok t) f p q = f p q
 two_ok (Err e) f p q = p
+
+pub ok_three : {T E : Type 0} {P Q R S : Type 0} (r : Result T E) → (P → Q → R → S) → OnOk r P → OnOk r Q → OnOk r R → OnOk r S
+ok_three (Ok t) f p q s = f p q s
+ok_three (Err e) f p q s = p
 
 pub ok_or_err : {T E : Type 0} {P Q R S U : Type 0} (r : Result T E) → (P → Q → R → U) → (S → U) → OnOk r P → OnOk r Q → OnOk r R → OnErr r S → U
 ok_or_err (Ok t) f g p q s e = f p q s

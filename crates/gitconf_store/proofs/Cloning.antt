@@ -12,23 +12,22 @@ use Rattle.gitconf_parse.specs.Events.{header_of}
 use Rattle.gitconf_parse.specs.ShownEvents.{IsShown}
 use Rattle.gitconf_parse.proofs.Clones.{cloned_items, items_within}
 use Rattle.gitconf_state.specs.State.{HasItems}
-use Rattle.gitconf_store.specs.declared.section.Section.{Section}
-use Rattle.gitconf_store.specs.contracts.section.SectionClone.TheImpl as section
+use Rattle.gitconf_sections.specs.Section.{Section, IsSectionClone}
 use Rattle.gitconf_store.specs.Store.{section_state, state_of, SectionFits, StoreFits}
 
 abbrev IsClonedTable : Sections Section → Sections Section → Type 0
-IsClonedTable = IsTableClone (section.ghosts).is_clone
+IsClonedTable = IsTableClone IsSectionClone
 
 abbrev IsClonedEntry : SectionEntry Section → SectionEntry Section → Type 0
-IsClonedEntry = IsEntryClone (section.ghosts).is_clone
+IsClonedEntry = IsEntryClone IsSectionClone
 
 cloned_section : (buffer : List ℕ) (e d : SectionEntry Section) → IsClonedEntry e d → section_state buffer d ≡ section_state buffer e
 cloned_section buffer e d c = λ i. record {
   number = c.number i;
-  header = header_of buffer (c.section.0 i);
-  meta = c.section.1.0 i;
-  items = cloned_items buffer e.section.items.items d.section.items.items c.section.1.1.0.0 i;
-  held = cloned_items buffer e.section.held.items d.section.held.items c.section.1.1.1 i;
+  header = header_of buffer (c.section.header i);
+  meta = c.section.meta i;
+  items = cloned_items buffer e.section.items.items d.section.items.items c.section.items i;
+  held = cloned_items buffer e.section.held.items d.section.held.items c.section.held i;
 }
 
 cloned_sections : (buffer : List ℕ) (es ds : List (SectionEntry Section)) → AllZip IsClonedEntry es ds → map (section_state buffer) ds ≡ map (section_state buffer) es
@@ -39,11 +38,11 @@ cloned_sections buffer (e ∷ es) (d ∷ ds) all = λ i. cloned_section buffer e
 
 section_fits : (buffer copies : List ℕ) (e d : SectionEntry Section) → IsClonedEntry e d → SectionFits buffer copies e → SectionFits buffer copies d
 section_fits buffer copies e d c h = record {
-  header = subst (λ t. IsShown buffer copies (kinds.SectionHeader t)) (sym c.section.0) h.header;
-  items = items_within (length buffer) e.section.items.items d.section.items.items c.section.1.1.0.0 h.items;
-  held = items_within (length buffer) e.section.held.items d.section.held.items c.section.1.1.1 h.held;
-  name = c.name ∙ h.name ∙ ap (λ t. fold (name_of (header_of buffer t))) (sym c.section.0);
-  subsection = c.subsection ∙ h.subsection ∙ ap (λ t. subsection_of (header_of buffer t)) (sym c.section.0);
+  header = subst (λ t. IsShown buffer copies (kinds.SectionHeader t)) (sym c.section.header) h.header;
+  items = items_within (length buffer) e.section.items.items d.section.items.items c.section.items h.items;
+  held = items_within (length buffer) e.section.held.items d.section.held.items c.section.held h.held;
+  name = c.name ∙ h.name ∙ ap (λ t. fold (name_of (header_of buffer t))) (sym c.section.header);
+  subsection = c.subsection ∙ h.subsection ∙ ap (λ t. subsection_of (header_of buffer t)) (sym c.section.header);
 }
 
 sections_fit : (buffer copies : List ℕ) (es ds : List (SectionEntry Section)) → AllZip IsClonedEntry es ds

@@ -14,11 +14,12 @@ use Rattle.gitconf_state.specs.State.{is_header, is_item}
 use Rattle.gitconf_parse.specs.Items.{items_of}
 use Rattle.gitconf_body.specs.Copies.{IsCopy}
 use Rattle.gitconf_body.proofs.Buffers.{extended_fit, extended_items}
-use Rattle.gitconf_store.specs.declared.section.Section.{Section}
+use Rattle.gitconf_sections.specs.Section.{Section}
+use Rattle.gitconf_store.specs.declared.section.Section.{Section as Own}
 use Rattle.gitconf_store.specs.contracts.section.SectionClone.TheImpl as section
 use Rattle.gitconf_store.specs.Store.{section_under}
 use Rattle.gitconf_store.specs.Viewed.{IsViewed}
-use Rattle.gitconf_store.specs.Alone.{alone, detached_of, StandsAlone}
+use Rattle.gitconf_store.specs.Alone.{alone, detached_of, whole, StandsAlone}
 use Rattle.gitconf_store.proofs.Viewing.{header_viewed}
 
 -- a header with its decoded copy
@@ -34,48 +35,42 @@ pub items_stand : (from before to : List ℕ) (old copies : List Item) → IsCop
 items_stand from before to old copies copy longer = extended_fit before to copies longer copy.within
 
 -- a section of these parts
-pub section_same : (from to : List ℕ) (old s : Section) → header_of to s.header ≡ header_of from old.header → s.meta.value ≡ old.meta.value → items_of to s.items.items ≡ items_of from old.items.items
-    → s.held.items ≡ [] → (number : ℕ) → section_under to number s ≡ alone (section_under from number old)
-section_same from to old s header meta items none number = λ i. record { number = number; header = header i; meta = meta i; items = items i; held = items_of to (none i) }
+pub section_same : (from to : List ℕ) (old : Section) (s : Own) → header_of to s.header ≡ header_of from old.header → s.meta.value ≡ old.meta.value → items_of to s.items.items ≡ items_of from old.items.items
+    → (number : ℕ) → section_under to number (whole s) ≡ alone (section_under from number old)
+section_same from to old s header meta items number = λ i. record { number = number; header = header i; meta = meta i; items = items i; held = [] }
 
-pub section_stands : (from to copies : List ℕ) (old s : Section) → length to < 2 ^ 32 → IsShown to copies (kinds.SectionHeader s.header) → AreItemsWithin (length to) s.items.items
+pub section_stands : (from to copies : List ℕ) (old : Section) (s : Own) → length to < 2 ^ 32 → IsShown to copies (kinds.SectionHeader s.header) → AreItemsWithin (length to) s.items.items
     → header_of to s.header ≡ header_of from old.header → is_header (header_of from old.header) ≡ true
-    → items_of to s.items.items ≡ items_of from old.items.items → list_all is_item (items_of from old.items.items) ≡ true → s.held.items ≡ [] → StandsAlone to copies s
-section_stands from to copies old s room shown within header is items are none =
-    record { room = room; header = shown; within = within; spelled = ap is_header header ∙ is; items = ap (list_all is_item) items ∙ are; none_held = none }
+    → items_of to s.items.items ≡ items_of from old.items.items → list_all is_item (items_of from old.items.items) ≡ true → StandsAlone to copies s
+section_stands from to copies old s room shown within header is items are =
+    record { room = room; header = shown; within = within; spelled = ap is_header header ∙ is; items = ap (list_all is_item) items ∙ are }
 
 -- it may be viewed
-pub alone_viewed : (buffer copies lent others : List ℕ) (s : Section) → lent ≡ buffer → others ≡ copies → StandsAlone buffer copies s → IsViewed lent others s
+pub alone_viewed : (buffer copies lent others : List ℕ) (s : Own) → lent ≡ buffer → others ≡ copies → StandsAlone buffer copies s → IsViewed lent others (whole s)
 alone_viewed buffer copies lent others s same alike stands =
     rw (same, alike) (record { header = header_viewed buffer copies s.header stands.header; spelled = stands.spelled; items = stands.items })
 
 -- clones are the same section
-none_cloned : (xs ys : List Item) → AllZip (item.ghosts).is_clone xs ys → xs ≡ [] → ys ≡ []
-none_cloned [] [] all none = refl
-none_cloned [] (y ∷ ys) all none = elim all [ ]
-none_cloned (x ∷ xs) ys all none = absurd (cc)
-
-pub cloned_alone : (buffer other : List ℕ) (number : ℕ) (s t : Section) → other ≡ buffer → (section.ghosts).is_clone s t → detached_of other number t ≡ detached_of buffer number s
+pub cloned_alone : (buffer other : List ℕ) (number : ℕ) (s t : Own) → other ≡ buffer → (section.ghosts).is_clone s t → detached_of other number t ≡ detached_of buffer number s
 cloned_alone buffer other number s t same c = ap (λ b. detached_of b number t) same ∙ (λ i. record {
   section = record {
     number = number;
     header = header_of buffer (c.0 i);
     meta = c.1.0 i;
-    items = cloned_items buffer s.items.items t.items.items c.1.1.0.0 i;
-    held = cloned_items buffer s.held.items t.held.items c.1.1.1 i;
+    items = cloned_items buffer s.items.items t.items.items c.1.1.0 i;
+    held = [];
   };
   used = length buffer;
 })
 
-pub clone_stands : (buffer other copies others : List ℕ) (s t : Section) → other ≡ buffer → others ≡ copies → (section.ghosts).is_clone s t → StandsAlone buffer copies s → StandsAlone other others t
+pub clone_stands : (buffer other copies others : List ℕ) (s t : Own) → other ≡ buffer → others ≡ copies → (section.ghosts).is_clone s t → StandsAlone buffer copies s → StandsAlone other others t
 clone_stands buffer other copies others s t same alike c h =
     rw (same, alike) (record {
       room = h.room;
       header = subst (λ d. IsShown buffer copies (kinds.SectionHeader d)) (sym c.0) h.header;
-      within = items_within (length buffer) s.items.items t.items.items c.1.1.0.0 h.within;
+      within = items_within (length buffer) s.items.items t.items.items c.1.1.0 h.within;
       spelled = ap (λ d. is_header (header_of buffer d)) c.0 ∙ h.spelled;
-      items = ap (list_all is_item) (cloned_items buffer s.items.items t.items.items c.1.1.0.0) ∙ h.items;
-      none_held = none_cloned s.held.items t.held.items c.1.1.1 h.none_held;
+      items = ap (list_all is_item) (cloned_items buffer s.items.items t.items.items c.1.1.0) ∙ h.items;
     })
 
 pub ruleset detaching = (items_same, items_stand, section_same, section_stands, alone_viewed, cloned_alone, clone_stands)

@@ -1,6 +1,6 @@
 -- The section of a number with other items, in a longer buffer.
-use Rattle.std.proofs.Common.{◌≡◌, ℕ, zero, suc, ◌+◌, ◌<◌, ◌≤◌, ◌^◌, ◌==◌, Bool, true, false, nat_lt, List, [], ◌∷◌, length, map, filter, position, Option, Some, None, Result, refl, ap, sym, subst, ◌∙◌, arith, inl, inr}
-use Rattle.std.specs.Prelude.{if◌then◌else◌, ◌⊎◌}
+use Rattle.std.proofs.Common.{◌≡◌, ℕ, zero, suc, ◌+◌, ◌<◌, ◌≤◌, ◌^◌, ◌==◌, Bool, true, false, nat_lt, List, [], ◌∷◌, length, map, filter, position, Option, Some, None, Result, Ok, Err, refl, ap, sym, subst, ◌∙◌, arith, inl, inr}
+use Rattle.std.specs.Prelude.{if◌then◌else◌, ◌⊎◌, IfSome, IsErrOf}
 use Rattle.std.specs.List.{AllByRecursion, last_or, position_or_len, slice_get}
 use Rattle.std.specs.Option.{option_map}
 use Rattle.std.proofs.lemmas.Bool.{eq-eqb, eqb-false, ne_eqb, ltb-false}
@@ -22,8 +22,9 @@ use Rattle.gitconf_body.specs.declared.editor.Leading.TheVariants as leadings
 use Rattle.gitconf_body.specs.declared.editor.Around.{Around}
 use Rattle.gitconf_body.specs.declared.editor.Around.TheVariants as arounds
 use Rattle.gitconf_body.specs.Editors.{editor_in, leading_in, around_in, EditorFits, LeadingFits, AroundFits}
-use Rattle.gitconf_body.proofs.Buffers.{extended_fit, extended_items}
-use Rattle.gitconf_store.specs.declared.section.Section.{Section}
+use Rattle.gitconf_body.proofs.Buffers.{extended_fit, extended_items, same_extended}
+use Rattle.gitconf_sections.specs.Section.{Section}
+use Rattle.gitconf_sections.proofs.Edits.{put_again}
 use Rattle.gitconf_store.specs.Alone.{with_items}
 use Rattle.gitconf_store.specs.Edits.{UsedGrows}
 use Rattle.gitconf_body.specs.Blanks.{given_editor, IsGiven, IsGivenLeading, IsGivenAround}
@@ -113,6 +114,22 @@ numbered_told {A} b front meta table id at s told once here number = go (numbere
     go None is = absurd (cc)
     go (Some u) is = ap told (let h : u.items ≡ items_of b s.items.items = cc in h)
 
+-- the items of the section there stand within the buffer
+pub items_within_at : (b copies : List ℕ) (s : Section) (es : List (SectionEntry Section)) (at : ℕ) → AllByRecursion (SectionFits b copies) es
+    → option_map (λ (e : SectionEntry Section). e.section) (slice_get es at) ≡ Some s → AreItemsWithin (length b) s.items.items
+items_within_at b copies s [] at fits here = absurd (cc)
+items_within_at b copies s (e ∷ es) (suc at) fits here = items_within_at b copies s es at fits.1 here
+items_within_at b copies s (e ∷ es) zero fits here = let is : e.section ≡ s = cc in subst (λ s. AreItemsWithin (length b) s.items.items) is fits.0.items
+
+-- The state with a change that leaves the section's items.
+pub unchanged_view : (b copies : List ℕ) (front : List Item) (meta : Meta) (table : Sections Section) (id at : ℕ) (s : Section) (change : List parts.Item → List parts.Item)
+    → StoreFits b copies front meta table → AreNumbered table.next table.entries → section_at at table ≡ Some s → number_at at table ≡ Some id → change (items_of b s.items.items) ≡ items_of b s.items.items
+    → state_of b front meta table ≡ change_items id change (state_of b front meta table)
+unchanged_view b copies front meta table id at s change fits once here number stays =
+    let others : HasOthers (length b) s s = record { header = refl; meta = refl; held = refl; within = items_within_at b copies s table.entries at fits.sections_within here } in
+    ap (state_of b front meta) (sym (put_again table at s here))
+    ∙ numbered_view b b copies front meta table id at s s change (same_extended b b refl) others fits.front_within fits.sections_within once here number (sym stays)
+
 -- It keeps what a store keeps.
 pub numbered_keeps : (b new copies : List ℕ) (front : List Item) (meta : Meta) (table : Sections Section) (at : ℕ) (s t : Section)
     → IsExtended b new → length new < 2 ^ 32 → HasOthers (length new) s t → StoreFits b copies front meta table → section_at at table ≡ Some s
@@ -153,13 +170,6 @@ missing_told {A} b front meta table id told none = go (numbered id (state_of b f
   where
     go : (o : Option SectionState) → o ≡ None → elim o as (λ _. Option A) [ None ↦ None | Some s ↦ told s.items ] ≡ None
     go o e = rw e refl
-
--- the items of the section there stand within the buffer
-pub items_within_at : (b copies : List ℕ) (s : Section) (es : List (SectionEntry Section)) (at : ℕ) → AllByRecursion (SectionFits b copies) es
-    → option_map (λ (e : SectionEntry Section). e.section) (slice_get es at) ≡ Some s → AreItemsWithin (length b) s.items.items
-items_within_at b copies s [] at fits here = absurd (cc)
-items_within_at b copies s (e ∷ es) (suc at) fits here = items_within_at b copies s es at fits.1 here
-items_within_at b copies s (e ∷ es) zero fits here = let is : e.section ≡ s = cc in subst (λ s. AreItemsWithin (length b) s.items.items) is fits.0.items
 
 -- So it does where its items are those of an edit, and where they are as they were.
 pub numbered_kept : (b new copies : List ℕ) (front : List Item) (meta : Meta) (table : Sections Section) (id at : ℕ) (s t : Section) (change : List parts.Item → List parts.Item)
@@ -225,6 +235,22 @@ puts_at b front meta table id at s r count new once here number grows =
         → PutsIn id r count (state_of b front meta table) new
     go None at is = absurd (cc)
     go (Some u) at is = record { there = rw at grows; missing = λ none. absurd (let no = sym at ∙ none in cc) }
+
+-- nothing was put, since it was refused
+pub used_refused : {T : Type 0} (r : Result T ℕ) (count used : ℕ) → IsErrOf r 3 → 2 ^ 32 ≤ used + count → UsedGrows r count used used
+used_refused (Ok t) count used three due = absurd (cc)
+used_refused (Err e) count used three due = record { grown = omega arith; too_large = λ _. due; refused = λ _. three; known = inl (let h = three in cc) }
+
+pub used_memory : {T : Type 0} (r : Result T ℕ) (count used : ℕ) → IsErrOf r 27 → (2 ^ 32 ≤ used + count → ⊥) → UsedGrows r count used used
+used_memory (Ok t) count used memory fits = absurd (cc)
+used_memory (Err e) count used memory fits = record { grown = omega arith; too_large = λ three. absurd (let no : Err 27 ≡ Err 3 = sym memory ∙ three in cc); refused = λ due. absurd (fits due); known = inr (let h = memory in cc) }
+
+pub puts_same : {T : Type 0} (id : ℕ) (r : Result T ℕ) (count : ℕ) (state : State) → UsedGrows r count state.used state.used → PutsIn id r count state state
+puts_same id r count state grows = record { there = go (numbered id state); missing = λ _. refl }
+  where
+    go : (o : Option SectionState) → IfSome o (λ _. UsedGrows r count state.used state.used)
+    go None = tt
+    go (Some s) = grows
 
 pub puts_none : {T : Type 0} (b : List ℕ) (front : List Item) (meta : Meta) (table : Sections Section) (id : ℕ) (r : Result T ℕ) (count : ℕ) → place_of id table ≡ None
     → PutsIn id r count (state_of b front meta table) (state_of b front meta table)

@@ -1,5 +1,5 @@
 -- Sections of another table behind those of a table, and items held behind the last one.
-use Rattle.std.proofs.Common.{◌≡◌, ℕ, zero, suc, ◌+◌, ◌<◌, List, [], ◌∷◌, ◌++◌, length, map, take, drop, Some, refl, ap, sym, subst, ◌∙◌, arith, append-nil, length-append}
+use Rattle.std.proofs.Common.{◌≡◌, ℕ, zero, suc, ◌+◌, ◌<◌, List, [], ◌∷◌, ◌++◌, length, map, take, drop, Some, refl, ap, sym, subst, ◌∙◌, arith, append-nil, length-append, ◌-◌}
 use Rattle.std.specs.List.{AllByRecursion, slice_get}
 use Rattle.std.specs.Option.{option_map}
 use Rattle.gitconf_parse.specs.declared.items.Item.{Item}
@@ -13,7 +13,10 @@ use Rattle.gitconf_table.specs.Sections.{SectionEntry, Sections, changed_at}
 use Rattle.gitconf_table.specs.Sections as table
 use Rattle.gitconf_state.specs.Edits.{numbered_from}
 use Rattle.gitconf_parse.specs.Items.{items_of}
-use Rattle.gitconf_store.specs.declared.section.Section.{Section}
+use Rattle.gitconf_table.proofs.SectionLemmas.{section_edited}
+use Rattle.gitconf_sections.specs.Section.{Section, holding, last_holding}
+use Rattle.gitconf_sections.proofs.Adding.{edited_before, stays_before}
+use Rattle.gitconf_sections.proofs.Edits.{put_again, there_is}
 use Rattle.gitconf_store.specs.Joining.{held_last, AreBehind, AreSame}
 use Rattle.gitconf_store.specs.Store.{section_state, SectionFits}
 
@@ -161,6 +164,23 @@ module _ (old other new : Sections Section) (at count : ℕ) (s t : Section) (he
       fit = λ b copies fits theirs within. subst (λ es. AllByRecursion (SectionFits b copies) (changed_at (set_section v) es at)) (sym put_entries)
           (last_fit b copies more old.entries (table.numbered_from old.next other.entries) at s t v here more_held fits (numbered_fit b copies old.next other.entries theirs) within);
     }
+
+-- The last section holds more, and the other's sections stand behind all.
+pub put_behind_held : (old other new : Sections Section) (more : List Item) → 0 < length old.entries → new ≡ table.with_all (length old.entries) other (last_holding more old) → AreBehind more other old new
+put_behind_held old other new more some put =
+    let at = length old.entries - 1 in
+    let within : at < length old.entries = omega (arith, some) in
+    let found = there_is old at within in
+    let s = found.0 in
+    let here = found.1 in
+    let mid = table.with_all (length old.entries) other old in
+    let none : HoldsMore [] s s = record { header = refl; meta = refl; items = refl; held = sym (append-nil s.held.items) } in
+    let held : HoldsMore more s (holding more s) = record { header = refl; meta = refl; items = refl; held = refl } in
+    let now : new ≡ table.with_section mid at (holding more s) =
+    put ∙ sym (edited_before (holding more) old other at within) ∙ sym (section_edited (holding more) mid at s (holding more s) (stays_before old other at s here) refl) in
+    let again : mid ≡ table.with_all (length old.entries) other (table.with_section old at s) = ap (table.with_all (length old.entries) other) (sym (put_again old at s here)) in
+    let last : suc at ≡ length old.entries = omega (arith, some) in
+    subst (AreBehind more other old) (sym now) (put_behind old other mid at (length old.entries) s s here none (sym (changed_count old.entries at s)) again more (holding more s) last held)
 
 -- behind no section
 pub put_behind_none : (old other new : Sections Section) (more : List Item) → old.entries ≡ [] → new ≡ table.with_all 0 other old → AreBehind more other old new

@@ -10,8 +10,8 @@ use Rattle.gitconf_table.specs.Sections.{SectionEntry, Sections, with_last}
 use Rattle.gitconf_text.specs.Token.{HeaderToken, Token, item_tokens}
 use Rattle.gitconf_base.specs.Metadata.{Meta}
 use Rattle.gitconf_parse.specs.declared.items.Item.{Item}
-use Rattle.gitconf_parse.specs.declared.items.Section.{Section as Loaded}
-use Rattle.gitconf_parse.specs.Items.{item_of, tokens_of_items, tokens_of_section, items_of}
+use Rattle.gitconf_parse.specs.declared.event.Header.{Header}
+use Rattle.gitconf_parse.specs.Items.{headed_tokens, item_of, tokens_of_items, items_of}
 use Rattle.gitconf_state.specs.Loads.{section_tokens}
 use Rattle.gitconf_parse.specs.declared.event.Event.TheVariants as kinds
 use Rattle.gitconf_parse.specs.Events.{bytes_of, header_of}
@@ -20,7 +20,7 @@ use Rattle.gitconf_parse.specs.ItemsFit.{AreItemsWithin}
 use Rattle.gitconf_parse.specs.ShownEvents.{decoded_or, separator_of, IsShown, IsExtended}
 use Rattle.gitconf_parse.proofs.Shown.{is_shown_more}
 use Rattle.gitconf_text.proofs.Lists.{all_push}
-use Rattle.gitconf_store.specs.declared.section.Section.{Section}
+use Rattle.gitconf_sections.specs.Section.{Section}
 use Rattle.gitconf_state.specs.State.{SectionState}
 use Rattle.gitconf_store.specs.Loading.{AreLoaded, IsLoading}
 use Rattle.gitconf_store.specs.Store.{SectionFits, AllSectionsFit, loaded_section, section_state, state_of}
@@ -98,24 +98,24 @@ loaded_more place next after states others s l held meta number are after_is = s
       counted = after_is ∙ ap (λ n. n + 1) l.counted ∙ sym count;
     })
 
-pub loading_more : (buffer : List ℕ) (place meta : Meta) (copies more : List ℕ) (table after : Sections Section) (section : Loaded)
+pub loading_more : (buffer : List ℕ) (place meta : Meta) (copies more : List ℕ) (table after : Sections Section) (header : Header) (items : List Item)
     → IsLoading buffer place copies table → meta ≡ place → AllSectionsFit buffer more after
-    → map (section_state buffer) after.entries ≡ map (section_state buffer) table.entries ++ loaded_section buffer meta table.next section ∷ []
+    → map (section_state buffer) after.entries ≡ map (section_state buffer) table.entries ++ loaded_section buffer meta table.next header items ∷ []
     → after.next ≡ table.next + 1 → IsLoading buffer place more after
-loading_more buffer place meta copies more table after section l meta_is fits sections next = record {
+loading_more buffer place meta copies more table after header items l meta_is fits sections next = record {
   fits = fits;
   loaded = loaded_more place table.next after.next (map (section_state buffer) table.entries) (map (section_state buffer) after.entries)
-      (loaded_section buffer meta table.next section) l.loaded refl meta_is refl sections next;
+      (loaded_section buffer meta table.next header items) l.loaded refl meta_is refl sections next;
 }
 
--- its tokens are those of the section
-pub tokens_more : (buffer : List ℕ) (meta : Meta) (number : ℕ) (states others : List SectionState) (section : Loaded)
-    → others ≡ states ++ loaded_section buffer meta number section ∷ [] → flat_map section_tokens others ≡ flat_map section_tokens states ++ tokens_of_section buffer section
-tokens_more buffer meta number states others section are =
+-- its tokens are those of its header and its items
+pub tokens_more : (buffer : List ℕ) (meta : Meta) (number : ℕ) (states others : List SectionState) (header : Header) (items : List Item)
+    → others ≡ states ++ loaded_section buffer meta number header items ∷ [] → flat_map section_tokens others ≡ flat_map section_tokens states ++ headed_tokens buffer header items
+tokens_more buffer meta number states others header items are =
     ap (flat_map section_tokens) are
-    ∙ flat_map-append section_tokens states (loaded_section buffer meta number section ∷ [])
-    ∙ ap (λ ts. flat_map section_tokens states ++ ts) (append-nil (section_tokens (loaded_section buffer meta number section))
-    ∙ ap (λ ts. HeaderToken (header_of buffer section.header) ∷ ts) (items_tokens buffer section.items.items))
+    ∙ flat_map-append section_tokens states (loaded_section buffer meta number header items ∷ [])
+    ∙ ap (λ ts. flat_map section_tokens states ++ ts) (append-nil (section_tokens (loaded_section buffer meta number header items))
+    ∙ ap (λ ts. HeaderToken (header_of buffer header) ∷ ts) (items_tokens buffer items))
 
 -- What was loaded is the state that its tokens make.
 pub loading_is_made : (buffer : List ℕ) (front : List Item) (place : Meta) (copies : List ℕ) (table : Sections Section) (tokens : List Token) → IsLoading buffer place copies table

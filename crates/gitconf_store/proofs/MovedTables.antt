@@ -2,10 +2,16 @@
 use Rattle.std.proofs.Common.{◌≡◌, ℕ, zero, suc, List, [], ◌∷◌, length, Some, refl, ap, sym, subst}
 use Rattle.std.specs.List.{AllByRecursion, AllZip, slice_get}
 use Rattle.std.specs.Option.{option_map}
-use Rattle.gitconf_table.specs.Sections.{SectionEntry, changed_at}
+use Rattle.gitconf_table.specs.Sections.{SectionEntry, Sections, changed_at}
 use Rattle.gitconf_parse.proofs.Moves.{AreChanged}
-use Rattle.gitconf_store.specs.declared.section.Section.{Section}
-use Rattle.gitconf_store.specs.Moves.{IsEntryMoved, IsMovable, IsSectionMoved}
+use Rattle.gitconf_sections.specs.Section.{Section}
+use Rattle.gitconf_sections.specs.Moves.{IsMovable, IsSectionMoved}
+use Rattle.gitconf_store.specs.Moves.{IsEntryMoved}
+
+-- the first ones were moved
+pub record AreMovedTo (by copies_by count : ℕ) (old new : Sections Section) : Type 0 where
+  pub next : new.next ≡ old.next
+  pub entries : AreChanged (IsEntryMoved by copies_by) count old.entries new.entries
 
 module _ (by copies_by : ℕ) where
   -- the next one is as it was

@@ -10,7 +10,7 @@ use Rattle.gitconf_table.specs.Sections as table
 use Rattle.gitconf_table.proofs.SectionLemmas.{has_name-new}
 use Rattle.gitconf_parse.specs.Events.{header_of}
 use Rattle.gitconf_state.specs.Lookup as state
-use Rattle.gitconf_store.specs.declared.section.Section.{Section}
+use Rattle.gitconf_sections.specs.Section.{Section}
 use Rattle.gitconf_store.specs.Store.{section_state, SectionFits}
 
 -- a section of the table has a name where its header does

@@ -13,7 +13,7 @@ use Rattle.gitconf_base.specs.Metadata.{Meta}
 use Rattle.gitconf_parse.specs.declared.items.Item.{Item}
 use Rattle.gitconf_state.specs.State.{State}
 use Rattle.gitconf_state.specs.Lookup as state
-use Rattle.gitconf_store.specs.declared.section.Section.{Section}
+use Rattle.gitconf_sections.specs.Section.{Section}
 use Rattle.gitconf_store.specs.Store.{section_state, state_of, SectionFits, AllSectionsFit}
 use Rattle.gitconf_store.proofs.Named.{named_so}
 

@@ -11,7 +11,7 @@ use Rattle.gitconf_state.specs.Edits.{Detached, RemoveSection, apply, numbered, 
 use Rattle.gitconf_state.specs.Edits as state
 use Rattle.gitconf_state.specs.Lookup.{is_named, listing}
 use Rattle.gitconf_state.specs.State.{HasSectionItems, SectionState, State}
-use Rattle.gitconf_store.specs.declared.section.Section.{Section}
+use Rattle.gitconf_sections.specs.Section.{Section}
 use Rattle.gitconf_store.specs.Alone.{alone}
 use Rattle.gitconf_store.specs.Picks.{picked}
 use Rattle.gitconf_store.specs.Removals.{IsTakenOut, without_section}

@@ -23,7 +23,7 @@ use Rattle.gitconf_parse.specs.Items.{tokens_of_items}
 use Rattle.gitconf_parse.specs.declared.items.Item.{Item}
 use Rattle.gitconf_table.specs.Sections.{Sections}
 use Rattle.gitconf_state.specs.Loads.{section_tokens}
-use Rattle.gitconf_store.specs.declared.section.Section.{Section}
+use Rattle.gitconf_sections.specs.Section.{Section}
 use Rattle.gitconf_store.specs.Loading.{IsLoading}
 use Rattle.gitconf_store.specs.Made.{IsMade}
 use Rattle.gitconf_store.specs.Store.{section_state, state_of}

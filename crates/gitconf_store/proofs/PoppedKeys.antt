@@ -19,7 +19,7 @@ use Rattle.gitconf_state.specs.State.{HasSectionItems, is_item}
 use Rattle.gitconf_state.proofs.EditorItems.{popped_named}
 use Rattle.gitconf_state.proofs.LoadingFilters.{both_hold}
 use Rattle.gitconf_parse.specs.Items.{items_of}
-use Rattle.gitconf_store.specs.declared.section.Section.{Section}
+use Rattle.gitconf_sections.specs.Section.{Section}
 use Rattle.gitconf_store.specs.Store.{section_state}
 
 -- a name of a value is text

@@ -13,7 +13,7 @@ use Rattle.gitconf_table.specs.Sections as table
 use Rattle.gitconf_table.proofs.SectionLemmas.{has_name-new}
 use Rattle.gitconf_state.specs.Lookup as state
 use Rattle.gitconf_state.specs.State.{SectionState, State}
-use Rattle.gitconf_store.specs.declared.section.Section.{Section}
+use Rattle.gitconf_sections.specs.Section.{Section}
 use Rattle.gitconf_store.specs.declared.lookup.existing.Error.TheVariants.{SectionMissing, SubSectionMissing}
 use Rattle.gitconf_store.specs.Store.{section_under, section_state, state_of, SectionFits, AllSectionsFit}
 use Rattle.gitconf_store.specs.Misses.{missing}

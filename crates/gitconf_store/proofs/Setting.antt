@@ -20,7 +20,7 @@ use Rattle.gitconf_state.specs.State.{SectionState, State, HasItems, HasSectionI
 use Rattle.gitconf_state.proofs.EditItems.{section_with_is, file_line_end_is}
 use Rattle.gitconf_parse.specs.Items.{items_of}
 use Rattle.gitconf_body.proofs.Buffers.{extended_fit, extended_items}
-use Rattle.gitconf_store.specs.declared.section.Section.{Section}
+use Rattle.gitconf_sections.specs.Section.{Section}
 use Rattle.gitconf_store.specs.Edits.{update_at, set_at}
 use Rattle.gitconf_store.specs.Store.{section_state, state_of, SectionFits, AllSectionsFit, StoreFits}
 use Rattle.gitconf_store.proofs.Append.{section_more, section_fits_more, sections_more, sections_fit_in_more}

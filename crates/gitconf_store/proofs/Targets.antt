@@ -11,7 +11,7 @@ use Rattle.gitconf_state.specs.Edit.{is_target}
 use Rattle.gitconf_state.specs.Lookup.{is_named, listing}
 use Rattle.gitconf_state.specs.State.{SectionState}
 use Rattle.gitconf_body.specs.Places.{IsLastPlace}
-use Rattle.gitconf_store.specs.declared.section.Section.{Section}
+use Rattle.gitconf_sections.specs.Section.{Section}
 use Rattle.gitconf_store.specs.SomeSections.{AreSome}
 use Rattle.gitconf_store.specs.Store.{section_state}
 use Rattle.gitconf_store.specs.Walks.{passing}

@@ -10,7 +10,7 @@ use Rattle.gitconf_table.specs.Sections.{AreNumbered, SectionEntry, Sections, ch
 use Rattle.gitconf_state.specs.Edits.{change_numbered, with_trust}
 use Rattle.gitconf_state.specs.State.{HasSectionItems, SectionState}
 use Rattle.gitconf_parse.specs.Items.{items_of}
-use Rattle.gitconf_store.specs.declared.section.Section.{Section}
+use Rattle.gitconf_sections.specs.Section.{Section}
 use Rattle.gitconf_store.specs.Renamings.{marked}
 use Rattle.gitconf_store.specs.Store.{section_state, state_of, SectionFits, StoreFits}
 use Rattle.gitconf_store.proofs.Renaming.{marks_of, one_changed}

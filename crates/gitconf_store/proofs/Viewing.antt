@@ -1,15 +1,16 @@
 -- What views show, and what a store keeps of each section that is viewed.
-use Rattle.std.proofs.Common.{◌≡◌, ◌==◌, ℕ, false, Option, Some, None, Bor, List, [], ◌∷◌, ◌++◌, map, refl, ap, subst, Bool, true}
+use Rattle.std.proofs.Common.{◌≡◌, ◌==◌, ℕ, false, Option, Some, None, List, [], ◌∷◌, ◌++◌, map, refl, ap, subst, Bool, true}
 use Rattle.std.specs.List.{AllByRecursion}
 use Rattle.gitconf_base.specs.Metadata.{Meta}
 use Rattle.gitconf_table.specs.Sections.{SectionEntry, Sections, sections_of}
 use Rattle.gitconf_table.specs.Sections as table
 use Rattle.gitconf_parse.specs.declared.items.Item.{Item}
 use Rattle.gitconf_state.specs.State.{State, SectionState, AreNumbered, IsState, HasSectionItems}
-use Rattle.gitconf_store.specs.declared.section.Section.{Section}
+use Rattle.gitconf_sections.specs.Section.{Section}
+use Rattle.gitconf_sections.specs.declared.row.Section as views
 use Rattle.gitconf_store.specs.Store.{section_under, section_state, state_of, StoreFits, SectionFits}
 use Rattle.std.specs.Prelude.{filter, MatchOption}
-use Rattle.gitconf_table.specs.SectionIters.{shown_section}
+use Rattle.gitconf_sections.specs.Walks.{shown_section}
 use Rattle.gitconf_parse.specs.declared.event.Header.{Header}
 use Rattle.gitconf_parse.specs.declared.event.Event.TheVariants as kinds
 use Rattle.gitconf_parse.specs.ShownEvents.{IsShown}
@@ -88,7 +89,7 @@ last_viewed buffer copies all others p is viewed = ends others (rw is at viewed)
     ends (q ∷ others) viewed = let later = ends others viewed.1 in (later.0, (viewed.0, later.1))
 
 -- what a step from the end leaves
-pub left_viewed : (buffer copies : List ℕ) (all others : List (ℕ × Section)) (found : Option (ℕ × Bor Section))
+pub left_viewed : (buffer copies : List ℕ) (all others : List (ℕ × Section)) (found : Option (ℕ × views.Section))
     → MatchOption found ((all ≡ []) × (others ≡ [])) (λ x. all ≡ others ++ shown_section x ∷ []) → AreViewed buffer copies all → AreViewed buffer copies others
 left_viewed buffer copies all others None steps viewed = rw steps.1 tt
 left_viewed buffer copies all others (Some x) steps viewed = (last_viewed buffer copies all others (shown_section x) steps viewed).1

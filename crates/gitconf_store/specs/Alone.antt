@@ -14,7 +14,8 @@ use Rattle.gitconf_state.specs.Edit.{header_bytes, made_header}
 use Rattle.gitconf_state.specs.Edits.{Detached}
 use Rattle.gitconf_state.specs.State.{SectionState, is_header, is_item}
 use Rattle.gitconf_parse.specs.Items.{items_of}
-use Rattle.gitconf_store.specs.declared.section.Section.{Section}
+use Rattle.gitconf_sections.specs.Section.{Section}
+use Rattle.gitconf_store.specs.declared.section.Section.{Section as Own}
 use Rattle.gitconf_store.specs.ValueErrors.{edit_numbers}
 use Rattle.gitconf_store.specs.Store.{section_under}
 
@@ -37,19 +38,22 @@ made_alone name subsection meta = record {
 abbrev pub is_refusal_of_header : Error → Bool
 is_refusal_of_header e = list_any (λ number. number == header_number e) (3 ∷ 4 ∷ 5 ∷ 27 ∷ [])
 
--- a section under a number, in a buffer that has nothing else
-abbrev pub detached_of : (buffer : List ℕ) → ℕ → Section → Detached
-detached_of buffer number s = record { section = section_under buffer number s; used = length buffer }
+-- a section with a list of its own, as a section of a file that holds nothing
+abbrev pub whole : Own → Section
+whole s = record { header = s.header; meta = s.meta; items = record { items = s.items.items }; held = record { items = [] } }
 
--- What such a section keeps: its spans stand within the buffer, its header is shown as its token is, header and items are such as a text may
--- have, and nothing is held behind it.
-pub record StandsAlone (buffer copies : List ℕ) (s : Section) : Type 0 where
+-- a section under a number, in a buffer that has nothing else
+abbrev pub detached_of : (buffer : List ℕ) → ℕ → Own → Detached
+detached_of buffer number s = record { section = section_under buffer number (whole s); used = length buffer }
+
+-- What such a section keeps: its spans stand within the buffer, its header is shown as its token is, and header and items are such as a text
+-- may have.
+pub record StandsAlone (buffer copies : List ℕ) (s : Own) : Type 0 where
   pub room : length buffer < 2 ^ 32
   pub header : IsShown buffer copies (kinds.SectionHeader s.header)
   pub within : AreItemsWithin (length buffer) s.items.items
   pub spelled : is_header (header_of buffer s.header) ≡ true
   pub items : list_all is_item (items_of buffer s.items.items) ≡ true
-  pub none_held : s.held.items ≡ []
 
 -- An editor's edit was done, or refused, and the section is then as it was. No more bytes are put into its buffer than the edit's tokens have;
 -- refusal 3 comes only where these would pass the limit, and 6 and 27 are the only others.

@@ -10,8 +10,8 @@ use Rattle.gitconf_state.specs.Edits.{between}
 use Rattle.gitconf_state.specs.LineEnds.{file_line_end}
 use Rattle.gitconf_state.specs.State.{SectionState, State}
 use Rattle.gitconf_parse.specs.Items.{items_of}
-use Rattle.gitconf_store.specs.declared.section.Section.{Section}
-use Rattle.gitconf_store.specs.Joining.{line_end_item}
+use Rattle.gitconf_sections.specs.Section.{Section}
+use Rattle.gitconf_sections.specs.Held.{line_end_item}
 
 -- what is held behind a section, or the front where there is none
 abbrev pub held_or : (front : List parts.Item) → Option SectionState → List parts.Item

@@ -9,13 +9,8 @@ use Rattle.gitconf_table.specs.Sections.{Sections}
 use Rattle.gitconf_state.specs.Edits.{numbered_from}
 use Rattle.gitconf_state.specs.State.{SectionState}
 use Rattle.gitconf_parse.specs.Items.{items_of}
-use Rattle.gitconf_store.specs.declared.section.Section.{Section}
+use Rattle.gitconf_sections.specs.Section.{Section}
 use Rattle.gitconf_store.specs.Store.{section_state, AllSectionsFit}
-
--- the item of a line end, if there is one
-abbrev pub line_end_item : Option Span → List Item
-line_end_item None = []
-line_end_item (Some run) = items.LineEnds run ∷ []
 
 -- the last section holds more behind it
 abbrev pub held_last : (more : List parts.Item) → List SectionState → List SectionState

@@ -1,4 +1,3 @@
-pub mod Held
 pub mod Store
 pub mod Loading
 pub mod Viewed

@@ -4,7 +4,7 @@ use Rattle.std.specs.List.{AllByRecursion, range_with_len}
 use Rattle.gitconf_base.specs.Metadata.{Meta}
 use Rattle.gitconf_table.specs.Sections.{Sections}
 use Rattle.gitconf_state.specs.State.{SectionState}
-use Rattle.gitconf_store.specs.declared.section.Section.{Section}
+use Rattle.gitconf_sections.specs.Section.{Section}
 use Rattle.gitconf_store.specs.Store.{AllSectionsFit, section_state}
 
 -- All come from one place, nothing is held, and they have the numbers from 0 on.

@@ -6,22 +6,10 @@ use Rattle.gitconf_parse.specs.Events.{HeaderFits}
 use Rattle.gitconf_parse.specs.ItemsFit.{AreItemsWithin}
 use Rattle.gitconf_parse.specs.ShownEvents.{CopyFits}
 use Rattle.gitconf_parse.specs.Moves.{AreItemsMoved, IsHeaderMoved}
-use Rattle.gitconf_store.specs.declared.section.Section.{Section}
+use Rattle.gitconf_sections.specs.Moves.{IsMovable, IsSectionMoved}
+use Rattle.gitconf_sections.specs.Section.{Section}
 
--- the same section, where so many bytes stand before those of its buffer, and so many before the decoded copies
-pub record IsSectionMoved (by copies_by : ℕ) (old new : Section) : Type 0 where
-  pub header : IsHeaderMoved by copies_by old.header new.header
-  pub meta : new.meta ≡ old.meta
-  pub items : AreItemsMoved by old.items.items new.items.items
-  pub held : AreItemsMoved by old.held.items new.held.items
-
--- a section whose spans may be moved behind so many bytes, and its decoded copy behind so many bytes of copies
-pub record IsMovable (by copies_by : ℕ) (s : Section) : Type 0 where
-  pub header : HeaderFits (2 ^ 32 - 1 - by) s.header
-  pub copy : CopyFits (2 ^ 32 - 1 - copies_by) s.header.decoded
-  pub items : AreItemsWithin (2 ^ 32 - 1 - by) s.items.items
-  pub held : AreItemsWithin (2 ^ 32 - 1 - by) s.held.items
-
+-- all sections may be moved
 abbrev pub AreMovable : (by copies_by : ℕ) → Sections Section → Type 0
 AreMovable by copies_by all = AllByRecursion (λ e. IsMovable by copies_by e.section) all.entries
 

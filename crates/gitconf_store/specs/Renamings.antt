@@ -15,7 +15,7 @@ use Rattle.gitconf_state.specs.State.{State}
 use Rattle.gitconf_store.specs.declared.lookup.existing.Error.{Error as LookupError}
 use Rattle.gitconf_store.specs.declared.rename_section.Error.{Error}
 use Rattle.gitconf_store.specs.declared.rename_section.Error.TheVariants.{Lookup, Section}
-use Rattle.gitconf_store.specs.declared.section.Section.{Section as Stored}
+use Rattle.gitconf_sections.specs.Section.{Section as Stored}
 use Rattle.gitconf_store.specs.Misses.{missing}
 use Rattle.gitconf_store.specs.RenameErrors.{rename_number}
 

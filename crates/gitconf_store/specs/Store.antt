@@ -6,14 +6,14 @@ use Rattle.gitconf_text.specs.Header.{name_of, subsection_of}
 use Rattle.gitconf_base.specs.Metadata.{Meta}
 use Rattle.gitconf_table.specs.Sections.{SectionEntry, Sections}
 use Rattle.gitconf_parse.specs.declared.items.Item.{Item}
-use Rattle.gitconf_parse.specs.declared.items.Section.{Section as Loaded}
+use Rattle.gitconf_parse.specs.declared.event.Header.{Header}
 use Rattle.gitconf_parse.specs.declared.event.Event.TheVariants as kinds
 use Rattle.gitconf_parse.specs.Events.{header_of}
 use Rattle.gitconf_parse.specs.ItemsFit.{AreItemsWithin}
 use Rattle.gitconf_parse.specs.ShownEvents.{IsShown}
 use Rattle.gitconf_state.specs.State.{SectionState, State, HasItems}
 use Rattle.gitconf_parse.specs.Items.{items_of}
-use Rattle.gitconf_store.specs.declared.section.Section.{Section}
+use Rattle.gitconf_sections.specs.Section.{Section}
 
 -- a section under a number
 abbrev pub section_under : (buffer : List ℕ) → ℕ → Section → SectionState
@@ -57,12 +57,12 @@ pub record StoreFits (buffer copies : List ℕ) (front : List Item) (meta : Meta
   pub sections_within : AllSectionsFit buffer copies sections
   pub items : HasItems (state_of buffer front meta sections)
 
--- a section as it is loaded under a number
-abbrev pub loaded_section : (buffer : List ℕ) → Meta → ℕ → Loaded → SectionState
-loaded_section buffer meta number s = record {
+-- a section of a header and items, as it is loaded under a number
+abbrev pub loaded_section : (buffer : List ℕ) → Meta → ℕ → Header → List Item → SectionState
+loaded_section buffer meta number header items = record {
   number = number;
-  header = header_of buffer s.header;
+  header = header_of buffer header;
   meta = meta;
-  items = items_of buffer s.items.items;
+  items = items_of buffer items;
   held = [];
 }

@@ -13,7 +13,7 @@ use Rattle.gitconf_parse.specs.Events.{bytes_of, header_of}
 use Rattle.gitconf_parse.specs.ShownEvents.{decoded_or, CopyFits}
 use Rattle.gitconf_state.specs.State.{is_header, is_item}
 use Rattle.gitconf_parse.specs.Items.{items_of}
-use Rattle.gitconf_store.specs.declared.section.Section.{Section}
+use Rattle.gitconf_sections.specs.Section.{Section}
 
 CopyFits-prop : (limit : ℕ) (c : Option Copied) → IsProp (CopyFits limit c)
 CopyFits-prop limit None = Unit-prop

@@ -4,10 +4,10 @@ use Rattle.gitconf_text.specs.Document.{DocumentEntry}
 use Rattle.gitconf_text.specs.Header.{Header, PlainHeader, DottedHeader, QuotedHeader}
 use Rattle.gitconf_text.specs.Part as parts
 use Rattle.gitconf_parse.specs.Events.{header_of}
-use Rattle.gitconf_table.specs.SectionIters as table
+use Rattle.gitconf_sections.specs.Walks as walks
 use Rattle.gitconf_state.specs.State.{SectionState, entries_of}
 use Rattle.gitconf_parse.specs.Items.{items_of}
-use Rattle.gitconf_store.specs.declared.section.Section.{Section}
+use Rattle.gitconf_sections.specs.Section.{Section, seen_as}
 use Rattle.gitconf_store.specs.declared.section.SectionRef.{SectionRef}
 use Rattle.gitconf_store.specs.declared.section.Sections.{Sections}
 use Rattle.gitconf_store.specs.declared.views.HeaderRef.{HeaderRef}
@@ -16,17 +16,21 @@ use Rattle.gitconf_store.specs.declared.views.BodyRefIter.{BodyRefIter}
 use Rattle.gitconf_store.specs.declared.views.ValueNames.{ValueNames}
 use Rattle.gitconf_store.specs.Store.{section_under}
 
+-- what is viewed
+abbrev pub seen : SectionRef → Section
+seen r = seen_as r.header.now r.meta.now r.items.now r.held.now
+
 -- the section that is viewed
 abbrev pub shown : SectionRef → SectionState
-shown r = section_under r.buffer.now r.id r.section.now
+shown r = section_under r.buffer.now r.id (seen r)
 
 -- the sections that are left
 abbrev pub sections_left : Sections → List SectionState
-sections_left it = map (λ (p : ℕ × Section). section_under it.buffer.now p.0 p.1) (table.sections_left it.sections)
+sections_left it = map (λ (p : ℕ × Section). section_under it.buffer.now p.0 p.1) (walks.sections_left it.sections)
 
 -- the header that is viewed
 abbrev pub shown_header : HeaderRef → Header
-shown_header r = header_of r.buffer.now r.section.now.header
+shown_header r = header_of r.buffer.now r.header.now
 
 -- whether a header has its subsection behind a dot
 abbrev pub is_dotted : Header → Bool
@@ -36,7 +40,7 @@ is_dotted (QuotedHeader name blanks spelling) = false
 
 -- the items of the body that is viewed
 abbrev pub shown_body : BodyRef → List parts.Item
-shown_body r = items_of r.buffer.now r.section.now.items.items
+shown_body r = items_of r.buffer.now r.items.now
 
 -- the entries that are left
 abbrev pub entries_left : BodyRefIter → List DocumentEntry

@@ -3,12 +3,12 @@ use Rattle.std.specs.Prelude.{ℕ, Bool, List, map, filter}
 use Rattle.gitconf_base.specs.Metadata.{Meta}
 use Rattle.gitconf_parse.specs.EventRef.{Shown}
 use Rattle.gitconf_parse.specs.ShownEvents.{shown_token}
-use Rattle.gitconf_table.specs.SectionIters as table
+use Rattle.gitconf_sections.specs.Walks as walks
 use Rattle.gitconf_state.specs.Lookup.{has_name, listing}
 use Rattle.gitconf_state.specs.State.{SectionState}
 use Rattle.gitconf_parse.specs.Items.{tokens_in}
 use Rattle.gitconf_store.specs.declared.events.ItemEvents.{ItemEvents}
-use Rattle.gitconf_store.specs.declared.section.Section.{Section}
+use Rattle.gitconf_sections.specs.Section.{Section}
 use Rattle.gitconf_store.specs.declared.section.SectionRef.{SectionRef}
 use Rattle.gitconf_store.specs.declared.walks.SectionsNamed.{SectionsNamed}
 use Rattle.gitconf_store.specs.declared.walks.SectionsByName.{SectionsByName}
@@ -44,10 +44,10 @@ shown_with_held p = (shown p.0, events_left p.1)
 
 -- what is left of each walk
 abbrev pub named_left : SectionsNamed → List SectionState
-named_left it = map (λ (p : ℕ × Section). section_under it.buffer.now p.0 p.1) (table.named_left it.sections)
+named_left it = map (λ (p : ℕ × Section). section_under it.buffer.now p.0 p.1) (walks.named_left it.sections)
 
 abbrev pub by_name_left : SectionsByName → List SectionState
-by_name_left it = map (λ (p : ℕ × Section). section_under it.buffer.now p.0 p.1) (table.with_name_left it.sections)
+by_name_left it = map (λ (p : ℕ × Section). section_under it.buffer.now p.0 p.1) (walks.with_name_left it.sections)
 
 abbrev pub and_ids_left : SectionsAndIds → List (SectionState × ℕ)
 and_ids_left it = map with_id (sections_left it.sections)

@@ -13,14 +13,14 @@ ghost use Rattle.gitconf_state.specs.State.{is_header, is_item};
 ghost use Rattle.gitconf_parse.specs.Items.{items_of};
 ghost use Rattle.gitconf_body.specs.Copies.{IsCopy, IsLonger};
 ghost use Rattle.gitconf_store.specs.Store.{section_under};
-ghost use Rattle.gitconf_store.specs.Alone.{alone, StandsAlone};
+ghost use Rattle.gitconf_store.specs.Alone.{alone, whole, StandsAlone};
+ghost use Rattle.gitconf_store.specs.Views.{seen};
 
 mod editing;
 pub mod editor;
 mod editor_views;
 mod writing;
 
-use crate::held::Held;
 use crate::lists::bytes_of;
 use crate::section;
 use crate::section::{SectionRef, shared};
@@ -69,27 +69,23 @@ fn owned_header(
     }
 }
 
-/// A section with its bytes copied behind those of another buffer, and with nothing held behind it.
+/// A section with its bytes copied behind those of a buffer, and with nothing held behind it.
 fn owned_section(
-    from: &[u8],
     to: &mut Vec<u8>,
     copies: &mut Vec<u8>,
-    source: &section::Section,
+    source: &SectionRef<'_>,
 ) -> Result<section::Section, NoMemory>
     requires room { length to.old.items < 2 ^ 32 }
-    requires header { is_header (header_of from.now source.now.header) ≡ true }
-    requires items { list_all is_item (items_of from.now source.now.items.items) ≡ true }
-    ensures same { IfOk result (λ s. (number : ℕ) → section_under to.new.items number s ≡ alone (section_under from.now number source.now)) }
+    ensures same { IfOk result (λ s. (number : ℕ) → section_under to.new.items number (whole s) ≡ alone (section_under source.now.buffer.now number (seen source.now))) }
     ensures stands { IfOk result (λ s. StandsAlone to.new.items copies.new.items s) }
 {
-    let meta = shared(&source.meta)?;
-    let items = owned_items(from, to, &source.items)?;
-    let header = owned_header(from, to, copies, source.header)?;
+    let meta = shared(source.meta)?;
+    let items = owned_items(source.buffer, to, source.items)?;
+    let header = owned_header(source.buffer, to, copies, *source.header)?;
     Ok(section::Section {
         header,
         meta,
         items,
-        held: Held::none(),
     })
 }
 
@@ -128,10 +124,10 @@ impl SectionRef<'_> {
     pub fn to_owned(&self) -> Result<Section, NoMemory>
         ensures { IfOk result (λ s. s.section ≡ alone (shown self.now)) }
     {
-        let alloc = *self.section.items.allocator();
+        let alloc = self.alloc;
         let mut buffer = Vec::new(alloc);
         let mut copies = Vec::new(alloc);
-        let section = owned_section(self.buffer, &mut buffer, &mut copies, self.section)?;
+        let section = owned_section(&mut buffer, &mut copies, self)?;
         Ok(Section {
             buffer,
             copies,
@@ -183,7 +179,6 @@ impl Section {
                 header,
                 meta,
                 items: Vec::new(alloc),
-                held: Held::none(),
             },
         })
     }
@@ -193,10 +188,14 @@ impl Section {
         ensures { shown result ≡ self.now.section }
     {
         SectionRef {
+            alloc: *self.buffer.allocator(),
             buffer: &self.buffer,
             copies: &self.copies,
             id: self.id,
-            section: &self.section,
+            header: &self.section.header,
+            meta: &self.section.meta,
+            items: &self.section.items,
+            held: &[],
         }
     }
 

@@ -199,9 +199,9 @@ fn same_section(one: &SectionRef<'_>, other: &SectionRef<'_>) -> bool
     }
     same_entries(
         one.buffer,
-        &one.section.items,
+        one.items,
         other.buffer,
-        &other.section.items,
+        other.items,
     )
 }
 

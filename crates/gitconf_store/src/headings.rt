@@ -9,10 +9,10 @@ ghost use Rattle.gitconf_store.specs.Renamings.{marked_places, with_headers, Are
 
 use crate::lists::put;
 use crate::lookup::passes;
-use crate::section::Section;
 use gitconf_base::meta::Metadata;
 use gitconf_parse::event::Header;
-use gitconf_table::table::{SectionId, SectionTable};
+use gitconf_sections::sections::SectionList;
+use gitconf_table::table::SectionId;
 use gitconf_text::NoMemory;
 use std::alloc::Global;
 
@@ -22,7 +22,7 @@ use std::alloc::Global;
 ///
 /// Want of memory. The places are then as they were.
 fn put_place(
-    table: &SectionTable<Section>,
+    table: &SectionList,
     id: SectionId,
     places: &mut Vec<usize>,
 ) -> Result<(), NoMemory>
@@ -43,7 +43,7 @@ fn put_place(
 /// Want of memory, only where a section passes.
 pub(crate) fn passing_places<F: FnMut(&Metadata) -> bool>(
     alloc: Global,
-    table: &SectionTable<Section>,
+    table: &SectionList,
     name: &str,
     subsection: Option<&[u8]>,
     filter: F,
@@ -62,7 +62,7 @@ pub(crate) fn passing_places<F: FnMut(&Metadata) -> bool>(
     prove!(table.next_id() == table.next_id());
     let mut left = table.named(name, subsection);
     while let Some(found) = left.next() {
-        if passes(&mut filter, &found.1.meta) {
+        if passes(&mut filter, found.1.meta) {
             put_place(table, found.0, &mut places)?;
         }
     }
@@ -70,14 +70,13 @@ pub(crate) fn passing_places<F: FnMut(&Metadata) -> bool>(
 }
 
 /// Gives the sections at these places a header. What else they have stays.
-pub(crate) fn set_headers(table: &mut SectionTable<Section>, places: &[usize], header: Header)
+pub(crate) fn set_headers(table: &mut SectionList, places: &[usize], header: Header)
     requires { AllByRecursion (λ at. at < length table.old.entries) places.now }
     ensures { table.new ≡ with_headers header places.now table.old }
 {
     let mut rest = places;
     while let Some((at, behind)) = rest.split_first() {
-        let section = table.at_mut(*at);
-        section.header = header;
+        table.set_header(*at, header);
         rest = behind;
     }
 }

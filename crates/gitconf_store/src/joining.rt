@@ -4,13 +4,14 @@ ghost use Rattle.gitconf_text.specs.Part as parts;
 ghost use Rattle.gitconf_state.specs.Edits as edits;
 ghost use Rattle.gitconf_parse.specs.Items.{items_of};
 ghost use Rattle.gitconf_text.specs.LineEnds.{bytes_of_line_end};
-ghost use Rattle.gitconf_store.specs.Joining.{front_then, line_end_item, AreBehind, AreSame};
+ghost use Rattle.gitconf_sections.specs.Held.{line_end_item};
+ghost use Rattle.gitconf_store.specs.Joining.{front_then, AreBehind, AreSame};
 ghost use Rattle.gitconf_table.specs.Sections.{no_number};
 
-use crate::section::Section;
 use gitconf_parse::event::Span;
 use gitconf_parse::items::Item;
-use gitconf_table::table::SectionTable;
+use gitconf_sections::held::join;
+use gitconf_sections::sections::SectionList;
 use gitconf_text::line_end::LineEnd;
 use gitconf_text::parse::span;
 use gitconf_write::line_end::ends_line;
@@ -49,17 +50,6 @@ pub(crate) fn parts_lines(
         && !begins_with(other_buffer, others, line_end)
 }
 
-/// Puts a line end, if one is given, and others behind the items, within the room that there is.
-pub(crate) fn join(items: &mut Vec<Item>, line_end: Option<Span>, others: &mut Vec<Item>)
-    requires room { vec_len items.old + vec_len others.old + 1 ≤ vec_capacity items.old }
-    ensures { items.new.items ≡ items.old.items ++ (line_end_item line_end ++ others.old.items) }
-{
-    if let Some(run) = line_end {
-        items.push_reserved(Item::LineEnds(run));
-    }
-    items.append(others).unwrap();
-}
-
 /// [`put_behind_last`] where there is no section: the items go behind those of the front.
 ///
 /// # Errors
@@ -67,10 +57,10 @@ pub(crate) fn join(items: &mut Vec<Item>, line_end: Option<Span>, others: &mut V
 /// Those of [`put_behind_last`]. The front is then as it was, too.
 fn put_behind_front(
     front: &mut Vec<Item>,
-    sections: &mut SectionTable<Section>,
+    sections: &mut SectionList,
     line_end: Option<Span>,
     others: Vec<Item>,
-    other: SectionTable<Section>,
+    other: SectionList,
 ) -> Result<(), span::Error>
     requires none { sections.old.entries ≡ [] }
     ensures front { OnOk result (front.new.items ≡ front.old.items ++ (line_end_item line_end ++ others.items)) }
@@ -82,7 +72,7 @@ fn put_behind_front(
 {
     let mut others = others;
     front.reserve(others.len() + 1)?;
-    sections.insert_all(0, other)?;
+    sections.append(other)?;
     join(front, line_end, &mut others);
     Ok(())
 }
@@ -95,10 +85,10 @@ fn put_behind_front(
 /// A [`span::Error`]: number 3 where fewer numbers are left than the other table has sections, and else 27 for want of memory. All sections
 /// are then as they were.
 pub(crate) fn put_behind_last(
-    sections: &mut SectionTable<Section>,
+    sections: &mut SectionList,
     line_end: Option<Span>,
     others: Vec<Item>,
-    other: SectionTable<Section>,
+    other: SectionList,
 ) -> Result<(), span::Error>
     requires some { 0 < length sections.old.entries }
     ensures ok { OnOk result (AreBehind (line_end_item line_end ++ others.items) other sections.old sections.new) }
@@ -107,14 +97,7 @@ pub(crate) fn put_behind_last(
     ensures memory { IfErr result (λ e. sections.old.next + length other.entries ≤ no_number → e ≡ 27) }
 {
     let mut others = others;
-    let last = sections.len() - 1;
-    let section = sections.at_mut(last);
-    section.held.reserve(*others.allocator(), others.len() + 1)?;
-    let count = sections.len();
-    sections.insert_all(count, other)?;
-    let section = sections.at_mut(last);
-    section.held.join(line_end, &mut others);
-    Ok(())
+    sections.append_behind(line_end, &mut others, other)
 }
 
 /// Puts a line end, if one is given, and others behind what is held behind the last section, or behind the front where there is none; and
@@ -125,10 +108,10 @@ pub(crate) fn put_behind_last(
 /// Those of [`put_behind_last`]. The front is then as it was, too.
 pub(crate) fn put_behind(
     front: &mut Vec<Item>,
-    sections: &mut SectionTable<Section>,
+    sections: &mut SectionList,
     line_end: Option<Span>,
     others: Vec<Item>,
-    other: SectionTable<Section>,
+    other: SectionList,
 ) -> Result<(), span::Error>
     ensures front { OnOk result (front.new.items ≡ front_then sections.old.entries front.old.items (line_end_item line_end ++ others.items)) }
     ensures ok { OnOk result (AreBehind (line_end_item line_end ++ others.items) other sections.old sections.new) }

@@ -5,7 +5,6 @@ pub mod detached;
 mod equality;
 pub mod events;
 mod headings;
-mod held;
 mod joining;
 pub mod laws;
 pub mod lists;

@@ -1,17 +1,17 @@
 //! Sections as they are loaded.
 ghost use Rattle.std.specs.Prelude.{◌≡◌, ◌+◌, [], ◌∷◌, ◌++◌, List, ℕ, flat_map, length, map, OnOk, IfOk};
-ghost use Rattle.gitconf_parse.specs.ItemsFit as items;
+ghost use Rattle.gitconf_parse.specs.Events.{HeaderFits};
+ghost use Rattle.gitconf_parse.specs.ItemsFit.{AreItemsWithin};
 ghost use Rattle.gitconf_state.specs.Loads.{section_tokens};
 ghost use Rattle.gitconf_store.specs.Loading.{IsLoading};
 ghost use Rattle.gitconf_store.specs.Store.{AllSectionsFit, section_state, loaded_section};
 
-use crate::held::Held;
-use crate::section::Section;
 use gitconf_base::meta::Metadata;
 use gitconf_parse::events::{decoded_header, subsection_name};
-use gitconf_parse::items;
+use gitconf_parse::event::Header;
+use gitconf_parse::items::Item;
 use gitconf_parse::section_sink::SectionSink;
-use gitconf_table::table::SectionTable;
+use gitconf_sections::sections::SectionList;
 use gitconf_text::NoMemory;
 use std::alloc::Global;
 use std::rc::Rc;
@@ -22,7 +22,7 @@ pub(crate) struct Loading {
     pub(crate) meta: Rc<Metadata>,
     /// The decoded subsections of the headers that need one.
     pub(crate) copies: Vec<u8>,
-    pub(crate) sections: SectionTable<Section>,
+    pub(crate) sections: SectionList,
 }
 
 /// How many bytes a section has at the least for which room is made before it is read.
@@ -53,7 +53,7 @@ impl Loading {
         Loading {
             meta,
             copies: Vec::new(alloc),
-            sections: SectionTable::new(alloc),
+            sections: SectionList::new(alloc),
         }
     }
 
@@ -85,27 +85,24 @@ impl Loading {
 fn add_section(
     buffer: &[u8],
     copies: &mut Vec<u8>,
-    table: &mut SectionTable<Section>,
-    section: items::Section,
+    sections: &mut SectionList,
+    header: Header,
     meta: Rc<Metadata>,
+    items: &mut Vec<Item>,
 ) -> Result<(), NoMemory>
-    requires within { items.SectionFits (length buffer.now) section }
-    requires fits { AllSectionsFit buffer.now copies.old.items table.old }
-    ensures fits { OnOk result (AllSectionsFit buffer.now copies.new.items table.new) }
-    ensures sections { OnOk result (map (section_state buffer.now) table.new.entries
-        ≡ map (section_state buffer.now) table.old.entries ++ loaded_section buffer.now meta.value table.old.next section ∷ []) }
-    ensures next { OnOk result (table.new.next ≡ table.old.next + 1) }
+    requires header { HeaderFits (length buffer.now) header }
+    requires items { AreItemsWithin (length buffer.now) items.old.items }
+    requires fits { AllSectionsFit buffer.now copies.old.items sections.old }
+    ensures fits { OnOk result (AllSectionsFit buffer.now copies.new.items sections.new) }
+    ensures sections { OnOk result (map (section_state buffer.now) sections.new.entries
+        ≡ map (section_state buffer.now) sections.old.entries ++ loaded_section buffer.now meta.value sections.old.next header items.old.items ∷ []) }
+    ensures taken { OnOk result (items.new.items ≡ []) }
+    ensures next { OnOk result (sections.new.next ≡ sections.old.next + 1) }
 {
-    let header = decoded_header(buffer, section.header, copies)?;
+    let header = decoded_header(buffer, header, copies)?;
     let name = header.name.bytes_in(buffer);
     let subsection = subsection_name(buffer, copies, &header);
-    let section = Section {
-        header,
-        meta,
-        items: section.items,
-        held: Held::none(),
-    };
-    match table.push(name, subsection, section) {
+    match sections.push_loaded(name, subsection, header, meta, items) {
         Ok(_) => Ok(()),
         Err(_) => Err(NoMemory),
     }
@@ -117,9 +114,20 @@ impl SectionSink for Loading {
 
     ghost keeps = { λ buffer first l. (l.meta.value ≡ first.meta.value) × IsLoading buffer l.meta.value l.copies.items l.sections };
 
-    fn take(&mut self, buffer: &[u8], section: items::Section) -> Result<(), NoMemory> {
+    fn take(
+        &mut self,
+        buffer: &[u8],
+        header: Header,
+        items: &mut Vec<Item>,
+    ) -> Result<(), NoMemory> {
         let meta = self.meta.clone()?;
-        add_section(buffer, &mut self.copies, &mut self.sections, section, meta)?;
-        Ok(())
+        add_section(
+            buffer,
+            &mut self.copies,
+            &mut self.sections,
+            header,
+            meta,
+            items,
+        )
     }
 }

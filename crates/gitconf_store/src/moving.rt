@@ -2,19 +2,24 @@
 ghost use Rattle.std.specs.Option.{option_copied};
 ghost use Rattle.std.specs.Prelude.{◌≡◌, ◌+◌, ◌-◌, ◌^◌, ◌<◌, ◌≤◌, ◌↔◌, [], ◌∷◌, ◌++◌, length, map, IfErr, IfOk, IsErrOf, OnErr, OnOk};
 ghost use Rattle.gitconf_parse.specs.declared.event.Event.TheVariants as kinds;
-ghost use Rattle.gitconf_parse.specs.Events.{HeaderFits};
 ghost use Rattle.gitconf_parse.specs.ItemsFit.{AreItemsWithin};
-ghost use Rattle.gitconf_parse.specs.ShownEvents.{CopyFits, IsShown};
+ghost use Rattle.gitconf_parse.specs.Moves.{AreItemsMoved};
+ghost use Rattle.gitconf_parse.specs.ShownEvents.{IsShown};
 ghost use Rattle.gitconf_table.specs.Sections.{no_number};
-ghost use Rattle.gitconf_store.specs.Moves.{AreMovable, AreSectionsMoved, IsSectionMoved};
+ghost use Rattle.gitconf_sections.specs.Section.{made};
+ghost use Rattle.gitconf_store.specs.Moves.{AreMovable, AreSectionsMoved};
 ghost use Rattle.gitconf_store.specs.Store.{AllSectionsFit, section_state, section_under};
 
-use crate::section::Section;
+use gitconf_base::meta::Metadata;
+use gitconf_parse::event::Header;
 use gitconf_parse::events::subsection_name;
-use gitconf_parse::moving::{move_items, moved_header};
-use gitconf_table::table::{SectionId, SectionTable};
+use gitconf_parse::items::Item;
+use gitconf_parse::moving::move_items;
+use gitconf_sections::sections::SectionList;
+use gitconf_table::table::SectionId;
 use gitconf_text::NoMemory;
 use gitconf_text::parse::span;
+use std::rc::Rc;
 
 /// How many bytes of copies stand before others that go behind them.
 ///
@@ -31,28 +36,21 @@ pub(crate) fn copies_before(copies: &[u8], others: &[u8]) -> Result<u32, NoMemor
     Ok(copies.len() as u32)
 }
 
-/// A section of a buffer, where so many bytes stand before those of the buffer, and so many before the decoded copies. One pass over its
-/// items, which takes no memory.
-pub(crate) fn move_section(section: &mut Section, by: u32, copies_by: u32)
-    requires header { HeaderFits (2 ^ 32 - 1 - by) section.old.header }
-    requires copy { CopyFits (2 ^ 32 - 1 - copies_by) section.old.header.decoded }
-    requires items { AreItemsWithin (2 ^ 32 - 1 - by) section.old.items.items }
-    requires held { AreItemsWithin (2 ^ 32 - 1 - by) section.old.held.items }
-    ensures { IsSectionMoved by copies_by section.old section.new }
+/// Items in a list, moved as [`move_items`] does.
+pub(crate) fn move_list(list: &mut Vec<Item>, by: u32)
+    requires { AreItemsWithin (2 ^ 32 - 1 - by) list.old.items }
+    ensures { AreItemsMoved by list.old.items list.new.items }
 {
-    section.header = moved_header(section.header, by, copies_by);
-    move_items(&mut section.items, by);
-    section.held.move_by(by);
+    move_items(list.as_mut_slice(), by);
 }
 
-/// All sections of a table, moved as [`move_section`] does. One pass over them, which takes no memory.
-pub(crate) fn move_sections(sections: &mut SectionTable<Section>, by: u32, copies_by: u32)
+/// All sections, moved as [`SectionList::move_section`] does. One pass over them, which takes no memory.
+pub(crate) fn move_sections(sections: &mut SectionList, by: u32, copies_by: u32)
     requires { AreMovable by copies_by sections.old }
     ensures { AreSectionsMoved by copies_by sections.old sections.new }
 {
     for at in 0..sections.len() {
-        let section = sections.at_mut(at);
-        move_section(section, by, copies_by);
+        sections.move_section(at, by, copies_by);
     }
 }
 
@@ -64,23 +62,24 @@ pub(crate) fn move_sections(sections: &mut SectionTable<Section>, by: u32, copie
 pub(crate) fn put_last(
     buffer: &[u8],
     copies: &[u8],
-    table: &mut SectionTable<Section>,
-    section: Section,
+    table: &mut SectionList,
+    header: Header,
+    meta: Rc<Metadata>,
+    items: Vec<Item>,
 ) -> Result<SectionId, span::Error>
-    requires header { IsShown buffer.now copies.now (kinds.SectionHeader section.header) }
-    requires items { AreItemsWithin (length buffer.now) section.items.items }
-    requires held { section.held.items ≡ [] }
+    requires header { IsShown buffer.now copies.now (kinds.SectionHeader header) }
+    requires items { AreItemsWithin (length buffer.now) items.items }
     requires fits { AllSectionsFit buffer.now copies.now table.old }
     ensures id { IfOk result (λ id. id ≡ table.old.next) }
     ensures fits { OnOk result (AllSectionsFit buffer.now copies.now table.new) }
     ensures sections { OnOk result (map (section_state buffer.now) table.new.entries
-        ≡ map (section_state buffer.now) table.old.entries ++ section_under buffer.now table.old.next section ∷ []) }
+        ≡ map (section_state buffer.now) table.old.entries ++ section_under buffer.now table.old.next (made header meta items.items) ∷ []) }
     ensures next { OnOk result (table.new.next ≡ table.old.next + 1) }
     ensures used_up { IsErrOf result 3 ↔ (table.old.next ≡ no_number) }
     ensures memory { IfErr result (λ e. table.old.next < no_number → e ≡ 27) }
     ensures err { OnErr result (table.new ≡ table.old) }
 {
-    let name = section.header.name.bytes_in(buffer);
-    let subsection = subsection_name(buffer, copies, &section.header);
-    table.push(name, subsection, section)
+    let name = header.name.bytes_in(buffer);
+    let subsection = subsection_name(buffer, copies, &header);
+    table.push(name, subsection, header, meta, items)
 }

@@ -1,12 +1,12 @@
 //! Sections as a store keeps them, and views of them.
 ghost use Rattle.std.specs.Prelude.{◌≡◌, IfOk};
-ghost use Rattle.gitconf_table.specs.SectionIters as table;
+ghost use Rattle.gitconf_sections.specs.Section.{seen_as};
+ghost use Rattle.gitconf_sections.specs.Walks as walks;
 ghost use Rattle.gitconf_store.specs.Viewed.{AreViewed, AreViewed-prop, IsViewed, IsViewed-prop};
 
 pub mod value;
 
 use crate::events::ItemEvents;
-use crate::held::Held;
 use bstr::BString;
 use gitconf_base::meta::Metadata;
 use gitconf_base::source::Trust;
@@ -14,7 +14,8 @@ use gitconf_body::blanks::Blanks;
 use gitconf_parse::event::Header;
 use gitconf_parse::items::Item;
 use gitconf_parse::sink::{Sink, SinkFault};
-use gitconf_table::table::{SectionId, SectionIter};
+use gitconf_sections::sections::walks::Iter;
+use gitconf_table::table::SectionId;
 use gitconf_text::NoMemory;
 use gitconf_text::line_end::LineEnd;
 use gitconf_write::line_end as items;
@@ -22,13 +23,12 @@ use gitconf_write::sections::{write_held, write_section};
 use std::alloc::Global;
 use std::rc::Rc;
 
-/// A section: its header, where it comes from, its body, and the items held behind it.
+/// A section that has a list of its own for its items: its header, where it comes from, and its body.
 #[derive(Clone, Drop)]
 pub(crate) struct Section {
     pub(crate) header: Header,
     pub(crate) meta: Rc<Metadata>,
     pub(crate) items: Vec<Item>,
-    pub(crate) held: Held,
 }
 
 /// The same metadata with one owner more.
@@ -57,12 +57,17 @@ pub(crate) fn trusted(
 /// A view of a section.
 #[derive(Clone, Copy)]
 pub struct SectionRef<'a> {
+    /// Where memory for what is asked of it comes from.
+    pub(crate) alloc: Global,
     pub(crate) buffer: &'a [u8],
     /// The decoded subsections of the headers that need one.
     pub(crate) copies: &'a [u8],
     pub(crate) id: SectionId,
-    pub(crate) section: &'a Section,
-    ghost viewed: { IsViewed buffer.now copies.now section.now } by { IsViewed-prop buffer.now copies.now section.now },
+    pub(crate) header: &'a Header,
+    pub(crate) meta: &'a Rc<Metadata>,
+    pub(crate) items: &'a [Item],
+    pub(crate) held: &'a [Item],
+    ghost viewed: { IsViewed buffer.now copies.now (seen_as header.now meta.now items.now held.now) } by { IsViewed-prop buffer.now copies.now (seen_as header.now meta.now items.now held.now) },
 }
 
 impl<'a> SectionRef<'a> {
@@ -92,21 +97,21 @@ impl<'a> SectionRef<'a> {
     pub fn meta(&self) -> &'a Metadata
         ensures { result.now ≡ (shown self.now).meta }
     {
-        &self.section.meta
+        self.meta
     }
 
     /// The events of its body, in order.
     pub fn events(&self) -> ItemEvents<'a>
         ensures { events_left result ≡ map shown_token (tokens_in (shown self.now).items) }
     {
-        ItemEvents::over(self.buffer, &self.section.items)
+        ItemEvents::over(self.buffer, self.items)
     }
 
     /// The events of what is held behind it, in order.
     pub fn held_events(&self) -> ItemEvents<'a>
         ensures { events_left result ≡ map shown_token (tokens_in (shown self.now).held) }
     {
-        ItemEvents::over(self.buffer, self.section.held.as_slice())
+        ItemEvents::over(self.buffer, self.held)
     }
 
     /// The blanks that its body has, with memory of their own. One walk over its items.
@@ -117,8 +122,7 @@ impl<'a> SectionRef<'a> {
     pub fn blanks(&self) -> Result<Blanks, NoMemory>
         ensures { IfOk result (λ blanks. blanks ≡ spacing_of (shown self.now).items) }
     {
-        let items = &self.section.items;
-        Blanks::of_items(*items.allocator(), self.buffer, items)
+        Blanks::of_items(self.alloc, self.buffer, self.items)
     }
 
     /// Writes the section alone: its header and its body, with a line end put in where two of its parts would else
@@ -132,7 +136,7 @@ impl<'a> SectionRef<'a> {
         ensures written { Writes result (printed_section (shown self.now)) (W.told out.old) (W.told out.new) }
         ensures counted { Counts result (W.faults out.old) (W.faults out.new) }
     {
-        write_section(out, self.buffer, &self.section.header, &self.section.items)
+        write_section(out, self.buffer, self.header, self.items)
     }
 
     /// The section alone, as [`SectionRef::write_to`] writes it. Takes memory for the text as it grows.
@@ -147,7 +151,7 @@ impl<'a> SectionRef<'a> {
         ensures reads { let alone : SectionState = record (shown self.now) { held = [] } in IsCleanSection alone
             → IfOk result (λ text. Reads (bstring_bytes text) (record { front = []; sections = section_document (shown self.now) ∷ [] })) }
     {
-        let mut text = Vec::new(*self.section.items.allocator());
+        let mut text = Vec::new(self.alloc);
         match self.write_to(&mut text) {
             Ok(()) => Ok(BString::new(text)),
             Err(_) => Err(NoMemory),
@@ -165,9 +169,7 @@ impl<'a> SectionRef<'a> {
         ensures counted { Counts result (W.faults out.old) (W.faults out.new) }
     {
         self.write_to(out)?;
-        let section = self.section;
-        let held = section.held.as_slice();
-        write_held(out, self.buffer, &section.items, held, line_end)
+        write_held(out, self.buffer, self.items, self.held, line_end)
     }
 
     /// Whether the section ends with a line end, what is held behind it counted in.
@@ -175,9 +177,7 @@ impl<'a> SectionRef<'a> {
     pub(crate) fn ends_with_line(&self, line_end: LineEnd) -> bool
         ensures { result ≡ ends_with_line (bytes_of_line_end line_end) (shown self.now) }
     {
-        let section = self.section;
-        let held = section.held.as_slice();
-        items::ends_with_line(self.buffer, &section.items, held, line_end)
+        items::ends_with_line(self.buffer, self.items, self.held, line_end)
     }
 }
 
@@ -186,8 +186,8 @@ impl<'a> SectionRef<'a> {
 pub struct Sections<'a> {
     pub(crate) buffer: &'a [u8],
     pub(crate) copies: &'a [u8],
-    pub(crate) sections: SectionIter<'a, Section>,
-    ghost viewed: { AreViewed buffer.now copies.now (table.sections_left sections) } by { AreViewed-prop buffer.now copies.now (table.sections_left sections) },
+    pub(crate) sections: Iter<'a>,
+    ghost viewed: { AreViewed buffer.now copies.now (walks.sections_left sections) } by { AreViewed-prop buffer.now copies.now (walks.sections_left sections) },
 }
 
 impl<'a> Iterator for Sections<'a> {
@@ -203,10 +203,14 @@ impl<'a> Iterator for Sections<'a> {
     fn next(&mut self) -> Option<SectionRef<'a>> {
         match self.sections.next() {
             Some((id, section)) => Some(SectionRef {
+                alloc: section.alloc,
                 buffer: self.buffer,
                 copies: self.copies,
                 id,
-                section,
+                header: section.header,
+                meta: section.meta,
+                items: section.items,
+                held: section.held,
             }),
             None => None,
         }

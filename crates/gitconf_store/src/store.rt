@@ -14,22 +14,21 @@ mod values_at;
 mod views;
 
 use crate::events::ItemEvents;
-use crate::held::Held;
 use crate::load::Loading;
 use crate::print::{front_is_ended, write_sections};
-use crate::section::{Section, SectionRef, Sections, shared};
+use crate::section::{SectionRef, Sections, shared};
 use crate::store::views::last_passing;
 use crate::{set_raw_value, tokens};
 use bstr::BString;
 use gitconf_base::meta::Metadata;
-use gitconf_body::entry::set_value;
+use gitconf_body::entry::{check_set_value, set_value};
 use gitconf_body::section::section_with;
 use gitconf_parse::error::Error;
 use gitconf_parse::events::{Events, check_len, copied_with_room, keeps_meaning};
 use gitconf_parse::items::Item;
 use gitconf_parse::loading::read_sections;
 use gitconf_parse::sink::{Sink, SinkFault};
-use gitconf_table::table::SectionTable;
+use gitconf_sections::sections::SectionList;
 use gitconf_text::NoMemory;
 use gitconf_text::line_end::LineEnd;
 use gitconf_text::parse::section::ValueNameError;
@@ -49,7 +48,7 @@ pub struct Store {
     copies: Vec<u8>,
     front: Vec<Item>,
     meta: Rc<Metadata>,
-    sections: SectionTable<Section>,
+    sections: SectionList,
 }
 
 impl Model for Store {
@@ -111,7 +110,7 @@ impl Store {
             copies: Vec::new(alloc),
             front: Vec::new(alloc),
             meta,
-            sections: SectionTable::new(alloc),
+            sections: SectionList::new(alloc),
         }
     }
 
@@ -438,8 +437,12 @@ impl Store {
         ensures used { IfSome (slice_get self.old.sections at) (λ s. UsedGrows result (set_bytes (file_line_end self.old) key.now value.now s.items) self.old.used self.new.used) }
     {
         let line_end = self.line_end();
-        let section = self.sections.at_mut(at);
-        set_value(&mut self.buffer, &mut section.items, line_end, key, value)
+        let section = self.sections.at(at);
+        check_set_value(&self.buffer, section.items, line_end, key, value)?;
+        let mut items = self.sections.take_items(at)?;
+        let set = set_value(&mut self.buffer, &mut *items, line_end, key, value);
+        self.sections.put_items(at, items);
+        set
     }
 
     /// Makes a section with the value, behind all others.
@@ -474,14 +477,14 @@ impl Store {
             key,
             value,
         )?;
-        let section = Section {
-            header: section.header,
-            meta: shared(&self.meta)?,
-            items: section.items,
-            held: Held::none(),
-        };
-        self.sections
-            .push(section_name.as_bytes(), subsection_name, section)?;
+        let meta = shared(&self.meta)?;
+        self.sections.push(
+            section_name.as_bytes(),
+            subsection_name,
+            section.header,
+            meta,
+            section.items,
+        )?;
         Ok(())
     }
 

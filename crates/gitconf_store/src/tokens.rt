@@ -24,7 +24,7 @@ pub(crate) fn file_line_end(buffer: &[u8], front: &[Item], sections: Sections<'_
         return found;
     }
     for section in sections {
-        if let Some(found) = first_line_end(section.buffer, &section.section.items) {
+        if let Some(found) = first_line_end(section.buffer, section.items) {
             return found;
         }
     }
@@ -36,7 +36,7 @@ pub(crate) fn are_void(sections: Sections<'_>) -> bool
     ensures { result ≡ are_void (sections_left sections.entry) }
 {
     for section in sections {
-        if !section.section.items.is_empty() {
+        if !section.items.is_empty() {
             return false;
         }
     }
@@ -59,7 +59,7 @@ pub(crate) fn value_count(sections: Sections<'_>) -> usize
 {
     let mut count: usize = 0;
     for section in sections {
-        count = count.saturating_add(entry_count(&section.section.items));
+        count = count.saturating_add(entry_count(section.items));
     }
     count
 }

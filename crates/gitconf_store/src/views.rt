@@ -12,11 +12,12 @@ ghost use Rattle.gitconf_store.specs.Viewed.{IsHeaderViewed, IsHeaderViewed-prop
 ghost use Rattle.std.proofs.Math.Bool.{Bool-set};
 
 use crate::lookup::last_entry;
-use crate::section::{Section, SectionRef};
+use crate::section::SectionRef;
 use crate::tokens::entry_count;
 use crate::values::{entry_meaning, entry_value};
 use bstr::BString;
 use gitconf_parse::entry::Entry;
+use gitconf_parse::event::Header;
 use gitconf_parse::events::subsection_name;
 use gitconf_parse::items::Item;
 use gitconf_text::NoMemory;
@@ -89,10 +90,11 @@ fn contains_key(buffer: &[u8], items: &[Item], key: &[u8]) -> bool
 /// A view of a section's header.
 #[derive(Clone, Copy)]
 pub struct HeaderRef<'a> {
+    alloc: Global,
     buffer: &'a [u8],
     copies: &'a [u8],
-    section: &'a Section,
-    ghost viewed: { IsHeaderViewed buffer.now copies.now section.now.header } by { IsHeaderViewed-prop buffer.now copies.now section.now.header },
+    header: &'a Header,
+    ghost viewed: { IsHeaderViewed buffer.now copies.now header.now } by { IsHeaderViewed-prop buffer.now copies.now header.now },
 }
 
 impl<'a> HeaderRef<'a> {
@@ -106,7 +108,7 @@ impl<'a> HeaderRef<'a> {
     pub fn is_legacy(&self) -> bool
         ensures { result ≡ is_dotted (shown_header self.now) }
     {
-        let header = &self.section.header;
+        let header = self.header;
         match (header.separator, header.subsection) {
             (Some(separator), Some(_)) => separator.bytes_in(self.buffer) == b".".as_slice(),
             _ => false,
@@ -117,14 +119,14 @@ impl<'a> HeaderRef<'a> {
     pub fn name(&self) -> &'a [u8]
         ensures { result.now ≡ name_of (shown_header self.now) }
     {
-        self.section.header.name.bytes_in(self.buffer)
+        self.header.name.bytes_in(self.buffer)
     }
 
     /// The subsection that it says, if there is one: without quotes and backslashes, and in lower case behind a dot.
     pub fn subsection_name(&self) -> Option<&'a [u8]>
         ensures { option_copied result ≡ subsection_of (shown_header self.now) }
     {
-        subsection_name(self.buffer, self.copies, &self.section.header)
+        subsection_name(self.buffer, self.copies, self.header)
     }
 
     /// The header as it is spelled, with its brackets. Takes memory for the text as it grows.
@@ -135,8 +137,8 @@ impl<'a> HeaderRef<'a> {
     pub fn to_bstring(&self) -> Result<BString, NoMemory>
         ensures { IfOk result (λ text. bstring_bytes text ≡ spelled_header (shown_header self.now)) }
     {
-        let mut text = Vec::new(*self.section.items.allocator());
-        match write_header(&mut text, self.buffer, &self.section.header) {
+        let mut text = Vec::new(self.alloc);
+        match write_header(&mut text, self.buffer, self.header) {
             Ok(()) => Ok(BString::new(text)),
             Err(_) => Err(NoMemory),
         }
@@ -146,9 +148,10 @@ impl<'a> HeaderRef<'a> {
 /// A view of a section's body. Its look-ups see the entries of this body alone.
 #[derive(Clone, Copy)]
 pub struct BodyRef<'a> {
+    alloc: Global,
     buffer: &'a [u8],
-    section: &'a Section,
-    ghost viewed: { list_all is_item (items_of buffer.now section.now.items.items) ≡ true } by { Bool-set _ _ },
+    items: &'a [Item],
+    ghost viewed: { list_all is_item (items_of buffer.now items.now) ≡ true } by { Bool-set _ _ },
 }
 
 impl<'a> BodyRef<'a> {
@@ -184,11 +187,10 @@ impl<'a> BodyRef<'a> {
     pub fn value_implicit(&self, value_name: &str) -> Result<Option<Option<BString>>, NoMemory>
         ensures { IsFoundImplicit result (implicit_value_in value_name.now (entries_of (shown_body self.now))) }
     {
-        let items = &self.section.items;
-        let Some(entry) = last_entry(self.buffer, items, value_name.as_bytes()) else {
+        let Some(entry) = last_entry(self.buffer, self.items, value_name.as_bytes()) else {
             return Ok(None);
         };
-        let value = entry_value(*items.allocator(), self.buffer, entry)?;
+        let value = entry_value(self.alloc, self.buffer, entry)?;
         Ok(Some(value))
     }
 
@@ -201,13 +203,7 @@ impl<'a> BodyRef<'a> {
     pub fn values(&self, value_name: &str) -> Result<Vec<BString>, NoMemory>
         ensures { AreFound result (values_in value_name.now (entries_of (shown_body self.now))) }
     {
-        let items = &self.section.items;
-        meanings(
-            *items.allocator(),
-            self.buffer,
-            items,
-            value_name.as_bytes(),
-        )
+        meanings(self.alloc, self.buffer, self.items, value_name.as_bytes())
     }
 
     /// The names of the entries in order, as they are spelled, each as often as it stands. Takes no memory.
@@ -216,7 +212,7 @@ impl<'a> BodyRef<'a> {
     {
         ValueNames {
             buffer: self.buffer,
-            items: &self.section.items,
+            items: self.items,
         }
     }
 
@@ -224,21 +220,21 @@ impl<'a> BodyRef<'a> {
     pub fn contains_value_name(&self, value_name: &str) -> bool
         ensures { result ≡ has_key value_name.now (entries_of (shown_body self.now)) }
     {
-        contains_key(self.buffer, &self.section.items, value_name.as_bytes())
+        contains_key(self.buffer, self.items, value_name.as_bytes())
     }
 
     /// How many entries there are. One pass, which takes no memory.
     pub fn num_values(&self) -> usize
         ensures { result ≡ length (entries_of (shown_body self.now)) }
     {
-        entry_count(&self.section.items)
+        entry_count(self.items)
     }
 
     /// Whether nothing stands in the body, no blank either.
     pub fn is_void(&self) -> bool
         ensures { result ≡ is_empty_body (shown_body self.now) }
     {
-        self.section.items.is_empty()
+        self.items.is_empty()
     }
 }
 
@@ -255,9 +251,9 @@ impl<'a> IntoIterator for BodyRef<'a> {
 
     fn into_iter(self) -> BodyRefIter<'a> {
         BodyRefIter {
-            alloc: *self.section.items.allocator(),
+            alloc: self.alloc,
             buffer: self.buffer,
-            items: &self.section.items,
+            items: self.items,
         }
     }
 }
@@ -353,9 +349,10 @@ impl<'a> SectionRef<'a> {
         ensures { shown_header result ≡ (shown self.now).header }
     {
         HeaderRef {
+            alloc: self.alloc,
             buffer: self.buffer,
             copies: self.copies,
-            section: self.section,
+            header: self.header,
         }
     }
 
@@ -364,8 +361,9 @@ impl<'a> SectionRef<'a> {
         ensures { shown_body result ≡ (shown self.now).items }
     {
         BodyRef {
+            alloc: self.alloc,
             buffer: self.buffer,
-            section: self.section,
+            items: self.items,
         }
     }
 

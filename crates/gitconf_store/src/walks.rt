@@ -1,20 +1,21 @@
 //! Walks over the sections of a store.
-ghost use Rattle.gitconf_table.specs.SectionIters as table;
+ghost use Rattle.gitconf_sections.specs.Walks as walks;
 ghost use Rattle.gitconf_store.specs.Viewed.{AreViewed, AreViewed-prop};
 
 use crate::events::ItemEvents;
 use crate::lookup::passes;
-use crate::section::{Section, SectionRef, Sections};
+use crate::section::{SectionRef, Sections};
 use gitconf_base::meta::Metadata;
-use gitconf_table::table::{Named, SectionId, WithName};
+use gitconf_sections::sections::walks::{Named, WithName};
+use gitconf_table::table::SectionId;
 
 /// The sections of a name and subsection in file order, from either end.
 #[derive(Drop)]
 pub(crate) struct SectionsNamed<'a, 'n, 's> {
     pub(crate) buffer: &'a [u8],
     pub(crate) copies: &'a [u8],
-    pub(crate) sections: Named<'a, 'n, 's, Section>,
-    ghost viewed: { AreViewed buffer.now copies.now (table.named_left sections) } by { AreViewed-prop buffer.now copies.now (table.named_left sections) },
+    pub(crate) sections: Named<'a, 'n, 's>,
+    ghost viewed: { AreViewed buffer.now copies.now (walks.named_left sections) } by { AreViewed-prop buffer.now copies.now (walks.named_left sections) },
 }
 
 impl<'a> Iterator for SectionsNamed<'a, '_, '_> {
@@ -31,10 +32,14 @@ impl<'a> Iterator for SectionsNamed<'a, '_, '_> {
     fn next(&mut self) -> Option<SectionRef<'a>> {
         match self.sections.next() {
             Some((id, section)) => Some(SectionRef {
+                alloc: section.alloc,
                 buffer: self.buffer,
                 copies: self.copies,
                 id,
-                section,
+                header: section.header,
+                meta: section.meta,
+                items: section.items,
+                held: section.held,
             }),
             None => None,
         }
@@ -51,10 +56,14 @@ impl<'a> DoubleEndedIterator for SectionsNamed<'a, '_, '_> {
     fn next_back(&mut self) -> Option<SectionRef<'a>> {
         match self.sections.next_back() {
             Some((id, section)) => Some(SectionRef {
+                alloc: section.alloc,
                 buffer: self.buffer,
                 copies: self.copies,
                 id,
-                section,
+                header: section.header,
+                meta: section.meta,
+                items: section.items,
+                held: section.held,
             }),
             None => None,
         }
@@ -67,8 +76,8 @@ impl<'a> DoubleEndedIterator for SectionsNamed<'a, '_, '_> {
 pub struct SectionsByName<'a, 'n> {
     pub(crate) buffer: &'a [u8],
     pub(crate) copies: &'a [u8],
-    pub(crate) sections: WithName<'a, 'n, Section>,
-    ghost viewed: { AreViewed buffer.now copies.now (table.with_name_left sections) } by { AreViewed-prop buffer.now copies.now (table.with_name_left sections) },
+    pub(crate) sections: WithName<'a, 'n>,
+    ghost viewed: { AreViewed buffer.now copies.now (walks.with_name_left sections) } by { AreViewed-prop buffer.now copies.now (walks.with_name_left sections) },
 }
 
 impl<'a> Iterator for SectionsByName<'a, '_> {
@@ -85,10 +94,14 @@ impl<'a> Iterator for SectionsByName<'a, '_> {
     fn next(&mut self) -> Option<SectionRef<'a>> {
         match self.sections.next() {
             Some((id, section)) => Some(SectionRef {
+                alloc: section.alloc,
                 buffer: self.buffer,
                 copies: self.copies,
                 id,
-                section,
+                header: section.header,
+                meta: section.meta,
+                items: section.items,
+                held: section.held,
             }),
             None => None,
         }

@@ -24,7 +24,7 @@ pub(crate) fn deciding_entry<'a>(
     ensures { option_map (λ e. document_entry (entry_of section.now.buffer.now e.now)) result
         ≡ deciding_entry deciding key.now (shown section.now) }
 {
-    let entry = last_entry(section.buffer, &section.section.items, key)?;
+    let entry = last_entry(section.buffer, section.items, key)?;
     match deciding {
         Deciding::Value if matches!(entry.assigned(), AssignedRef::Nothing) => None,
         _ => Some(entry),
@@ -40,7 +40,7 @@ pub(crate) fn push_entries<'a>(
     ensures ok { OnOk result (map place_of found.new.items ≡ map place_of found.old.items ++ places_in key.now (shown section.now)) }
     ensures err { OnErr result (places_in key.now (shown section.now) ≢ []) }
 {
-    let mut rest: &'a [Item] = &section.section.items;
+    let mut rest = section.items;
     while let Some((item, behind)) = rest.split_first() {
         if let Item::Entry(entry) = item {
             if is_same_name(key, entry.name().bytes_in(section.buffer)) {

@@ -22,10 +22,14 @@ pub(crate) fn same_view<'a>(section: &SectionRef<'a>) -> SectionRef<'a>
     ensures { result ≡ section.now }
 {
     SectionRef {
+        alloc: section.alloc,
         buffer: section.buffer,
         copies: section.copies,
         id: section.id,
-        section: section.section,
+        header: section.header,
+        meta: section.meta,
+        items: section.items,
+        held: section.held,
     }
 }
 

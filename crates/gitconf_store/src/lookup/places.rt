@@ -24,7 +24,7 @@ use std::alloc::Global;
 fn last_place_in(section: &SectionRef<'_>, key: &[u8]) -> Option<(SectionId, usize)>
     ensures { result ≡ last_or None (value_places key.now (shown section.now)) }
 {
-    match last_place(section.buffer, &section.section.items, key) {
+    match last_place(section.buffer, section.items, key) {
         Some(place) => Some((section.id, place)),
         None => None,
     }
@@ -39,7 +39,7 @@ fn push_places(
     ensures ok { OnOk result (found.new.items ≡ found.old.items ++ value_places key.now (shown section.now)) }
     ensures err { OnErr result (value_places key.now (shown section.now) ≢ []) }
 {
-    let items: &[Item] = &section.section.items;
+    let items = section.items;
     let mut rest = items;
     while let Some((item, behind)) = rest.split_first() {
         if is_entry_of(section.buffer, item, key) {

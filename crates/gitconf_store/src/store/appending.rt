@@ -5,9 +5,10 @@ ghost use Rattle.gitconf_state.specs.Edit.{with_used};
 ghost use Rattle.gitconf_state.specs.Edits.{Number, PushSection, answer, apply};
 
 use crate::detached;
-use crate::moving::{copies_before, move_section, put_last};
+use crate::moving::{copies_before, move_list, put_last};
 use crate::store::Store;
 use gitconf_body::buffer::{append, check_room};
+use gitconf_parse::moving::moved_header;
 use gitconf_table::table::SectionId;
 use gitconf_text::parse::span;
 
@@ -51,14 +52,23 @@ impl Store {
             buffer,
             copies,
             id: _,
-            mut section,
+            section,
         } = section;
         check_room(&self.buffer, buffer.len())?;
         let by = self.buffer.len() as u32;
         let copies_by = copies_before(&self.copies, &copies)?;
         append(&mut self.buffer, &buffer)?;
         self.copies.extend_from_slice(&copies)?;
-        move_section(&mut section, by, copies_by);
-        put_last(&self.buffer, &self.copies, &mut self.sections, section)
+        let header = moved_header(section.header, by, copies_by);
+        let mut items = section.items;
+        move_list(&mut items, by);
+        put_last(
+            &self.buffer,
+            &self.copies,
+            &mut self.sections,
+            header,
+            section.meta,
+            items,
+        )
     }
 }

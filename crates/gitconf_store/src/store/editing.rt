@@ -47,15 +47,11 @@ impl Store {
         let Some(at) = self.sections.position(id) else {
             return Ok(());
         };
-        let section = self.sections.at_mut(at);
-        push::push(
-            &mut self.buffer,
-            &mut section.items,
-            editor,
-            key,
-            value,
-            comment,
-        )
+        push::check_push(&self.buffer, editor, key, value, comment)?;
+        let mut items = self.sections.take_items(at)?;
+        let pushed = push::push(&mut self.buffer, &mut *items, editor, key, value, comment);
+        self.sections.put_items(at, items);
+        pushed
     }
 
     /// Pushes the editor's line end behind the items of the section of a number, also where it is switched off behind lines. All else stays
@@ -76,8 +72,11 @@ impl Store {
         let Some(at) = self.sections.position(id) else {
             return Ok(());
         };
-        let section = self.sections.at_mut(at);
-        push::push_newline(&mut self.buffer, &mut section.items, editor)
+        push::check_newline(&self.buffer, editor)?;
+        let mut items = self.sections.take_items(at)?;
+        let pushed = push::push_newline(&mut self.buffer, &mut *items, editor);
+        self.sections.put_items(at, items);
+        pushed
     }
 
     /// Gives the last entry of a key in the section of a number another value: what stands behind `=` is replaced, and `=` is put in where
@@ -110,8 +109,12 @@ impl Store {
         let Some(at) = self.sections.position(id) else {
             return Ok(None);
         };
-        let section = self.sections.at_mut(at);
-        set::set(&mut self.buffer, &mut section.items, editor, key, value)
+        let section = self.sections.at(at);
+        set::check_set(&self.buffer, section.items, editor, key, value)?;
+        let mut items = self.sections.take_items(at)?;
+        let set = set::set(&mut self.buffer, &mut *items, editor, key, value);
+        self.sections.put_items(at, items);
+        set
     }
 
     /// Takes out the last entry of a key in the section of a number, with the blanks directly before it and the line ends directly behind
@@ -135,8 +138,14 @@ impl Store {
         let Some(at) = self.sections.position(id) else {
             return Ok(None);
         };
-        let section = self.sections.at_mut(at);
-        take_out::remove(&self.buffer, &mut section.items, key)
+        let section = self.sections.at(at);
+        if !take_out::has_entry(&self.buffer, section.items, key) {
+            return Ok(None);
+        }
+        let mut items = self.sections.take_items(at)?;
+        let removed = take_out::remove(&self.buffer, &mut *items, key);
+        self.sections.put_items(at, items);
+        removed
     }
 
     /// Takes out the last entry of the section of a number, whatever its key, with the blanks directly before it and all that stands behind
@@ -161,7 +170,14 @@ impl Store {
         let Some(at) = self.sections.position(id) else {
             return Ok(None);
         };
-        let section = self.sections.at_mut(at);
-        take_out::pop(&self.buffer, &mut section.items)
+        let section = self.sections.at(at);
+        if !take_out::has_entries(section.items) {
+            self.sections.clear(at);
+            return Ok(None);
+        }
+        let mut items = self.sections.take_items(at)?;
+        let popped = take_out::pop(&self.buffer, &mut *items);
+        self.sections.put_items(at, items);
+        popped
     }
 }

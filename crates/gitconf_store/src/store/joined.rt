@@ -7,24 +7,22 @@ ghost use Rattle.gitconf_state.specs.Edits.{Append, apply};
 ghost use Rattle.gitconf_store.specs.Appends.{appended_bytes, last_items, line_between, IsLineAt};
 
 use crate::joining::{parts_lines, put_behind};
-use crate::moving::{copies_before, move_sections};
-use crate::section::Section;
+use crate::moving::{copies_before, move_list, move_sections};
 use crate::store::Store;
 use gitconf_body::buffer::{append, check_room};
 use gitconf_parse::event::Span;
 use gitconf_parse::items::Item;
-use gitconf_parse::moving::move_items;
-use gitconf_table::table::SectionTable;
+use gitconf_sections::sections::SectionList;
 use gitconf_text::parse::span;
 
 /// The items that others are put behind: what is held behind the last section, or the front where there is none.
-fn last_items<'a>(front: &'a [Item], sections: &'a SectionTable<Section>) -> &'a [Item]
+fn last_items<'a>(front: &'a [Item], sections: &'a SectionList) -> &'a [Item]
     ensures { result.now ≡ last_items front.now sections.now.entries }
 {
     if sections.is_empty() {
         front
     } else {
-        sections.at(sections.len() - 1).held.as_slice()
+        sections.at(sections.len() - 1).held
     }
 }
 
@@ -129,7 +127,7 @@ impl Store {
             &buffer,
             &copies,
         )?;
-        move_items(&mut front, by);
+        move_list(&mut front, by);
         move_sections(&mut sections, by, copies_by);
         put_behind(&mut self.front, &mut self.sections, line, front, sections)
     }

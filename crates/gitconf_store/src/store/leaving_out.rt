@@ -1,9 +1,9 @@
 //! Items at several places of a section that go at once.
 ghost use Rattle.std.specs.Prelude.{◌≡◌, ◌≤◌, ◌++◌, ◌∷◌, [], length, drop};
-ghost use Rattle.gitconf_store.specs.LeavingOut.{is_next, without_all, AreIn, Ascend};
+ghost use Rattle.gitconf_sections.specs.LeavingOut.{Ascend};
+ghost use Rattle.gitconf_store.specs.LeavingOut.{AreIn};
 
 use crate::store::Store;
-use gitconf_parse::items::Item;
 use gitconf_table::table::SectionId;
 
 /// How many places stand before the last run: those in the section of the last one, each of which stands before the next one.
@@ -24,37 +24,8 @@ pub(crate) fn before_run(before: &[(SectionId, usize)], id: SectionId, last: usi
     rest.len()
 }
 
-/// Whether the next item to go stands at a place.
-fn is_at(places: &[(SectionId, usize)], at: usize) -> bool
-    ensures { result ≡ is_next at places.now }
-{
-    match places.first() {
-        Some(place) => place.1 == at,
-        None => false,
-    }
-}
-
-/// Takes out the items at places. One walk over the items, with at most one swap for each that stays. Takes no memory.
-fn leave_out(items: &mut Vec<Item>, places: &[(SectionId, usize)])
-    requires { Ascend 0 places.now }
-    ensures { items.new.items ≡ without_all places.now items.old.items }
-{
-    let mut left = places;
-    let mut kept = 0;
-    for at in 0..items.len() {
-        if is_at(left, at) {
-            left = left.split_at(1).1;
-        } else {
-            items.swap(at, kept);
-            kept += 1;
-        }
-    }
-    items.truncate(kept);
-}
-
 impl Store {
     ghost use Rattle.std.specs.Prelude.{◌≡◌};
-    ghost use Rattle.gitconf_store.specs.LeavingOut.{AreIn, Ascend};
     ghost use Rattle.gitconf_store.specs.Several.{all_deleted};
 
     /// Deletes the items at places of the section of a number. The section is found in constant time, and walked over once.
@@ -68,7 +39,6 @@ impl Store {
         let Some(at) = self.sections.position(id) else {
             return;
         };
-        let section = self.sections.at_mut(at);
-        leave_out(&mut section.items, places);
+        self.sections.leave_out(at, places);
     }
 }

@@ -1,6 +1,5 @@
 //! Sections that are made.
-use crate::held::Held;
-use crate::section::{Section, shared};
+use crate::section::shared;
 use crate::store::Store;
 use gitconf_body::blanks::Blanks;
 use gitconf_body::section;
@@ -59,15 +58,14 @@ impl Store {
             name.as_bytes(),
             subsection_name,
         )?;
-        let section = Section {
-            header: section.header,
-            meta: shared(&self.meta)?,
-            items: section.items,
-            held: Held::none(),
-        };
-        let id = self
-            .sections
-            .push(name.as_bytes(), subsection_name, section)?;
+        let meta = shared(&self.meta)?;
+        let id = self.sections.push(
+            name.as_bytes(),
+            subsection_name,
+            section.header,
+            meta,
+            section.items,
+        )?;
         Ok(id)
     }
 

@@ -26,10 +26,14 @@ impl Store {
         prove!(self.sections.next_id() == self.sections.next_id());
         match self.sections.get(id) {
             Some(section) => Some(SectionRef {
+                alloc: section.alloc,
                 buffer: &self.buffer,
                 copies: &self.copies,
                 id,
-                section,
+                header: section.header,
+                meta: section.meta,
+                items: section.items,
+                held: section.held,
             }),
             None => None,
         }
@@ -39,7 +43,7 @@ impl Store {
     fn take_out(&mut self, id: SectionId)
         ensures { self.new ≡ apply (RemoveNumbered id) self.old }
     {
-        drop(self.sections.remove(id));
+        self.sections.remove(id);
     }
 
     /// Takes out the section of a number, and hands it out with a buffer of its own; `None` where there is none. What is held behind it is

@@ -29,9 +29,8 @@ impl Store {
         };
         let alloc = *self.buffer.allocator();
         let section = self.sections.at(at);
-        let meta = trusted(alloc, &section.meta, trust)?;
-        let section = self.sections.at_mut(at);
-        section.meta = meta;
+        let meta = trusted(alloc, section.meta, trust)?;
+        self.sections.set_meta(at, meta);
         Ok(())
     }
 }

@@ -31,11 +31,10 @@ impl SectionRef<'_> {
     pub fn meaning_at(&self, place: usize) -> Result<Option<BString>, NoMemory>
         ensures { IsFound bstring_bytes result (meaning_at place (shown self.now).items) }
     {
-        let section = self.section;
-        let Some(Item::Entry(entry)) = section.items.get(place) else {
+        let Some(Item::Entry(entry)) = self.items.get(place) else {
             return Ok(None);
         };
-        let text = entry_meaning(*section.items.allocator(), self.buffer, entry)?;
+        let text = entry_meaning(self.alloc, self.buffer, entry)?;
         Ok(Some(text))
     }
 }
@@ -180,16 +179,19 @@ impl Store {
         let Some(at) = self.sections.position(id) else {
             return Ok(());
         };
-        let section = self.sections.at_mut(at);
-        value_at::write_at(
+        value_at::check_write(&self.buffer, editor, key, value)?;
+        let mut items = self.sections.take_items(at)?;
+        let written = value_at::write_at(
             &mut self.buffer,
-            &mut section.items,
+            &mut *items,
             editor,
             place,
             in_place_of,
             key,
             value,
-        )
+        );
+        self.sections.put_items(at, items);
+        written
     }
 
     /// As [`Store::write_entry_at`], with the blanks around `=` that the section has: those around its first one; none where it has
@@ -218,15 +220,19 @@ impl Store {
         let Some(at) = self.sections.position(id) else {
             return Ok(());
         };
-        let section = self.sections.at_mut(at);
-        value_at::rewrite_at(
+        let section = self.sections.at(at);
+        value_at::check_rewrite(&self.buffer, section.items, key, value)?;
+        let mut items = self.sections.take_items(at)?;
+        let written = value_at::rewrite_at(
             &mut self.buffer,
-            &mut section.items,
+            &mut *items,
             place,
             in_place_of,
             key,
             value,
-        )
+        );
+        self.sections.put_items(at, items);
+        written
     }
 
     /// Deletes the item at a place among those of the section of a number, which is counted in items from the first one, 0. All else
@@ -235,11 +241,6 @@ impl Store {
     pub fn delete_entry_at(&mut self, id: SectionId, place: usize)
         ensures { self.new ≡ apply (DeleteAt id place) self.old }
     {
-        prove!(self.sections.next_id() == self.sections.next_id());
-        let Some(at) = self.sections.position(id) else {
-            return;
-        };
-        let section = self.sections.at_mut(at);
-        value_at::delete_at(&mut section.items, place);
+        self.delete_run(id, &[(id, place)]);
     }
 }

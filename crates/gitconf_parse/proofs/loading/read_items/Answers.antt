@@ -25,10 +25,10 @@ pub loop-at-preserved : goal.loop-at-preserved
 loop-at-preserved g c = record {
   inside = c.in_ok-at-2.ensures.inside;
   headed = c.in_ok-at-2.ensures.headed;
-  read = more_stretch _ _ _ _ _ _ _ _ _ _ _ c.in_ok-header.header c.loop-at.invariant.read c.in_ok-header.ensures.read c.in_ok-at-2.ensures.read (rw c.in_ok-items.ensures.moved at c.in_ok-take.ensures.tokens);
+  read = more_stretch _ _ _ _ _ _ _ _ _ _ _ c.in_ok-header.header c.loop-at.invariant.read c.in_ok-header.ensures.read c.in_ok-at-2.ensures.read c.in_ok-take.ensures.tokens;
   front = c.loop-at.invariant.front;
   keeps = λ first k. c.in_ok-take.ensures.keeps first (c.loop-at.invariant.keeps first k);
-  scratch = c.in_ok-items.ensures.empty;
+  scratch = c.in_ok-take.ensures.taken;
 }
 
 pub returns-clause-found : goal.returns-clause-found

@@ -6,4 +6,4 @@ use Rattle.gitconf_parse.proofs.moving.move_items.Given as goal
 
 -- those before the place are moved
 abbrev pub invariant-loop-at : goal.invariant-loop-at
-invariant-loop-at l = AreChanged (IsMoved item_of ItemFits l.by) l.at l.initial.items.items l.items.items
+invariant-loop-at l = AreChanged (IsMoved item_of ItemFits l.by) l.at l.initial.items l.items

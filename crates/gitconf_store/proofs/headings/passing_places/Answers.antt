@@ -1,8 +1,8 @@
 use Rattle.std.proofs.Common.{rules, ◌≡◌, ◌&&◌, ℕ, Bool, true, false, [], ◌∷◌, ◌++◌, length, refl, ap, sym, append-nil, ◌∙◌}
 use Rattle.std.specs.Option.{option_copied}
 use Rattle.gitconf_table.specs.Sections.{SectionEntry, is_named}
-use Rattle.gitconf_table.specs.SectionIters.{named_left}
-use Rattle.gitconf_store.specs.declared.section.Section.{Section}
+use Rattle.gitconf_sections.specs.Walks.{named_left}
+use Rattle.gitconf_sections.specs.Section.{Section, viewed}
 use Rattle.gitconf_store.proofs.PassingPlaces.{begun, both_pass, first_fails, none_told, pass_by, passes_any, place_found, put_by, reached, second_fails, told_by, told_put}
 use Rattle.gitconf_store.proofs.headings.passing_places.Goals as goal
 
@@ -27,7 +27,7 @@ loop-found-preserved-in-Continue-1 g c =
     let es = c.args.table.now.entries in
     let inv = c.loop-found.invariant.2 in
     let places = c.loop-found.places.items in
-    let it : ℕ × Section = (c.in-Some.found.0, c.in-Some.found.1.now) in
+    let it : ℕ × Section = (c.in-Some.found.0, viewed c.in-Some.found.1) in
     let is : named_left c.loop-found.left ≡ it ∷ named_left c.next.new.self = search rules in
     let r = reached named es c.loop-found.invariant.0 c.loop-found.invariant.1 places it.0 it.1 (named_left c.next.new.self) inv.so_far (sym inv.left ∙ is) in
     let place = place_found c.args.table.now named r.before r.later r.found places it.0 inv.once r.number r.so_far in
@@ -60,7 +60,7 @@ returns-in_err-put_place-clause-refused g c = λ keeps h.
     let es = c.args.table.now.entries in
     let inv = c.loop-found.invariant.2 in
     let places = c.loop-found.places.items in
-    let it : ℕ × Section = (c.in-Some.found.0, c.in-Some.found.1.now) in
+    let it : ℕ × Section = (c.in-Some.found.0, viewed c.in-Some.found.1) in
     let is : named_left c.loop-found.left ≡ it ∷ named_left c.next.new.self = search rules in
     let r = reached named es c.loop-found.invariant.0 c.loop-found.invariant.1 places it.0 it.1 (named_left c.next.new.self) inv.so_far (sym inv.left ∙ is) in
     let told = inv.told keeps h in
@@ -76,7 +76,7 @@ loop-found-preserved g c =
     let es = c.args.table.now.entries in
     let inv = c.loop-found.invariant.2 in
     let places = c.loop-found.places.items in
-    let it : ℕ × Section = (c.in-Some.found.0, c.in-Some.found.1.now) in
+    let it : ℕ × Section = (c.in-Some.found.0, viewed c.in-Some.found.1) in
     let is : named_left c.loop-found.left ≡ it ∷ named_left c.next.new.self = search rules in
     let r = reached named es c.loop-found.invariant.0 c.loop-found.invariant.1 places it.0 it.1 (named_left c.next.new.self) inv.so_far (sym inv.left ∙ is) in (
       r.before ++ r.found ∷ [],

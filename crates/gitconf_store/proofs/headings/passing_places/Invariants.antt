@@ -3,8 +3,8 @@ use Rattle.std.specs.Fn.{ComputesKey}
 use Rattle.std.specs.Option.{option_copied}
 use Rattle.gitconf_base.specs.Metadata.{Meta}
 use Rattle.gitconf_table.specs.Sections.{SectionEntry, is_named, IsNumbered}
-use Rattle.gitconf_table.specs.SectionIters.{named_left}
-use Rattle.gitconf_store.specs.declared.section.Section.{Section}
+use Rattle.gitconf_sections.specs.Walks.{named_left}
+use Rattle.gitconf_sections.specs.Section.{Section}
 use Rattle.gitconf_store.specs.Renamings.{marked_places}
 use Rattle.gitconf_store.proofs.PassingPlaces.{IsWalked, walked}
 use Rattle.gitconf_store.proofs.headings.passing_places.Given as goal

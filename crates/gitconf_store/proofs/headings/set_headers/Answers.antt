@@ -1,7 +1,6 @@
 use Rattle.std.proofs.Common.{rules, ◌≡◌, ◌∷◌, length, ap, refl, ◌∙◌}
-use Rattle.gitconf_table.proofs.SectionLemmas.{section_edited}
 use Rattle.gitconf_table.proofs.RenamingLemmas.{first_within}
-use Rattle.gitconf_store.specs.declared.section.Section.{Section}
+use Rattle.gitconf_sections.specs.Section.{Section}
 use Rattle.gitconf_store.proofs.Renaming.{edited_length, header_step}
 use Rattle.gitconf_store.proofs.headings.set_headers.Goals as goal
 
@@ -11,8 +10,7 @@ loop-at-preserved c =
     let at = c.in-Some.at.now in
     let first : c.loop-at.rest.now ≡ at ∷ c.in-Some.behind.now = search rules in
     let put : Section → Section = λ s. record s { header = c.args.header } in
-    let s = c.at_mut-section.result.now in
-    let edited = section_edited put table at s (put s) c.at_mut-section.ensures.value refl in
+    let edited = c.set_header.ensures in
     record {
       headed = header_step c.args.header c.loop-at.rest.now c.in-Some.behind.now at table _ first edited ∙ c.loop-at.invariant.headed;
       within = (first_within (length c.args.table.now.entries) at c.loop-at.rest.now c.in-Some.behind.now first c.loop-at.invariant.within).1;

@@ -10,7 +10,7 @@ loop-section-preserved c = record {
   counted = λ fits.
       let s = c.in-Some.section in
       let is : sections_left c.loop-section.section-iterator ≡ shown s ∷ sections_left c.next.new.self = search rules in
-      section_counted (shown s) (sections_left c.loop-section.section-iterator) (sections_left c.next.new.self) s.buffer.now s.section.now.items.items c.deref.result.now
+      section_counted (shown s) (sections_left c.loop-section.section-iterator) (sections_left c.next.new.self) s.buffer.now s.items.now s.items.now
       c.loop-section.count c.entry_count.result c.saturating_add-count.result _
-      refl is c.deref.ensures.value c.entry_count.ensures c.saturating_add-count.ensures (c.loop-section.invariant.counted fits) fits;
+      refl is refl c.entry_count.ensures c.saturating_add-count.ensures (c.loop-section.invariant.counted fits) fits;
 }

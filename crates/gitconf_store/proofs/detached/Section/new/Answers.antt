@@ -13,4 +13,4 @@ invariant_of-result c =
     let valid : is_valid_or_none (option_map bstring_bytes c.args.subsection) ≡ true = search rules in
     let made : header_of c.put_header.new.buffer.items c.in_ok-header.header ≡ made_header c.args.name.now (option_map bstring_bytes c.args.subsection) = search rules in
     made_stands c.put_header.new.buffer.items c.put_header.new.copies.items _ c.args.name.now (option_map bstring_bytes c.args.subsection) c.put_header.ensures.grows.room made
-    c.in_ok-header.ensures.shown c.new.ensures.items c.none.ensures named valid
+    c.in_ok-header.ensures.shown c.new.ensures.items named valid

@@ -6,17 +6,17 @@ use Rattle.gitconf_state.specs.State.{is_item}
 use Rattle.gitconf_parse.specs.Items.{items_of}
 use Rattle.gitconf_body.proofs.Buffers.{same_extended}
 use Rattle.gitconf_store.specs.declared.section.Section.{Section}
-use Rattle.gitconf_store.proofs.AloneEdits.{edited_alone, kept_alone, stands_still}
+use Rattle.gitconf_store.proofs.AloneEdits.{HasOwn, edited_alone, kept_alone, stands_still}
 use Rattle.gitconf_store.proofs.PoppedKeys.{key_named}
-use Rattle.gitconf_store.proofs.Setting.{HasOthers, on_ok, on_err, either_way}
+use Rattle.gitconf_store.proofs.Setting.{on_ok, on_err, either_way}
 use Rattle.gitconf_store.proofs.detached.Section.pop_entry.Goals as goal
 
 pub returns-clause-ok : goal.returns-clause-ok
 returns-clause-ok c =
     let b = c.self.inside.buffer.items in
     let s = c.self.inside.section in
-    let t : Section = record { header = s.header; meta = s.meta; items = c.pop.new.items; held = s.held } in
-    let others : HasOthers (length b) s t = record { header = refl; meta = refl; held = refl; within = c.pop.ensures.within (length b) c.self.invariant.within } in
+    let t : Section = record { header = s.header; meta = s.meta; items = c.pop.new.items } in
+    let others : HasOwn (length b) s t = record { header = refl; meta = refl; within = c.pop.ensures.within (length b) c.self.invariant.within } in
     let ok = subst (λ buffer. OnOk c.pop.result (items_of buffer c.pop.new.items.items ≡ popped (items_of buffer s.items.items)))
     c.deref.ensures.value c.pop.ensures.ok in
     rw (← c.self.view_is) (on_ok c.pop.result
@@ -26,8 +26,8 @@ pub returns-clause-err : goal.returns-clause-err
 returns-clause-err c =
     let b = c.self.inside.buffer.items in
     let s = c.self.inside.section in
-    let t : Section = record { header = s.header; meta = s.meta; items = c.pop.new.items; held = s.held } in
-    let others : HasOthers (length b) s t = record { header = refl; meta = refl; held = refl; within = c.pop.ensures.within (length b) c.self.invariant.within } in
+    let t : Section = record { header = s.header; meta = s.meta; items = c.pop.new.items } in
+    let others : HasOwn (length b) s t = record { header = refl; meta = refl; within = c.pop.ensures.within (length b) c.self.invariant.within } in
     rw (← c.self.view_is) (on_err c.pop.result
     (λ kept i. record { section = kept_alone b b c.self.inside.copies.items c.self.inside.id s t (same_extended b b refl) others c.self.invariant kept i; used = length b }) c.pop.ensures.err)
 
@@ -49,8 +49,8 @@ pub invariant_of-self : goal.invariant_of-self
 invariant_of-self c =
     let b = c.self.inside.buffer.items in
     let s = c.self.inside.section in
-    let t : Section = record { header = s.header; meta = s.meta; items = c.pop.new.items; held = s.held } in
-    let others : HasOthers (length b) s t = record { header = refl; meta = refl; held = refl; within = c.pop.ensures.within (length b) c.self.invariant.within } in
+    let t : Section = record { header = s.header; meta = s.meta; items = c.pop.new.items } in
+    let others : HasOwn (length b) s t = record { header = refl; meta = refl; within = c.pop.ensures.within (length b) c.self.invariant.within } in
     let ok = subst (λ buffer. OnOk c.pop.result (items_of buffer c.pop.new.items.items ≡ popped (items_of buffer s.items.items)))
     c.deref.ensures.value c.pop.ensures.ok in
     stands_still b b c.self.inside.copies.items s t (popped) (same_extended b b refl) c.self.invariant.room others c.self.invariant

@@ -6,9 +6,9 @@ use Rattle.gitconf_state.proofs.EditorItems.{pushed_is}
 use Rattle.gitconf_parse.specs.Items.{items_of}
 use Rattle.gitconf_store.specs.declared.section.Section.{Section}
 use Rattle.gitconf_store.specs.Editors.{given_editor}
-use Rattle.gitconf_store.proofs.AloneEdits.{edited_alone, kept_alone, stands_still}
+use Rattle.gitconf_store.proofs.AloneEdits.{HasOwn, edited_alone, kept_alone, stands_still}
 use Rattle.gitconf_store.proofs.Editing.{given_fits, given_same}
-use Rattle.gitconf_store.proofs.Setting.{HasOthers, on_ok, on_err, either_way}
+use Rattle.gitconf_store.proofs.Setting.{on_ok, on_err, either_way}
 use Rattle.gitconf_store.proofs.detached.Section.push_entry.Goals as goal
 
 pub push-requires-clause-fits : goal.push-requires-clause-fits
@@ -18,9 +18,9 @@ pub returns-clause-ok : goal.returns-clause-ok
 returns-clause-ok c =
     let b = c.self.inside.buffer.items in
     let s = c.self.inside.section in
-    let t : Section = record { header = s.header; meta = s.meta; items = c.push.new.items; held = s.held } in
+    let t : Section = record { header = s.header; meta = s.meta; items = c.push.new.items } in
     let new = c.push.new.buffer.items in
-    let others : HasOthers (length new) s t = record { header = refl; meta = refl; held = refl; within = c.push.ensures.within } in
+    let others : HasOwn (length new) s t = record { header = refl; meta = refl; within = c.push.ensures.within } in
     let ok = subst (λ e. OnOk c.push.result (items_of new c.push.new.items.items ≡ pushed e c.args.key.now (option_copied c.args.value) (option_copied c.args.comment) (items_of b s.items.items)))
     (given_same b c.args.editor.now c.requires.given) c.push.ensures.ok in
     rw (← c.self.view_is) (on_ok c.push.result (λ set. edited_alone b new c.self.inside.copies.items c.self.inside.id s t (pushed (given_editor c.args.editor.now) c.args.key.now (option_copied c.args.value) (option_copied c.args.comment)) c.push.ensures.grows.extended others c.self.invariant set) ok)
@@ -29,9 +29,9 @@ pub returns-clause-err : goal.returns-clause-err
 returns-clause-err c =
     let b = c.self.inside.buffer.items in
     let s = c.self.inside.section in
-    let t : Section = record { header = s.header; meta = s.meta; items = c.push.new.items; held = s.held } in
+    let t : Section = record { header = s.header; meta = s.meta; items = c.push.new.items } in
     let new = c.push.new.buffer.items in
-    let others : HasOthers (length new) s t = record { header = refl; meta = refl; held = refl; within = c.push.ensures.within } in
+    let others : HasOwn (length new) s t = record { header = refl; meta = refl; within = c.push.ensures.within } in
     rw (← c.self.view_is) (on_err c.push.result (λ kept. kept_alone b new c.self.inside.copies.items c.self.inside.id s t c.push.ensures.grows.extended others c.self.invariant kept) c.push.ensures.err)
 
 pub returns-clause-used : goal.returns-clause-used
@@ -42,9 +42,9 @@ pub invariant_of-self : goal.invariant_of-self
 invariant_of-self c =
     let b = c.self.inside.buffer.items in
     let s = c.self.inside.section in
-    let t : Section = record { header = s.header; meta = s.meta; items = c.push.new.items; held = s.held } in
+    let t : Section = record { header = s.header; meta = s.meta; items = c.push.new.items } in
     let new = c.push.new.buffer.items in
-    let others : HasOthers (length new) s t = record { header = refl; meta = refl; held = refl; within = c.push.ensures.within } in
+    let others : HasOwn (length new) s t = record { header = refl; meta = refl; within = c.push.ensures.within } in
     let ok = subst (λ e. OnOk c.push.result (items_of new c.push.new.items.items ≡ pushed e c.args.key.now (option_copied c.args.value) (option_copied c.args.comment) (items_of b s.items.items)))
     (given_same b c.args.editor.now c.requires.given) c.push.ensures.ok in
     stands_still b new c.self.inside.copies.items s t (pushed (given_editor c.args.editor.now) c.args.key.now (option_copied c.args.value) (option_copied c.args.comment)) c.push.ensures.grows.extended c.push.ensures.grows.room others c.self.invariant

@@ -9,16 +9,16 @@ use Rattle.gitconf_parse.specs.Items.{items_of}
 use Rattle.gitconf_body.proofs.Buffers.{same_extended}
 use Rattle.gitconf_store.specs.declared.section.Section.{Section}
 use Rattle.gitconf_store.specs.Alone.{detached_of, with_items}
-use Rattle.gitconf_store.proofs.AloneEdits.{edited_alone, kept_alone, stands_still}
-use Rattle.gitconf_store.proofs.Setting.{HasOthers, on_ok, on_err, either_way}
+use Rattle.gitconf_store.proofs.AloneEdits.{HasOwn, edited_alone, kept_alone, stands_still}
+use Rattle.gitconf_store.proofs.Setting.{on_ok, on_err, either_way}
 use Rattle.gitconf_store.proofs.detached.Section.remove_entry.Goals as goal
 
 pub returns-clause-ok : goal.returns-clause-ok
 returns-clause-ok c =
     let b = c.self.inside.buffer.items in
     let s = c.self.inside.section in
-    let t : Section = record { header = s.header; meta = s.meta; items = c.remove.new.items; held = s.held } in
-    let others : HasOthers (length b) s t = record { header = refl; meta = refl; held = refl; within = c.remove.ensures.within (length b) c.self.invariant.within } in
+    let t : Section = record { header = s.header; meta = s.meta; items = c.remove.new.items } in
+    let others : HasOwn (length b) s t = record { header = refl; meta = refl; within = c.remove.ensures.within (length b) c.self.invariant.within } in
     let ok = subst (λ buffer. OnOk c.remove.result (items_of buffer c.remove.new.items.items ≡ removed c.args.key.now (items_of buffer s.items.items)))
     c.deref.ensures.value c.remove.ensures.ok in
     subst (λ (d : Detached). OnOk c.remove.result (detached_of b c.self.inside.id t ≡ record { section = with_items (removed c.args.key.now) d.section; used = d.used })) c.self.view_is (on_ok c.remove.result
@@ -28,8 +28,8 @@ pub returns-clause-err : goal.returns-clause-err
 returns-clause-err c =
     let b = c.self.inside.buffer.items in
     let s = c.self.inside.section in
-    let t : Section = record { header = s.header; meta = s.meta; items = c.remove.new.items; held = s.held } in
-    let others : HasOthers (length b) s t = record { header = refl; meta = refl; held = refl; within = c.remove.ensures.within (length b) c.self.invariant.within } in
+    let t : Section = record { header = s.header; meta = s.meta; items = c.remove.new.items } in
+    let others : HasOwn (length b) s t = record { header = refl; meta = refl; within = c.remove.ensures.within (length b) c.self.invariant.within } in
     rw (← c.self.view_is) (on_err c.remove.result
     (λ kept i. record { section = kept_alone b b c.self.inside.copies.items c.self.inside.id s t (same_extended b b refl) others c.self.invariant kept i; used = length b }) c.remove.ensures.err)
 
@@ -45,8 +45,8 @@ pub invariant_of-self : goal.invariant_of-self
 invariant_of-self c =
     let b = c.self.inside.buffer.items in
     let s = c.self.inside.section in
-    let t : Section = record { header = s.header; meta = s.meta; items = c.remove.new.items; held = s.held } in
-    let others : HasOthers (length b) s t = record { header = refl; meta = refl; held = refl; within = c.remove.ensures.within (length b) c.self.invariant.within } in
+    let t : Section = record { header = s.header; meta = s.meta; items = c.remove.new.items } in
+    let others : HasOwn (length b) s t = record { header = refl; meta = refl; within = c.remove.ensures.within (length b) c.self.invariant.within } in
     let ok = subst (λ buffer. OnOk c.remove.result (items_of buffer c.remove.new.items.items ≡ removed c.args.key.now (items_of buffer s.items.items)))
     c.deref.ensures.value c.remove.ensures.ok in
     stands_still b b c.self.inside.copies.items s t (removed c.args.key.now) (same_extended b b refl) c.self.invariant.room others c.self.invariant

@@ -4,8 +4,8 @@ use Rattle.gitconf_text.specs.Names.{is_made_name, is_valid_or_none}
 use Rattle.gitconf_parse.specs.Events.{header_of}
 use Rattle.gitconf_state.specs.Edit.{made_header}
 use Rattle.gitconf_state.specs.Edits.{renamed, Detached}
-use Rattle.gitconf_store.proofs.AloneEdits.{kept_alone, longer_stands, renamed_alone, renamed_stands}
-use Rattle.gitconf_store.proofs.Setting.{HasOthers, if_err_at_all}
+use Rattle.gitconf_store.proofs.AloneEdits.{HasOwn, kept_alone, longer_stands, renamed_alone, renamed_stands}
+use Rattle.gitconf_store.proofs.Setting.{if_err_at_all}
 use Rattle.gitconf_body.proofs.Buffers.{extended_fit}
 use Rattle.gitconf_store.proofs.detached.Section.rename.Goals as goal
 
@@ -20,7 +20,7 @@ returns-in_err-self-inside-clause-err c =
     let new = c.put_header.new.buffer.items in
     let s = c.self.inside.section in
     let x = c.put_header.ensures.grows.extended in
-    let others : HasOthers (length new) s s = record { header = refl; meta = refl; held = refl; within = extended_fit b new s.items.items x c.self.invariant.within } in
+    let others : HasOwn (length new) s s = record { header = refl; meta = refl; within = extended_fit b new s.items.items x c.self.invariant.within } in
     if_err_at_all _ (kept_alone b new c.self.inside.copies.items c.self.inside.id s s x others c.self.invariant refl ∙ ap (λ (d : Detached). d.section) c.self.view_is)
 
 pub invariant_of-self-2 : goal.invariant_of-self-2

@@ -5,12 +5,12 @@ use Rattle.gitconf_state.specs.Edits.{Detached}
 use Rattle.gitconf_state.proofs.EditorItems.{value_set_is}
 use Rattle.gitconf_parse.specs.Items.{items_of}
 use Rattle.gitconf_store.specs.declared.section.Section.{Section}
-use Rattle.gitconf_store.specs.Alone.{with_items}
+use Rattle.gitconf_store.specs.Alone.{whole, with_items}
 use Rattle.gitconf_store.specs.Editors.{given_editor}
 use Rattle.gitconf_store.specs.Store.{section_under}
-use Rattle.gitconf_store.proofs.AloneEdits.{edited_alone, kept_alone, stands_still}
+use Rattle.gitconf_store.proofs.AloneEdits.{HasOwn, edited_alone, kept_alone, stands_still}
 use Rattle.gitconf_store.proofs.Editing.{given_fits, given_same}
-use Rattle.gitconf_store.proofs.Setting.{HasOthers, on_ok, on_err, either_way}
+use Rattle.gitconf_store.proofs.Setting.{on_ok, on_err, either_way}
 use Rattle.gitconf_store.proofs.detached.Section.set_entry.Goals as goal
 
 pub set-requires-clause-fits : goal.set-requires-clause-fits
@@ -20,21 +20,21 @@ pub returns-clause-ok : goal.returns-clause-ok
 returns-clause-ok c =
     let b = c.self.inside.buffer.items in
     let s = c.self.inside.section in
-    let t : Section = record { header = s.header; meta = s.meta; items = c.set.new.items; held = s.held } in
+    let t : Section = record { header = s.header; meta = s.meta; items = c.set.new.items } in
     let new = c.set.new.buffer.items in
-    let others : HasOthers (length new) s t = record { header = refl; meta = refl; held = refl; within = c.set.ensures.within } in
+    let others : HasOwn (length new) s t = record { header = refl; meta = refl; within = c.set.ensures.within } in
     let ok = subst (λ e. OnOk c.set.result (items_of new c.set.new.items.items ≡ value_set e c.args.key.now c.args.value.now (items_of b s.items.items)))
     (given_same b c.args.editor.now c.requires.given) c.set.ensures.ok in
-    subst (λ (d : Detached). OnOk c.set.result (section_under new c.self.inside.id t ≡ with_items (value_set (given_editor c.args.editor.now) c.args.key.now c.args.value.now) d.section)) c.self.view_is
+    subst (λ (d : Detached). OnOk c.set.result (section_under new c.self.inside.id (whole t) ≡ with_items (value_set (given_editor c.args.editor.now) c.args.key.now c.args.value.now) d.section)) c.self.view_is
     (on_ok c.set.result (λ set. edited_alone b new c.self.inside.copies.items c.self.inside.id s t (value_set (given_editor c.args.editor.now) c.args.key.now c.args.value.now) c.set.ensures.grows.extended others c.self.invariant set) ok)
 
 pub returns-clause-err : goal.returns-clause-err
 returns-clause-err c =
     let b = c.self.inside.buffer.items in
     let s = c.self.inside.section in
-    let t : Section = record { header = s.header; meta = s.meta; items = c.set.new.items; held = s.held } in
+    let t : Section = record { header = s.header; meta = s.meta; items = c.set.new.items } in
     let new = c.set.new.buffer.items in
-    let others : HasOthers (length new) s t = record { header = refl; meta = refl; held = refl; within = c.set.ensures.within } in
+    let others : HasOwn (length new) s t = record { header = refl; meta = refl; within = c.set.ensures.within } in
     rw (← c.self.view_is) (on_err c.set.result (λ kept. kept_alone b new c.self.inside.copies.items c.self.inside.id s t c.set.ensures.grows.extended others c.self.invariant kept) c.set.ensures.err)
 
 pub returns-clause-used : goal.returns-clause-used
@@ -48,9 +48,9 @@ pub invariant_of-self : goal.invariant_of-self
 invariant_of-self c =
     let b = c.self.inside.buffer.items in
     let s = c.self.inside.section in
-    let t : Section = record { header = s.header; meta = s.meta; items = c.set.new.items; held = s.held } in
+    let t : Section = record { header = s.header; meta = s.meta; items = c.set.new.items } in
     let new = c.set.new.buffer.items in
-    let others : HasOthers (length new) s t = record { header = refl; meta = refl; held = refl; within = c.set.ensures.within } in
+    let others : HasOwn (length new) s t = record { header = refl; meta = refl; within = c.set.ensures.within } in
     let ok = subst (λ e. OnOk c.set.result (items_of new c.set.new.items.items ≡ value_set e c.args.key.now c.args.value.now (items_of b s.items.items)))
     (given_same b c.args.editor.now c.requires.given) c.set.ensures.ok in
     stands_still b new c.self.inside.copies.items s t (value_set (given_editor c.args.editor.now) c.args.key.now c.args.value.now) c.set.ensures.grows.extended c.set.ensures.grows.room others c.self.invariant

@@ -10,13 +10,13 @@ use Rattle.gitconf_store.proofs.lookup.places.last_place_in.Goals as goal
 pub returns-in-Some : goal.returns-in-Some
 returns-in-Some c =
     let b = c.args.section.now.buffer.now in
-    let is = c.args.section.now.section.now.items.items in
+    let is = c.args.section.now.items.now in
     let l : IsLastAt (λ i. is_entry_of c.args.key.now (item_of b i)) is c.in-Some.place = search rules in
     sym (placed_last b c.args.key.now is c.in-Some.place (shown c.args.section.now) refl l)
 
 pub returns-in-None : goal.returns-in-None
 returns-in-None c =
     let b = c.args.section.now.buffer.now in
-    let is = c.args.section.now.section.now.items.items in
+    let is = c.args.section.now.items.now in
     let none : list_any (λ i. is_entry_of c.args.key.now (item_of b i)) is ≡ false = search rules in
     sym (placed_none b c.args.key.now is (shown c.args.section.now) refl none)

@@ -15,8 +15,7 @@ loop-item-init c =
     let all = value_places c.args.key.now (shown s) in (
       0,
       omega arith,
-      subst (λ (is : List Item). IsTaken c.args.found.now.items c.args.found.now.items (placed_from c.args.key.now s.id 0 (items_of s.buffer.now is)) all) (sym c.deref-items.ensures.value)
-          (taken_none c.args.found.now.items all),
+      taken_none c.args.found.now.items all,
     )
 
 pub returns-in_err-put-clause-err : goal.returns-in_err-put-clause-err
@@ -37,7 +36,7 @@ loop-item-preserved-in_ok-put c =
     let b = s.buffer.now in
     let key = c.args.key.now in
     let i = c.loop-item.invariant in
-    let items = c.deref-items.result.now in
+    let items = s.items.now in
     let found = c.loop-item.found.items in
     let is : c.loop-item.rest.now ≡ c.in-Some.item.now ∷ c.in-Some.behind.now = search rules in
     let count = ap (λ (is : List Item). length is) is in

@@ -1,7 +1,5 @@
-use Rattle.std.proofs.Common.{ap, sym, subst, ◌∙◌}
+use Rattle.std.proofs.Common.{sym, subst}
 use Rattle.gitconf_parse.specs.Sink.{Writes}
-use Rattle.gitconf_parse.specs.Items.{items_of}
-use Rattle.gitconf_write.specs.Texts.{section_text}
 use Rattle.gitconf_write.proofs.Printed.{printed_section-is}
 use Rattle.gitconf_store.specs.Views.{shown}
 use Rattle.gitconf_store.proofs.section.SectionRef.write_to.Goals as goal
@@ -10,5 +8,5 @@ pub returns-clause-written : goal.returns-clause-written
 returns-clause-written g c =
     let s = shown c.args.self.now in
     subst (λ t. Writes c.write_section.result t (g.W.Sink.told c.args.out.now) (g.W.Sink.told c.write_section.new.out))
-    (ap (λ is. section_text s.header (items_of c.args.self.now.buffer.now is)) c.deref.ensures.value ∙ sym (printed_section-is s))
+    (sym (printed_section-is s))
     c.write_section.ensures.written

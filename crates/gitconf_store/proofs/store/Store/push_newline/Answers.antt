@@ -1,4 +1,4 @@
-use Rattle.std.proofs.Common.{rules, ◌≡◌, Some, None, refl, sym, ap, length}
+use Rattle.std.proofs.Common.{rules, ◌≡◌, Some, None, refl, sym, ap, length, ◌∙◌, subst, arith, ◌<◌, ◌≤◌, ◌+◌, ◌^◌}
 use Rattle.gitconf_table.specs.Sections.{place_of}
 use Rattle.gitconf_table.proofs.SectionLemmas.{number_at-place}
 use Rattle.gitconf_state.specs.Edit.{with_used}
@@ -6,16 +6,21 @@ use Rattle.gitconf_state.specs.Editors.{line_end_pushed}
 use Rattle.gitconf_state.specs.Edits.{PushLineEnd}
 use Rattle.gitconf_state.proofs.EditsKeep.{apply_items}
 use Rattle.gitconf_text.specs.LineEnds.{bytes_of_line_end}
-use Rattle.gitconf_store.specs.declared.section.Section.{Section}
-use Rattle.gitconf_store.specs.Editors.{given_editor}
-use Rattle.gitconf_store.specs.Store.{state_of}
-use Rattle.gitconf_store.proofs.Editing.{items_within_at, missing_stays, numbered_kept, numbered_view, puts_at, puts_none}
+use Rattle.gitconf_sections.specs.Section.{Section, with_items, viewed}
+use Rattle.gitconf_sections.proofs.Edits.{is_taken, taken_within}
+use Rattle.gitconf_store.specs.Editors.{given_editor, PutsIn}
+use Rattle.gitconf_store.specs.Store.{state_of, StoreFits}
+use Rattle.gitconf_store.proofs.Editing.{items_within_at, missing_stays, numbered_kept, numbered_view, puts_at, puts_none, never_missing, numbered_items_at, puts_same, used_memory, used_refused}
 use Rattle.gitconf_store.proofs.Setting.{HasOthers, kept_view, on_ok, on_err, either_way}
+use Rattle.std.specs.Prelude.{IsErrOf}
+use Rattle.gitconf_store.specs.Edits.{UsedGrows}
+use Rattle.gitconf_parse.specs.Items.{items_of}
 use Rattle.gitconf_store.proofs.store.Store.push_newline.Goals as goal
 
-pub push_newline-requires-clause-within : goal.push_newline-requires-clause-within
-push_newline-requires-clause-within c =
-    items_within_at c.self.inside.buffer.items c.self.inside.copies.items c.at_mut-section.result.now c.self.inside.sections.entries c.in-Some.at c.self.invariant.sections_within c.at_mut-section.ensures.value
+pub push_newline-pushed-requires-clause-within : goal.push_newline-pushed-requires-clause-within
+push_newline-pushed-requires-clause-within c =
+    let l = is_taken c.self.inside.sections c.take_items.new.self c.in-Some.at c.deref_mut.result.now.items (c.in_ok-items.ensures.items ∙ ap (λ v. Some v.items) (sym c.deref_mut.ensures.value)) c.in_ok-items.ensures.ok in
+    items_within_at c.self.inside.buffer.items c.self.inside.copies.items (with_items c.deref_mut.result.now.items l.kept) c.self.inside.sections.entries c.in-Some.at c.self.invariant.sections_within l.here
 
 pub returns-in_default-clause-ok : goal.returns-in_default-clause-ok
 returns-in_default-clause-ok c =
@@ -31,56 +36,93 @@ returns-in_default-clause-used c =
 
 pub returns-clause-ok : goal.returns-clause-ok
 returns-clause-ok c =
+    let l = is_taken c.self.inside.sections c.take_items.new.self c.in-Some.at c.deref_mut.result.now.items (c.in_ok-items.ensures.items ∙ ap (λ v. Some v.items) (sym c.deref_mut.ensures.value)) c.in_ok-items.ensures.ok in
+    let back = l.back c.put_items.new.self c.push_newline-pushed.new.items.items c.put_items.ensures in
+    let whole = ap (state_of c.push_newline-pushed.new.buffer.items c.self.inside.front.items c.self.inside.meta.value) back in
     let b = c.self.inside.buffer.items in
-    let new = c.push_newline.new.buffer.items in
-    let s = c.at_mut-section.result.now in
-    let t : Section = record { header = s.header; meta = s.meta; items = c.push_newline.new.items; held = s.held } in
-    let here = c.at_mut-section.ensures.value in
+    let new = c.push_newline-pushed.new.buffer.items in
+    let s = (with_items c.deref_mut.result.now.items l.kept) in
+    let t : Section = with_items c.push_newline-pushed.new.items.items l.kept in
+    let here = l.here in
     let place : place_of c.args.id c.self.inside.sections ≡ Some c.in-Some.at = search rules in
     let number = number_at-place c.args.id c.self.inside.sections c.in-Some.at place in
-    let others : HasOthers (length new) s t = record { header = refl; meta = refl; held = refl; within = c.push_newline.ensures.within } in
-    let ok = c.push_newline.ensures.ok in
-    rw (← c.self.view_is) (on_ok c.push_newline.result
-    (λ set. numbered_view b new c.self.inside.copies.items c.self.inside.front.items c.self.inside.meta.value c.self.inside.sections c.args.id c.in-Some.at s t
+    let others : HasOthers (length new) s t = record { header = refl; meta = refl; held = refl; within = c.push_newline-pushed.ensures.within } in
+    let ok = c.push_newline-pushed.ensures.ok in
+    rw (← c.self.view_is) (on_ok c.push_newline-pushed.result
+    (λ set. whole ∙ numbered_view b new c.self.inside.copies.items c.self.inside.front.items c.self.inside.meta.value c.self.inside.sections c.args.id c.in-Some.at s t
     (line_end_pushed (given_editor c.args.editor.now))
-    c.push_newline.ensures.grows.extended others c.self.invariant.front_within c.self.invariant.sections_within c.next_id.ensures.numbered.once here number set) ok)
+    c.push_newline-pushed.ensures.grows.extended others c.self.invariant.front_within c.self.invariant.sections_within c.next_id.ensures.numbered.once here number set) ok)
 
 pub returns-clause-err : goal.returns-clause-err
 returns-clause-err c =
+    let l = is_taken c.self.inside.sections c.take_items.new.self c.in-Some.at c.deref_mut.result.now.items (c.in_ok-items.ensures.items ∙ ap (λ v. Some v.items) (sym c.deref_mut.ensures.value)) c.in_ok-items.ensures.ok in
+    let back = l.back c.put_items.new.self c.push_newline-pushed.new.items.items c.put_items.ensures in
+    let whole = ap (state_of c.push_newline-pushed.new.buffer.items c.self.inside.front.items c.self.inside.meta.value) back in
     let b = c.self.inside.buffer.items in
-    let new = c.push_newline.new.buffer.items in
-    let s = c.at_mut-section.result.now in
-    let t : Section = record { header = s.header; meta = s.meta; items = c.push_newline.new.items; held = s.held } in
-    let here = c.at_mut-section.ensures.value in
-    let others : HasOthers (length new) s t = record { header = refl; meta = refl; held = refl; within = c.push_newline.ensures.within } in
-    rw (← c.self.view_is) (on_err c.push_newline.result
-    (λ kept. kept_view b new c.self.inside.copies.items c.self.inside.front.items c.self.inside.meta.value c.self.inside.sections c.in-Some.at s t
-    c.push_newline.ensures.grows.extended others c.self.invariant.front_within c.self.invariant.sections_within here kept) c.push_newline.ensures.err)
+    let new = c.push_newline-pushed.new.buffer.items in
+    let s = (with_items c.deref_mut.result.now.items l.kept) in
+    let t : Section = with_items c.push_newline-pushed.new.items.items l.kept in
+    let here = l.here in
+    let others : HasOthers (length new) s t = record { header = refl; meta = refl; held = refl; within = c.push_newline-pushed.ensures.within } in
+    rw (← c.self.view_is) (on_err c.push_newline-pushed.result
+    (λ kept. whole ∙ kept_view b new c.self.inside.copies.items c.self.inside.front.items c.self.inside.meta.value c.self.inside.sections c.in-Some.at s t
+    c.push_newline-pushed.ensures.grows.extended others c.self.invariant.front_within c.self.invariant.sections_within here kept) c.push_newline-pushed.ensures.err)
 
 pub returns-clause-used : goal.returns-clause-used
 returns-clause-used c =
+    let l = is_taken c.self.inside.sections c.take_items.new.self c.in-Some.at c.deref_mut.result.now.items (c.in_ok-items.ensures.items ∙ ap (λ v. Some v.items) (sym c.deref_mut.ensures.value)) c.in_ok-items.ensures.ok in
     let b = c.self.inside.buffer.items in
-    let here = c.at_mut-section.ensures.value in
+    let here = l.here in
     let place : place_of c.args.id c.self.inside.sections ≡ Some c.in-Some.at = search rules in
     let number = number_at-place c.args.id c.self.inside.sections c.in-Some.at place in
-    rw (← c.self.view_is) (puts_at b c.self.inside.front.items c.self.inside.meta.value c.self.inside.sections c.args.id c.in-Some.at c.at_mut-section.result.now c.push_newline.result
+    rw (← c.self.view_is) (puts_at b c.self.inside.front.items c.self.inside.meta.value c.self.inside.sections c.args.id c.in-Some.at (with_items c.deref_mut.result.now.items l.kept) c.push_newline-pushed.result
     (length (bytes_of_line_end c.args.editor.now.line_end)) _ c.next_id.ensures.numbered.once here number
-    (record { grown = c.push_newline.ensures.grows.grown; too_large = c.push_newline.ensures.grows.too_large; refused = c.push_newline.ensures.refused; known = c.push_newline.ensures.grows.known }))
+    (record { grown = c.push_newline-pushed.ensures.grows.grown; too_large = c.push_newline-pushed.ensures.grows.too_large; refused = c.push_newline-pushed.ensures.refused; known = c.push_newline-pushed.ensures.grows.known }))
+
+pub invariant_of-self-2 : goal.invariant_of-self-2
+invariant_of-self-2 c =
+    let l = is_taken c.self.inside.sections c.take_items.new.self c.in-Some.at c.deref_mut.result.now.items (c.in_ok-items.ensures.items ∙ ap (λ v. Some v.items) (sym c.deref_mut.ensures.value)) c.in_ok-items.ensures.ok in
+    let back = l.back c.put_items.new.self c.push_newline-pushed.new.items.items c.put_items.ensures in
+    let b = c.self.inside.buffer.items in
+    let new = c.push_newline-pushed.new.buffer.items in
+    let s = (with_items c.deref_mut.result.now.items l.kept) in
+    let t : Section = with_items c.push_newline-pushed.new.items.items l.kept in
+    let here = l.here in
+    let place : place_of c.args.id c.self.inside.sections ≡ Some c.in-Some.at = search rules in
+    let number = number_at-place c.args.id c.self.inside.sections c.in-Some.at place in
+    let others : HasOthers (length new) s t = record { header = refl; meta = refl; held = refl; within = c.push_newline-pushed.ensures.within } in
+    let ok = c.push_newline-pushed.ensures.ok in
+    subst (StoreFits c.push_newline-pushed.new.buffer.items c.self.inside.copies.items c.self.inside.front.items c.self.inside.meta.value) (sym back) (numbered_kept b new c.self.inside.copies.items c.self.inside.front.items c.self.inside.meta.value c.self.inside.sections c.args.id c.in-Some.at s t
+    (line_end_pushed (given_editor c.args.editor.now))
+    c.push_newline-pushed.ensures.grows.extended c.push_newline-pushed.ensures.grows.room others c.self.invariant c.next_id.ensures.numbered.once here number
+    (apply_items (PushLineEnd c.args.id (given_editor c.args.editor.now))
+    (state_of b c.self.inside.front.items c.self.inside.meta.value c.self.inside.sections) c.requires.editor c.self.invariant.items)
+    (either_way c.push_newline-pushed.result ok c.push_newline-pushed.ensures.err))
 
 pub invariant_of-self : goal.invariant_of-self
 invariant_of-self c =
+    let same : c.take_items.new.self ≡ c.self.inside.sections = search rules in
+    subst (StoreFits c.self.inside.buffer.items c.self.inside.copies.items c.self.inside.front.items c.self.inside.meta.value) (sym same) c.self.invariant
+
+pub put_items-requires : goal.put_items-requires
+put_items-requires c =
+    let within : c.in-Some.at < length c.self.inside.sections.entries = search rules in
+    taken_within c.self.inside.sections c.take_items.new.self c.in-Some.at c.in_ok-items.ensures.ok within
+
+pub returns-in_err-check_newline-clause-used : goal.returns-in_err-check_newline-clause-used
+returns-in_err-check_newline-clause-used c =
     let b = c.self.inside.buffer.items in
-    let new = c.push_newline.new.buffer.items in
-    let s = c.at_mut-section.result.now in
-    let t : Section = record { header = s.header; meta = s.meta; items = c.push_newline.new.items; held = s.held } in
-    let here = c.at_mut-section.ensures.value in
-    let place : place_of c.args.id c.self.inside.sections ≡ Some c.in-Some.at = search rules in
-    let number = number_at-place c.args.id c.self.inside.sections c.in-Some.at place in
-    let others : HasOthers (length new) s t = record { header = refl; meta = refl; held = refl; within = c.push_newline.ensures.within } in
-    let ok = c.push_newline.ensures.ok in
-    numbered_kept b new c.self.inside.copies.items c.self.inside.front.items c.self.inside.meta.value c.self.inside.sections c.args.id c.in-Some.at s t
-    (line_end_pushed (given_editor c.args.editor.now))
-    c.push_newline.ensures.grows.extended c.push_newline.ensures.grows.room others c.self.invariant c.next_id.ensures.numbered.once here number
-    (apply_items (PushLineEnd c.args.id (given_editor c.args.editor.now))
-    (state_of b c.self.inside.front.items c.self.inside.meta.value c.self.inside.sections) c.requires.editor c.self.invariant.items)
-    (either_way c.push_newline.result ok c.push_newline.ensures.err)
+    let state = state_of c.self.inside.buffer.items c.self.inside.front.items c.self.inside.meta.value c.self.inside.sections in
+    let three : IsErrOf c.from_residual.result 3 = search rules in
+    let due : 2 ^ 32 ≤ length b + length (bytes_of_line_end c.args.editor.now.line_end) = search rules in
+    rw (← c.self.view_is) (puts_same c.args.id c.from_residual.result _ state (used_refused c.from_residual.result _ (length b) three due))
+
+pub returns-in_err-items-clause-used : goal.returns-in_err-items-clause-used
+returns-in_err-items-clause-used c =
+    let b = c.self.inside.buffer.items in
+    let state = state_of c.self.inside.buffer.items c.self.inside.front.items c.self.inside.meta.value c.self.inside.sections in
+    let same : c.take_items.new.self ≡ c.self.inside.sections = search rules in
+    let memory : IsErrOf c.from_residual-in_err-items.result 27 = search rules in
+    let fits : 2 ^ 32 ≤ length b + length (bytes_of_line_end c.args.editor.now.line_end) → ⊥ = λ due. absurd (let no = subst (λ r. IsErrOf r 3) c.in_ok-check_newline.was (c.check_newline.ensures.too_large.1 (subst (λ x. 2 ^ 32 ≤ length x + length (bytes_of_line_end c.args.editor.now.line_end)) (sym c.deref.ensures.value) due)) in cc) in
+    rw (← c.self.view_is) (subst (λ t. PutsIn c.args.id c.from_residual-in_err-items.result (length (bytes_of_line_end c.args.editor.now.line_end)) state (state_of b c.self.inside.front.items c.self.inside.meta.value t)) (sym same)
+    (puts_same c.args.id c.from_residual-in_err-items.result (length (bytes_of_line_end c.args.editor.now.line_end)) state (used_memory c.from_residual-in_err-items.result _ (length b) memory fits)))

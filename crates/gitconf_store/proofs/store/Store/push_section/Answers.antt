@@ -1,9 +1,11 @@
-use Rattle.std.proofs.Common.{rules, ◌≡◌, ◌-◌, [], ◌++◌, length, ap, sym, subst, ◌∙◌, arith, append-nil, length-append}
+use Rattle.std.proofs.Common.{rules, ◌≡◌, ◌-◌, [], refl, ◌++◌, length, ap, sym, subst, ◌∙◌, arith, append-nil, length-append}
 use Rattle.gitconf_state.specs.Edit.{with_used}
 use Rattle.gitconf_state.specs.Edits.{with_last}
-use Rattle.gitconf_store.specs.Moves.{IsSectionMoved}
+use Rattle.gitconf_sections.specs.Moves.{IsSectionMoved}
+use Rattle.gitconf_sections.specs.Section.{made}
+use Rattle.gitconf_store.specs.Alone.{whole}
 use Rattle.gitconf_store.specs.Store.{state_of}
-use Rattle.gitconf_store.proofs.Appending.{items_up, none_there, ok_or_err, pushed_fits, pushed_state, shown_there, two_ok, within_there}
+use Rattle.gitconf_store.proofs.Appending.{items_up, nothing_moved, ok_or_err, pushed_fits, pushed_state, shown_there, two_ok, within_there}
 use Rattle.gitconf_store.proofs.Loading.{sections_fit_more}
 use Rattle.gitconf_store.proofs.Making.{longer_fits, longer_state}
 use Rattle.gitconf_store.proofs.Setting.{if_err_at_all, on_err, sections_fit_in}
@@ -35,8 +37,8 @@ returns-in_err-extend_from_slice-clause-err c =
     rw (← c.self.view_is) (if_err_at_all c.from_residual-in_err-extend_from_slice.result
     (longer_state b new copies inside.front.items inside.meta.value inside.sections c.append.ensures.grows.extended c.self.invariant))
 
-pub move_section-requires-clause-items : goal.move_section-requires-clause-items
-move_section-requires-clause-items c =
+pub move_list-requires : goal.move_list-requires
+move_list-requires c =
     let inside = c.self.inside in
     let b = inside.buffer.items in
     let copies = inside.copies.items in
@@ -59,10 +61,11 @@ put_last-requires-clause-header c =
     let s = c.section.inside.section in
     let is : new ≡ b ++ theirs = search rules in
     let are : more ≡ copies ++ others = search rules in
-    let t = c.move_section.new.section in
+    let t = made c.moved_header-header.result s.meta c.move_list.new.list.items in
     let by : c.len-by.result ≡ length b = search rules in
     let copies_by : c.in_ok-copies_by.copies_by ≡ length copies = search rules in
-    let moved : IsSectionMoved (length b) (length copies) s t = subst (λ n. IsSectionMoved n (length copies) s t) by (subst (λ m. IsSectionMoved c.len-by.result m s t) copies_by c.move_section.ensures) in
+    let moved : IsSectionMoved (length b) (length copies) (whole s) t = subst (λ n. IsSectionMoved n (length copies) (whole s) t) by (subst (λ m. IsSectionMoved c.len-by.result m (whole s) t) copies_by
+    (record { header = c.moved_header-header.ensures; meta = refl; items = c.move_list.ensures; held = nothing_moved c.len-by.result })) in
     rw (c.deref-6.ensures.value, c.deref-7.ensures.value) (shown_there b theirs copies others new more inside.front.items inside.meta.value inside.sections inside.sections c.section.inside.id s t is are c.self.invariant c.section.invariant moved)
 
 pub put_last-requires-clause-items : goal.put_last-requires-clause-items
@@ -77,29 +80,12 @@ put_last-requires-clause-items c =
     let s = c.section.inside.section in
     let is : new ≡ b ++ theirs = search rules in
     let are : more ≡ copies ++ others = search rules in
-    let t = c.move_section.new.section in
+    let t = made c.moved_header-header.result s.meta c.move_list.new.list.items in
     let by : c.len-by.result ≡ length b = search rules in
     let copies_by : c.in_ok-copies_by.copies_by ≡ length copies = search rules in
-    let moved : IsSectionMoved (length b) (length copies) s t = subst (λ n. IsSectionMoved n (length copies) s t) by (subst (λ m. IsSectionMoved c.len-by.result m s t) copies_by c.move_section.ensures) in
+    let moved : IsSectionMoved (length b) (length copies) (whole s) t = subst (λ n. IsSectionMoved n (length copies) (whole s) t) by (subst (λ m. IsSectionMoved c.len-by.result m (whole s) t) copies_by
+    (record { header = c.moved_header-header.ensures; meta = refl; items = c.move_list.ensures; held = nothing_moved c.len-by.result })) in
     rw c.deref-6.ensures.value (within_there b theirs copies others new more inside.front.items inside.meta.value inside.sections inside.sections c.section.inside.id s t is are c.self.invariant c.section.invariant moved)
-
-pub put_last-requires-clause-held : goal.put_last-requires-clause-held
-put_last-requires-clause-held c =
-    let inside = c.self.inside in
-    let b = inside.buffer.items in
-    let copies = inside.copies.items in
-    let new = c.append.new.buffer.items in
-    let more = c.extend_from_slice.new.self.items in
-    let theirs = c.section.inside.buffer.items in
-    let others = c.section.inside.copies.items in
-    let s = c.section.inside.section in
-    let is : new ≡ b ++ theirs = search rules in
-    let are : more ≡ copies ++ others = search rules in
-    let t = c.move_section.new.section in
-    let by : c.len-by.result ≡ length b = search rules in
-    let copies_by : c.in_ok-copies_by.copies_by ≡ length copies = search rules in
-    let moved : IsSectionMoved (length b) (length copies) s t = subst (λ n. IsSectionMoved n (length copies) s t) by (subst (λ m. IsSectionMoved c.len-by.result m s t) copies_by c.move_section.ensures) in
-    none_there b theirs copies others new more inside.front.items inside.meta.value inside.sections inside.sections c.section.inside.id s t is are c.self.invariant c.section.invariant moved
 
 pub put_last-requires-clause-fits : goal.put_last-requires-clause-fits
 put_last-requires-clause-fits c =
@@ -128,10 +114,11 @@ invariant_of-self-2 c =
     let s = c.section.inside.section in
     let is : new ≡ b ++ theirs = search rules in
     let are : more ≡ copies ++ others = search rules in
-    let t = c.move_section.new.section in
+    let t = made c.moved_header-header.result s.meta c.move_list.new.list.items in
     let by : c.len-by.result ≡ length b = search rules in
     let copies_by : c.in_ok-copies_by.copies_by ≡ length copies = search rules in
-    let moved : IsSectionMoved (length b) (length copies) s t = subst (λ n. IsSectionMoved n (length copies) s t) by (subst (λ m. IsSectionMoved c.len-by.result m s t) copies_by c.move_section.ensures) in
+    let moved : IsSectionMoved (length b) (length copies) (whole s) t = subst (λ n. IsSectionMoved n (length copies) (whole s) t) by (subst (λ m. IsSectionMoved c.len-by.result m (whole s) t) copies_by
+    (record { header = c.moved_header-header.ensures; meta = refl; items = c.move_list.ensures; held = nothing_moved c.len-by.result })) in
     ok_or_err c.put_last.result
     (λ within put next. pushed_fits b theirs copies others new more inside.front.items inside.meta.value inside.sections c.put_last.new.table c.section.inside.id s t is are c.self.invariant c.section.invariant moved c.append.ensures.grows.room within put next)
     (λ same. rw same (longer_fits b new copies more inside.front.items inside.meta.value inside.sections c.append.ensures.grows.extended (others, are) c.append.ensures.grows.room c.self.invariant))
@@ -149,10 +136,11 @@ returns-clause-ok c =
     let s = c.section.inside.section in
     let is : new ≡ b ++ theirs = search rules in
     let are : more ≡ copies ++ others = search rules in
-    let t = c.move_section.new.section in
+    let t = made c.moved_header-header.result s.meta c.move_list.new.list.items in
     let by : c.len-by.result ≡ length b = search rules in
     let copies_by : c.in_ok-copies_by.copies_by ≡ length copies = search rules in
-    let moved : IsSectionMoved (length b) (length copies) s t = subst (λ n. IsSectionMoved n (length copies) s t) by (subst (λ m. IsSectionMoved c.len-by.result m s t) copies_by c.move_section.ensures) in
+    let moved : IsSectionMoved (length b) (length copies) (whole s) t = subst (λ n. IsSectionMoved n (length copies) (whole s) t) by (subst (λ m. IsSectionMoved c.len-by.result m (whole s) t) copies_by
+    (record { header = c.moved_header-header.ensures; meta = refl; items = c.move_list.ensures; held = nothing_moved c.len-by.result })) in
     two_ok c.put_last.result
     (λ put next. pushed_state b theirs copies others new more inside.front.items inside.meta.value inside.sections c.put_last.new.table c.section.inside.id s t is are c.self.invariant c.section.invariant moved put next
     ∙ (λ i. with_used (length new) (with_last (c.section.view_is i).section (c.self.view_is i))))

@@ -1,27 +1,30 @@
-use Rattle.std.proofs.Common.{rules, ◌≡◌, true, Some, None, refl, sym, ap, subst, length}
-use Rattle.std.specs.Prelude.{OnOk, List}
+use Rattle.std.proofs.Common.{rules, ◌≡◌, true, Some, None, refl, sym, ap, subst, length, ◌∙◌, arith, ◌<◌, ◌≤◌, ◌+◌, ◌^◌}
+use Rattle.std.specs.Prelude.{OnOk, List, IsErrOf}
 use Rattle.gitconf_text.specs.Part as parts
 use Rattle.gitconf_table.specs.Sections.{place_of, with_section}
 use Rattle.gitconf_table.proofs.SectionLemmas.{number_at-place}
 use Rattle.gitconf_state.specs.Edit.{spacing_of, with_used}
 use Rattle.gitconf_state.specs.Editors.{written_at}
-use Rattle.gitconf_state.specs.Edits.{WriteAt, apply}
+use Rattle.gitconf_state.specs.Edits.{items_of_numbered, WriteAt, apply}
 use Rattle.gitconf_state.specs.State.{State}
 use Rattle.gitconf_state.specs.LineEnds.{file_line_end}
 use Rattle.gitconf_parse.specs.Items.{items_of}
 use Rattle.gitconf_body.specs.ValuesAt.{keeps_line_end, rewritten_put, stands}
-use Rattle.gitconf_store.specs.declared.section.Section.{Section}
+use Rattle.gitconf_sections.specs.Section.{Section, with_items, viewed}
+use Rattle.gitconf_sections.proofs.Edits.{is_taken, taken_within}
 use Rattle.gitconf_store.specs.Edits.{UsedGrows}
-use Rattle.gitconf_store.specs.Store.{state_of}
+use Rattle.gitconf_store.specs.Store.{state_of, StoreFits}
 use Rattle.gitconf_store.specs.ValuePlaces.{editor_of_numbered}
-use Rattle.gitconf_store.proofs.Editing.{items_within_at, missing_stays, never_missing, numbered_items_at, numbered_kept, numbered_view, puts_at, puts_none}
+use Rattle.gitconf_store.proofs.Editing.{items_within_at, missing_stays, never_missing, numbered_items_at, numbered_kept, numbered_view, puts_at, puts_none, puts_same, used_memory, used_refused}
 use Rattle.gitconf_store.proofs.Setting.{HasOthers, kept_view, on_ok, on_err, either_way}
 use Rattle.gitconf_store.proofs.ValuePlaces.{rewritten_items}
+use Rattle.gitconf_store.specs.Editors.{PutsIn}
 use Rattle.gitconf_store.proofs.store.Store.rewrite_entry_at.Goals as goal
 
-pub rewrite_at-requires-clause-within : goal.rewrite_at-requires-clause-within
-rewrite_at-requires-clause-within c =
-    items_within_at c.self.inside.buffer.items c.self.inside.copies.items c.at_mut-section.result.now c.self.inside.sections.entries c.in-Some.at c.self.invariant.sections_within c.at_mut-section.ensures.value
+pub rewrite_at-written-requires-clause-within : goal.rewrite_at-written-requires-clause-within
+rewrite_at-written-requires-clause-within c =
+    let l = is_taken c.self.inside.sections c.take_items.new.self c.in-Some.at c.deref_mut.result.now.items (c.in_ok-items.ensures.items ∙ ap (λ v. Some v.items) (sym c.deref_mut.ensures.value)) c.in_ok-items.ensures.ok in
+    items_within_at c.self.inside.buffer.items c.self.inside.copies.items (with_items c.deref_mut.result.now.items l.kept) c.self.inside.sections.entries c.in-Some.at c.self.invariant.sections_within l.here
 
 pub returns-in_default-clause-ok : goal.returns-in_default-clause-ok
 returns-in_default-clause-ok c =
@@ -38,74 +41,130 @@ returns-in_default-clause-used c =
 
 pub returns-clause-ok : goal.returns-clause-ok
 returns-clause-ok c =
+    let l = is_taken c.self.inside.sections c.take_items.new.self c.in-Some.at c.deref_mut.result.now.items (c.in_ok-items.ensures.items ∙ ap (λ v. Some v.items) (sym c.deref_mut.ensures.value)) c.in_ok-items.ensures.ok in
+    let back = l.back c.put_items.new.self c.rewrite_at-written.new.items.items c.put_items.ensures in
+    let whole = ap (state_of c.rewrite_at-written.new.buffer.items c.self.inside.front.items c.self.inside.meta.value) back in
     let b = c.self.inside.buffer.items in
-    let new = c.rewrite_at.new.buffer.items in
-    let s = c.at_mut-section.result.now in
-    let t : Section = record { header = s.header; meta = s.meta; items = c.rewrite_at.new.items; held = s.held } in
+    let new = c.rewrite_at-written.new.buffer.items in
+    let s = (with_items c.deref_mut.result.now.items l.kept) in
+    let t : Section = with_items c.rewrite_at-written.new.items.items l.kept in
     let state = state_of b c.self.inside.front.items c.self.inside.meta.value c.self.inside.sections in
-    let here = c.at_mut-section.ensures.value in
+    let here = l.here in
     let place : place_of c.args.id c.self.inside.sections ≡ Some c.in-Some.at = search rules in
     let number = number_at-place c.args.id c.self.inside.sections c.in-Some.at place in
-    let others : HasOthers (length new) s t = record { header = refl; meta = refl; held = refl; within = c.rewrite_at.ensures.within } in
+    let others : HasOthers (length new) s t = record { header = refl; meta = refl; held = refl; within = c.rewrite_at-written.ensures.within } in
     let same = numbered_items_at b c.self.inside.front.items c.self.inside.meta.value c.self.inside.sections c.args.id c.in-Some.at s c.next_id.ensures.numbered.once here number in
-    let ok = subst (λ (is : List parts.Item). OnOk c.rewrite_at.result (items_of new c.rewrite_at.new.items.items
+    let ok = subst (λ (is : List parts.Item). OnOk c.rewrite_at-written.result (items_of new c.rewrite_at-written.new.items.items
     ≡ written_at (record { spacing = spacing_of is; line_end = file_line_end state; ends = true }) c.args.place (stands c.args.in_place_of) (keeps_line_end c.args.in_place_of) c.args.key.now c.args.value.now (items_of b s.items.items)))
-    (sym same) (c.rewrite_at.ensures.ok (file_line_end state)) in
-    subst (λ (st : State). OnOk c.rewrite_at.result (state_of new c.self.inside.front.items c.self.inside.meta.value (with_section c.self.inside.sections c.in-Some.at t)
+    (sym same) (c.rewrite_at-written.ensures.ok (file_line_end state)) in
+    subst (λ (st : State). OnOk c.rewrite_at-written.result (state_of new c.self.inside.front.items c.self.inside.meta.value c.put_items.new.self
     ≡ with_used (length new) (apply (WriteAt c.args.id (editor_of_numbered c.args.id st) c.args.place (stands c.args.in_place_of) (keeps_line_end c.args.in_place_of) c.args.key.now c.args.value.now) st)))
-    c.self.view_is (on_ok c.rewrite_at.result
-    (λ set. numbered_view b new c.self.inside.copies.items c.self.inside.front.items c.self.inside.meta.value c.self.inside.sections c.args.id c.in-Some.at s t
+    c.self.view_is (on_ok c.rewrite_at-written.result
+    (λ set. whole ∙ numbered_view b new c.self.inside.copies.items c.self.inside.front.items c.self.inside.meta.value c.self.inside.sections c.args.id c.in-Some.at s t
     (written_at (editor_of_numbered c.args.id state) c.args.place (stands c.args.in_place_of) (keeps_line_end c.args.in_place_of) c.args.key.now c.args.value.now)
-    c.rewrite_at.ensures.grows.extended others c.self.invariant.front_within c.self.invariant.sections_within c.next_id.ensures.numbered.once here number set) ok)
+    c.rewrite_at-written.ensures.grows.extended others c.self.invariant.front_within c.self.invariant.sections_within c.next_id.ensures.numbered.once here number set) ok)
 
 pub returns-clause-err : goal.returns-clause-err
 returns-clause-err c =
+    let l = is_taken c.self.inside.sections c.take_items.new.self c.in-Some.at c.deref_mut.result.now.items (c.in_ok-items.ensures.items ∙ ap (λ v. Some v.items) (sym c.deref_mut.ensures.value)) c.in_ok-items.ensures.ok in
+    let back = l.back c.put_items.new.self c.rewrite_at-written.new.items.items c.put_items.ensures in
+    let whole = ap (state_of c.rewrite_at-written.new.buffer.items c.self.inside.front.items c.self.inside.meta.value) back in
     let b = c.self.inside.buffer.items in
-    let new = c.rewrite_at.new.buffer.items in
-    let s = c.at_mut-section.result.now in
-    let t : Section = record { header = s.header; meta = s.meta; items = c.rewrite_at.new.items; held = s.held } in
-    let here = c.at_mut-section.ensures.value in
-    let others : HasOthers (length new) s t = record { header = refl; meta = refl; held = refl; within = c.rewrite_at.ensures.within } in
-    rw (← c.self.view_is) (on_err c.rewrite_at.result
-    (λ kept. kept_view b new c.self.inside.copies.items c.self.inside.front.items c.self.inside.meta.value c.self.inside.sections c.in-Some.at s t
-    c.rewrite_at.ensures.grows.extended others c.self.invariant.front_within c.self.invariant.sections_within here kept) c.rewrite_at.ensures.err)
+    let new = c.rewrite_at-written.new.buffer.items in
+    let s = (with_items c.deref_mut.result.now.items l.kept) in
+    let t : Section = with_items c.rewrite_at-written.new.items.items l.kept in
+    let here = l.here in
+    let others : HasOthers (length new) s t = record { header = refl; meta = refl; held = refl; within = c.rewrite_at-written.ensures.within } in
+    rw (← c.self.view_is) (on_err c.rewrite_at-written.result
+    (λ kept. whole ∙ kept_view b new c.self.inside.copies.items c.self.inside.front.items c.self.inside.meta.value c.self.inside.sections c.in-Some.at s t
+    c.rewrite_at-written.ensures.grows.extended others c.self.invariant.front_within c.self.invariant.sections_within here kept) c.rewrite_at-written.ensures.err)
 
 pub returns-clause-used : goal.returns-clause-used
 returns-clause-used c =
+    let l = is_taken c.self.inside.sections c.take_items.new.self c.in-Some.at c.deref_mut.result.now.items (c.in_ok-items.ensures.items ∙ ap (λ v. Some v.items) (sym c.deref_mut.ensures.value)) c.in_ok-items.ensures.ok in
     let b = c.self.inside.buffer.items in
-    let here = c.at_mut-section.ensures.value in
+    let here = l.here in
     let place : place_of c.args.id c.self.inside.sections ≡ Some c.in-Some.at = search rules in
     let number = number_at-place c.args.id c.self.inside.sections c.in-Some.at place in
-    let same = numbered_items_at b c.self.inside.front.items c.self.inside.meta.value c.self.inside.sections c.args.id c.in-Some.at c.at_mut-section.result.now c.next_id.ensures.numbered.once here number in
-    rw (← c.self.view_is) (puts_at b c.self.inside.front.items c.self.inside.meta.value c.self.inside.sections c.args.id c.in-Some.at c.at_mut-section.result.now c.rewrite_at.result _ _
+    let same = numbered_items_at b c.self.inside.front.items c.self.inside.meta.value c.self.inside.sections c.args.id c.in-Some.at (with_items c.deref_mut.result.now.items l.kept) c.next_id.ensures.numbered.once here number in
+    rw (← c.self.view_is) (puts_at b c.self.inside.front.items c.self.inside.meta.value c.self.inside.sections c.args.id c.in-Some.at (with_items c.deref_mut.result.now.items l.kept) c.rewrite_at-written.result _ _
     c.next_id.ensures.numbered.once here number
-    (subst (λ items. UsedGrows c.rewrite_at.result (rewritten_put c.args.key.now c.args.value.now items) (length b) (length c.rewrite_at.new.buffer.items)) (sym same)
-    (record { grown = c.rewrite_at.ensures.grows.grown; too_large = c.rewrite_at.ensures.grows.too_large; refused = c.rewrite_at.ensures.refused; known = c.rewrite_at.ensures.grows.known })))
+    (subst (λ items. UsedGrows c.rewrite_at-written.result (rewritten_put c.args.key.now c.args.value.now items) (length b) (length c.rewrite_at-written.new.buffer.items)) (sym same)
+    (record { grown = c.rewrite_at-written.ensures.grows.grown; too_large = c.rewrite_at-written.ensures.grows.too_large; refused = c.rewrite_at-written.ensures.refused; known = c.rewrite_at-written.ensures.grows.known })))
 
 pub returns-clause-missing : goal.returns-clause-missing
 returns-clause-missing c =
+    let l = is_taken c.self.inside.sections c.take_items.new.self c.in-Some.at c.deref_mut.result.now.items (c.in_ok-items.ensures.items ∙ ap (λ v. Some v.items) (sym c.deref_mut.ensures.value)) c.in_ok-items.ensures.ok in
     let place : place_of c.args.id c.self.inside.sections ≡ Some c.in-Some.at = search rules in
     let number = number_at-place c.args.id c.self.inside.sections c.in-Some.at place in
     rw (← c.self.view_is) (λ none. absurd (never_missing c.self.inside.buffer.items c.self.inside.front.items c.self.inside.meta.value c.self.inside.sections c.args.id c.in-Some.at
-    c.at_mut-section.result.now c.next_id.ensures.numbered.once c.at_mut-section.ensures.value number none))
+    (with_items c.deref_mut.result.now.items l.kept) c.next_id.ensures.numbered.once l.here number none))
+
+pub invariant_of-self-2 : goal.invariant_of-self-2
+invariant_of-self-2 c =
+    let l = is_taken c.self.inside.sections c.take_items.new.self c.in-Some.at c.deref_mut.result.now.items (c.in_ok-items.ensures.items ∙ ap (λ v. Some v.items) (sym c.deref_mut.ensures.value)) c.in_ok-items.ensures.ok in
+    let back = l.back c.put_items.new.self c.rewrite_at-written.new.items.items c.put_items.ensures in
+    let b = c.self.inside.buffer.items in
+    let new = c.rewrite_at-written.new.buffer.items in
+    let s = (with_items c.deref_mut.result.now.items l.kept) in
+    let t : Section = with_items c.rewrite_at-written.new.items.items l.kept in
+    let state = state_of b c.self.inside.front.items c.self.inside.meta.value c.self.inside.sections in
+    let here = l.here in
+    let place : place_of c.args.id c.self.inside.sections ≡ Some c.in-Some.at = search rules in
+    let number = number_at-place c.args.id c.self.inside.sections c.in-Some.at place in
+    let others : HasOthers (length new) s t = record { header = refl; meta = refl; held = refl; within = c.rewrite_at-written.ensures.within } in
+    let same = numbered_items_at b c.self.inside.front.items c.self.inside.meta.value c.self.inside.sections c.args.id c.in-Some.at s c.next_id.ensures.numbered.once here number in
+    let ok = subst (λ (is : List parts.Item). OnOk c.rewrite_at-written.result (items_of new c.rewrite_at-written.new.items.items
+    ≡ written_at (record { spacing = spacing_of is; line_end = file_line_end state; ends = true }) c.args.place (stands c.args.in_place_of) (keeps_line_end c.args.in_place_of) c.args.key.now c.args.value.now (items_of b s.items.items)))
+    (sym same) (c.rewrite_at-written.ensures.ok (file_line_end state)) in
+    subst (StoreFits c.rewrite_at-written.new.buffer.items c.self.inside.copies.items c.self.inside.front.items c.self.inside.meta.value) (sym back) (numbered_kept b new c.self.inside.copies.items c.self.inside.front.items c.self.inside.meta.value c.self.inside.sections c.args.id c.in-Some.at s t
+    (written_at (editor_of_numbered c.args.id state) c.args.place (stands c.args.in_place_of) (keeps_line_end c.args.in_place_of) c.args.key.now c.args.value.now)
+    c.rewrite_at-written.ensures.grows.extended c.rewrite_at-written.ensures.grows.room others c.self.invariant c.next_id.ensures.numbered.once here number
+    (rewritten_items c.args.id c.args.place (stands c.args.in_place_of) (keeps_line_end c.args.in_place_of) c.args.key.now c.args.value.now state c.requires.key c.self.invariant.items)
+    (either_way c.rewrite_at-written.result ok c.rewrite_at-written.ensures.err))
 
 pub invariant_of-self : goal.invariant_of-self
 invariant_of-self c =
+    let same : c.take_items.new.self ≡ c.self.inside.sections = search rules in
+    subst (StoreFits c.self.inside.buffer.items c.self.inside.copies.items c.self.inside.front.items c.self.inside.meta.value) (sym same) c.self.invariant
+
+pub put_items-requires : goal.put_items-requires
+put_items-requires c =
+    let within : c.in-Some.at < length c.self.inside.sections.entries = search rules in
+    taken_within c.self.inside.sections c.take_items.new.self c.in-Some.at c.in_ok-items.ensures.ok within
+
+pub returns-in_err-check_rewrite-clause-used : goal.returns-in_err-check_rewrite-clause-used
+returns-in_err-check_rewrite-clause-used c =
     let b = c.self.inside.buffer.items in
-    let new = c.rewrite_at.new.buffer.items in
-    let s = c.at_mut-section.result.now in
-    let t : Section = record { header = s.header; meta = s.meta; items = c.rewrite_at.new.items; held = s.held } in
-    let state = state_of b c.self.inside.front.items c.self.inside.meta.value c.self.inside.sections in
-    let here = c.at_mut-section.ensures.value in
+    let state = state_of c.self.inside.buffer.items c.self.inside.front.items c.self.inside.meta.value c.self.inside.sections in
     let place : place_of c.args.id c.self.inside.sections ≡ Some c.in-Some.at = search rules in
     let number = number_at-place c.args.id c.self.inside.sections c.in-Some.at place in
-    let others : HasOthers (length new) s t = record { header = refl; meta = refl; held = refl; within = c.rewrite_at.ensures.within } in
-    let same = numbered_items_at b c.self.inside.front.items c.self.inside.meta.value c.self.inside.sections c.args.id c.in-Some.at s c.next_id.ensures.numbered.once here number in
-    let ok = subst (λ (is : List parts.Item). OnOk c.rewrite_at.result (items_of new c.rewrite_at.new.items.items
-    ≡ written_at (record { spacing = spacing_of is; line_end = file_line_end state; ends = true }) c.args.place (stands c.args.in_place_of) (keeps_line_end c.args.in_place_of) c.args.key.now c.args.value.now (items_of b s.items.items)))
-    (sym same) (c.rewrite_at.ensures.ok (file_line_end state)) in
-    numbered_kept b new c.self.inside.copies.items c.self.inside.front.items c.self.inside.meta.value c.self.inside.sections c.args.id c.in-Some.at s t
-    (written_at (editor_of_numbered c.args.id state) c.args.place (stands c.args.in_place_of) (keeps_line_end c.args.in_place_of) c.args.key.now c.args.value.now)
-    c.rewrite_at.ensures.grows.extended c.rewrite_at.ensures.grows.room others c.self.invariant c.next_id.ensures.numbered.once here number
-    (rewritten_items c.args.id c.args.place (stands c.args.in_place_of) (keeps_line_end c.args.in_place_of) c.args.key.now c.args.value.now state c.requires.key c.self.invariant.items)
-    (either_way c.rewrite_at.result ok c.rewrite_at.ensures.err)
+    let items = numbered_items_at b c.self.inside.front.items c.self.inside.meta.value c.self.inside.sections c.args.id c.in-Some.at (viewed c.at-section.result) c.next_id.ensures.numbered.once c.at-section.ensures number in
+    let three : IsErrOf c.from_residual.result 3 = search rules in
+    let due : 2 ^ 32 ≤ length b + rewritten_put c.args.key.now c.args.value.now (items_of c.self.inside.buffer.items c.at-section.result.items.now) = search rules in
+    rw (← c.self.view_is) (puts_same c.args.id c.from_residual.result _ state (subst (λ is. UsedGrows c.from_residual.result (rewritten_put c.args.key.now c.args.value.now is) (length b) (length b)) (sym items) (used_refused c.from_residual.result _ (length b) three due)))
+
+pub returns-in_err-items-clause-used : goal.returns-in_err-items-clause-used
+returns-in_err-items-clause-used c =
+    let b = c.self.inside.buffer.items in
+    let state = state_of c.self.inside.buffer.items c.self.inside.front.items c.self.inside.meta.value c.self.inside.sections in
+    let place : place_of c.args.id c.self.inside.sections ≡ Some c.in-Some.at = search rules in
+    let number = number_at-place c.args.id c.self.inside.sections c.in-Some.at place in
+    let items = numbered_items_at b c.self.inside.front.items c.self.inside.meta.value c.self.inside.sections c.args.id c.in-Some.at (viewed c.at-section.result) c.next_id.ensures.numbered.once c.at-section.ensures number in
+    let same : c.take_items.new.self ≡ c.self.inside.sections = search rules in
+    let memory : IsErrOf c.from_residual-in_err-items.result 27 = search rules in
+    let fits : 2 ^ 32 ≤ length b + rewritten_put c.args.key.now c.args.value.now (items_of c.self.inside.buffer.items c.at-section.result.items.now) → ⊥ = λ due. absurd (let no = subst (λ r. IsErrOf r 3) c.in_ok-check_rewrite.was (c.check_rewrite.ensures.too_large.1 (subst (λ x. 2 ^ 32 ≤ length x + rewritten_put c.args.key.now c.args.value.now (items_of x c.at-section.result.items.now)) (sym c.deref.ensures.value) due)) in cc) in
+    rw (← c.self.view_is) (subst (λ t. PutsIn c.args.id c.from_residual-in_err-items.result (rewritten_put c.args.key.now c.args.value.now (items_of_numbered c.args.id state)) state (state_of b c.self.inside.front.items c.self.inside.meta.value t)) (sym same)
+    (puts_same c.args.id c.from_residual-in_err-items.result (rewritten_put c.args.key.now c.args.value.now (items_of_numbered c.args.id state)) state (subst (λ is. UsedGrows c.from_residual-in_err-items.result (rewritten_put c.args.key.now c.args.value.now is) (length b) (length b)) (sym items) (used_memory c.from_residual-in_err-items.result _ (length b) memory fits))))
+
+pub returns-in_err-check_rewrite-clause-missing : goal.returns-in_err-check_rewrite-clause-missing
+returns-in_err-check_rewrite-clause-missing c =
+    let place : place_of c.args.id c.self.inside.sections ≡ Some c.in-Some.at = search rules in
+    let number = number_at-place c.args.id c.self.inside.sections c.in-Some.at place in
+    rw (← c.self.view_is) (λ none. absurd (never_missing c.self.inside.buffer.items c.self.inside.front.items c.self.inside.meta.value c.self.inside.sections c.args.id c.in-Some.at (viewed c.at-section.result) c.next_id.ensures.numbered.once c.at-section.ensures number none))
+
+pub returns-in_err-items-clause-missing : goal.returns-in_err-items-clause-missing
+returns-in_err-items-clause-missing c =
+    let place : place_of c.args.id c.self.inside.sections ≡ Some c.in-Some.at = search rules in
+    let number = number_at-place c.args.id c.self.inside.sections c.in-Some.at place in
+    rw (← c.self.view_is) (λ none. absurd (never_missing c.self.inside.buffer.items c.self.inside.front.items c.self.inside.meta.value c.self.inside.sections c.args.id c.in-Some.at (viewed c.at-section.result) c.next_id.ensures.numbered.once c.at-section.ensures number none))

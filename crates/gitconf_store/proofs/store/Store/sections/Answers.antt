@@ -1,4 +1,4 @@
-use Rattle.gitconf_table.specs.SectionIters.{sections_left}
+use Rattle.gitconf_sections.specs.Walks.{sections_left}
 use Rattle.gitconf_store.proofs.Viewing.{is_state, lent_viewed}
 use Rattle.gitconf_store.proofs.store.Store.sections.Goals as goal
 

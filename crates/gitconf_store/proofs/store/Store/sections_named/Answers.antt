@@ -1,5 +1,5 @@
 use Rattle.std.specs.Option.{option_copied}
-use Rattle.gitconf_table.specs.SectionIters.{named_left}
+use Rattle.gitconf_sections.specs.Walks.{named_left}
 use Rattle.gitconf_table.specs.Sections.{is_named}
 use Rattle.gitconf_state.specs.Lookup as state
 use Rattle.gitconf_state.specs.State.{SectionState}

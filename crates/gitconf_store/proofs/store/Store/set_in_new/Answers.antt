@@ -1,4 +1,4 @@
-use Rattle.std.proofs.Common.{rules, ◌≡◌, true, [], ◌∷◌, length, sym, ap, subst, ◌∙◌}
+use Rattle.std.proofs.Common.{rules, ◌≡◌, true, [], ◌∷◌, length, sym, ap, subst, ◌∙◌, refl}
 use Rattle.std.specs.List.{list_all}
 use Rattle.std.specs.Option.{option_copied}
 use Rattle.gitconf_text.specs.Names.{is_made_name, is_valid_or_none}
@@ -11,7 +11,7 @@ use Rattle.gitconf_state.specs.State.{State, is_item}
 use Rattle.gitconf_state.proofs.EditItems.{file_line_end_is, new_section_is, section_with_is}
 use Rattle.gitconf_state.specs.LineEnds.{file_line_end}
 use Rattle.gitconf_text.specs.LineEnds.{bytes_of_line_end}
-use Rattle.gitconf_store.specs.declared.section.Section.{Section}
+use Rattle.gitconf_sections.specs.Section.{Section, made}
 use Rattle.gitconf_store.specs.Store.{state_of}
 use Rattle.gitconf_store.proofs.Setting.{if_err_at_all}
 use Rattle.gitconf_store.proofs.Making.{IsMadeWith, longer_state, longer_fits, made_section, made_state, made_fits}
@@ -28,14 +28,14 @@ returns-in_err-section-clause-err c =
     (longer_state c.self.inside.buffer.items c.section_with.new.buffer.items c.self.inside.copies.items c.self.inside.front.items c.self.inside.meta.value c.self.inside.sections
     c.section_with.ensures.grows.extended c.self.invariant))
 
-pub invariant_of-self-in_err-shared : goal.invariant_of-self-in_err-shared
-invariant_of-self-in_err-shared c =
+pub invariant_of-self-in_err-meta : goal.invariant_of-self-in_err-meta
+invariant_of-self-in_err-meta c =
     longer_fits c.self.inside.buffer.items c.section_with.new.buffer.items c.self.inside.copies.items c.section_with.new.copies.items c.self.inside.front.items c.self.inside.meta.value c.self.inside.sections
     c.section_with.ensures.grows.extended c.section_with.ensures.extended c.section_with.ensures.grows.room c.self.invariant
 
-pub returns-in_err-shared-clause-err : goal.returns-in_err-shared-clause-err
-returns-in_err-shared-clause-err c =
-    rw (← c.self.view_is) (if_err_at_all c.from_residual-in_err-shared.result
+pub returns-in_err-meta-clause-err : goal.returns-in_err-meta-clause-err
+returns-in_err-meta-clause-err c =
+    rw (← c.self.view_is) (if_err_at_all c.from_residual-in_err-meta.result
     (longer_state c.self.inside.buffer.items c.section_with.new.buffer.items c.self.inside.copies.items c.self.inside.front.items c.self.inside.meta.value c.self.inside.sections
     c.section_with.ensures.grows.extended c.self.invariant))
 
@@ -57,18 +57,17 @@ pub invariant_of-self-2 : goal.invariant_of-self-2
 invariant_of-self-2 c =
     let name = c.args.section_name.now in
     let subsection = option_copied c.args.subsection_name in
-    let s : Section = record { header = c.in_ok-section.section.header; meta = c.in_ok-shared.field-0; items = c.in_ok-section.section.items; held = c.none.result } in
+    let s : Section = made c.in_ok-section.section.header c.in_ok-meta.meta c.in_ok-section.section.items.items in
     let items = set_value (bytes_of_line_end c.line_end-line_end.result) c.args.key.now c.args.value.now (LineEndsItem (bytes_of_line_end c.line_end-line_end.result) ∷ []) in
     let header : header_of c.section_with.new.buffer.items s.header ≡ made_header name subsection = search rules in
     let meta : s.meta.value ≡ c.self.inside.meta.value = search rules in
-    let held : s.held.items ≡ [] = search rules in
     let made : IsMadeWith c.section_with.new.buffer.items c.section_with.new.copies.items s c.self.inside.meta.value name subsection items = record {
       header = header;
       shown = c.in_ok-section.ensures.shown;
       meta_is = meta;
       items = c.in_ok-section.ensures.items;
       within = c.in_ok-section.ensures.within;
-      held = held;
+      held = refl;
     } in
     let named : is_made_name name ≡ true = search rules in
     let valid : is_valid_or_none subsection ≡ true = search rules in
@@ -86,18 +85,17 @@ pub returns-clause-ok : goal.returns-clause-ok
 returns-clause-ok c =
     let name = c.args.section_name.now in
     let subsection = option_copied c.args.subsection_name in
-    let s : Section = record { header = c.in_ok-section.section.header; meta = c.in_ok-shared.field-0; items = c.in_ok-section.section.items; held = c.none.result } in
+    let s : Section = made c.in_ok-section.section.header c.in_ok-meta.meta c.in_ok-section.section.items.items in
     let items = set_value (bytes_of_line_end c.line_end-line_end.result) c.args.key.now c.args.value.now (LineEndsItem (bytes_of_line_end c.line_end-line_end.result) ∷ []) in
     let header : header_of c.section_with.new.buffer.items s.header ≡ made_header name subsection = search rules in
     let meta : s.meta.value ≡ c.self.inside.meta.value = search rules in
-    let held : s.held.items ≡ [] = search rules in
     let made : IsMadeWith c.section_with.new.buffer.items c.section_with.new.copies.items s c.self.inside.meta.value name subsection items = record {
       header = header;
       shown = c.in_ok-section.ensures.shown;
       meta_is = meta;
       items = c.in_ok-section.ensures.items;
       within = c.in_ok-section.ensures.within;
-      held = held;
+      held = refl;
     } in
     let after : c.push.new.self ≡ with_last name subsection s c.self.inside.sections = search rules in
     let line_end : bytes_of_line_end c.line_end-line_end.result ≡ file_line_end (state_of c.self.inside.buffer.items c.self.inside.front.items c.self.inside.meta.value c.self.inside.sections) =

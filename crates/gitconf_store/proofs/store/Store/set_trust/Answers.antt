@@ -1,9 +1,12 @@
-use Rattle.std.proofs.Common.{rules, ◌≡◌, Some, None, refl, ap, ◌∙◌}
+use Rattle.std.proofs.Common.{rules, ◌≡◌, Some, None, refl, ap, sym, subst, ◌∙◌}
 use Rattle.gitconf_base.specs.Metadata.{Meta}
 use Rattle.gitconf_table.specs.Sections.{place_of}
 use Rattle.gitconf_table.proofs.SectionLemmas.{number_at-place}
 use Rattle.gitconf_state.specs.Edits.{with_trust}
-use Rattle.gitconf_store.specs.declared.section.Section.{Section}
+use Rattle.gitconf_table.specs.Sections.{with_section}
+use Rattle.gitconf_table.proofs.SectionLemmas.{section_edited}
+use Rattle.gitconf_sections.specs.Section.{Section, viewed}
+use Rattle.gitconf_store.specs.Store.{state_of, StoreFits}
 use Rattle.gitconf_store.proofs.Renaming.{is_numbered, unnumbered_stays}
 use Rattle.gitconf_store.proofs.Trusting.{IsTrusted, trusted_fits, trusted_state}
 use Rattle.gitconf_store.proofs.store.Store.set_trust.Goals as goal
@@ -23,21 +26,21 @@ returns-in_err-meta-clause-none c = λ none.
 pub invariant_of-self : goal.invariant_of-self
 invariant_of-self c =
     let inside = c.self.inside in
-    let s = c.at_mut-section.result.now in
-    let t : Section = record { header = s.header; meta = c.in_ok-meta.meta; items = s.items; held = s.held } in
-    let same : c.at-section.result.now ≡ s = (let one = c.at-section.ensures in let other = c.at_mut-section.ensures.value in cc) in
-    let meta : t.meta.value ≡ record s.meta.value { trust = c.args.trust } = c.in_ok-meta.ensures ∙ ap (λ (m : Meta). record m { trust = c.args.trust }) (c.deref.ensures ∙ ap (λ (s : Section). s.meta.value) same) in
+    let s : Section = viewed c.at-section.result in
+    let t : Section = record s { meta = c.in_ok-meta.meta } in
+    let meta : t.meta.value ≡ record s.meta.value { trust = c.args.trust } = c.in_ok-meta.ensures ∙ ap (λ (m : Meta). record m { trust = c.args.trust }) c.deref.ensures in
+    let back : c.set_meta.new.self ≡ with_section inside.sections c.in-Some.at t = c.set_meta.ensures ∙ sym (section_edited (λ s. record s { meta = c.in_ok-meta.meta }) inside.sections c.in-Some.at s t c.at-section.ensures refl) in
     let is : IsTrusted c.args.trust s t = record { header = refl; meta = meta; items = refl; held = refl } in
-    trusted_fits inside.buffer.items inside.copies.items inside.front.items inside.meta.value inside.sections c.in-Some.at c.args.trust s t c.self.invariant is c.at_mut-section.ensures.value
+    subst (StoreFits inside.buffer.items inside.copies.items inside.front.items inside.meta.value) (sym back) (trusted_fits inside.buffer.items inside.copies.items inside.front.items inside.meta.value inside.sections c.in-Some.at c.args.trust s t c.self.invariant is c.at-section.ensures)
 
 pub returns-clause-ok : goal.returns-clause-ok
 returns-clause-ok c =
     let inside = c.self.inside in
     let place : place_of c.args.id inside.sections ≡ Some c.in-Some.at = search rules in
-    let s = c.at_mut-section.result.now in
-    let t : Section = record { header = s.header; meta = c.in_ok-meta.meta; items = s.items; held = s.held } in
-    let same : c.at-section.result.now ≡ s = (let one = c.at-section.ensures in let other = c.at_mut-section.ensures.value in cc) in
-    let meta : t.meta.value ≡ record s.meta.value { trust = c.args.trust } = c.in_ok-meta.ensures ∙ ap (λ (m : Meta). record m { trust = c.args.trust }) (c.deref.ensures ∙ ap (λ (s : Section). s.meta.value) same) in
+    let s : Section = viewed c.at-section.result in
+    let t : Section = record s { meta = c.in_ok-meta.meta } in
+    let meta : t.meta.value ≡ record s.meta.value { trust = c.args.trust } = c.in_ok-meta.ensures ∙ ap (λ (m : Meta). record m { trust = c.args.trust }) c.deref.ensures in
+    let back : c.set_meta.new.self ≡ with_section inside.sections c.in-Some.at t = c.set_meta.ensures ∙ sym (section_edited (λ s. record s { meta = c.in_ok-meta.meta }) inside.sections c.in-Some.at s t c.at-section.ensures refl) in
     let is : IsTrusted c.args.trust s t = record { header = refl; meta = meta; items = refl; held = refl } in
-    rw (← c.self.view_is) (trusted_state inside.buffer.items inside.front.items inside.meta.value inside.sections c.args.id c.in-Some.at c.args.trust s t c.next_id.ensures.numbered.once is
-    c.at_mut-section.ensures.value (number_at-place c.args.id inside.sections c.in-Some.at place))
+    rw (← c.self.view_is) (ap (state_of inside.buffer.items inside.front.items inside.meta.value) back ∙ trusted_state inside.buffer.items inside.front.items inside.meta.value inside.sections c.args.id c.in-Some.at c.args.trust s t c.next_id.ensures.numbered.once is
+    c.at-section.ensures (number_at-place c.args.id inside.sections c.in-Some.at place))

@@ -1,5 +1,6 @@
 use Rattle.std.proofs.Common.{rules}
-use Rattle.gitconf_table.specs.SectionIters.{named_left}
+use Rattle.gitconf_sections.specs.Section.{viewed}
+use Rattle.gitconf_sections.specs.Walks.{named_left}
 use Rattle.gitconf_store.specs.Viewed.{IsViewed}
 use Rattle.gitconf_store.proofs.Viewing.{last_viewed, left_viewed}
 use Rattle.gitconf_store.proofs.walks.SectionsNamedDoubleEndedIterator.next_back.Goals as goal
@@ -12,6 +13,6 @@ invariant_of-self c =
 pub invariant_of-result : goal.invariant_of-result
 invariant_of-result c =
     let it = c.args.self.now in
-    let viewed : IsViewed it.buffer.now it.copies.now c.in-Some.section.now =
-    (last_viewed it.buffer.now it.copies.now (named_left it.sections) (named_left c.next_back.new.self) (c.in-Some.id, c.in-Some.section.now) c.in-Some.ensures.steps it.viewed).0 in
+    let viewed : IsViewed it.buffer.now it.copies.now (viewed c.in-Some.section) =
+    (last_viewed it.buffer.now it.copies.now (named_left it.sections) (named_left c.next_back.new.self) (c.in-Some.id, viewed c.in-Some.section) c.in-Some.ensures.steps it.viewed).0 in
     record { viewed = search (rules, viewed) }

@@ -1,0 +1,27 @@
+-- What is held behind a section.
+use Rattle.std.specs.Prelude.{ℕ, ◌-◌, List, [], ◌∷◌, Option, Some, None, vec_capacity, vec_len}
+use Rattle.std.specs.List.{AllZip}
+use Rattle.std.specs.Global.{Box, Vec}
+use Rattle.gitconf_parse.specs.declared.event.Span.{Span}
+use Rattle.gitconf_parse.specs.declared.items.Item.{Item}
+use Rattle.gitconf_parse.specs.declared.items.Item.TheVariants as items
+use Rattle.gitconf_parse.specs.contracts.items.ItemClone.TheImpl as item
+
+-- items, and the room for more of them
+pub record HeldItems : Type 0 where
+  pub items : List Item
+  pub room : ℕ
+
+-- the items of a list that is there only where some are held
+abbrev pub held_in : Option (Box (Vec Item)) → HeldItems
+held_in None = record { items = []; room = 0 }
+held_in (Some list) = record { items = list.value.items; room = vec_capacity list.value - vec_len list.value }
+
+-- clones of the items, one by one
+abbrev pub AreClones : HeldItems → HeldItems → Type 0
+AreClones held copy = AllZip (item.ghosts).is_clone held.items copy.items
+
+-- the item of a line end, if there is one
+abbrev pub line_end_item : Option Span → List Item
+line_end_item None = []
+line_end_item (Some run) = items.LineEnds run ∷ []

@@ -1,0 +1,26 @@
+-- Items at several places that go at once.
+use Rattle.std.specs.Prelude.{ℕ, ◌+◌, ◌≤◌, ◌==◌, Bool, false, if◌then◌else◌, List, [], ◌∷◌, ◌++◌, take, drop}
+
+-- The places ascend, from the first one on.
+abbrev pub Ascend : (first : ℕ) → List (ℕ × ℕ) → Type 0
+Ascend first [] = Unit {0}
+Ascend first (p ∷ places) = (first ≤ p.1) × Ascend (p.1 + 1) places
+
+-- what is left where the one at a place goes
+abbrev pub without_at : {A : Type 0} → (place : ℕ) → List A → List A
+without_at place xs = take place xs ++ drop (place + 1) xs
+
+-- what is left where those at places go, the last one first
+abbrev pub without_all : {A : Type 0} → List (ℕ × ℕ) → List A → List A
+without_all [] xs = xs
+without_all (p ∷ places) xs = without_at p.1 (without_all places xs)
+
+-- whether this place is the first of them
+abbrev pub is_next : (at : ℕ) → List (ℕ × ℕ) → Bool
+is_next at [] = false
+is_next at (p ∷ places) = p.1 == at
+
+-- what is left, as a walk from the front tells it that stands at a place
+abbrev pub left_from : {A : Type 0} → (at : ℕ) → List (ℕ × ℕ) → List A → List A
+left_from at places [] = []
+left_from at places (x ∷ xs) = if is_next at places then left_from (at + 1) (drop 1 places) xs else x ∷ left_from (at + 1) places xs

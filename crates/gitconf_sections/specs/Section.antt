@@ -1,0 +1,124 @@
+-- Sections with their bodies. Those that were loaded stand in one list of items, which the sections share.
+use Rattle.std.specs.Prelude.{◌≡◌, ℕ, ◌+◌, ◌-◌, ◌≤◌, List, [], ◌∷◌, ◌++◌, length, map, take, drop}
+use Rattle.std.specs.List.{AllZip}
+use Rattle.std.specs.declared.rc.Rc.{Rc}
+use Rattle.std.specs.declared.alloc.Global.{Global}
+use Rattle.gitconf_base.specs.Metadata.{Meta}
+use Rattle.gitconf_parse.specs.declared.event.Header.{Header}
+use Rattle.gitconf_parse.specs.declared.items.Item.{Item}
+use Rattle.gitconf_parse.specs.contracts.items.ItemClone.TheImpl as item
+use Rattle.gitconf_table.specs.Sections.{SectionEntry, Sections, edited_at}
+use Rattle.gitconf_sections.specs.declared.body.Body.{Body}
+use Rattle.gitconf_sections.specs.declared.body.Body.TheVariants.{Listed, Nothing, Own}
+use Rattle.gitconf_sections.specs.declared.row.Row.{Row}
+use Rattle.gitconf_sections.specs.declared.row.Section as views
+
+-- items in order
+pub record Items : Type 0 where
+  pub items : List Item
+
+-- a section: its header, where it comes from, its body, and what is held behind it
+pub record Section : Type 0 where
+  pub header : Header
+  pub meta : Rc Meta Global
+  pub items : Items
+  pub held : Items
+
+-- the items of a body that stands in a list, or has a list of its own, or has none
+abbrev pub body_items : (list : List Item) → Body → List Item
+body_items list (Listed from len) = take len (drop from list)
+body_items list (Own own) = own.value.items
+body_items list Nothing = []
+
+-- a section of the table, whose body may stand in the list
+abbrev pub read : (list : List Item) → Row → Section
+read list r = record { header = r.header; meta = r.meta; items = record { items = body_items list r.body }; held = record { items = r.held.items } }
+
+abbrev pub read_entry : (list : List Item) → SectionEntry Row → SectionEntry Section
+read_entry list e = record { number = e.number; name = e.name; subsection = e.subsection; section = read list e.section }
+
+-- all sections of the table
+abbrev pub read_all : (list : List Item) → Sections Row → Sections Section
+read_all list all = record { entries = map (read_entry list) all.entries; next = all.next }
+
+-- a section of these parts
+abbrev pub seen_as : Header → Rc Meta Global → (items held : List Item) → Section
+seen_as header meta items held = record { header = header; meta = meta; items = record { items = items }; held = record { items = held } }
+
+-- the section that is viewed
+abbrev pub viewed : views.Section → Section
+viewed v = seen_as v.header.now v.meta.now v.items.now v.held.now
+
+-- a body stands in the list behind so many items, if it stands there, and how many items then stand before the next one
+abbrev pub StandsBehind : (from : ℕ) → Body → Type 0
+StandsBehind from (Listed start len) = from ≤ start
+StandsBehind from (Own own) = Unit {0}
+StandsBehind from Nothing = Unit {0}
+
+abbrev pub end_behind : (from : ℕ) → Body → ℕ
+end_behind from (Listed start len) = start + len
+end_behind from (Own own) = from
+end_behind from Nothing = from
+
+-- the bodies that stand in the list do so one behind the other, from one place to another
+abbrev pub AreListed : (from to : ℕ) → List (SectionEntry Row) → Type 0
+AreListed from to [] = from ≤ to
+AreListed from to (e ∷ es) = StandsBehind from e.section.body × AreListed (end_behind from e.section.body) to es
+
+-- a new section, with nothing held behind it
+abbrev pub made : Header → Rc Meta Global → (items : List Item) → Section
+made header meta items = record { header = header; meta = meta; items = record { items = items }; held = record { items = [] } }
+
+-- a section with other items, and one that holds more
+abbrev pub with_items : List Item → Section → Section
+with_items items s = record s { items = record { items = items } }
+
+abbrev pub holding : (more : List Item) → Section → Section
+holding more s = record s { held = record { items = s.held.items ++ more } }
+
+-- the last section holds more
+abbrev pub last_holding : (more : List Item) → Sections Section → Sections Section
+last_holding more all = edited_at (holding more) (length all.entries - 1) all
+
+-- two lists are the same but for so many items behind the first ones
+pub record IsSameBut (from len : ℕ) (old new : List Item) : Type 0 where
+  pub long : length new ≡ length old
+  pub before : take from new ≡ take from old
+  pub behind : drop (from + len) new ≡ drop (from + len) old
+
+-- two lists are the same but for what a body has there
+abbrev pub IsSameButIn : (old new : List Item) → Body → Type 0
+IsSameButIn old new (Listed from len) = IsSameBut from len old new
+IsSameButIn old new (Own own) = new ≡ old
+IsSameButIn old new Nothing = new ≡ old
+
+-- a body needs no more of a list than another
+abbrev pub NeedsNoMore : (body less : Body) → Type 0
+NeedsNoMore (Listed from len) (Listed start count) = (start ≡ from) × (count ≤ len)
+NeedsNoMore (Own own) (Listed start count) = ⊥
+NeedsNoMore Nothing (Listed start count) = ⊥
+NeedsNoMore body (Own own) = Unit {0}
+NeedsNoMore body Nothing = Unit {0}
+
+-- a body behind so many items of a list more
+abbrev pub rebased : (by : ℕ) → Body → Body
+rebased by (Listed start len) = Listed (by + start) len
+rebased by (Own own) = Own own
+rebased by Nothing = Nothing
+
+abbrev pub rebased_row : (by : ℕ) → Row → Row
+rebased_row by r = record r { body = rebased by r.body }
+
+abbrev pub rebased_entry : (by : ℕ) → SectionEntry Row → SectionEntry Row
+rebased_entry by e = record { number = e.number; name = e.name; subsection = e.subsection; section = rebased_row by e.section }
+
+-- all of them
+abbrev pub all_rebased : (by : ℕ) → Sections Row → Sections Row
+all_rebased by all = record { entries = map (rebased_entry by) all.entries; next = all.next }
+
+-- the same section with clones of its items
+pub record IsSectionClone (s copy : Section) : Type 0 where
+  pub header : copy.header ≡ s.header
+  pub meta : copy.meta.value ≡ s.meta.value
+  pub items : AllZip (item.ghosts).is_clone s.items.items copy.items.items
+  pub held : AllZip (item.ghosts).is_clone s.held.items copy.held.items

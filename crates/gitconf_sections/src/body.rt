@@ -1,0 +1,41 @@
+//! Where the items of a body stand.
+ghost use Rattle.std.specs.Prelude.{◌≡◌, drop, take};
+ghost use Rattle.gitconf_sections.specs.Section.{body_items};
+
+use gitconf_parse::items::Item;
+use std::mem::size_of;
+
+/// Where the items of a body stand.
+#[derive(Clone, Drop)]
+pub(crate) enum Body {
+    /// In the list that the sections share: so many items behind the first ones.
+    Listed { from: u32, len: u32 },
+    /// In a list of its own, as since its first edit.
+    Own(Box<Vec<Item>>),
+    /// Nowhere: it has none, or they were taken out.
+    Nothing,
+}
+
+const _: () = prove!(size_of::<Body>() == 16);
+
+/// So many items of a list behind the first ones, as far as it has them.
+fn part(list: &[Item], from: usize, len: usize) -> &[Item]
+    ensures { result.now ≡ take len (drop from list.now) }
+{
+    if from > list.len() {
+        return &[];
+    }
+    let behind = list.split_at(from).1;
+    behind.split_at(len.min(behind.len())).0
+}
+
+/// The items of a body.
+pub(crate) fn body_items<'a>(list: &'a [Item], body: &'a Body) -> &'a [Item]
+    ensures { result.now ≡ body_items list.now body.now }
+{
+    match body {
+        Body::Listed { from, len } => part(list, *from as usize, *len as usize),
+        Body::Own(own) => own.as_slice(),
+        Body::Nothing => &[],
+    }
+}

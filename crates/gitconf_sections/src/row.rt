@@ -1,0 +1,44 @@
+//! A section as the table keeps it, and as it is read.
+ghost use Rattle.std.specs.Prelude.{◌≡◌};
+ghost use Rattle.gitconf_sections.specs.Section.{read, viewed};
+
+use crate::body::{Body, body_items};
+use crate::held::Held;
+use gitconf_base::meta::Metadata;
+use gitconf_parse::event::Header;
+use gitconf_parse::items::Item;
+use std::alloc::Global;
+use std::rc::Rc;
+
+/// A section as the table keeps it: its header, where it comes from, where its body stands, and the items held behind it.
+#[derive(Clone, Drop)]
+pub(crate) struct Row {
+    pub(crate) header: Header,
+    pub(crate) meta: Rc<Metadata>,
+    pub(crate) body: Body,
+    pub(crate) held: Held,
+}
+
+/// A view of a section: its header, where it comes from, the items of its body, and those held behind it.
+#[derive(Clone, Copy)]
+pub struct Section<'a> {
+    /// Where memory for what is asked of it comes from.
+    pub alloc: Global,
+    pub header: &'a Header,
+    pub meta: &'a Rc<Metadata>,
+    pub items: &'a [Item],
+    pub held: &'a [Item],
+}
+
+/// A view of a section, its items among those of a list or in its own.
+pub(crate) fn read<'a>(list: &'a Vec<Item>, row: &'a Row) -> Section<'a>
+    ensures { viewed result ≡ read list.now.items row.now }
+{
+    Section {
+        alloc: *list.allocator(),
+        header: &row.header,
+        meta: &row.meta,
+        items: body_items(list, &row.body),
+        held: row.held.as_slice(),
+    }
+}

@@ -1,0 +1,100 @@
+//! Edits of the section at a place.
+ghost use Rattle.std.specs.Option.{option_map};
+ghost use Rattle.std.specs.Prelude.{◌≡◌, [], ◌<◌, length, Some, IfOk, IfSome, OnErr, OnOk};
+ghost use Rattle.gitconf_table.specs.Sections.{edited_at, section_at};
+ghost use Rattle.gitconf_sections.specs.LeavingOut.{without_all, Ascend};
+ghost use Rattle.gitconf_sections.specs.Moves.{IsMovable, IsMovedAt};
+ghost use Rattle.gitconf_sections.specs.Section.{with_items};
+
+use crate::body::Body;
+use crate::part::{leave_out_of, move_body, take_out};
+use crate::sections::SectionList;
+use gitconf_base::meta::Metadata;
+use gitconf_parse::event::Header;
+use gitconf_parse::items::Item;
+use gitconf_parse::moving::moved_header;
+use gitconf_table::table::SectionId;
+use gitconf_text::NoMemory;
+use std::mem::replace;
+use std::rc::Rc;
+
+impl SectionList {
+    /// Gives the section at a place another header. The names under which it is found stay.
+    pub fn set_header(&mut self, position: usize, header: Header)
+        requires { position < length self.old.entries }
+        ensures { self.new ≡ edited_at (λ s. record s { header = header }) position self.old }
+    {
+        let row = self.table.at_mut(position);
+        row.header = header;
+    }
+
+    /// Says where the section at a place comes from.
+    pub fn set_meta(&mut self, position: usize, meta: Rc<Metadata>)
+        requires { position < length self.old.entries }
+        ensures { self.new ≡ edited_at (λ s. record s { meta = meta }) position self.old }
+    {
+        let row = self.table.at_mut(position);
+        row.meta = meta;
+    }
+
+    /// Takes the items of the section at a place out, to be changed and put back by [`SectionList::put_items`]. Takes memory for as
+    /// many where they stand in the list of all sections.
+    ///
+    /// # Errors
+    ///
+    /// Want of memory. All is then as it was.
+    pub fn take_items(&mut self, position: usize) -> Result<Box<Vec<Item>>, NoMemory>
+        requires { position < length self.old.entries }
+        ensures items { IfOk result (λ own. option_map (λ s. s.items.items) (section_at position self.old) ≡ Some own.value.items) }
+        ensures ok { OnOk result (self.new ≡ edited_at (with_items []) position self.old) }
+        ensures err { OnErr result (self.new ≡ self.old) }
+    {
+        let alloc = *self.list.allocator();
+        let row = self.table.at_mut(position);
+        take_out(alloc, &mut self.list, &mut row.body)
+    }
+
+    /// Gives the section at a place these items.
+    pub fn put_items(&mut self, position: usize, items: Box<Vec<Item>>)
+        requires { position < length self.old.entries }
+        ensures { self.new ≡ edited_at (with_items items.value.items) position self.old }
+    {
+        let row = self.table.at_mut(position);
+        row.body = Body::Own(items);
+    }
+
+    /// Takes all items of the section at a place out. Takes no memory.
+    pub fn clear(&mut self, position: usize)
+        requires { position < length self.old.entries }
+        ensures { self.new ≡ edited_at (with_items []) position self.old }
+    {
+        let row = self.table.at_mut(position);
+        row.body = Body::Nothing;
+    }
+
+    /// Takes items out of the section at a place: those at these places, which are counted in items from the first one, 0. One walk over
+    /// its items. Takes no memory.
+    pub fn leave_out(&mut self, position: usize, places: &[(SectionId, usize)])
+        requires position { position < length self.old.entries }
+        requires ascend { Ascend 0 places.now }
+        ensures { self.new ≡ edited_at (λ s. with_items (without_all places.now s.items.items) s) position self.old }
+    {
+        let row = self.table.at_mut(position);
+        let body = replace(&mut row.body, Body::Nothing);
+        row.body = leave_out_of(&mut self.list, body, places);
+    }
+
+    /// Moves the section at a place, where so many bytes stand before those of its buffer, and so many before the decoded copies. One
+    /// pass over its items, which takes no memory.
+    pub fn move_section(&mut self, position: usize, by: u32, copies_by: u32)
+        requires position { position < length self.old.entries }
+        requires movable { IfSome (section_at position self.old) (IsMovable by copies_by) }
+        ensures { IsMovedAt by copies_by position self.old self.new }
+    {
+        let row = self.table.at_mut(position);
+        row.header = moved_header(row.header, by, copies_by);
+        row.held.move_by(by);
+        let body = replace(&mut row.body, Body::Nothing);
+        row.body = move_body(&mut self.list, body, by);
+    }
+}
