@@ -24,7 +24,7 @@ use Rattle.gitconf_text.proofs.Lists.{all_push}
 use Rattle.gitconf_table.specs.Sections.{Sections}
 use Rattle.gitconf_state.specs.Edit.{with_used}
 use Rattle.gitconf_state.specs.Edits.{with_last}
-use Rattle.gitconf_state.specs.State.{HasItems, HasSectionItems, SectionState, State}
+use Rattle.gitconf_state.specs.State.{HasItems, HasSectionItems}
 use Rattle.gitconf_parse.specs.Items.{items_of}
 use Rattle.gitconf_parse.specs.Moves.{copy_of, AreItemsMoved, IsHeaderMoved}
 use Rattle.gitconf_body.proofs.Buffers.{extended_fit, extended_items}

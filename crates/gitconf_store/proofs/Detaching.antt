@@ -1,10 +1,9 @@
 -- A section is copied into a buffer of its own, and stands there alone.
-use Rattle.std.proofs.Common.{◌≡◌, ℕ, ◌<◌, ◌^◌, true, List, [], ◌∷◌, length, refl, ap, sym, subst, ◌∙◌}
-use Rattle.std.specs.List.{AllZip, list_all}
+use Rattle.std.proofs.Common.{◌≡◌, ℕ, ◌<◌, ◌^◌, true, List, [], length, ap, sym, subst, ◌∙◌}
+use Rattle.std.specs.List.{list_all}
 use Rattle.gitconf_parse.specs.declared.event.Header.{Header}
 use Rattle.gitconf_parse.specs.declared.event.Event.TheVariants as kinds
 use Rattle.gitconf_parse.specs.declared.items.Item.{Item}
-use Rattle.gitconf_parse.specs.contracts.items.ItemClone.TheImpl as item
 use Rattle.gitconf_parse.specs.Events.{header_of, HeaderFits}
 use Rattle.gitconf_parse.specs.ItemsFit.{AreItemsWithin}
 use Rattle.gitconf_parse.specs.ShownEvents.{shown_header, shown_token, CopyFits, IsShown, IsExtended}

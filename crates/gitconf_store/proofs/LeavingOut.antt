@@ -1,9 +1,6 @@
 -- Items at several places that go at once.
-use Rattle.std.proofs.Common.{◌≡◌, ℕ, zero, suc, ◌+◌, ◌-◌, ◌<◌, ◌≤◌, ◌==◌, Bool, true, false, List, [], ◌∷◌, ◌++◌, length, map, take, drop, refl, ap, sym, subst, ◌∙◌, append-nil, append_assoc, arith, length-set, drop-set-lt}
+use Rattle.std.proofs.Common.{◌≡◌, ℕ, zero, suc, ◌+◌, ◌<◌, ◌==◌, Bool, true, false, List, [], ◌∷◌, ◌++◌, length, map, take, drop, refl, ap, sym, subst, ◌∙◌, append_assoc, arith}
 use Rattle.std.specs.Prelude.{if◌then◌else◌}
-use Rattle.std.specs.List.{SwappedAt, slice_index_or, slice_set}
-use Rattle.std.proofs.lemmas.Bool.{eqb-true, eqb-false}
-use Rattle.std.proofs.lemmas.List.{drop_all, take_more_set, take-set-le}
 use Rattle.gitconf_text.specs.Part.{Item}
 use Rattle.gitconf_parse.specs.declared.items.Item as items
 use Rattle.gitconf_state.specs.Editors.{deleted_at}

@@ -1,5 +1,5 @@
 -- What is loaded of the events of a text.
-use Rattle.std.proofs.Common.{◌≡◌, ◌++◌, ℕ, true, List, length, map, flat_map, [], refl, ap, subst, sym, ◌∙◌}
+use Rattle.std.proofs.Common.{◌≡◌, ◌++◌, ℕ, true, List, length, map, flat_map, [], refl, subst, sym, ◌∙◌}
 use Rattle.std.specs.Prelude.{filter}
 use Rattle.gitconf_text.specs.Part.{Part}
 use Rattle.gitconf_text.specs.Document.{IsText, Reads, unmarked}

@@ -1,11 +1,7 @@
 -- Sections whose bytes stand behind others.
-use Rattle.std.specs.Prelude.{◌≡◌, ℕ, ◌-◌, ◌^◌}
+use Rattle.std.specs.Prelude.{◌≡◌, ℕ}
 use Rattle.std.specs.List.{AllByRecursion, AllZip}
 use Rattle.gitconf_table.specs.Sections.{SectionEntry, Sections}
-use Rattle.gitconf_parse.specs.Events.{HeaderFits}
-use Rattle.gitconf_parse.specs.ItemsFit.{AreItemsWithin}
-use Rattle.gitconf_parse.specs.ShownEvents.{CopyFits}
-use Rattle.gitconf_parse.specs.Moves.{AreItemsMoved, IsHeaderMoved}
 use Rattle.gitconf_sections.specs.Moves.{IsMovable, IsSectionMoved}
 use Rattle.gitconf_sections.specs.Section.{Section}
 

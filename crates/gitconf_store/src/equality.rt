@@ -197,12 +197,7 @@ fn same_section(one: &SectionRef<'_>, other: &SectionRef<'_>) -> bool
     if !same_header(&one.header(), &other.header()) {
         return false;
     }
-    same_entries(
-        one.buffer,
-        one.items,
-        other.buffer,
-        other.items,
-    )
+    same_entries(one.buffer, one.items, other.buffer, other.items)
 }
 
 /// Whether all sections are the same, one by one.

@@ -21,11 +21,7 @@ use std::alloc::Global;
 /// # Errors
 ///
 /// Want of memory. The places are then as they were.
-fn put_place(
-    table: &SectionList,
-    id: SectionId,
-    places: &mut Vec<usize>,
-) -> Result<(), NoMemory>
+fn put_place(table: &SectionList, id: SectionId, places: &mut Vec<usize>) -> Result<(), NoMemory>
     ensures ok { OnOk result (IfSome (place_of id table.now) (λ at. places.new.items ≡ places.old.items ++ at ∷ [])) }
     ensures err { OnErr result (places.new.items ≡ places.old.items) }
 {

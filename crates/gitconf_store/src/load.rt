@@ -7,8 +7,8 @@ ghost use Rattle.gitconf_store.specs.Loading.{IsLoading};
 ghost use Rattle.gitconf_store.specs.Store.{AllSectionsFit, section_state, loaded_section};
 
 use gitconf_base::meta::Metadata;
-use gitconf_parse::events::{decoded_header, subsection_name};
 use gitconf_parse::event::Header;
+use gitconf_parse::events::{decoded_header, subsection_name};
 use gitconf_parse::items::Item;
 use gitconf_parse::section_sink::SectionSink;
 use gitconf_sections::sections::SectionList;

@@ -1,7 +1,3 @@
-use Rattle.std.proofs.Common.{subst}
-use Rattle.gitconf_parse.specs.ItemsFit.{AreItemsWithin}
-use Rattle.gitconf_parse.specs.Items.{items_of}
-use Rattle.gitconf_body.specs.Copies.{IsCopy}
 use Rattle.gitconf_store.specs.Views.{seen}
 use Rattle.gitconf_store.specs.declared.section.Section.{Section}
 use Rattle.gitconf_store.proofs.Detaching.{items_same, items_stand, section_same, section_stands}

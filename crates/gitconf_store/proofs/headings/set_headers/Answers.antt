@@ -1,4 +1,4 @@
-use Rattle.std.proofs.Common.{rules, ◌≡◌, ◌∷◌, length, ap, refl, ◌∙◌}
+use Rattle.std.proofs.Common.{rules, ◌≡◌, ◌∷◌, length, ap, ◌∙◌}
 use Rattle.gitconf_table.proofs.RenamingLemmas.{first_within}
 use Rattle.gitconf_sections.specs.Section.{Section}
 use Rattle.gitconf_store.proofs.Renaming.{edited_length, header_step}

@@ -11,6 +11,8 @@ pub returns : goal.returns
 returns c =
     let list = c.self.inside.list.items in
     let es = c.self.inside.table.entries in
-    record { left = rw (← c.self.view_is) (ap (map (read_pair list)) c.named.ensures.left
-    ∙ pairs_mapped (read list) (filter (is_named c.args.name.now (option_copied c.args.subsection)) es)
-    ∙ ap (map (λ e. (e.number, e.section))) (sym (filter_mapped (read list) (is_named c.args.name.now (option_copied c.args.subsection)) (is_named c.args.name.now (option_copied c.args.subsection)) (λ e. refl) es))) }
+    record {
+      left = rw (← c.self.view_is) (ap (map (read_pair list)) c.named.ensures.left
+          ∙ pairs_mapped (read list) (filter (is_named c.args.name.now (option_copied c.args.subsection)) es)
+          ∙ ap (map (λ e. (e.number, e.section))) (sym (filter_mapped (read list) (is_named c.args.name.now (option_copied c.args.subsection)) (is_named c.args.name.now (option_copied c.args.subsection)) (λ e. refl) es)));
+    }

@@ -10,6 +10,8 @@ pub returns : goal.returns
 returns c =
     let list = c.self.inside.list.items in
     let es = c.self.inside.table.entries in
-    record { left = rw (← c.self.view_is) (ap (map (read_pair list)) c.with_name.ensures.left
-    ∙ pairs_mapped (read list) (filter (has_name c.args.name.now) es)
-    ∙ ap (map (λ e. (e.number, e.section))) (sym (filter_mapped (read list) (has_name c.args.name.now) (has_name c.args.name.now) (λ e. refl) es))) }
+    record {
+      left = rw (← c.self.view_is) (ap (map (read_pair list)) c.with_name.ensures.left
+          ∙ pairs_mapped (read list) (filter (has_name c.args.name.now) es)
+          ∙ ap (map (λ e. (e.number, e.section))) (sym (filter_mapped (read list) (has_name c.args.name.now) (has_name c.args.name.now) (λ e. refl) es)));
+    }

@@ -1,12 +1,12 @@
-use Rattle.std.proofs.Common.{rules, ◌≡◌, ◌≢◌, ◌+◌, ◌-◌, ◌++◌, true, false, [], ◌∷◌, length, ap, sym, subst, ◌∙◌, arith}
+use Rattle.std.proofs.Common.{rules, ◌≡◌, ◌≢◌, ◌+◌, ◌-◌, ◌++◌, true, false, [], ◌∷◌, length, ap, ◌∙◌, arith}
 use Rattle.std.specs.Prelude.{List}
 use Rattle.gitconf_parse.specs.declared.items.Item.{Item}
-use Rattle.gitconf_parse.specs.Items.{item_of, items_of}
+use Rattle.gitconf_parse.specs.Items.{item_of}
 use Rattle.gitconf_state.specs.Edit.{is_entry_of}
 use Rattle.gitconf_store.specs.ValuePlaces.{value_places}
 use Rattle.gitconf_store.specs.Views.{shown}
-use Rattle.gitconf_store.proofs.Placing.{IsTaken, taken_more, taken_none, taken_some}
-use Rattle.gitconf_store.proofs.ValuePlaces.{err_always, placed_first, placed_from, placed_other, same_taken}
+use Rattle.gitconf_store.proofs.Placing.{taken_more, taken_none, taken_some}
+use Rattle.gitconf_store.proofs.ValuePlaces.{err_always, placed_first, placed_other, same_taken}
 use Rattle.gitconf_store.proofs.lookup.places.push_places.Goals as goal
 
 pub loop-item-init : goal.loop-item-init

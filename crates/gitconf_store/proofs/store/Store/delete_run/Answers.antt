@@ -2,8 +2,6 @@ use Rattle.std.proofs.Common.{rules, ◌≡◌, ◌<◌, Some, None, refl, ap, s
 use Rattle.gitconf_table.specs.Sections.{place_of}
 use Rattle.gitconf_table.proofs.SectionLemmas.{number_at-place}
 use Rattle.gitconf_body.proofs.Buffers.{same_extended}
-use Rattle.gitconf_parse.specs.ItemsFit.{AreItemsWithin}
-use Rattle.gitconf_parse.specs.Items.{items_of}
 use Rattle.gitconf_table.proofs.SectionLemmas.{section_edited}
 use Rattle.gitconf_sections.specs.Section.{Section, with_items}
 use Rattle.gitconf_sections.proofs.Edits.{there_is}

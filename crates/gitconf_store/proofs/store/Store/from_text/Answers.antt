@@ -1,7 +1,6 @@
 use Rattle.std.proofs.Common.{◌∙◌, length, refl, subst, sym}
 use Rattle.gitconf_parse.specs.ItemsFit.{AreItemsWithin}
 use Rattle.gitconf_store.specs.Loading.{IsLoading}
-use Rattle.gitconf_store.specs.Store.{state_of}
 use Rattle.gitconf_store.proofs.Parsed.{read_state, text_loaded}
 use Rattle.gitconf_store.proofs.store.Store.from_text.Goals as goal
 

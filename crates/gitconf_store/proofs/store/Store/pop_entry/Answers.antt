@@ -1,5 +1,5 @@
-use Rattle.std.proofs.Common.{rules, ◌≡◌, Some, None, refl, sym, ap, subst, ◌∙◌, length, arith, ◌<◌, ◌≤◌, ◌+◌, ◌^◌, true, false, [], inl}
-use Rattle.std.specs.Prelude.{option_map, OnOk, IfOk, IsOk, IsErrOf}
+use Rattle.std.proofs.Common.{rules, ◌≡◌, Some, None, refl, sym, ap, subst, ◌∙◌, length, ◌<◌, true, false, [], inl}
+use Rattle.std.specs.Prelude.{option_map, OnOk, IfOk, IsOk}
 use Rattle.gitconf_table.specs.Sections.{place_of}
 use Rattle.gitconf_table.proofs.SectionLemmas.{number_at-place, section_edited}
 use Rattle.gitconf_state.specs.Editors.{popped, popped_entry}
@@ -10,11 +10,9 @@ use Rattle.gitconf_body.proofs.Buffers.{same_extended}
 use Rattle.gitconf_sections.specs.Section.{Section, with_items, viewed}
 use Rattle.gitconf_sections.proofs.Edits.{is_taken, taken_within}
 use Rattle.gitconf_store.specs.Store.{state_of, StoreFits}
-use Rattle.gitconf_store.proofs.Editing.{items_within_at, missing_stays, missing_told, numbered_kept, numbered_told, numbered_view, entry_inside, never_missing, numbered_items_at, puts_same, used_memory, used_refused}
+use Rattle.gitconf_store.proofs.Editing.{items_within_at, missing_stays, missing_told, numbered_kept, numbered_told, numbered_view, entry_inside}
 use Rattle.gitconf_store.proofs.PoppedKeys.{items_at, key_named}
 use Rattle.gitconf_store.proofs.Setting.{HasOthers, kept_view, on_ok, on_err, either_way, if_ok}
-use Rattle.gitconf_store.specs.Editors.{PutsIn}
-use Rattle.gitconf_store.specs.Edits.{UsedGrows}
 use Rattle.gitconf_store.proofs.store.Store.pop_entry.Goals as goal
 
 pub returns-in_default-clause-ok : goal.returns-in_default-clause-ok

@@ -1,4 +1,4 @@
-use Rattle.std.proofs.Common.{rules, ◌≡◌, Some, None, refl, sym, ap, subst, length, ◌∙◌, arith, ◌<◌, ◌≤◌, ◌+◌, ◌^◌}
+use Rattle.std.proofs.Common.{rules, ◌≡◌, Some, None, refl, sym, ap, subst, length, ◌∙◌, ◌<◌, ◌≤◌, ◌+◌, ◌^◌}
 use Rattle.std.specs.Prelude.{OnOk, IsErrOf}
 use Rattle.std.specs.Option.{option_copied}
 use Rattle.gitconf_table.specs.Sections.{place_of}
@@ -9,13 +9,12 @@ use Rattle.gitconf_state.specs.Edits.{Push}
 use Rattle.gitconf_state.proofs.EditsKeep.{apply_items}
 use Rattle.gitconf_parse.specs.Items.{items_of}
 use Rattle.gitconf_body.specs.Editors.{line_put}
-use Rattle.gitconf_sections.specs.Section.{Section, with_items, viewed}
+use Rattle.gitconf_sections.specs.Section.{Section, with_items}
 use Rattle.gitconf_sections.proofs.Edits.{is_taken, taken_within}
 use Rattle.gitconf_store.specs.Editors.{given_editor, PutsIn}
 use Rattle.gitconf_store.specs.Store.{state_of, StoreFits}
-use Rattle.gitconf_store.proofs.Editing.{given_fits, given_same, items_within_at, missing_stays, numbered_kept, numbered_view, puts_at, puts_none, never_missing, numbered_items_at, puts_same, used_memory, used_refused}
+use Rattle.gitconf_store.proofs.Editing.{given_fits, given_same, items_within_at, missing_stays, numbered_kept, numbered_view, puts_at, puts_none, puts_same, used_memory, used_refused}
 use Rattle.gitconf_store.proofs.Setting.{HasOthers, kept_view, on_ok, on_err, either_way}
-use Rattle.gitconf_store.specs.Edits.{UsedGrows}
 use Rattle.gitconf_store.proofs.store.Store.push_entry.Goals as goal
 
 pub push-pushed-requires-clause-fits : goal.push-pushed-requires-clause-fits

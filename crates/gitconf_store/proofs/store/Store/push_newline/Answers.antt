@@ -1,4 +1,4 @@
-use Rattle.std.proofs.Common.{rules, ◌≡◌, Some, None, refl, sym, ap, length, ◌∙◌, subst, arith, ◌<◌, ◌≤◌, ◌+◌, ◌^◌}
+use Rattle.std.proofs.Common.{rules, ◌≡◌, Some, None, refl, sym, ap, length, ◌∙◌, subst, ◌<◌, ◌≤◌, ◌+◌, ◌^◌}
 use Rattle.gitconf_table.specs.Sections.{place_of}
 use Rattle.gitconf_table.proofs.SectionLemmas.{number_at-place}
 use Rattle.gitconf_state.specs.Edit.{with_used}
@@ -6,15 +6,13 @@ use Rattle.gitconf_state.specs.Editors.{line_end_pushed}
 use Rattle.gitconf_state.specs.Edits.{PushLineEnd}
 use Rattle.gitconf_state.proofs.EditsKeep.{apply_items}
 use Rattle.gitconf_text.specs.LineEnds.{bytes_of_line_end}
-use Rattle.gitconf_sections.specs.Section.{Section, with_items, viewed}
+use Rattle.gitconf_sections.specs.Section.{Section, with_items}
 use Rattle.gitconf_sections.proofs.Edits.{is_taken, taken_within}
 use Rattle.gitconf_store.specs.Editors.{given_editor, PutsIn}
 use Rattle.gitconf_store.specs.Store.{state_of, StoreFits}
-use Rattle.gitconf_store.proofs.Editing.{items_within_at, missing_stays, numbered_kept, numbered_view, puts_at, puts_none, never_missing, numbered_items_at, puts_same, used_memory, used_refused}
+use Rattle.gitconf_store.proofs.Editing.{items_within_at, missing_stays, numbered_kept, numbered_view, puts_at, puts_none, puts_same, used_memory, used_refused}
 use Rattle.gitconf_store.proofs.Setting.{HasOthers, kept_view, on_ok, on_err, either_way}
 use Rattle.std.specs.Prelude.{IsErrOf}
-use Rattle.gitconf_store.specs.Edits.{UsedGrows}
-use Rattle.gitconf_parse.specs.Items.{items_of}
 use Rattle.gitconf_store.proofs.store.Store.push_newline.Goals as goal
 
 pub push_newline-pushed-requires-clause-within : goal.push_newline-pushed-requires-clause-within

@@ -1,5 +1,5 @@
-use Rattle.std.proofs.Common.{rules, ◌≡◌, Some, None, refl, sym, ap, subst, ◌∙◌, length, arith, ◌<◌, ◌≤◌, ◌+◌, ◌^◌, true, false}
-use Rattle.std.specs.Prelude.{option_map, OnOk, IfOk, IsOk, IsErrOf}
+use Rattle.std.proofs.Common.{rules, ◌≡◌, Some, None, refl, sym, ap, subst, ◌∙◌, length, ◌<◌, true, false}
+use Rattle.std.specs.Prelude.{option_map, OnOk, IfOk, IsOk}
 use Rattle.gitconf_table.specs.Sections.{place_of}
 use Rattle.gitconf_table.proofs.SectionLemmas.{number_at-place}
 use Rattle.gitconf_state.specs.Edit.{old_value}
@@ -11,10 +11,8 @@ use Rattle.gitconf_body.proofs.Buffers.{same_extended}
 use Rattle.gitconf_sections.specs.Section.{Section, with_items, viewed}
 use Rattle.gitconf_sections.proofs.Edits.{is_taken, taken_within}
 use Rattle.gitconf_store.specs.Store.{state_of, StoreFits}
-use Rattle.gitconf_store.proofs.Editing.{unchanged_view, items_within_at, missing_stays, missing_told, numbered_kept, numbered_told, numbered_view, raw_inside, never_missing, numbered_items_at, puts_same, used_memory, used_refused}
+use Rattle.gitconf_store.proofs.Editing.{unchanged_view, items_within_at, missing_stays, missing_told, numbered_kept, numbered_told, numbered_view, raw_inside}
 use Rattle.gitconf_store.proofs.Setting.{HasOthers, kept_view, on_ok, on_err, either_way, if_ok}
-use Rattle.gitconf_store.specs.Editors.{PutsIn}
-use Rattle.gitconf_store.specs.Edits.{UsedGrows}
 use Rattle.gitconf_store.proofs.store.Store.remove_entry.Goals as goal
 
 pub returns-in_default-clause-ok : goal.returns-in_default-clause-ok

@@ -1,7 +1,7 @@
-use Rattle.std.proofs.Common.{rules, ◌≡◌, true, Some, None, refl, sym, ap, subst, length, ◌∙◌, arith, ◌<◌, ◌≤◌, ◌+◌, ◌^◌}
+use Rattle.std.proofs.Common.{rules, ◌≡◌, true, Some, None, refl, sym, ap, subst, length, ◌∙◌, ◌<◌, ◌≤◌, ◌+◌, ◌^◌}
 use Rattle.std.specs.Prelude.{OnOk, List, IsErrOf}
 use Rattle.gitconf_text.specs.Part as parts
-use Rattle.gitconf_table.specs.Sections.{place_of, with_section}
+use Rattle.gitconf_table.specs.Sections.{place_of}
 use Rattle.gitconf_table.proofs.SectionLemmas.{number_at-place}
 use Rattle.gitconf_state.specs.Edit.{spacing_of, with_used}
 use Rattle.gitconf_state.specs.Editors.{written_at}

@@ -1,4 +1,4 @@
-use Rattle.std.proofs.Common.{rules, ◌≡◌, Some, None, refl, sym, ap, subst, length, ◌∙◌, arith, ◌<◌, ◌≤◌, ◌+◌, ◌^◌}
+use Rattle.std.proofs.Common.{rules, ◌≡◌, Some, None, refl, sym, ap, subst, length, ◌∙◌, ◌<◌, ◌≤◌, ◌+◌, ◌^◌}
 use Rattle.std.specs.Prelude.{OnOk, IsErrOf}
 use Rattle.gitconf_table.specs.Sections.{place_of}
 use Rattle.gitconf_table.proofs.SectionLemmas.{number_at-place}
@@ -13,7 +13,7 @@ use Rattle.gitconf_sections.proofs.Edits.{is_taken, taken_within}
 use Rattle.gitconf_store.specs.Edits.{UsedGrows}
 use Rattle.gitconf_store.specs.Editors.{given_editor, PutsIn}
 use Rattle.gitconf_store.specs.Store.{state_of, StoreFits}
-use Rattle.gitconf_store.proofs.Editing.{given_fits, given_same, items_within_at, missing_stays, missing_told, numbered_items_at, numbered_kept, numbered_told, numbered_view, puts_at, puts_none, never_missing, puts_same, used_memory, used_refused}
+use Rattle.gitconf_store.proofs.Editing.{given_fits, given_same, items_within_at, missing_stays, missing_told, numbered_items_at, numbered_kept, numbered_told, numbered_view, puts_at, puts_none, puts_same, used_memory, used_refused}
 use Rattle.gitconf_store.proofs.Setting.{HasOthers, kept_view, on_ok, on_err, either_way, if_ok}
 use Rattle.gitconf_store.proofs.store.Store.set_entry.Goals as goal
 

@@ -1,4 +1,4 @@
-use Rattle.std.proofs.Common.{rules, ◌≡◌, ◌-◌, length, ◌∙◌, suc}
+use Rattle.std.proofs.Common.{rules, ◌≡◌, ◌-◌, length, suc}
 use Rattle.gitconf_sections.specs.Section.{viewed}
 use Rattle.gitconf_store.proofs.AppendedFiles.{last_there}
 use Rattle.gitconf_store.proofs.store.joined.last_items.Goals as goal
