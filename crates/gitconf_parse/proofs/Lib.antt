@@ -38,3 +38,4 @@ pub mod Documents
 pub mod Stretches
 pub mod ItemReading
 pub mod Moves
+pub mod Strips

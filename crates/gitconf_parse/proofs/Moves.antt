@@ -110,6 +110,19 @@ line_moved by l moved is =
     (span_moved_to by _ _ refl refl) (span_moved_to by _ _ (omega arith) refl)
     (plain_moved by _ _ _ _ (span_moved_to by _ _ (omega arith) refl) (span_moved_to by _ _ (omega arith) refl)))
 
+pub bare_moved : (by : ℕ) (l moved : Line) → moved ≡ record { start = by + l.start; name = l.name; before = l.before; behind = l.behind; value = l.value }
+    → IsMoved entry_of EntryFits by (parts_in (held.Bare l)) (parts_in (held.Bare moved))
+bare_moved by l moved is =
+    rw is (entry_moved by (parts_in (held.Bare l)) (parts_in (held.Bare (record { start = by + l.start; name = l.name; before = l.before; behind = l.behind; value = l.value })))
+    (span_moved_to by _ _ refl refl) (nowhere_moved by)
+    (plain_moved by _ _ _ _ (nowhere_moved by) (span_moved_to by _ _ (omega arith) refl)))
+  where
+    nowhere : Span
+    nowhere = record { start = 0; len = 0 }
+
+    nowhere_moved : (by : ℕ) → IsMoved bytes_of SpanFits by nowhere nowhere
+    nowhere_moved by = record { same = λ before buffer is. refl; within = λ limit fits. omega arith }
+
 pub blanks_moved : (by : ℕ) (s t : Span) → IsMoved bytes_of SpanFits by s t → IsMoved item_of ItemFits by (items.Blanks s) (items.Blanks t)
 blanks_moved by s t m = record { same = λ before buffer is. ap parts.BlanksItem (m.same before buffer is); within = m.within }
 
@@ -138,6 +151,7 @@ pub ruleset moving = (
   entry_moved,
   name_moved,
   line_moved,
+  bare_moved,
   blanks_moved,
   line_ends_moved,
   comment_moved,

@@ -3,6 +3,8 @@ use Rattle.std.proofs.Common.{◌≡◌, ℕ, ◌+◌, ◌≤◌, ◌<◌, List,
 use Rattle.std.specs.Prelude.{◌==◌, false, Some, None, count_by}
 use Rattle.std.proofs.lemmas.List.{length-drop}
 use Rattle.std.proofs.lemmas.Grind.{flat_map-append}
+use Rattle.std.proofs.lemmas.List.Elements.{filter-append}
+use Rattle.gitconf_text.specs.Header.{Header}
 use Rattle.gitconf_text.specs.Part.{Part, spelled_part, spelled, FitsPart, AreFit}
 use Rattle.gitconf_text.specs.Document.{unmarked, IsText}
 use Rattle.gitconf_text.specs.Token.{Token, HeaderToken, item_tokens, part_tokens, tokens_of}
@@ -15,13 +17,17 @@ use Rattle.gitconf_parse.specs.declared.reading.Expected.TheVariants as expected
 use Rattle.gitconf_parse.specs.declared.reading.ReadError.{ReadError}
 use Rattle.gitconf_parse.specs.declared.reading.ReadError.TheVariants as errors
 use Rattle.gitconf_parse.specs.declared.items.Item.{Item}
+use Rattle.gitconf_parse.specs.declared.items.Keep.{Keep}
+use Rattle.gitconf_parse.specs.declared.items.Keep.TheVariants as keeps
+use Rattle.gitconf_parse.specs.EventList.{keeps_token}
+use Rattle.gitconf_parse.specs.TokenDocument.{keeps_meaning, tokens_kept}
 use Rattle.gitconf_parse.specs.Events.{header_of, token_of, HeaderFits}
-use Rattle.gitconf_parse.specs.ItemReading.{IsReadTo, IsItemRead}
+use Rattle.gitconf_parse.specs.ItemReading.{IsReadTo, IsItemRead, IsKeptRead, IsLastStripped}
 use Rattle.gitconf_parse.specs.Items.{item_of, tokens_of_items}
 use Rattle.gitconf_parse.specs.ItemsFit.{AreItemsWithin, EventsWithin}
 use Rattle.gitconf_parse.specs.Parsing.{IsFault, IsMisread}
 use Rattle.gitconf_parse.specs.Reading.{Gives, header_at, part_at, wanted_behind}
-use Rattle.gitconf_parse.specs.Stretches.{wanted_part, wanted_after, IsFaultAt, IsStretch, IsBroken, IsBreak}
+use Rattle.gitconf_parse.specs.Stretches.{wanted_part, wanted_after, IsFaultAt, IsStretch, IsKeptStretch, IsBroken, IsBreak}
 use Rattle.gitconf_parse.proofs.At.{behind_front, byte_at}
 use Rattle.gitconf_parse.proofs.Runs.{cut_at}
 use Rattle.gitconf_parse.proofs.Fitting.{part_events_fit}
@@ -155,12 +161,12 @@ pub no_header_read : (input : List ℕ) (n : ℕ) (wanted : Expected) → n < le
 no_header_read input n wanted within byte none = part_broken input n wanted [] [] (errors.Fault (record { at = n; expected = wanted })) within (header_refused input n wanted byte within none)
 
 -- A stretch from the front to the end is the whole text.
-pub whole_text : (input : List ℕ) (start : ℕ) (u v : Expected) (to : ℕ) (tokens : List Token) → drop start input ≡ unmarked input → length input ≤ to → IsStretch input start u to v tokens
-    → (parts : List Part) × IsText input parts × (tokens ≡ tokens_of parts)
-whole_text input start u v to tokens mark end x = let none : drop to input ≡ [] = drop_all to input end in (
+pub whole_text : (keep : Keep) (input : List ℕ) (start : ℕ) (u v : Expected) (to : ℕ) (kept : List Token) → drop start input ≡ unmarked input → length input ≤ to → IsKeptStretch keep input start u to v kept
+    → (parts : List Part) × IsText input parts × (kept ≡ tokens_kept keep (tokens_of parts))
+whole_text keep input start u v to kept mark end k = let x = k.stretch in let none : drop to input ≡ [] = drop_all to input end in (
   x.parts,
   record { spelled_is = sym mark ∙ x.whole ∙ ap (λ t. spelled x.parts ++ t) none ∙ append-nil (spelled x.parts); fits = subst (λ t. AreFit x.parts t) none x.fits },
-  x.tokens_are,
+  k.kept_are ∙ ap (tokens_kept keep) x.tokens_are,
 )
   where
     drop_all : (n : ℕ) (xs : List ℕ) → length xs ≤ n → drop n xs ≡ []
@@ -183,26 +189,75 @@ misread input start (errors.Fault f) no_line inside mark x =
     let fault = broken_stuck input start f no_line inside mark x in
     (fault, λ parts text. stuck_undocumented input _ _ _ fault.stuck parts text)
 
--- An item more was read.
-pub more_items : (input : List ℕ) (a b c : ℕ) (wanted : Expected) (old new : List Item) → IsStretch input a wanted b wanted (tokens_of_items input old) → b < length input → (get_or input b 0 == 91) ≡ false
-    → IsItemRead input b wanted old new c → IsStretch input a wanted c wanted (tokens_of_items input new)
-more_items input a b c wanted old new x within byte r =
-    let one = item_read input b wanted c (item_tokens (item_of input r.item)) within byte r.read in
-    let tokens : tokens_of_items input new ≡ tokens_of_items input old ++ item_tokens (item_of input r.item)
-    = ap (tokens_of_items input) r.put ∙ flat_map-append (λ i. item_tokens (item_of input i)) old (r.item ∷ []) ∙ ap (λ t. tokens_of_items input old ++ t) (append-nil _) in
-    subst (λ t. IsStretch input a wanted c wanted t) (sym tokens) (both_stretches input a b c wanted wanted wanted _ _ x one)
+-- what is kept of tokens is kept of each part of them
+both_kept : (keep : Keep) (some more : List Token) → tokens_kept keep (some ++ more) ≡ tokens_kept keep some ++ tokens_kept keep more
+both_kept keeps.All some more = refl
+both_kept keeps.Meaning some more = filter-append (keeps_token keeps_meaning) some more
 
-pub items_fit : (input : List ℕ) (at end : ℕ) (wanted : Expected) (old new : List Item) → AreItemsWithin (length input) old → IsItemRead input at wanted old new end → AreItemsWithin (length input) new
-items_fit input at end wanted old new fits r = subst (λ is. AreItemsWithin (length input) is) (sym r.put) (all_put old fits)
+header_kept : (keep : Keep) (h : Header) → tokens_kept keep (HeaderToken h ∷ []) ≡ HeaderToken h ∷ []
+header_kept keeps.All h = refl
+header_kept keeps.Meaning h = refl
+
+-- one behind another
+kept_stretches : (keep : Keep) (input : List ℕ) (a b c : ℕ) (u v w : Expected) (some more : List Token) → IsKeptStretch keep input a u b v some → IsKeptStretch keep input b v c w more → IsKeptStretch keep input a u c w (some ++ more)
+kept_stretches keep input a b c u v w some more x y = record {
+  tokens = x.tokens ++ y.tokens;
+  stretch = both_stretches input a b c u v w x.tokens y.tokens x.stretch y.stretch;
+  kept_are = ap (λ t. t ++ more) x.kept_are ∙ ap (λ t. tokens_kept keep x.tokens ++ t) y.kept_are ∙ sym (both_kept keep x.tokens y.tokens);
+}
+
+pub nothing_kept : (keep : Keep) (input : List ℕ) (n : ℕ) (wanted : Expected) → IsKeptStretch keep input n wanted n wanted []
+nothing_kept keep input n wanted = record { tokens = []; stretch = no_stretch input n wanted; kept_are = sym (none_kept keep) }
   where
-    all_put : (is : List Item) → AreItemsWithin (length input) is → AreItemsWithin (length input) (is ++ r.item ∷ [])
-    all_put [] h = (r.fits, tt)
+    none_kept : (keep : Keep) → tokens_kept keep [] ≡ []
+    none_kept keeps.All = refl
+    none_kept keeps.Meaning = refl
+
+-- What is kept of one item more was read.
+pub more_kept : (keep : Keep) (input : List ℕ) (a b c : ℕ) (wanted : Expected) (old new : List Item) → IsKeptStretch keep input a wanted b wanted (tokens_of_items input old) → b < length input
+    → (get_or input b 0 == 91) ≡ false → IsKeptRead keep input b wanted old new c → IsKeptStretch keep input a wanted c wanted (tokens_of_items input new)
+more_kept keep input a b c wanted old new x within byte r =
+    let one : IsKeptStretch keep input b wanted c wanted (tokens_of_items input r.kept) = record { tokens = r.tokens; stretch = item_read input b wanted c r.tokens within byte r.read; kept_are = r.told } in
+    let tokens : tokens_of_items input new ≡ tokens_of_items input old ++ tokens_of_items input r.kept
+    = ap (tokens_of_items input) r.put ∙ flat_map-append (λ i. item_tokens (item_of input i)) old r.kept in
+    subst (λ t. IsKeptStretch keep input a wanted c wanted t) (sym tokens) (kept_stretches keep input a b c wanted wanted wanted _ _ x one)
+
+pub kept_fit : (keep : Keep) (input : List ℕ) (at end : ℕ) (wanted : Expected) (old new : List Item) → AreItemsWithin (length input) old → IsKeptRead keep input at wanted old new end → AreItemsWithin (length input) new
+kept_fit keep input at end wanted old new fits r = subst (λ is. AreItemsWithin (length input) is) (sym r.put) (all_put old fits)
+  where
+    all_put : (is : List Item) → AreItemsWithin (length input) is → AreItemsWithin (length input) (is ++ r.kept)
+    all_put [] h = r.fits
     all_put (i ∷ is) h = (h.0, all_put is h.1)
 
+-- an item that was read is kept whole
+pub all_kept : (input : List ℕ) (at : ℕ) (wanted : Expected) (old new : List Item) (end : ℕ) → IsItemRead input at wanted old new end → IsKeptRead keeps.All input at wanted old new end
+all_kept input at wanted old new end r = record {
+  tokens = item_tokens (item_of input r.item);
+  kept = r.item ∷ [];
+  put = r.put;
+  told = append-nil (item_tokens (item_of input r.item));
+  read = r.read;
+  fits = (r.fits, tt);
+}
+
+-- or of it what has a meaning
+pub meaning_kept : (input : List ℕ) (at : ℕ) (wanted : Expected) (old new left : List Item) (end : ℕ) → IsItemRead input at wanted old new end
+    → ((rest : List Item) (item : Item) → new ≡ rest ++ item ∷ [] → IsLastStripped rest item left) → IsKeptRead keeps.Meaning input at wanted old left end
+meaning_kept input at wanted old new left end r strip = let s = strip old r.item r.put in record {
+  tokens = item_tokens (item_of input r.item);
+  kept = s.kept;
+  put = s.put;
+  told = s.told input;
+  read = r.read;
+  fits = s.fits (length input) r.fits;
+}
+
 -- A section more was read.
-pub more_stretch : (input : List ℕ) (a b c d : ℕ) (u v : Expected) (front some more body : List Token) (h : Spans) → IsStretch input a u b v (front ++ some)
-    → IsStretch input b v c expected.Name (HeaderToken (header_of input h) ∷ []) → IsStretch input c expected.Name d expected.Name body
-    → more ≡ some ++ HeaderToken (header_of input h) ∷ body → IsStretch input a u d expected.Name (front ++ more)
-more_stretch input a b c d u v front some more body h x y z is =
-    let section = both_stretches input b c d v expected.Name expected.Name _ _ y z in
-    subst (λ t. IsStretch input a u d expected.Name t) (append_assoc front some _ ∙ ap (λ t. front ++ t) (sym is)) (both_stretches input a b d u v expected.Name _ _ x section)
+pub more_stretch : (keep : Keep) (input : List ℕ) (a b c d : ℕ) (u v : Expected) (front some more body : List Token) (h : Spans) → IsKeptStretch keep input a u b v (front ++ some)
+    → IsStretch input b v c expected.Name (HeaderToken (header_of input h) ∷ []) → IsKeptStretch keep input c expected.Name d expected.Name body
+    → more ≡ some ++ HeaderToken (header_of input h) ∷ body → IsKeptStretch keep input a u d expected.Name (front ++ more)
+more_stretch keep input a b c d u v front some more body h x y z is =
+    let headed : IsKeptStretch keep input b v c expected.Name (HeaderToken (header_of input h) ∷ [])
+    = record { tokens = HeaderToken (header_of input h) ∷ []; stretch = y; kept_are = sym (header_kept keep (header_of input h)) } in
+    let section = kept_stretches keep input b c d v expected.Name expected.Name _ _ headed z in
+    subst (λ t. IsKeptStretch keep input a u d expected.Name t) (append_assoc front some _ ∙ ap (λ t. front ++ t) (sym is)) (kept_stretches keep input a b d u v expected.Name _ _ x section)

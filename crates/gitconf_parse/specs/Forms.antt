@@ -18,10 +18,16 @@ parts_in (forms.Line l) = record {
   blanks = record { start = l.start + l.name; len = l.before };
   assigned = assigned.Plain (record { start = l.start + l.name + l.before + 1; len = l.behind }) (record { start = l.start + l.name + l.before + 1 + l.behind; len = l.value });
 }
+parts_in (forms.Bare l) = record {
+  name = record { start = l.start; len = l.name };
+  blanks = record { start = 0; len = 0 };
+  assigned = assigned.Plain (record { start = 0; len = 0 }) (record { start = l.start + l.name + l.before + 1 + l.behind; len = l.value });
+}
 parts_in (forms.Apart parts) = parts.value
 
 -- each offset of its parts is one that a buffer may have
 abbrev pub FormFits : Form → Type 0
 FormFits (forms.Name name blanks) = name.start + name.len + blanks < 2 ^ 32
 FormFits (forms.Line l) = l.start + l.name + l.before + 1 + l.behind + l.value < 2 ^ 32
+FormFits (forms.Bare l) = l.start + l.name + l.before + 1 + l.behind + l.value < 2 ^ 32
 FormFits (forms.Apart parts) = Unit {0}

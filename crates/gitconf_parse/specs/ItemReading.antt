@@ -10,10 +10,13 @@ use Rattle.gitconf_parse.specs.declared.reading.ReadError.{ReadError}
 use Rattle.gitconf_parse.specs.declared.reading.value.PieceEnd.{PieceEnd}
 use Rattle.gitconf_parse.specs.declared.reading.value.PieceEnd.TheVariants as ends
 use Rattle.gitconf_parse.specs.declared.items.Item.{Item}
+use Rattle.gitconf_parse.specs.declared.items.Keep.{Keep}
+use Rattle.gitconf_parse.specs.declared.items.Keep.TheVariants as keeps
 use Rattle.gitconf_parse.specs.Events.{bytes_of, token_of}
-use Rattle.gitconf_parse.specs.Items.{entry_of, item_of}
-use Rattle.gitconf_parse.specs.ItemsFit.{ItemFits}
+use Rattle.gitconf_parse.specs.Items.{entry_of, item_of, tokens_of_items}
+use Rattle.gitconf_parse.specs.ItemsFit.{AreItemsWithin, ItemFits}
 use Rattle.gitconf_parse.specs.Reading.{Read, Gives, value_at, part_at}
+use Rattle.gitconf_parse.specs.TokenDocument.{tokens_kept}
 
 -- the piece that began at an offset ends behind it, and within a text of so many bytes
 abbrev pub EndsWithin : (from limit : ℕ) → PieceEnd → Type 0
@@ -55,3 +58,19 @@ pub record IsItemRead (input : List ℕ) (at : ℕ) (wanted : Expected) (old new
   pub put : new ≡ old ++ item ∷ []
   pub read : IsReadTo input (part_at input at wanted []) end (item_tokens (item_of input item))
   pub fits : ItemFits (length input) item
+
+-- Of the item behind others what has a meaning is left.
+pub record IsLastStripped (rest : List Item) (item : Item) (new : List Item) : Type 0 where
+  pub kept : List Item
+  pub put : new ≡ rest ++ kept
+  pub told : (buffer : List ℕ) → tokens_of_items buffer kept ≡ tokens_kept keeps.Meaning (item_tokens (item_of buffer item))
+  pub fits : (limit : ℕ) → ItemFits limit item → AreItemsWithin limit kept
+
+-- What is kept of one item more was read, at an offset, and ends there.
+pub record IsKeptRead (keep : Keep) (input : List ℕ) (at : ℕ) (wanted : Expected) (old new : List Item) (end : ℕ) : Type 0 where
+  pub tokens : List Token
+  pub kept : List Item
+  pub put : new ≡ old ++ kept
+  pub told : tokens_of_items input kept ≡ tokens_kept keep tokens
+  pub read : IsReadTo input (part_at input at wanted []) end tokens
+  pub fits : AreItemsWithin (length input) kept

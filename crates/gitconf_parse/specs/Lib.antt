@@ -21,3 +21,4 @@ pub mod ItemReading
 pub mod Moves
 pub mod Forms
 pub mod Alike
+pub mod Stripped

@@ -5,6 +5,8 @@ use Rattle.gitconf_text.specs.Text.{begins}
 use Rattle.gitconf_text.specs.Part.{Part, ItemPart, HeaderPart, spelled, AreFit}
 use Rattle.gitconf_text.specs.Stuck.{IsAssignment, spelled_assignment, NoValue, NoPart}
 use Rattle.gitconf_text.specs.Token.{Token, tokens_of}
+use Rattle.gitconf_parse.specs.declared.items.Keep.{Keep}
+use Rattle.gitconf_parse.specs.TokenDocument.{tokens_kept}
 use Rattle.gitconf_parse.specs.declared.reading.Fault.{Fault}
 use Rattle.gitconf_parse.specs.declared.reading.Expected.{Expected}
 use Rattle.gitconf_parse.specs.declared.reading.Expected.TheVariants as expected
@@ -44,6 +46,12 @@ pub record IsStretch (input : List ℕ) (from : ℕ) (first : Expected) (to : �
   pub to_is : to ≡ from + length (spelled parts)
   pub last_is : last ≡ wanted_after first parts
   pub tokens_are : tokens ≡ tokens_of parts
+
+-- Parts stand from one offset up to another, of whose tokens these are kept.
+pub record IsKeptStretch (keep : Keep) (input : List ℕ) (from : ℕ) (first : Expected) (to : ℕ) (last : Expected) (kept : List Token) : Type 0 where
+  pub tokens : List Token
+  pub stretch : IsStretch input from first to last tokens
+  pub kept_are : kept ≡ tokens_kept keep tokens
 
 -- Parts stand from an offset on, and behind them the text can't be read on.
 pub record IsBroken (input : List ℕ) (from : ℕ) (first : Expected) (f : Fault) : Type 0 where

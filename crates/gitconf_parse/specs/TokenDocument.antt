@@ -1,8 +1,11 @@
 -- Which document tokens say, and what a lossy load keeps of them.
-use Rattle.std.specs.Prelude.{◌≡◌, Bool, true, false, List}
+use Rattle.std.specs.Prelude.{◌≡◌, Bool, true, false, List, filter}
 use Rattle.gitconf_text.specs.Part.{Part}
 use Rattle.gitconf_text.specs.Token.{Token, tokens_of}
 use Rattle.gitconf_text.specs.Document.{Document, gathered}
+use Rattle.gitconf_parse.specs.declared.items.Keep.{Keep}
+use Rattle.gitconf_parse.specs.declared.items.Keep.TheVariants as keeps
+use Rattle.gitconf_parse.specs.EventList.{keeps_token}
 use Rattle.gitconf_parse.specs.EventRef.{Shown, ShownComment, ShownNewline, ShownBlanks}
 
 -- the tokens are those of some parts, and these have the document
@@ -17,3 +20,8 @@ keeps_meaning (ShownComment tag text) = false
 keeps_meaning (ShownNewline bytes) = false
 keeps_meaning (ShownBlanks bytes) = false
 keeps_meaning _ = true
+
+-- what a load keeps of the tokens of a text
+abbrev pub tokens_kept : Keep → List Token → List Token
+tokens_kept keeps.All tokens = tokens
+tokens_kept keeps.Meaning tokens = filter (keeps_token keeps_meaning) tokens

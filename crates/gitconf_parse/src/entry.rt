@@ -1,8 +1,8 @@
 //! Entries: a value name, the blanks around `=`, and the value.
 //!
 //! Nearly all entries stand in a buffer as one line wrote them, and their parts are short; then an entry is the offset of its
-//! name and four lengths. Any other has its parts in a box.
-ghost use Rattle.std.specs.Prelude.{◌≡◌, ℕ, List, Some, IfOk, IfSome};
+//! name and four lengths, also where its blanks were left out. Any other has its parts in a box.
+ghost use Rattle.std.specs.Prelude.{◌≡◌, ◌+◌, ℕ, List, Some, IfOk, IfSome};
 ghost use Rattle.gitconf_parse.specs.Events.{bytes_of, SpanFits};
 ghost use Rattle.gitconf_parse.specs.Items.{assigned_of, entry_of, lent, value_of};
 ghost use Rattle.gitconf_parse.specs.ItemsFit.{AssignedFits, EntryFits, ValueFits};
@@ -15,6 +15,8 @@ use gitconf_text::NoMemory;
 use smallvec::SmallVec;
 use std::alloc::{AllocError, Global};
 use std::marker::Model;
+
+const NOTHING: Span = Span { start: 0, len: 0 };
 
 /// A piece of a value that goes on.
 #[derive(Clone, Copy, Debug, Default)]
@@ -103,6 +105,8 @@ pub(crate) enum Form {
     /// A name, and so many blanks directly behind it.
     Name { name: Span, blanks: u32 },
     Line(Line),
+    /// The name and the value of a line, whose blanks are no part of the entry.
+    Bare(Line),
     Apart(Box<EntryParts>),
 }
 
@@ -161,10 +165,8 @@ impl Entry {
     {
         match &self.form {
             Form::Name { name, .. } => *name,
-            Form::Line(line) => Span {
-                start: line.start,
-                len: line.name as u32,
-            },
+            Form::Line(line) => line.name(),
+            Form::Bare(line) => line.name(),
             Form::Apart(parts) => parts.name,
         }
     }
@@ -182,6 +184,7 @@ impl Entry {
                 start: line.start + line.name as u32,
                 len: line.before as u32,
             },
+            Form::Bare(_) => NOTHING,
             Form::Apart(parts) => parts.blanks,
         }
     }
@@ -192,7 +195,14 @@ impl Entry {
     {
         match &self.form {
             Form::Name { .. } => AssignedRef::Nothing,
-            Form::Line(line) => line.assigned(),
+            Form::Line(line) => AssignedRef::Plain {
+                blanks: line.blanks_behind(),
+                value: line.value(),
+            },
+            Form::Bare(line) => AssignedRef::Plain {
+                blanks: NOTHING,
+                value: line.value(),
+            },
             Form::Apart(parts) => match &parts.assigned {
                 Assigned::Nothing => AssignedRef::Nothing,
                 Assigned::Plain { blanks, value } => AssignedRef::Plain {
@@ -220,6 +230,7 @@ impl Clone for Entry {
                 blanks: *blanks,
             },
             Form::Line(line) => Form::Line(*line),
+            Form::Bare(line) => Form::Bare(*line),
             Form::Apart(parts) => Form::Apart(parts.clone()?),
         };
         Ok(Entry { form })
@@ -227,21 +238,35 @@ impl Clone for Entry {
 }
 
 impl Line {
-    /// The value, and the blanks before it.
-    fn assigned<'a>(&self) -> AssignedRef<'a>
-        requires { FormFits (forms.Line self.now) }
-        ensures { lent result ≡ (parts_in (forms.Line self.now)).assigned }
+    /// The name.
+    fn name(&self) -> Span
+        ensures { result ≡ record { start = self.now.start; len = self.now.name } }
     {
-        let blanks = self.start + self.name as u32 + self.before as u32 + 1;
-        AssignedRef::Plain {
-            blanks: Span {
-                start: blanks,
-                len: self.behind as u32,
-            },
-            value: Span {
-                start: blanks + self.behind as u32,
-                len: self.value,
-            },
+        Span {
+            start: self.start,
+            len: self.name as u32,
+        }
+    }
+
+    /// The blanks behind `=`.
+    fn blanks_behind(&self) -> Span
+        requires { FormFits (forms.Line self.now) }
+        ensures { result ≡ record { start = self.now.start + self.now.name + self.now.before + 1; len = self.now.behind } }
+    {
+        Span {
+            start: self.start + self.name as u32 + self.before as u32 + 1,
+            len: self.behind as u32,
+        }
+    }
+
+    /// The value.
+    fn value(&self) -> Span
+        requires { FormFits (forms.Line self.now) }
+        ensures { result ≡ record { start = self.now.start + self.now.name + self.now.before + 1 + self.now.behind; len = self.now.value } }
+    {
+        Span {
+            start: self.start + self.name as u32 + self.before as u32 + 1 + self.behind as u32,
+            len: self.value,
         }
     }
 }

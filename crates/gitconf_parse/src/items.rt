@@ -30,6 +30,15 @@ pub enum Item {
 
 const _: () = prove!(size_of::<Item>() == 24);
 
+/// What a load keeps of a text.
+#[derive(Clone, Copy)]
+pub enum Keep {
+    /// All of it.
+    All,
+    /// Headers and entries, without blanks, line ends and comments: the document is the same.
+    Meaning,
+}
+
 /// A header and what stands behind it.
 #[derive(Debug, Drop)]
 pub struct Section {

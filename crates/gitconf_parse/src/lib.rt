@@ -14,3 +14,4 @@ pub mod moving;
 mod reading;
 pub mod section_sink;
 pub mod sink;
+mod stripping;

@@ -7,46 +7,55 @@ ghost use Rattle.gitconf_parse.specs.EventResult.{IsRefused};
 ghost use Rattle.gitconf_parse.specs.Items.{tokens_of_items};
 ghost use Rattle.gitconf_parse.specs.ItemsFit.{AreItemsWithin};
 ghost use Rattle.gitconf_parse.specs.Parsing.{IsMisread};
+ghost use Rattle.gitconf_parse.specs.TokenDocument.{tokens_kept};
 
 use crate::error::Error;
 use crate::events::refusal;
-use crate::items::Item;
+use crate::items::{Item, Keep};
 use crate::reading::item::{header_first, push_items};
 use crate::reading::{Expected, ReadError, mark_len};
 use crate::section_sink::SectionSink;
 use std::alloc::Global;
 
-/// The items before the first header; the sections are handed over as they are read.
+/// What is kept of the items before the first header; the sections are handed over as they are read.
 fn read_items<S: SectionSink>(
     alloc: Global,
     input: &[u8],
+    keep: Keep,
     sections: &mut S,
 ) -> Result<Vec<Item>, ReadError>
     requires fits { length input.now < 2 ^ 32 }
     requires keeps { (first : S) × S.keeps input.now first sections.old }
     requires none { S.tokens input.now sections.old ≡ [] }
     ensures found { IfOk result (λ front. (parts : List Part) × IsText input.now parts
-        × (tokens_of_items input.now front.items ++ S.tokens input.now sections.new ≡ tokens_of parts)) }
+        × (tokens_of_items input.now front.items ++ S.tokens input.now sections.new ≡ tokens_kept keep (tokens_of parts))) }
     ensures within { IfOk result (λ front. AreItemsWithin (length input.now) front.items) }
     ensures keeps { OnOk result ((first : S) → S.keeps input.now first sections.old → S.keeps input.now first sections.new) }
     ensures misread { IfErr result (IsMisread input.now) }
 {
     let mut front = Vec::new(alloc);
     let start = mark_len(input);
-    let mut at = push_items(alloc, input, start, Expected::SectionHeader, &mut front)?;
+    let mut at = push_items(
+        alloc,
+        input,
+        start,
+        Expected::SectionHeader,
+        keep,
+        &mut front,
+    )?;
     let mut scratch = Vec::new(alloc);
     let mut wanted = Expected::SectionHeader;
     while at < input.len() {
         let (header, behind) = header_first(input, at, wanted)?;
-        at = push_items(alloc, input, behind, Expected::Name, &mut scratch)?;
+        at = push_items(alloc, input, behind, Expected::Name, keep, &mut scratch)?;
         sections.take(input, header, &mut scratch)?;
         wanted = Expected::Name;
     }
     Ok(front)
 }
 
-/// The items of a text before its first header; its sections are handed over in order, each as soon as it is read. All
-/// spans are offsets of the text.
+/// What is kept of the items of a text before its first header; its sections are handed over in order, each with what is kept of
+/// its items, as soon as it is read. All spans are offsets of the text.
 ///
 /// The text is read once, section by section. Memory is taken for the items before the first header, for one list that holds the
 /// items of a section until they are handed over, so for those of the longest section, and for what the sections are handed over to.
@@ -58,18 +67,19 @@ fn read_items<S: SectionSink>(
 pub fn read_sections<S: SectionSink>(
     alloc: Global,
     input: &[u8],
+    keep: Keep,
     sections: &mut S,
 ) -> Result<Vec<Item>, Error>
     requires fits { length input.now < 2 ^ 32 }
     requires keeps { (first : S) × S.keeps input.now first sections.old }
     requires none { S.tokens input.now sections.old ≡ [] }
     ensures found { IfOk result (λ front. (parts : List Part) × IsText input.now parts
-        × (tokens_of_items input.now front.items ++ S.tokens input.now sections.new ≡ tokens_of parts)) }
+        × (tokens_of_items input.now front.items ++ S.tokens input.now sections.new ≡ tokens_kept keep (tokens_of parts))) }
     ensures within { IfOk result (λ front. AreItemsWithin (length input.now) front.items) }
     ensures keeps { OnOk result ((first : S) → S.keeps input.now first sections.old → S.keeps input.now first sections.new) }
     ensures refused { IfErr result (IsRefused input.now) }
 {
-    match read_items(alloc, input, sections) {
+    match read_items(alloc, input, keep, sections) {
         Ok(front) => Ok(front),
         Err(ReadError::Memory) => Err(Error::memory()),
         Err(ReadError::Fault(fault)) => Err(refusal(alloc, input, fault)),

@@ -148,6 +148,10 @@ fn moved_form(form: Form, by: u32) -> Form
             start: by + line.start,
             ..line
         }),
+        Form::Bare(line) => Form::Bare(Line {
+            start: by + line.start,
+            ..line
+        }),
         Form::Apart(mut parts) => {
             move_parts(&mut *parts, by);
             Form::Apart(parts)

@@ -5,11 +5,11 @@ ghost use Rattle.gitconf_text.specs.Part.{EntryItem};
 ghost use Rattle.gitconf_parse.specs.declared.reading.Expected.TheVariants.{Name};
 ghost use Rattle.gitconf_parse.specs.declared.reading.ReadError.TheVariants.{Memory};
 ghost use Rattle.gitconf_parse.specs.Events.{bytes_of, header_of, SpanFits, HeaderFits};
-ghost use Rattle.gitconf_parse.specs.ItemReading.{IsReadTo, IsRefusal, IsValueRead, IsValueRefusal, IsEntryWith, IsItemRead};
+ghost use Rattle.gitconf_parse.specs.ItemReading.{IsReadTo, IsRefusal, IsValueRead, IsValueRefusal, IsEntryWith, IsItemRead, IsKeptRead};
 ghost use Rattle.gitconf_parse.specs.Items.{entry_of, tokens_of_items, tokens_of_value};
 ghost use Rattle.gitconf_parse.specs.ItemsFit.{AreItemsWithin, EntryFits, ValueFits};
 ghost use Rattle.gitconf_parse.specs.Reading.{entry_at, part_at};
-ghost use Rattle.gitconf_parse.specs.Stretches.{IsStretch, IsBreak};
+ghost use Rattle.gitconf_parse.specs.Stretches.{IsStretch, IsKeptStretch, IsBreak};
 
 use super::entry::is_assignment;
 use super::header::header;
@@ -19,7 +19,8 @@ use super::value::{PieceEnd, piece_end};
 use super::{Expected, Fault, ReadError};
 use crate::entry::{Assigned, Entry, EntryParts, Piece, Value};
 use crate::event::{Header, Span};
-use crate::items::Item;
+use crate::items::{Item, Keep};
+use crate::stripping::strip_last;
 use smallvec::SmallVec;
 use std::alloc::Global;
 
@@ -223,18 +224,45 @@ fn push_item(
     }
 }
 
-/// Adds the items from an offset on, up to a header or the end, and answers where they end.
+/// Adds what is kept of the item at an offset, as [`push_item`] does.
+#[inline(always)]
+fn push_kept(
+    alloc: Global,
+    input: &[u8],
+    at: usize,
+    wanted: Expected,
+    keep: Keep,
+    items: &mut Vec<Item>,
+) -> Result<usize, ReadError>
+    requires within { at < length input.now }
+    requires fits { length input.now < 2 ^ 32 }
+    requires no_header { (get_or input.now at 0 == 91) ≡ false }
+    ensures found { IfOk result (IsKeptRead keep input.now at wanted items.old.items items.new.items) }
+    ensures ahead { IfOk result (λ end. at < end) }
+    ensures inside { IfOk result (λ end. end ≤ length input.now) }
+    ensures refused { IfErr result (IsRefusal (part_at input.now at wanted [])) }
+{
+    let end = push_item(alloc, input, at, wanted, items)?;
+    match keep {
+        Keep::All => {}
+        Keep::Meaning => strip_last(items),
+    }
+    Ok(end)
+}
+
+/// Adds what is kept of the items from an offset on, up to a header or the end, and answers where they end.
 pub fn push_items(
     alloc: Global,
     input: &[u8],
     start: usize,
     wanted: Expected,
+    keep: Keep,
     items: &mut Vec<Item>,
 ) -> Result<usize, ReadError>
     requires within { start ≤ length input.now }
     requires fits { length input.now < 2 ^ 32 }
     requires empty { items.old.items ≡ [] }
-    ensures read { IfOk result (λ end. IsStretch input.now start wanted end wanted (tokens_of_items input.now items.new.items)) }
+    ensures read { IfOk result (λ end. IsKeptStretch keep input.now start wanted end wanted (tokens_of_items input.now items.new.items)) }
     ensures spans { OnOk result (AreItemsWithin (length input.now) items.new.items) }
     ensures inside { IfOk result (λ end. end ≤ length input.now) }
     ensures headed { IfOk result (λ end. end < length input.now → get_or input.now end 0 ≡ 91) }
@@ -242,7 +270,7 @@ pub fn push_items(
 {
     let mut at = start;
     while at < input.len() && input[at] != b'[' {
-        at = push_item(alloc, input, at, wanted, items)?;
+        at = push_kept(alloc, input, at, wanted, keep, items)?;
     }
     Ok(at)
 }

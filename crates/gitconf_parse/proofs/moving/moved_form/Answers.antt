@@ -5,7 +5,7 @@ use Rattle.gitconf_parse.specs.Items.{entry_of}
 use Rattle.gitconf_parse.specs.ItemsFit.{EntryFits}
 use Rattle.gitconf_parse.specs.Forms.{parts_in}
 use Rattle.gitconf_parse.specs.Moves.{IsMoved}
-use Rattle.gitconf_parse.proofs.Moves.{line_moved}
+use Rattle.gitconf_parse.proofs.Moves.{bare_moved, line_moved}
 use Rattle.gitconf_parse.proofs.moving.moved_form.Goals as goal
 
 pub returns-in-Line-clause-moved : goal.returns-in-Line-clause-moved
@@ -13,3 +13,9 @@ returns-in-Line-clause-moved c =
     let l = c.in-Line.line in
     let moved : Line = record { start = c.args.by + l.start; name = l.name; before = l.before; behind = l.behind; value = l.value } in
     subst (λ f. IsMoved entry_of EntryFits c.args.by (parts_in f) (parts_in (held.Line moved))) (sym c.in-Line.is) (line_moved c.args.by l moved refl)
+
+pub returns-in-Bare-clause-moved : goal.returns-in-Bare-clause-moved
+returns-in-Bare-clause-moved c =
+    let l = c.in-Bare.line in
+    let moved : Line = record { start = c.args.by + l.start; name = l.name; before = l.before; behind = l.behind; value = l.value } in
+    subst (λ f. IsMoved entry_of EntryFits c.args.by (parts_in f) (parts_in (held.Bare moved))) (sym c.in-Bare.is) (bare_moved c.args.by l moved refl)

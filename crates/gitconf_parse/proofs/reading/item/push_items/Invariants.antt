@@ -1,14 +1,14 @@
 use Rattle.std.proofs.Common.{◌-◌, ◌≤◌, length}
 use Rattle.gitconf_parse.specs.Items.{tokens_of_items}
 use Rattle.gitconf_parse.specs.ItemsFit.{AreItemsWithin}
-use Rattle.gitconf_parse.specs.Stretches.{IsStretch}
+use Rattle.gitconf_parse.specs.Stretches.{IsKeptStretch}
 use Rattle.gitconf_parse.proofs.reading.item.push_items.Given as goal
 
--- the items up to here were read
+-- what is kept of the items up to here was read
 abbrev pub invariant-loop-at : goal.invariant-loop-at
 invariant-loop-at l = record {
   inside : l.at ≤ length l.input;
-  read : IsStretch l.input l.start l.wanted l.at l.wanted (tokens_of_items l.input l.items.items);
+  read : IsKeptStretch l.keep l.input l.start l.wanted l.at l.wanted (tokens_of_items l.input l.items.items);
   items : AreItemsWithin (length l.input) l.items.items;
 }
 

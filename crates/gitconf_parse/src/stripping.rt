@@ -1,0 +1,116 @@
+//! What a load keeps of items that keeps no more than has a meaning: entries, without the blanks and the line ends in them.
+ghost use Rattle.std.specs.Prelude.{◌≡◌, ◌++◌, ◌∷◌, [], ℕ, List, length, map};
+ghost use Rattle.std.specs.Option.{option_map, option_to_list};
+ghost use Rattle.gitconf_text.specs.Token.{item_tokens};
+ghost use Rattle.gitconf_parse.specs.Forms.{FormFits, parts_in};
+ghost use Rattle.gitconf_parse.specs.Items.{assigned_of, entry_of, item_of, piece_of, tokens_of_items};
+ghost use Rattle.gitconf_parse.specs.ItemsFit.{AreItemsWithin, AssignedFits, EntryFits, ItemFits, PieceFits};
+ghost use Rattle.gitconf_parse.specs.ItemReading.{IsLastStripped};
+ghost use Rattle.gitconf_parse.specs.Moves.{continued_of, pieces_of, ContinuedFits, PiecesFit};
+ghost use Rattle.gitconf_parse.specs.declared.items.Keep.TheVariants.{Meaning};
+ghost use Rattle.gitconf_parse.specs.TokenDocument.{tokens_kept};
+ghost use Rattle.gitconf_parse.specs.Stripped.{stripped_assigned, stripped_entry, stripped_piece, IsStripped};
+
+use crate::entry::{Assigned, Continued, Entry, EntryParts, Form, Piece};
+use crate::event::Span;
+use crate::items::Item;
+
+const NOTHING: Span = Span { start: 0, len: 0 };
+
+#[tactic(auto, using(crate::proofs::Strips::stripping))]
+fn stripped_piece(piece: Piece) -> Piece
+    ensures { IsStripped piece_of stripped_piece PieceFits piece result }
+{
+    Piece {
+        text: piece.text,
+        line_end: NOTHING,
+    }
+}
+
+fn strip_pieces(pieces: &mut [Piece])
+    ensures stripped { IsStripped pieces_of (map stripped_piece) PiecesFit pieces.old pieces.new }
+    ensures len { length pieces.new ≡ length pieces.old }
+{
+    for at in 0..pieces.len() {
+        let piece = pieces[at];
+        pieces[at] = stripped_piece(piece);
+    }
+}
+
+#[tactic(auto, using(crate::proofs::Strips::stripping))]
+fn strip_continued(continued: &mut Continued)
+    ensures { IsStripped continued_of stripped_assigned ContinuedFits continued.old continued.new }
+{
+    continued.blanks = NOTHING;
+    strip_pieces(continued.value.pieces.as_mut_slice());
+}
+
+#[tactic(auto, using(crate::proofs::Strips::stripping))]
+fn strip_assigned(assigned: &mut Assigned)
+    ensures { IsStripped assigned_of (option_map stripped_assigned) AssignedFits assigned.old assigned.new }
+{
+    match assigned {
+        Assigned::Nothing => {}
+        Assigned::Plain { blanks, .. } => *blanks = NOTHING,
+        Assigned::Continued(continued) => strip_continued(continued),
+    }
+}
+
+#[tactic(auto, using(crate::proofs::Strips::stripping))]
+fn strip_parts(parts: &mut EntryParts)
+    ensures { IsStripped entry_of stripped_entry EntryFits parts.old parts.new }
+{
+    parts.blanks = NOTHING;
+    strip_assigned(&mut parts.assigned);
+}
+
+/// Where an entry has a box, it stays in it.
+#[tactic(auto, using(crate::proofs::Strips::stripping))]
+fn stripped_form(form: Form) -> Form
+    requires inside { FormFits form }
+    ensures inside { FormFits result }
+    ensures stripped { IsStripped entry_of stripped_entry EntryFits (parts_in form) (parts_in result) }
+{
+    match form {
+        Form::Name { name, .. } => Form::Name { name, blanks: 0 },
+        Form::Line(line) => Form::Bare(line),
+        Form::Bare(line) => Form::Bare(line),
+        Form::Apart(mut parts) => {
+            strip_parts(&mut *parts);
+            Form::Apart(parts)
+        }
+    }
+}
+
+#[tactic(auto, using(crate::proofs::Strips::stripping))]
+fn stripped_entry(entry: Entry) -> Entry
+    ensures { IsStripped entry_of stripped_entry EntryFits entry result }
+{
+    Entry {
+        form: stripped_form(entry.form),
+    }
+}
+
+/// What of an item has a meaning: an entry, without the blanks and the line ends in it.
+fn stripped_item(item: Item) -> Option<Item>
+    ensures told { (buffer : List ℕ) → tokens_of_items buffer (option_to_list result) ≡ tokens_kept Meaning (item_tokens (item_of buffer item)) }
+    ensures fits { (limit : ℕ) → ItemFits limit item → AreItemsWithin limit (option_to_list result) }
+{
+    match item {
+        Item::Entry(entry) => Some(Item::Entry(stripped_entry(entry))),
+        Item::Blanks(_) | Item::LineEnds(_) | Item::Comment { .. } => None,
+    }
+}
+
+/// Leaves of the last item what has a meaning. Takes no memory.
+#[inline(always)]
+pub fn strip_last(items: &mut Vec<Item>)
+    ensures { (rest : List Item) (item : Item) → items.old.items ≡ rest ++ item ∷ [] → IsLastStripped rest item items.new.items }
+{
+    if let Some(item) = items.pop() {
+        match stripped_item(item) {
+            Some(kept) => items.push_reserved(kept),
+            None => {}
+        }
+    }
+}
