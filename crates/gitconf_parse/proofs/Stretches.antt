@@ -22,7 +22,7 @@ use Rattle.gitconf_parse.specs.declared.items.Keep.TheVariants as keeps
 use Rattle.gitconf_parse.specs.EventList.{keeps_token}
 use Rattle.gitconf_parse.specs.TokenDocument.{keeps_meaning, tokens_kept}
 use Rattle.gitconf_parse.specs.Events.{header_of, token_of, HeaderFits}
-use Rattle.gitconf_parse.specs.ItemReading.{IsReadTo, IsItemRead, IsKeptRead, IsLastStripped}
+use Rattle.gitconf_parse.specs.ItemReading.{IsReadTo, IsKeptRead}
 use Rattle.gitconf_parse.specs.Items.{item_of, tokens_of_items}
 use Rattle.gitconf_parse.specs.ItemsFit.{AreItemsWithin, EventsWithin}
 use Rattle.gitconf_parse.specs.Parsing.{IsFault, IsMisread}
@@ -228,29 +228,6 @@ kept_fit keep input at end wanted old new fits r = subst (λ is. AreItemsWithin 
     all_put : (is : List Item) → AreItemsWithin (length input) is → AreItemsWithin (length input) (is ++ r.kept)
     all_put [] h = r.fits
     all_put (i ∷ is) h = (h.0, all_put is h.1)
-
--- an item that was read is kept whole
-pub all_kept : (input : List ℕ) (at : ℕ) (wanted : Expected) (old new : List Item) (end : ℕ) → IsItemRead input at wanted old new end → IsKeptRead keeps.All input at wanted old new end
-all_kept input at wanted old new end r = record {
-  tokens = item_tokens (item_of input r.item);
-  kept = r.item ∷ [];
-  put = r.put;
-  told = append-nil (item_tokens (item_of input r.item));
-  read = r.read;
-  fits = (r.fits, tt);
-}
-
--- or of it what has a meaning
-pub meaning_kept : (input : List ℕ) (at : ℕ) (wanted : Expected) (old new left : List Item) (end : ℕ) → IsItemRead input at wanted old new end
-    → ((rest : List Item) (item : Item) → new ≡ rest ++ item ∷ [] → IsLastStripped rest item left) → IsKeptRead keeps.Meaning input at wanted old left end
-meaning_kept input at wanted old new left end r strip = let s = strip old r.item r.put in record {
-  tokens = item_tokens (item_of input r.item);
-  kept = s.kept;
-  put = s.put;
-  told = s.told input;
-  read = r.read;
-  fits = s.fits (length input) r.fits;
-}
 
 -- A section more was read.
 pub more_stretch : (keep : Keep) (input : List ℕ) (a b c d : ℕ) (u v : Expected) (front some more body : List Token) (h : Spans) → IsKeptStretch keep input a u b v (front ++ some)

@@ -1,8 +1,8 @@
 -- What is left of an entry without the blanks and the line ends in it.
-use Rattle.std.proofs.Common.{◌≡◌, ℕ, List, [], ◌∷◌, ◌++◌, length, map, Some, None, refl, ap, sym, subst, ◌∙◌, arith, append_assoc, append-nil, length-append}
+use Rattle.std.proofs.Common.{◌≡◌, ℕ, List, [], ◌∷◌, ◌++◌, length, map, Some, None, refl, ap, sym, subst, ◌∙◌, arith, append_assoc, append-nil}
 use Rattle.std.specs.Prelude.{filter, Option}
 use Rattle.std.specs.List.{flat_map, AllByRecursion}
-use Rattle.std.specs.Option.{option_map, option_to_list}
+use Rattle.std.specs.Option.{option_map}
 use Rattle.gitconf_text.specs.Part as parts
 use Rattle.gitconf_text.specs.Value as grammar
 use Rattle.gitconf_text.specs.Token.{Token, NameToken, SeparatorToken, ValueToken, WhitespaceToken, NewlineToken, ValueNotDoneToken, ValueDoneToken, filled, piece_tokens, value_tokens, item_tokens}
@@ -14,11 +14,12 @@ use Rattle.gitconf_parse.specs.declared.entry.Line.{Line}
 use Rattle.gitconf_parse.specs.declared.entry.Form.TheVariants as held
 use Rattle.gitconf_parse.specs.declared.entry.Piece.{Piece}
 use Rattle.gitconf_parse.specs.declared.items.Item.{Item}
+use Rattle.gitconf_parse.specs.declared.items.Keep.{Keep}
 use Rattle.gitconf_parse.specs.declared.items.Keep.TheVariants as keeps
 use Rattle.gitconf_parse.specs.Events.{bytes_of, SpanFits}
 use Rattle.gitconf_parse.specs.EventList.{keeps_token}
 use Rattle.gitconf_parse.specs.Items.{piece_of, assigned_of, entry_of, item_of, tokens_of_items}
-use Rattle.gitconf_parse.specs.ItemReading.{IsLastStripped}
+use Rattle.gitconf_parse.specs.ItemReading.{gap_kept}
 use Rattle.gitconf_parse.specs.ItemsFit.{PieceFits, AssignedFits, EntryFits, ItemFits, AreItemsWithin}
 use Rattle.gitconf_parse.specs.Forms.{parts_in}
 use Rattle.gitconf_parse.specs.Moves.{continued_of, pieces_of, ContinuedFits, PiecesFit}
@@ -121,7 +122,7 @@ value_meant [] last = refl
 value_meant (p ∷ pieces) last = pieces_meant (p ∷ pieces) (ValueDoneToken last ∷ [])
 
 -- An entry that is stripped has the tokens of the whole one that have a meaning.
-pub entry_meant : (e : parts.Entry) → item_tokens (parts.EntryItem (stripped_entry e)) ≡ meant (item_tokens (parts.EntryItem e))
+entry_meant : (e : parts.Entry) → item_tokens (parts.EntryItem (stripped_entry e)) ≡ meant (item_tokens (parts.EntryItem e))
 entry_meant e = go e.assigned
   where
     go : (a : Option parts.Assigned) → item_tokens (parts.EntryItem (stripped_entry (record { name = e.name; blanks = e.blanks; assigned = a }))) ≡ meant (item_tokens (parts.EntryItem (record { name = e.name; blanks = e.blanks; assigned = a })))
@@ -131,27 +132,14 @@ entry_meant e = go e.assigned
         ap (λ t. NameToken e.name ∷ t) (sym (no_blanks e.blanks (SeparatorToken ∷ behind)
         ∙ ap (λ t. SeparatorToken ∷ t) (no_blanks a.blanks (value_tokens a.value.pieces a.value.last) ∙ value_meant a.value.pieces a.value.last)))
 
-pub entry_told : (buffer : List ℕ) (e new : EntryParts) → IsStripped entry_of stripped_entry EntryFits e new
-    → item_tokens (parts.EntryItem (entry_of buffer new)) ++ [] ≡ meant (item_tokens (parts.EntryItem (entry_of buffer e)))
-entry_told buffer e new m = append-nil (item_tokens (parts.EntryItem (entry_of buffer new))) ∙ ap (λ e. item_tokens (parts.EntryItem e)) (m.same buffer) ∙ entry_meant (entry_of buffer e)
+pub entry_told : (buffer : List ℕ) (e new : EntryParts) → IsStripped entry_of stripped_entry EntryFits e new → item_tokens (parts.EntryItem (entry_of buffer new)) ≡ meant (item_tokens (parts.EntryItem (entry_of buffer e)))
+entry_told buffer e new m = ap (λ e. item_tokens (parts.EntryItem e)) (m.same buffer) ∙ entry_meant (entry_of buffer e)
 
--- A list is split before its last element in one way alone.
-pub last_same : {A : Type 0} (rest others : List A) (x y : A) → rest ++ x ∷ [] ≡ others ++ y ∷ [] → (rest ≡ others) × (x ≡ y)
-last_same [] [] x y e = (refl, cc)
-last_same [] (z ∷ others) x y e = let long = ap length e in let more = length-append others (y ∷ []) in absurd (omega (arith, long, more))
-last_same (w ∷ rest) [] x y e = let long = ap length e in let more = length-append rest (x ∷ []) in absurd (omega (arith, long, more))
-last_same (w ∷ rest) (z ∷ others) x y e =
-    let behind = last_same rest others x y (cc) in
-    let first : w ≡ z = cc in
-    ((λ i. first i ∷ behind.0 i), behind.1)
+-- What is kept of an item without a meaning says what is kept of its tokens, and stands where it does.
+pub gap_told : (keep : Keep) (input : List ℕ) (i : Item) → meant (item_tokens (item_of input i)) ≡ [] → tokens_of_items input (gap_kept keep i) ≡ tokens_kept keep (item_tokens (item_of input i))
+gap_told keeps.All input i none = append-nil (item_tokens (item_of input i))
+gap_told keeps.Meaning input i none = sym none
 
--- what is left of the last one
-pub last_stripped : (rest others : List Item) (item last : Item) (kept : Option Item) → rest ++ item ∷ [] ≡ others ++ last ∷ []
-    → ((buffer : List ℕ) → tokens_of_items buffer (option_to_list kept) ≡ tokens_kept keeps.Meaning (item_tokens (item_of buffer last)))
-    → ((limit : ℕ) → ItemFits limit last → AreItemsWithin limit (option_to_list kept)) → IsLastStripped rest item (others ++ option_to_list kept)
-last_stripped rest others item last kept is told fits = let same = last_same rest others item last is in record {
-  kept = option_to_list kept;
-  put = ap (λ xs. xs ++ option_to_list kept) (sym same.0);
-  told = λ buffer. told buffer ∙ ap (λ i. tokens_kept keeps.Meaning (item_tokens (item_of buffer i))) (sym same.1);
-  fits = λ limit f. fits limit (subst (ItemFits limit) same.1 f);
-}
+pub gap_fits : (keep : Keep) (limit : ℕ) (i : Item) → ItemFits limit i → AreItemsWithin limit (gap_kept keep i)
+gap_fits keeps.All limit i fits = (fits, tt)
+gap_fits keeps.Meaning limit i fits = tt

@@ -13,8 +13,8 @@ use Rattle.gitconf_parse.specs.declared.items.Item.{Item}
 use Rattle.gitconf_parse.specs.declared.items.Keep.{Keep}
 use Rattle.gitconf_parse.specs.declared.items.Keep.TheVariants as keeps
 use Rattle.gitconf_parse.specs.Events.{bytes_of, token_of}
-use Rattle.gitconf_parse.specs.Items.{entry_of, item_of, tokens_of_items}
-use Rattle.gitconf_parse.specs.ItemsFit.{AreItemsWithin, ItemFits}
+use Rattle.gitconf_parse.specs.Items.{entry_of, tokens_of_items}
+use Rattle.gitconf_parse.specs.ItemsFit.{AreItemsWithin}
 use Rattle.gitconf_parse.specs.Reading.{Read, Gives, value_at, part_at}
 use Rattle.gitconf_parse.specs.TokenDocument.{tokens_kept}
 
@@ -52,21 +52,12 @@ pub record IsEntryWith (input : List ℕ) (name blanks behind : Span) (first : �
   pub told : item_tokens (EntryItem (entry_of input entry))
       ≡ NameToken (bytes_of input name) ∷ (filled WhitespaceToken (bytes_of input blanks) ++ (SeparatorToken ∷ (filled WhitespaceToken (bytes_of input behind) ++ tokens)))
 
--- One item more was read, at an offset, and ends there.
-pub record IsItemRead (input : List ℕ) (at : ℕ) (wanted : Expected) (old new : List Item) (end : ℕ) : Type 0 where
-  pub item : Item
-  pub put : new ≡ old ++ item ∷ []
-  pub read : IsReadTo input (part_at input at wanted []) end (item_tokens (item_of input item))
-  pub fits : ItemFits (length input) item
+-- what is kept of an item without a meaning
+abbrev pub gap_kept : Keep → Item → List Item
+gap_kept keeps.All i = i ∷ []
+gap_kept keeps.Meaning i = []
 
--- Of the item behind others what has a meaning is left.
-pub record IsLastStripped (rest : List Item) (item : Item) (new : List Item) : Type 0 where
-  pub kept : List Item
-  pub put : new ≡ rest ++ kept
-  pub told : (buffer : List ℕ) → tokens_of_items buffer kept ≡ tokens_kept keeps.Meaning (item_tokens (item_of buffer item))
-  pub fits : (limit : ℕ) → ItemFits limit item → AreItemsWithin limit kept
-
--- What is kept of one item more was read, at an offset, and ends there.
+-- One item more was read, at an offset, and ends there; these are kept of it.
 pub record IsKeptRead (keep : Keep) (input : List ℕ) (at : ℕ) (wanted : Expected) (old new : List Item) (end : ℕ) : Type 0 where
   pub tokens : List Token
   pub kept : List Item

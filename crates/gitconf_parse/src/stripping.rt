@@ -1,19 +1,18 @@
 //! What a load keeps of items that keeps no more than has a meaning: entries, without the blanks and the line ends in them.
-ghost use Rattle.std.specs.Prelude.{◌≡◌, ◌++◌, ◌∷◌, [], ℕ, List, length, map};
-ghost use Rattle.std.specs.Option.{option_map, option_to_list};
+ghost use Rattle.std.specs.Prelude.{◌≡◌, ℕ, List, length, map};
+ghost use Rattle.std.specs.Option.{option_map};
+ghost use Rattle.gitconf_text.specs.Part.{EntryItem};
 ghost use Rattle.gitconf_text.specs.Token.{item_tokens};
 ghost use Rattle.gitconf_parse.specs.Forms.{FormFits, parts_in};
-ghost use Rattle.gitconf_parse.specs.Items.{assigned_of, entry_of, item_of, piece_of, tokens_of_items};
-ghost use Rattle.gitconf_parse.specs.ItemsFit.{AreItemsWithin, AssignedFits, EntryFits, ItemFits, PieceFits};
-ghost use Rattle.gitconf_parse.specs.ItemReading.{IsLastStripped};
+ghost use Rattle.gitconf_parse.specs.Items.{assigned_of, entry_of, piece_of};
+ghost use Rattle.gitconf_parse.specs.ItemsFit.{AssignedFits, EntryFits, PieceFits};
 ghost use Rattle.gitconf_parse.specs.Moves.{continued_of, pieces_of, ContinuedFits, PiecesFit};
-ghost use Rattle.gitconf_parse.specs.declared.items.Keep.TheVariants.{Meaning};
 ghost use Rattle.gitconf_parse.specs.TokenDocument.{tokens_kept};
 ghost use Rattle.gitconf_parse.specs.Stripped.{stripped_assigned, stripped_entry, stripped_piece, IsStripped};
 
 use crate::entry::{Assigned, Continued, Entry, EntryParts, Form, Piece};
 use crate::event::Span;
-use crate::items::Item;
+use crate::items::Keep;
 
 const NOTHING: Span = Span { start: 0, len: 0 };
 
@@ -91,26 +90,14 @@ fn stripped_entry(entry: Entry) -> Entry
     }
 }
 
-/// What of an item has a meaning: an entry, without the blanks and the line ends in it.
-fn stripped_item(item: Item) -> Option<Item>
-    ensures told { (buffer : List ℕ) → tokens_of_items buffer (option_to_list result) ≡ tokens_kept Meaning (item_tokens (item_of buffer item)) }
-    ensures fits { (limit : ℕ) → ItemFits limit item → AreItemsWithin limit (option_to_list result) }
-{
-    match item {
-        Item::Entry(entry) => Some(Item::Entry(stripped_entry(entry))),
-        Item::Blanks(_) | Item::LineEnds(_) | Item::Comment { .. } => None,
-    }
-}
-
-/// Leaves of the last item what has a meaning. Takes no memory.
+/// What is kept of an entry.
 #[inline(always)]
-pub fn strip_last(items: &mut Vec<Item>)
-    ensures { (rest : List Item) (item : Item) → items.old.items ≡ rest ++ item ∷ [] → IsLastStripped rest item items.new.items }
+pub fn kept_entry(entry: Entry, keep: Keep) -> Entry
+    ensures told { (buffer : List ℕ) → item_tokens (EntryItem (entry_of buffer result)) ≡ tokens_kept keep (item_tokens (EntryItem (entry_of buffer entry))) }
+    ensures fits { (limit : ℕ) → EntryFits limit entry → EntryFits limit result }
 {
-    if let Some(item) = items.pop() {
-        match stripped_item(item) {
-            Some(kept) => items.push_reserved(kept),
-            None => {}
-        }
+    match keep {
+        Keep::All => entry,
+        Keep::Meaning => stripped_entry(entry),
     }
 }

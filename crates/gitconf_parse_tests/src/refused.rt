@@ -4,7 +4,7 @@ use crate::events::{read, written};
 use crate::texts::{TEXT, WRITTEN};
 use gitconf_parse::event_ref::EventRef;
 use gitconf_parse::events::Events;
-use gitconf_parse::items::Section;
+use gitconf_parse::items::{Keep, Section};
 use gitconf_parse::laws::kept_entries_make_items;
 use gitconf_parse::loading::read_sections;
 use gitconf_tests::shim::{Outcome, begin, each_refused, was_refused};
@@ -81,7 +81,7 @@ fn events_handed_over(alloc: Global) -> Result<Outcome, Fail> {
 fn sections_read(alloc: Global) -> Result<Outcome, Fail> {
     let mut sections: Vec<Section> = Vec::new(alloc);
     begin(alloc)?;
-    let answer = read_sections(alloc, TEXT, &mut sections);
+    let answer = read_sections(alloc, TEXT, Keep::All, &mut sections);
     let refused = was_refused(alloc);
     let fits = match answer {
         Ok(front) => front.len() == 6 && items_in(&sections) == 25,

@@ -24,8 +24,8 @@ use gitconf_base::meta::Metadata;
 use gitconf_body::entry::{check_set_value, set_value};
 use gitconf_body::section::section_with;
 use gitconf_parse::error::Error;
-use gitconf_parse::events::{Events, check_len, copied_with_room, keeps_meaning};
-use gitconf_parse::items::Item;
+use gitconf_parse::events::{Events, check_len, copied_with_room};
+use gitconf_parse::items::{Item, Keep};
 use gitconf_parse::loading::read_sections;
 use gitconf_parse::sink::{Sink, SinkFault};
 use gitconf_sections::sections::SectionList;
@@ -79,7 +79,7 @@ impl Store {
     ghost use Rattle.gitconf_parse.specs.ItemsFit.{AreItemsWithin};
     ghost use Rattle.gitconf_parse.specs.ShownEvents.{shown_token};
     ghost use Rattle.gitconf_parse.specs.Sink.{Writes, Counts};
-    ghost use Rattle.gitconf_parse.specs.TokenDocument.{keeps_meaning};
+    ghost use Rattle.gitconf_parse.specs.TokenDocument.{keeps_meaning, tokens_kept};
     ghost use Rattle.gitconf_body.specs.Places.{IsLastPlace};
     ghost use Rattle.gitconf_state.specs.Clean.{IsClean};
     ghost use Rattle.gitconf_state.specs.Comments.{comments, comments_of, comments_of_kept};
@@ -163,6 +163,27 @@ impl Store {
         Ok(Store::of_loading(buffer, front, loading))
     }
 
+    /// The state of what is kept of a text: its front, and its sections under the numbers from 0 on, each from `meta`. The text is
+    /// handed over. One pass, section by section.
+    ///
+    /// # Errors
+    ///
+    /// Those of [`Store::from_text`].
+    fn of_text(
+        alloc: Global,
+        text: Vec<u8>,
+        keep: Keep,
+        meta: Rc<Metadata>,
+    ) -> Result<Store, Error>
+        ensures made { IfOk result (λ s. (parts : List Part) × IsText text.items parts × IsMade (tokens_kept keep (tokens_of parts)) meta.value (length text.items) s) }
+        ensures refused { IfErr result (IsRefused text.items) }
+    {
+        check_len(text.len())?;
+        let mut loading = Loading::of_text(alloc, &text, meta)?;
+        let front = read_sections(alloc, &text, keep, &mut loading)?;
+        Ok(Store::of_loading(text, front, loading))
+    }
+
     /// The state of a text, all of it: its front, and its sections under the numbers from 0 on, each from `meta`. The text is
     /// handed over. One pass, section by section.
     ///
@@ -179,10 +200,23 @@ impl Store {
         ensures byte_for_byte { IfOk result (λ s. (parts : List Part) → IsText text.items parts → IsByteForByte parts → printed s ≡ unmarked text.items) }
         ensures refused { IfErr result (IsRefused text.items) }
     {
-        check_len(text.len())?;
-        let mut loading = Loading::of_text(alloc, &text, meta)?;
-        let front = read_sections(alloc, &text, &mut loading)?;
-        Ok(Store::of_loading(text, front, loading))
+        Store::of_text(alloc, text, Keep::All, meta)
+    }
+
+    /// The state of a text without its blanks, line ends and comments, which has the same document. The text is handed over. One
+    /// pass, section by section; no memory is taken for what isn't kept.
+    ///
+    /// # Errors
+    ///
+    /// Those of [`Store::from_text`].
+    pub fn from_text_lossy(alloc: Global, text: Vec<u8>, meta: Rc<Metadata>) -> Result<Store, Error>
+        ensures made { IfOk result (λ s. (parts : List Part) × IsText text.items parts
+            × IsMade (filter (keeps_token keeps_meaning) (tokens_of parts)) meta.value (length text.items) s) }
+        ensures document { IfOk result (λ s. Reads text.items (document_of s)) }
+        ensures clean { IfOk result (λ s. entries_of s.front ≡ [] → IsClean s) }
+        ensures refused { IfErr result (IsRefused text.items) }
+    {
+        Store::of_text(alloc, text, Keep::Meaning, meta)
     }
 
     /// The state of a text as [`Store::from_text`] makes it, of a copy with some room behind the text, so that a first edit
@@ -205,13 +239,11 @@ impl Store {
         Store::from_text(alloc, text, meta)
     }
 
-    /// The state of a text without its blanks, line ends and comments, which has the same document.
-    ///
-    /// As [`Store::from_bytes`].
+    /// The state of a text as [`Store::from_text_lossy`] makes it, of a copy as [`Store::from_bytes`] takes it.
     ///
     /// # Errors
     ///
-    /// Those of [`Store::from_bytes`].
+    /// Those of [`Store::from_text`].
     pub fn from_bytes_lossy(alloc: Global, input: &[u8], meta: Rc<Metadata>) -> Result<Store, Error>
         ensures made { IfOk result (λ s. (parts : List Part) × IsText input.now parts
             × IsMade (filter (keeps_token keeps_meaning) (tokens_of parts)) meta.value (length input.now) s) }
@@ -219,11 +251,9 @@ impl Store {
         ensures clean { IfOk result (λ s. entries_of s.front ≡ [] → IsClean s) }
         ensures refused { IfErr result (IsRefused input.now) }
     {
-        let events = Events::from_bytes(alloc, input, Some(keeps_meaning))?;
-        match Store::from_events(alloc, events, meta) {
-            Ok(store) => Ok(store),
-            Err(_) => Err(Error::memory()),
-        }
+        check_len(input.len())?;
+        let text = copied_with_room(alloc, input)?;
+        Store::from_text_lossy(alloc, text, meta)
     }
 
     /// The same state again, with a buffer of its own; metadata is shared. Each byte and each item is copied once.

@@ -93,6 +93,7 @@ impl File {
     ghost use Rattle.gitconf_store.specs.Views.{shown, sections_left};
     ghost use Rattle.gitconf_parse.specs.Items.{tokens_in};
     ghost use Rattle.gix_config.specs.Keys.{IsSetByKey};
+    ghost use Rattle.gix_config.specs.Made.{loaded_tokens};
 
     /// A file without front and sections. Takes no memory.
     pub fn new(alloc: Global, meta: Rc<Metadata>) -> File
@@ -153,6 +154,25 @@ impl File {
         check_len(text.len())?;
         let meta = shared(alloc, Metadata::api())?;
         let store = Store::from_text(alloc, text, meta)?;
+        Ok(File { store })
+    }
+
+    /// A file to look things up in: the text is handed over, as to [`File::try_from_bytes_owned`], and its blanks, line ends and
+    /// comments are left out, for which no memory is taken. It has the document of the text, and answers each look-up as the whole
+    /// file does.
+    ///
+    /// # Errors
+    ///
+    /// Those of [`File::try_from_bytes`].
+    pub fn try_from_bytes_owned_lossy(alloc: Global, text: Vec<u8>) -> Result<File, Error>
+        ensures made { IfOk result (λ f. (parts : List Part) × IsText text.items parts × IsMade (loaded_tokens true parts) api_meta (length text.items) f) }
+        ensures document { IfOk result (λ f. Reads text.items (document_of f)) }
+        ensures clean { IfOk result (λ f. entries_of f.front ≡ [] → IsClean f) }
+        ensures refused { IfErr result (IsRefused text.items) }
+    {
+        check_len(text.len())?;
+        let meta = shared(alloc, Metadata::api())?;
+        let store = Store::from_text_lossy(alloc, text, meta)?;
         Ok(File { store })
     }
 

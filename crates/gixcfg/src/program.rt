@@ -168,13 +168,13 @@ fn execute<R: Read, W: Write>(
     let command = command_of(args)?;
     let text = read_all(alloc, input)?;
     match command {
-        Command::Get(key) => put(&get(&load(alloc, text)?, key)?, out),
-        Command::All(key) => put(&all(alloc, &load(alloc, text)?, key)?, out),
-        Command::Bool(key) => put(boolean(&load(alloc, text)?, key)?, out),
-        Command::Int(key) => put(&integer(alloc, &load(alloc, text)?, key)?, out),
+        Command::Get(key) => put(&get(&load_entries(alloc, text)?, key)?, out),
+        Command::All(key) => put(&all(alloc, &load_entries(alloc, text)?, key)?, out),
+        Command::Bool(key) => put(boolean(&load_entries(alloc, text)?, key)?, out),
+        Command::Int(key) => put(&integer(alloc, &load_entries(alloc, text)?, key)?, out),
         Command::Set(key, value) => put_edited(alloc, text, key, value, out),
         Command::Unset(key) => put_without(alloc, text, key, out),
-        Command::List => put(&list(alloc, &load(alloc, text)?)?, out),
+        Command::List => put(&list(alloc, &load_entries(alloc, text)?)?, out),
         Command::Print => put_file(alloc, &load(alloc, text)?, out),
         Command::Fmt => put(&laid_out(alloc, &text)?, out),
     }
@@ -225,6 +225,11 @@ fn read_all<R: Read>(alloc: Global, input: &mut R) -> Result<Vec<u8>, Fault> {
 /// Standard input as a file.
 fn load(alloc: Global, text: Vec<u8>) -> Result<File, Fault> {
     Ok(File::try_from_bytes_owned(alloc, text)?)
+}
+
+/// Standard input as a file to look things up in, without its blanks, line ends and comments.
+fn load_entries(alloc: Global, text: Vec<u8>) -> Result<File, Fault> {
+    Ok(File::try_from_bytes_owned_lossy(alloc, text)?)
 }
 
 /// The value of a key, on a line.

@@ -1,11 +1,11 @@
 //! Items, read as they stand in a text.
-ghost use Rattle.std.specs.Prelude.{◌≡◌, ◌≤◌, ◌<◌, ◌^◌, ◌==◌, ◌∷◌, [], false, None, length, get_or, IfOk, IfErr, OnOk, IsOkUnless};
+ghost use Rattle.std.specs.Prelude.{◌≡◌, ◌≤◌, ◌<◌, ◌^◌, ◌==◌, ◌∷◌, ◌++◌, [], false, None, length, get_or, IfOk, IfErr, OnOk, IsOkUnless};
 ghost use Rattle.gitconf_text.specs.Token.{HeaderToken, item_tokens};
 ghost use Rattle.gitconf_text.specs.Part.{EntryItem};
 ghost use Rattle.gitconf_parse.specs.declared.reading.Expected.TheVariants.{Name};
 ghost use Rattle.gitconf_parse.specs.declared.reading.ReadError.TheVariants.{Memory};
 ghost use Rattle.gitconf_parse.specs.Events.{bytes_of, header_of, SpanFits, HeaderFits};
-ghost use Rattle.gitconf_parse.specs.ItemReading.{IsReadTo, IsRefusal, IsValueRead, IsValueRefusal, IsEntryWith, IsItemRead, IsKeptRead};
+ghost use Rattle.gitconf_parse.specs.ItemReading.{IsReadTo, IsRefusal, IsValueRead, IsValueRefusal, IsEntryWith, IsKeptRead, gap_kept};
 ghost use Rattle.gitconf_parse.specs.Items.{entry_of, tokens_of_items, tokens_of_value};
 ghost use Rattle.gitconf_parse.specs.ItemsFit.{AreItemsWithin, EntryFits, ValueFits};
 ghost use Rattle.gitconf_parse.specs.Reading.{entry_at, part_at};
@@ -20,7 +20,7 @@ use super::{Expected, Fault, ReadError};
 use crate::entry::{Assigned, Entry, EntryParts, Piece, Value};
 use crate::event::{Header, Span};
 use crate::items::{Item, Keep};
-use crate::stripping::strip_last;
+use crate::stripping::kept_entry;
 use smallvec::SmallVec;
 use std::alloc::Global;
 
@@ -174,59 +174,22 @@ fn entry(alloc: Global, input: &[u8], at: usize) -> Result<(Entry, usize), ReadE
     }
 }
 
-/// Adds the item at an offset, where no header begins, and answers the offset behind it; `wanted` is told as looked for
-/// where none stands.
+/// Adds an item without a meaning, where such are kept.
 #[inline(always)]
-fn push_item(
-    alloc: Global,
-    input: &[u8],
-    at: usize,
-    wanted: Expected,
-    items: &mut Vec<Item>,
-) -> Result<usize, ReadError>
-    requires within { at < length input.now }
-    requires fits { length input.now < 2 ^ 32 }
-    requires no_header { (get_or input.now at 0 == 91) ≡ false }
-    ensures found { IfOk result (IsItemRead input.now at wanted items.old.items items.new.items) }
-    ensures ahead { IfOk result (λ end. at < end) }
-    ensures inside { IfOk result (λ end. end ≤ length input.now) }
-    ensures refused { IfErr result (IsRefusal (part_at input.now at wanted [])) }
+fn push_gap(item: Item, keep: Keep, items: &mut Vec<Item>) -> Result<(), ReadError>
+    ensures ok { OnOk result (items.new.items ≡ items.old.items ++ gap_kept keep item) }
+    ensures memory { IsOkUnless result Memory }
 {
-    match part_opening(input, at) {
-        Opening::Blanks => {
-            let end = run_end(input, at + 1, Run::Blanks);
-            items.push(Item::Blanks(Span::between(at, end)))?;
-            Ok(end)
-        }
-        Opening::LineEnds => {
-            let end = run_end(input, at + 1, Run::LineEnds);
-            items.push(Item::LineEnds(Span::between(at, end)))?;
-            Ok(end)
-        }
-        Opening::Comment => {
-            let end = run_end(input, at + 1, Run::CommentText);
-            let text = Span::between(at + 1, end);
-            items.push(Item::Comment {
-                tag: input[at],
-                text,
-            })?;
-            Ok(end)
-        }
-        Opening::Entry => {
-            let (entry, end) = entry(alloc, input, at)?;
-            items.push(Item::Entry(entry))?;
-            Ok(end)
-        }
-        Opening::Header | Opening::Nothing => Err(ReadError::Fault(Fault {
-            at,
-            expected: wanted,
-        })),
+    match keep {
+        Keep::All => Ok(items.push(item)?),
+        Keep::Meaning => Ok(()),
     }
 }
 
-/// Adds what is kept of the item at an offset, as [`push_item`] does.
+/// Adds what is kept of the item at an offset, where no header begins, and answers the offset behind it; `wanted` is told as
+/// looked for where none stands.
 #[inline(always)]
-fn push_kept(
+fn push_item(
     alloc: Global,
     input: &[u8],
     at: usize,
@@ -242,12 +205,34 @@ fn push_kept(
     ensures inside { IfOk result (λ end. end ≤ length input.now) }
     ensures refused { IfErr result (IsRefusal (part_at input.now at wanted [])) }
 {
-    let end = push_item(alloc, input, at, wanted, items)?;
-    match keep {
-        Keep::All => {}
-        Keep::Meaning => strip_last(items),
+    match part_opening(input, at) {
+        Opening::Blanks => {
+            let end = run_end(input, at + 1, Run::Blanks);
+            push_gap(Item::Blanks(Span::between(at, end)), keep, items)?;
+            Ok(end)
+        }
+        Opening::LineEnds => {
+            let end = run_end(input, at + 1, Run::LineEnds);
+            push_gap(Item::LineEnds(Span::between(at, end)), keep, items)?;
+            Ok(end)
+        }
+        Opening::Comment => {
+            let end = run_end(input, at + 1, Run::CommentText);
+            let text = Span::between(at + 1, end);
+            let tag = input[at];
+            push_gap(Item::Comment { tag, text }, keep, items)?;
+            Ok(end)
+        }
+        Opening::Entry => {
+            let (entry, end) = entry(alloc, input, at)?;
+            items.push(Item::Entry(kept_entry(entry, keep)))?;
+            Ok(end)
+        }
+        Opening::Header | Opening::Nothing => Err(ReadError::Fault(Fault {
+            at,
+            expected: wanted,
+        })),
     }
-    Ok(end)
 }
 
 /// Adds what is kept of the items from an offset on, up to a header or the end, and answers where they end.
@@ -270,7 +255,7 @@ pub fn push_items(
 {
     let mut at = start;
     while at < input.len() && input[at] != b'[' {
-        at = push_kept(alloc, input, at, wanted, keep, items)?;
+        at = push_item(alloc, input, at, wanted, keep, items)?;
     }
     Ok(at)
 }
