@@ -6,7 +6,7 @@ use Rattle.std.proofs.lemmas.List.{map-append, take-map, drop-map}
 use Rattle.std.proofs.Math.Seq.{map-set_same, take-append_seam, take-length}
 use Rattle.gitconf_table.specs.declared.index.Link.{Link}
 use Rattle.gitconf_table.specs.declared.index.Bucket.{Bucket}
-use Rattle.gitconf_table.specs.Links.{IsFirst, IsBehindLast, AreChained, AreLinked, IsLed, bucket_of, ends_of, link_at, no_place, words_of}
+use Rattle.gitconf_table.specs.Links.{IsFirst, IsBehindLast, AreChained, AreEmpty, AreLinked, IsLed, bucket_of, ends_of, link_at, no_place, words_of}
 use Rattle.gitconf_table.proofs.Chains.{chain_more}
 
 abbrev pub no_link : Link
@@ -88,7 +88,7 @@ pub words_set : (links : List Link) (i : ℕ) (new : Link) → new.word ≡ (lin
 words_set links i new e = map-set_same (λ l. l.word) links i new no_link e
 
 -- empty buckets have no places in their chains
-pub linked_none : (links : List Link) (buckets : List Bucket) → ((b : ℕ) → b < length buckets → ends_of buckets b ≡ record { first = no_place; behind = 0 }) → AreLinked 0 links buckets
+pub linked_none : (links : List Link) (buckets : List Bucket) → AreEmpty buckets → AreLinked 0 links buckets
 linked_none links buckets empty = record {
   firsts = λ b within. rw (empty b within) (record {
     passed = λ k l u under. absurd (omega (arith, u));

@@ -48,6 +48,10 @@ AreLinked count links buckets =
     AreChained (λ k. bucket_of (length buckets) (link_at links k).word) (λ b. (ends_of buckets b).first) (λ b. (ends_of buckets b).behind)
     (λ k. (link_at links k).next) (λ k. (link_at links k).before) (length buckets) count
 
+-- no bucket has a place
+abbrev pub AreEmpty : List Bucket → Type 0
+AreEmpty buckets = (b : ℕ) → b < length buckets → ends_of buckets b ≡ record { first = no_place; behind = 0 }
+
 -- the link before `behind`, if there is one, leads on to the place, and the others stay
 pub record IsLed (old : List Link) (behind place : ℕ) (new : List Link) : Type 0 where
   pub words : (k : ℕ) → (link_at new k).word ≡ (link_at old k).word

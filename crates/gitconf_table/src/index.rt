@@ -1,8 +1,8 @@
 //! An index over a list of words: the places of a word without a walk over the others.
-ghost use Rattle.std.specs.Prelude.{◌≡◌, ◌+◌, ◌<◌, ◌≤◌, [], ◌∷◌, ◌++◌, drop, insert, length, remove, slice_set, take, vec_capacity, vec_len, IfOk, OnOk};
+ghost use Rattle.std.specs.Prelude.{◌≡◌, ◌+◌, ◌<◌, ◌≤◌, [], ◌∷◌, ◌++◌, drop, insert, length, remove, slice_set, take, true, vec_capacity, vec_len, IfOk, OnOk};
 ghost use Rattle.std.specs.Iterator.{item_count, YieldsFirst, YieldsLast};
 ghost use Rattle.std.specs.List.{AllByRecursion};
-ghost use Rattle.gitconf_table.specs.Links.{bucket_of, no_place, words_of, AreLinked, IsLed};
+ghost use Rattle.gitconf_table.specs.Links.{bucket_of, no_place, words_of, AreEmpty, AreLinked, IsLed};
 ghost use Rattle.gitconf_table.specs.Renames.{set_each};
 ghost use Rattle.gitconf_table.specs.Words.{places_of};
 
@@ -44,6 +44,7 @@ const EMPTY: Bucket = Bucket {
 };
 
 // The bucket of a word, of so many.
+#[inline(always)]
 fn bucket_of(word: u32, size: usize) -> usize
     requires { 0 < size }
     ensures bucket { result ≡ bucket_of size word }
@@ -53,6 +54,7 @@ fn bucket_of(word: u32, size: usize) -> usize
 }
 
 // Leads from the place before `behind`, if there is one, on to the place.
+#[inline(always)]
 fn lead(links: &mut [Link], behind: u32, at: u32)
     requires { behind ≤ length links.old }
     ensures words { words_of links.new ≡ words_of links.old }
@@ -64,6 +66,7 @@ fn lead(links: &mut [Link], behind: u32, at: u32)
 }
 
 // Puts the place behind the last one of its bucket.
+#[inline(always)]
 fn chain(links: &mut [Link], buckets: &mut [Bucket], at: u32)
     requires within { at < length links.old }
     requires long { length links.old ≤ no_place }
@@ -114,7 +117,7 @@ fn relink(links: &mut [Link], buckets: &mut [Bucket])
     link_from(links, buckets, 0);
 }
 
-// Chains the places of a list from one on.
+// Chains the places of a list from one on, behind those before it, which are chained.
 fn link_rest(links: &mut Vec<Link>, buckets: &mut Vec<Bucket>, from: usize)
     requires within { from ≤ length links.old.items }
     requires long { vec_len links.old ≤ no_place }
@@ -142,7 +145,8 @@ fn relink_all(links: &mut Vec<Link>, buckets: &mut Vec<Bucket>)
 
 // Empty buckets for so many places: a power of two, and no fewer than the places.
 fn empty_buckets(alloc: Global, places: usize) -> Result<Vec<Bucket>, AllocError>
-    ensures { IfOk result (λ buckets. 0 < vec_len buckets) }
+    ensures some { IfOk result (λ buckets. 0 < vec_len buckets) }
+    ensures empty { IfOk result (λ buckets. AreEmpty buckets.items) }
 {
     let mut size: usize = 4;
     while size < places {
@@ -188,6 +192,7 @@ impl WordIndex {
     /// # Errors
     ///
     /// Want of memory, also where there would be more than 4294967295 words. The words are as they were.
+    #[cold]
     pub fn reserve(&mut self, more: usize) -> Result<(), AllocError>
         ensures words { self.new.words ≡ self.old.words }
         ensures ok { OnOk result (more ≤ self.new.room) }
@@ -199,19 +204,30 @@ impl WordIndex {
         }
         if self.buckets.is_empty() || self.buckets.len() < count {
             let mut buckets = empty_buckets(*self.links.allocator(), count)?;
-            relink_all(&mut self.links, &mut buckets);
+            link_rest(&mut self.links, &mut buckets, 0);
             self.buckets = buckets;
         }
         self.links.reserve(more)
     }
 
+    /// Whether one word more can be put last with no fewer buckets than words, so that [`WordIndex::reserve`] has nothing to do.
+    #[inline(always)]
+    pub fn has_room(&self) -> bool
+        ensures room { result ≡ true → 0 < self.now.room }
+        ensures fits { result ≡ true → length self.now.words < no_place }
+    {
+        let count = self.links.len();
+        count < self.buckets.len() && count < self.links.capacity() && count < NO_PLACE as usize
+    }
+
     /// Puts a word last, in constant time.
+    #[inline(always)]
     pub fn push(&mut self, word: u32)
         requires { 0 < self.old.room }
         ensures { self.new.words ≡ self.old.words ++ word ∷ [] }
     {
         let at = self.links.len() as u32;
-        self.links.push(unlinked(word)).unwrap();
+        self.links.push_reserved(unlinked(word));
         chain(&mut self.links, &mut self.buckets, at);
     }
 

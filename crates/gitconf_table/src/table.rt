@@ -343,16 +343,17 @@ impl<T> SectionTable<T> {
             return Err(span::Error::too_large());
         }
         let id = SectionId { number: self.next };
-        self.rows.reserve(1)?;
-        self.places.reserve(1)?;
-        self.names.reserve(1)?;
-        self.full.reserve(1)?;
-        let names = put_names(&mut self.letters, name, subsection)?;
+        reserve_row(
+            &mut self.rows,
+            &mut self.places,
+            &mut self.names,
+            &mut self.full,
+        )?;
+        let (names, word) = put_names(&mut self.letters, name, subsection)?;
         let row = Row { id, names, section };
         let at = self.rows.len() as u32;
-        let word = name_word(name);
-        self.rows.push(row).unwrap();
-        self.places.push(at).unwrap();
+        self.rows.push_reserved(row);
+        self.places.push_reserved(at);
         self.names.push(word);
         self.full.push(full_word(name, word, subsection));
         self.next += 1;
@@ -385,14 +386,15 @@ impl<T> SectionTable<T> {
             return Err(span::Error::too_large());
         }
         let id = SectionId { number: self.next };
-        self.rows.reserve(1)?;
-        self.places.reserve(1)?;
-        self.names.reserve(1)?;
-        self.full.reserve(1)?;
-        let names = put_names(&mut self.letters, name, subsection)?;
+        reserve_row(
+            &mut self.rows,
+            &mut self.places,
+            &mut self.names,
+            &mut self.full,
+        )?;
+        let (names, word) = put_names(&mut self.letters, name, subsection)?;
         let row = Row { id, names, section };
         let at = position + 1;
-        let word = name_word(name);
         self.rows.insert(at, row).unwrap();
         // Some place for now: all are written down once the row stands.
         self.places.push(0).unwrap();
@@ -477,8 +479,7 @@ impl<T> SectionTable<T> {
         ensures ok { OnOk result (self.new ≡ with_names self.old position name.now (option_copied subsection.entry)) }
         ensures err { OnErr result (self.new ≡ self.old) }
     {
-        let names = put_names(&mut self.letters, name, subsection)?;
-        let word = name_word(name);
+        let (names, word) = put_names(&mut self.letters, name, subsection)?;
         self.names.set(position, word);
         self.full.set(position, full_word(name, word, subsection));
         let row = &mut self.rows[position];
@@ -494,6 +495,34 @@ impl<T> SectionTable<T> {
         self.full
             .places(full_word(name, name_word(name), subsection))
     }
+}
+
+// Makes room for one row more, its place and its words. Mostly there is some, so that is asked of all of them first.
+#[inline(always)]
+fn reserve_row<T: Drop>(
+    rows: &mut Vec<Row<T>>,
+    places: &mut Vec<u32>,
+    names: &mut WordIndex,
+    full: &mut WordIndex,
+) -> Result<(), AllocError>
+    ensures rows { rows.new.items ≡ rows.old.items }
+    ensures places { places.new.items ≡ places.old.items }
+    ensures words { (names.new.words ≡ names.old.words) × (full.new.words ≡ full.old.words) }
+    ensures lists { OnOk result ((vec_len rows.new < vec_capacity rows.new) × (vec_len places.new < vec_capacity places.new)) }
+    ensures indexes { OnOk result ((0 < names.new.room) × (0 < full.new.room)) }
+    ensures fits { OnOk result (length names.new.words < no_place) }
+{
+    let has_room = rows.len() < rows.capacity()
+        && places.len() < places.capacity()
+        && names.has_room()
+        && full.has_room();
+    if has_room {
+        return Ok(());
+    }
+    rows.reserve(1)?;
+    places.reserve(1)?;
+    names.reserve(1)?;
+    full.reserve(1)
 }
 
 // Writes down the place of each row from one on under its number, behind those that have theirs.

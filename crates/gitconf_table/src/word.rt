@@ -5,13 +5,14 @@ ghost use Rattle.gitconf_text.specs.Bytes.{fold};
 ghost use Rattle.gitconf_table.specs.Word.{full_word, name_word, with_byte, with_bytes};
 
 // FNV-1a of 32 bits: its word of no bytes, and its prime.
-const NO_BYTES: u32 = 2166136261;
+pub(crate) const NO_BYTES: u32 = 2166136261;
 
 const PRIME: u32 = 16777619;
 
 // A word with one byte more.
 #[tactic(auto, unfolding(crate::specs::Word::with_byte))]
-fn with_byte(word: u32, byte: u8) -> u32
+#[inline(always)]
+pub(crate) fn with_byte(word: u32, byte: u8) -> u32
     ensures { result ≡ with_byte word byte }
 {
     (word ^ u32::from(byte)).wrapping_mul(PRIME)

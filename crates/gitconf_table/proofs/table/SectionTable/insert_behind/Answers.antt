@@ -39,8 +39,8 @@ invariant_of-self-2 g c =
     record {
       table = table_inserted old.next (c.args.position + 1) (entries_of letters old.rows.items) _ old.places.items c.relocate.new.places.items old.names.words _ old.full.words _ c.args.name.now (option_copied c.args.subsection) c.args.section
           entries
-          (c.insert-2.ensures ∙ (λ j. insert (c.reserve-3.ensures.words j) (c.args.position + 1) (c.name_word-word.ensures j)))
-          (c.insert-3.ensures ∙ (λ j. insert (c.reserve-4.ensures.words j) (c.args.position + 1) (c.full_word.ensures j)))
+          (c.insert-2.ensures ∙ (λ j. insert (c.reserve_row.ensures.words.0 j) (c.args.position + 1) (c.in_ok-names.ensures.word j)))
+          (c.insert-3.ensures ∙ (λ j. insert (c.reserve_row.ensures.words.1 j) (c.args.position + 1) (c.full_word.ensures j)))
           (omega (arith, c.if-self.false)) c.self.invariant.table (c.relocate.ensures.len ∙ count) (rows_placed c.put_names.new.letters.items _ _ c.relocate.ensures.placed);
       fit = fit_inserted letters _ c.args.name.now (option_copied c.args.subsection) c.in_ok-names.names c.in_ok-names.ensures.ok (c.args.position + 1) old.rows.items _ old.next c.args.section rows c.self.invariant.fit;
     }

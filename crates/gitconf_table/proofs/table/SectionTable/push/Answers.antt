@@ -12,16 +12,16 @@ pub invariant_of-self-2 : goal.invariant_of-self-2
 invariant_of-self-2 g c =
     let old = c.self.inside in
     let letters = old.letters.items in
-    let rows : c.push.new.self.items ≡ old.rows.items ++ record { id = old.next; names = c.in_ok-names.names; section = c.args.section } ∷ [] = grind (arith, common_steps) in
-    let places : c.push-2.new.self.items ≡ old.places.items ++ c.len-at.result ∷ [] = grind (arith, common_steps) in
-    let at : c.len-at.result ≡ length (entries_of letters old.rows.items) = omega (arith, c.len-at.ensures, c.reserve.ensures.len, old.rows.ok, length-map old.rows.items (entry_of_row letters)) in
+    let rows : c.push_reserved.new.self.items ≡ old.rows.items ++ record { id = old.next; names = c.in_ok-names.names; section = c.args.section } ∷ [] = grind (arith, common_steps) in
+    let places : c.push_reserved-2.new.self.items ≡ old.places.items ++ c.len-at.result ∷ [] = grind (arith, common_steps) in
+    let at : c.len-at.result ≡ length (entries_of letters old.rows.items) = omega (arith, c.len-at.ensures, ap length c.reserve_row.ensures.rows, c.reserve_row.new.rows.ok, length-map old.rows.items (entry_of_row letters)) in
     let put = c.in_ok-names.ensures.ok in
     record {
       table = table_pushed old.next (entries_of letters old.rows.items) _ old.places.items _ old.names.words _ old.full.words _ c.args.name.now (option_copied c.args.subsection) c.args.section
           (entries_pushed letters _ c.args.name.now (option_copied c.args.subsection) c.in_ok-names.names put old.rows.items _ old.next c.args.section rows c.self.invariant.fit)
           (places ∙ ap (λ n. old.places.items ++ n ∷ []) at)
-          (c.push-3.ensures ∙ (λ j. c.reserve-3.ensures.words j ++ c.name_word-word.ensures j ∷ []))
-          (c.push-4.ensures ∙ (λ j. c.reserve-4.ensures.words j ++ c.full_word.ensures j ∷ []))
+          (c.push.ensures ∙ (λ j. c.reserve_row.ensures.words.0 j ++ c.in_ok-names.ensures.word j ∷ []))
+          (c.push-2.ensures ∙ (λ j. c.reserve_row.ensures.words.1 j ++ c.full_word.ensures j ∷ []))
           (omega (arith, c.if-self.false)) c.self.invariant.table;
       fit = fit_pushed letters _ c.args.name.now (option_copied c.args.subsection) c.in_ok-names.names put old.rows.items _ old.next c.args.section rows c.self.invariant.fit;
     }
@@ -30,6 +30,6 @@ pub returns-clause-ok : goal.returns-clause-ok
 returns-clause-ok g c =
     let old = c.self.inside in
     let letters = old.letters.items in
-    let rows : c.push.new.self.items ≡ old.rows.items ++ record { id = old.next; names = c.in_ok-names.names; section = c.args.section } ∷ [] = grind (arith, common_steps) in
+    let rows : c.push_reserved.new.self.items ≡ old.rows.items ++ record { id = old.next; names = c.in_ok-names.names; section = c.args.section } ∷ [] = grind (arith, common_steps) in
     rw (← c.self.view_is) (ap (tables (old.next + 1))
     (entries_pushed letters _ c.args.name.now (option_copied c.args.subsection) c.in_ok-names.names c.in_ok-names.ensures.ok old.rows.items _ old.next c.args.section rows c.self.invariant.fit))

@@ -13,7 +13,7 @@ invariant_of-self-2 g c =
     record {
       table = table_renamed old.next c.args.position (entries_of letters old.rows.items) _ old.places.items old.names.words _ old.full.words _ c.args.name.now (option_copied c.args.subsection)
           (entries_renamed letters _ c.args.name.now (option_copied c.args.subsection) c.in_ok-names.names c.in_ok-names.ensures.ok c.args.position old.rows.items c.index_mut-row.result.now c.index_mut-row.ensures.value c.self.invariant.fit)
-          (c.set.ensures ∙ ap (set old.names.words c.args.position) c.name_word-word.ensures)
+          (c.set.ensures ∙ ap (set old.names.words c.args.position) c.in_ok-names.ensures.word)
           (c.set-2.ensures ∙ ap (set old.full.words c.args.position) c.full_word.ensures)
           c.self.invariant.table;
       fit = fit_renamed letters _ c.args.name.now (option_copied c.args.subsection) c.in_ok-names.names c.in_ok-names.ensures.ok c.args.position old.rows.items c.index_mut-row.result.now c.self.invariant.fit;

@@ -13,7 +13,7 @@ invariant_of-self-2 g c =
     let at = c.args.places.now in
     let kept : IsKept old.next c.put_names.new.letters.items (named_each c.in_ok-names.names old.rows.items at) old.places.items c.set_each.new.self.words c.set_each-2.new.self.words = record {
       table = each_kept letters _ c.args.name.now (option_copied c.args.subsection) c.in_ok-names.names c.in_ok-names.ensures.ok old.next old.rows.items at old.places.items old.names.words _ old.full.words _
-          (c.set_each.ensures ∙ ap (set_each old.names.words at) c.name_word-word.ensures)
+          (c.set_each.ensures ∙ ap (set_each old.names.words at) c.in_ok-names.ensures.word)
           (c.set_each-2.ensures ∙ ap (set_each old.full.words at) c.full_word.ensures)
           c.self.invariant.fit c.self.invariant.table;
       fit = each_fits letters _ c.args.name.now (option_copied c.args.subsection) c.in_ok-names.names c.in_ok-names.ensures.ok old.rows.items at c.self.invariant.fit;
