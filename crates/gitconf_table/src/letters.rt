@@ -5,7 +5,7 @@ ghost use Rattle.gitconf_text.specs.Bytes.{fold};
 ghost use Rattle.gitconf_table.specs.Word.{name_word};
 ghost use Rattle.gitconf_table.specs.Letters.{name_part, part_of, subsection_len, subsection_part, ArePut, IsPut, IsSubsectionPut};
 
-use crate::word::{NO_BYTES, lower, with_byte};
+use crate::word::{NO_BYTES, with_byte};
 use std::alloc::AllocError;
 use std::mem::size_of;
 
@@ -104,7 +104,7 @@ fn put_folded(letters: &mut Vec<u8>, name: &[u8]) -> (Part, u32)
     let mut word = NO_BYTES;
     let mut rest = name;
     while let Some((byte, behind)) = rest.split_first() {
-        let folded = lower(*byte);
+        let folded = byte.to_ascii_lowercase();
         letters.push_reserved(folded);
         word = with_byte(word, folded);
         rest = behind;
