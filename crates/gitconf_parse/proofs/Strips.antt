@@ -13,18 +13,19 @@ use Rattle.gitconf_parse.specs.declared.entry.EntryParts.{EntryParts}
 use Rattle.gitconf_parse.specs.declared.entry.Line.{Line}
 use Rattle.gitconf_parse.specs.declared.entry.Form.TheVariants as held
 use Rattle.gitconf_parse.specs.declared.entry.Piece.{Piece}
+use Rattle.gitconf_parse.specs.declared.reading.Expected.{Expected}
 use Rattle.gitconf_parse.specs.declared.items.Item.{Item}
-use Rattle.gitconf_parse.specs.declared.items.Keep.{Keep}
 use Rattle.gitconf_parse.specs.declared.items.Keep.TheVariants as keeps
 use Rattle.gitconf_parse.specs.Events.{bytes_of, SpanFits}
 use Rattle.gitconf_parse.specs.EventList.{keeps_token}
-use Rattle.gitconf_parse.specs.Items.{piece_of, assigned_of, entry_of, item_of, tokens_of_items}
-use Rattle.gitconf_parse.specs.ItemReading.{gap_kept}
-use Rattle.gitconf_parse.specs.ItemsFit.{PieceFits, AssignedFits, EntryFits, ItemFits, AreItemsWithin}
+use Rattle.gitconf_parse.specs.Items.{piece_of, assigned_of, entry_of, item_of}
+use Rattle.gitconf_parse.specs.Reading.{part_at}
+use Rattle.gitconf_parse.specs.ItemReading.{IsKeptRead, IsReadTo}
+use Rattle.gitconf_parse.specs.ItemsFit.{PieceFits, AssignedFits, EntryFits, ItemFits}
 use Rattle.gitconf_parse.specs.Forms.{parts_in}
 use Rattle.gitconf_parse.specs.Moves.{continued_of, pieces_of, ContinuedFits, PiecesFit}
 use Rattle.gitconf_parse.specs.Stripped.{stripped_piece, stripped_assigned, stripped_entry, IsStripped}
-use Rattle.gitconf_parse.specs.TokenDocument.{keeps_meaning, tokens_kept}
+use Rattle.gitconf_parse.specs.TokenDocument.{keeps_meaning}
 use Rattle.gitconf_parse.proofs.Moves.{refilled, AreChanged}
 
 -- no bytes
@@ -135,11 +136,25 @@ entry_meant e = go e.assigned
 pub entry_told : (buffer : List ℕ) (e new : EntryParts) → IsStripped entry_of stripped_entry EntryFits e new → item_tokens (parts.EntryItem (entry_of buffer new)) ≡ meant (item_tokens (parts.EntryItem (entry_of buffer e)))
 entry_told buffer e new m = ap (λ e. item_tokens (parts.EntryItem e)) (m.same buffer) ∙ entry_meant (entry_of buffer e)
 
--- What is kept of an item without a meaning says what is kept of its tokens, and stands where it does.
-pub gap_told : (keep : Keep) (input : List ℕ) (i : Item) → meant (item_tokens (item_of input i)) ≡ [] → tokens_of_items input (gap_kept keep i) ≡ tokens_kept keep (item_tokens (item_of input i))
-gap_told keeps.All input i none = append-nil (item_tokens (item_of input i))
-gap_told keeps.Meaning input i none = sym none
+-- An item that was read is kept whole, or nothing of it, where its tokens have no meaning.
+pub whole_read : (input : List ℕ) (at : ℕ) (wanted : Expected) (old new : List Item) (end : ℕ) (i : Item) → new ≡ old ++ i ∷ [] → IsReadTo input (part_at input at wanted []) end (item_tokens (item_of input i))
+    → ItemFits (length input) i → IsKeptRead keeps.All input at wanted old new end
+whole_read input at wanted old new end i put read fits = record {
+  tokens = item_tokens (item_of input i);
+  kept = i ∷ [];
+  put = put;
+  told = append-nil (item_tokens (item_of input i));
+  read = read;
+  fits = (fits, tt);
+}
 
-pub gap_fits : (keep : Keep) (limit : ℕ) (i : Item) → ItemFits limit i → AreItemsWithin limit (gap_kept keep i)
-gap_fits keeps.All limit i fits = (fits, tt)
-gap_fits keeps.Meaning limit i fits = tt
+pub gap_read : (input : List ℕ) (at : ℕ) (wanted : Expected) (old : List Item) (end : ℕ) (tokens : List Token) → meant tokens ≡ [] → IsReadTo input (part_at input at wanted []) end tokens
+    → IsKeptRead keeps.Meaning input at wanted old old end
+gap_read input at wanted old end tokens none read = record {
+  tokens = tokens;
+  kept = [];
+  put = sym (append-nil old);
+  told = sym none;
+  read = read;
+  fits = tt;
+}

@@ -11,7 +11,6 @@ use Rattle.gitconf_parse.specs.declared.reading.value.PieceEnd.{PieceEnd}
 use Rattle.gitconf_parse.specs.declared.reading.value.PieceEnd.TheVariants as ends
 use Rattle.gitconf_parse.specs.declared.items.Item.{Item}
 use Rattle.gitconf_parse.specs.declared.items.Keep.{Keep}
-use Rattle.gitconf_parse.specs.declared.items.Keep.TheVariants as keeps
 use Rattle.gitconf_parse.specs.Events.{bytes_of, token_of}
 use Rattle.gitconf_parse.specs.Items.{entry_of, tokens_of_items}
 use Rattle.gitconf_parse.specs.ItemsFit.{AreItemsWithin}
@@ -51,11 +50,6 @@ pub record IsEntryWith (input : List ℕ) (name blanks behind : Span) (first : �
   pub value : IsValueRead input first end tokens
   pub told : item_tokens (EntryItem (entry_of input entry))
       ≡ NameToken (bytes_of input name) ∷ (filled WhitespaceToken (bytes_of input blanks) ++ (SeparatorToken ∷ (filled WhitespaceToken (bytes_of input behind) ++ tokens)))
-
--- what is kept of an item without a meaning
-abbrev pub gap_kept : Keep → Item → List Item
-gap_kept keeps.All i = i ∷ []
-gap_kept keeps.Meaning i = []
 
 -- One item more was read, at an offset, and ends there; these are kept of it.
 pub record IsKeptRead (keep : Keep) (input : List ℕ) (at : ℕ) (wanted : Expected) (old new : List Item) (end : ℕ) : Type 0 where

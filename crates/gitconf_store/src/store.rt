@@ -169,12 +169,7 @@ impl Store {
     /// # Errors
     ///
     /// Those of [`Store::from_text`].
-    fn of_text(
-        alloc: Global,
-        text: Vec<u8>,
-        keep: Keep,
-        meta: Rc<Metadata>,
-    ) -> Result<Store, Error>
+    fn of_text(alloc: Global, text: Vec<u8>, keep: Keep, meta: Rc<Metadata>) -> Result<Store, Error>
         ensures made { IfOk result (λ s. (parts : List Part) × IsText text.items parts × IsMade (tokens_kept keep (tokens_of parts)) meta.value (length text.items) s) }
         ensures refused { IfErr result (IsRefused text.items) }
     {

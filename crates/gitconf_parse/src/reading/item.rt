@@ -5,7 +5,7 @@ ghost use Rattle.gitconf_text.specs.Part.{EntryItem};
 ghost use Rattle.gitconf_parse.specs.declared.reading.Expected.TheVariants.{Name};
 ghost use Rattle.gitconf_parse.specs.declared.reading.ReadError.TheVariants.{Memory};
 ghost use Rattle.gitconf_parse.specs.Events.{bytes_of, header_of, SpanFits, HeaderFits};
-ghost use Rattle.gitconf_parse.specs.ItemReading.{IsReadTo, IsRefusal, IsValueRead, IsValueRefusal, IsEntryWith, IsKeptRead, gap_kept};
+ghost use Rattle.gitconf_parse.specs.ItemReading.{IsReadTo, IsRefusal, IsValueRead, IsValueRefusal, IsEntryWith, IsKeptRead};
 ghost use Rattle.gitconf_parse.specs.Items.{entry_of, tokens_of_items, tokens_of_value};
 ghost use Rattle.gitconf_parse.specs.ItemsFit.{AreItemsWithin, EntryFits, ValueFits};
 ghost use Rattle.gitconf_parse.specs.Reading.{entry_at, part_at};
@@ -174,18 +174,6 @@ fn entry(alloc: Global, input: &[u8], at: usize) -> Result<(Entry, usize), ReadE
     }
 }
 
-/// Adds an item without a meaning, where such are kept.
-#[inline(always)]
-fn push_gap(item: Item, keep: Keep, items: &mut Vec<Item>) -> Result<(), ReadError>
-    ensures ok { OnOk result (items.new.items ≡ items.old.items ++ gap_kept keep item) }
-    ensures memory { IsOkUnless result Memory }
-{
-    match keep {
-        Keep::All => Ok(items.push(item)?),
-        Keep::Meaning => Ok(()),
-    }
-}
-
 /// Adds what is kept of the item at an offset, where no header begins, and answers the offset behind it; `wanted` is told as
 /// looked for where none stands.
 #[inline(always)]
@@ -208,19 +196,28 @@ fn push_item(
     match part_opening(input, at) {
         Opening::Blanks => {
             let end = run_end(input, at + 1, Run::Blanks);
-            push_gap(Item::Blanks(Span::between(at, end)), keep, items)?;
+            match keep {
+                Keep::All => items.push(Item::Blanks(Span::between(at, end)))?,
+                Keep::Meaning => {}
+            }
             Ok(end)
         }
         Opening::LineEnds => {
             let end = run_end(input, at + 1, Run::LineEnds);
-            push_gap(Item::LineEnds(Span::between(at, end)), keep, items)?;
+            match keep {
+                Keep::All => items.push(Item::LineEnds(Span::between(at, end)))?,
+                Keep::Meaning => {}
+            }
             Ok(end)
         }
         Opening::Comment => {
             let end = run_end(input, at + 1, Run::CommentText);
             let text = Span::between(at + 1, end);
             let tag = input[at];
-            push_gap(Item::Comment { tag, text }, keep, items)?;
+            match keep {
+                Keep::All => items.push(Item::Comment { tag, text })?,
+                Keep::Meaning => {}
+            }
             Ok(end)
         }
         Opening::Entry => {
