@@ -12,9 +12,10 @@ TOP = HERE.parent.parent
 
 
 def rounds_of(what):
-    """How often a process does what is timed, of which the last counts: three times, so that it has its memory; but values are
-    set and pushed in a file that the process has just loaded, as a program does that edits one."""
-    return 1 if what in ("set", "push") else 3
+    """How often a process does what is timed, of which the last counts: three times, so that it has its memory, and of loads
+    eight times, since the C library gives large blocks back until it has seen a few; but values are set and pushed in a file
+    that the process has just loaded, as a program does that edits one."""
+    return {"set": 1, "push": 1, "load": 8}.get(what, 3)
 
 
 class Missing(Exception):
