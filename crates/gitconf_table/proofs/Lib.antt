@@ -7,3 +7,4 @@ pub mod Walks
 pub mod TableLemmas
 pub mod RowLemmas
 pub mod RenamingLemmas
+pub mod IndexRows

@@ -1,0 +1,46 @@
+-- Worked rows: which numbers the plain list has under names, before and behind a rename and a removal.
+use Rattle.std.proofs.Common.{◌≡◌, ℕ, [], ◌∷◌, Some, None, refl, codes}
+use Rattle.gitconf_table.specs.Sections.{ids, with_last, with_names, without, Sections}
+
+-- `[core]`, `[core "a"]`, `[other]`, `[core]`, `[core "b"]`, `[core "a"]`, each holding its place
+abbrev six : Sections ℕ
+six =
+    with_last (codes "core") (Some (codes "a")) 5
+    (with_last (codes "core") (Some (codes "b")) 4
+    (with_last (codes "core") None 3
+    (with_last (codes "other") None 2 (with_last (codes "core") (Some (codes "a")) 1 (with_last (codes "core") None 0 (record { entries = []; next = 0 }))))))
+
+plain : ids (codes "core") None six ≡ 0 ∷ 3 ∷ []
+plain = refl
+
+in_any_case : ids (codes "CORE") None six ≡ 0 ∷ 3 ∷ []
+in_any_case = refl
+
+under_a : ids (codes "core") (Some (codes "a")) six ≡ 1 ∷ 5 ∷ []
+under_a = refl
+
+under_a_in_its_case : ids (codes "core") (Some (codes "A")) six ≡ []
+under_a_in_its_case = refl
+
+under_b : ids (codes "core") (Some (codes "b")) six ≡ 4 ∷ []
+under_b = refl
+
+-- the first one is renamed
+abbrev renamed : Sections ℕ
+renamed = with_names six 0 (codes "core") (Some (codes "a"))
+
+renamed_plain : ids (codes "core") None renamed ≡ 3 ∷ []
+renamed_plain = refl
+
+renamed_under_a : ids (codes "core") (Some (codes "a")) renamed ≡ 0 ∷ 1 ∷ 5 ∷ []
+renamed_under_a = refl
+
+renamed_under_b : ids (codes "core") (Some (codes "b")) renamed ≡ 4 ∷ []
+renamed_under_b = refl
+
+-- and then the one under b is taken out
+removed_under_b : ids (codes "core") (Some (codes "b")) (without 4 renamed) ≡ []
+removed_under_b = refl
+
+removed_under_a : ids (codes "core") (Some (codes "a")) (without 4 renamed) ≡ 0 ∷ 1 ∷ 5 ∷ []
+removed_under_a = refl
