@@ -157,11 +157,32 @@ stripped_never (suc n) text bare = cond-false (is_enclosed text) (stripped_times
 pub stripped_already : (text : List ℕ) → is_enclosed text ≡ false → stripped text ≡ text
 stripped_already text bare = stripped_never (length text) text bare
 
+-- a text has a coded byte where it has a quote or a backslash
+coded_either : (text : List ℕ) → (list_any (λ b. b == 34) text || list_any (λ b. b == 92) text) ≡ list_any is_coded text
+coded_either [] = refl
+coded_either (b ∷ text) =
+    go (b == 34) (b == 92) (list_any (λ b. b == 34) text) (list_any (λ b. b == 92) text) (list_any is_coded text) (coded_either text)
+  where
+    go : (quote slash quotes slashes coded : Bool) → (quotes || slashes) ≡ coded
+        → ((quote || quotes) || (slash || slashes)) ≡ ((quote || slash) || coded)
+    go true slash quotes slashes coded e = refl
+    go false true true slashes coded e = refl
+    go false true false slashes coded e = refl
+    go false false quotes slashes coded e = e
+
+pub coded_by_quote : (text : List ℕ) → list_any (λ b. b == 34) text ≡ true → list_any is_coded text ≡ true
+coded_by_quote text quote = sym (coded_either text) ∙ rw quote refl
+
+pub coded_by_backslash : (text : List ℕ) → list_any (λ b. b == 34) text ≡ false → list_any (λ b. b == 92) text ≡ list_any is_coded text
+coded_by_backslash text no_quote = rw (sym (coded_either text), no_quote) refl
+
 -- what is left without quotes and backslashes is the meaning
 pub plain-borrowed : (text : List ℕ) → list_any is_coded (stripped text) ≡ false → stripped text ≡ plain text
 plain-borrowed text none = sym (plain-uncoded (stripped text) none) ∙ plain-stripped text
 
 pub ruleset normalizing = (plain-stripped, plain-borrowed)
+
+pub ruleset coding = (coded_by_quote, coded_by_backslash)
 
 pub ruleset stripping = (stripped-inner, stripped_already)
 

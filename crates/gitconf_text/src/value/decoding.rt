@@ -43,10 +43,11 @@ fn stripped(text: &[u8]) -> &[u8]
 }
 
 /// Whether a byte of the text doesn't stand for itself.
+#[tactic(auto, using(crate::proofs::ValuesPlain::coding))]
 fn has_coded_byte(text: &[u8]) -> bool
     ensures { result ≡ list_any spec.is_coded text.now }
 {
-    text.iter().any(|b| *b == b'"' || *b == b'\\')
+    text.contains(&b'"') || text.contains(&b'\\')
 }
 
 /// The meaning, in memory of its own.

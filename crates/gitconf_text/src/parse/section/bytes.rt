@@ -53,7 +53,7 @@ pub(super) fn into_text(bytes: Vec<u8>) -> String
 pub fn is_same_name(a: &[u8], b: &[u8]) -> bool
     ensures { result ≡ spec.is_same_name a.now b.now }
 {
-    a.eq_ignore_ascii_case(b)
+    a == b || a.eq_ignore_ascii_case(b)
 }
 
 /// The order without ASCII case.
