@@ -47,9 +47,9 @@ class Ours:
             raise Missing(f"{path} is not built: rt run in crates/{name}")
         return path
 
-    def nanos(self, what, file, key):
-        """The nanoseconds of what is done with a file's text."""
-        rounds = rounds_of(what)
+    def nanos(self, what, file, key, rounds=None):
+        """The nanoseconds of what is done with a file's text, the last time of so many; as often as `rounds_of` says where left out."""
+        rounds = rounds or rounds_of(what)
         with open(file, "rb") as text:
             if what == "events":
                 told = out([*under(), self.program("parse_bench"), str(rounds), "times"], stdin=text)
