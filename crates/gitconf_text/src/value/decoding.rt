@@ -47,6 +47,7 @@ fn stripped(text: &[u8]) -> &[u8]
 fn has_coded_byte(text: &[u8]) -> bool
     ensures { result ≡ list_any spec.is_coded text.now }
 {
+    // Each search looks at many bytes at a time, so two are faster than a walk over single bytes.
     text.contains(&b'"') || text.contains(&b'\\')
 }
 

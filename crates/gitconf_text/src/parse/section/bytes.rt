@@ -53,6 +53,7 @@ pub(super) fn into_text(bytes: Vec<u8>) -> String
 pub fn is_same_name(a: &[u8], b: &[u8]) -> bool
     ensures { result ≡ spec.is_same_name a.now b.now }
 {
+    // Most names are spelled alike, and plain equality looks at many bytes at a time.
     a == b || a.eq_ignore_ascii_case(b)
 }
 
