@@ -1,6 +1,7 @@
 pub mod Append
 pub mod Buffers
 pub mod Places
+pub mod NamedSpans
 pub mod Raw
 pub mod Spacings
 pub mod Entries

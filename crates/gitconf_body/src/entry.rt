@@ -1,6 +1,8 @@
 //! Setting the value of a key in a body.
 ghost use Rattle.std.specs.Prelude.{◌≡◌, ◌↔◌, ◌+◌, ◌-◌, ◌<◌, ◌≤◌, ◌^◌, min, length, IfOk, IfErr, OnOk, OnErr, IsErrOf, option_map};
+ghost use Rattle.gitconf_text.specs.Names as names;
 ghost use Rattle.gitconf_text.specs.Value.{escaped};
+ghost use Rattle.gitconf_parse.specs.Events.{bytes_of};
 ghost use Rattle.gitconf_parse.specs.Items.{item_of, items_of};
 ghost use Rattle.gitconf_parse.specs.ItemsFit.{AreItemsWithin};
 ghost use Rattle.gitconf_state.specs.Edit as state;
@@ -10,17 +12,30 @@ ghost use Rattle.gitconf_body.specs.Places.{IsLastPlace};
 
 use crate::editor::editor_of;
 use crate::set::{check_set, set};
+use gitconf_parse::event::Span;
 use gitconf_parse::items::Item;
 use gitconf_text::line_end::LineEnd;
 use gitconf_text::parse::section::bytes::is_same_name;
 use gitconf_text::parse::span;
 use gitconf_text::value::escaped_len;
 
+/// Whether the bytes of a span are a name, without ASCII case.
+fn is_named(buffer: &[u8], span: Span, name: &[u8]) -> bool
+    ensures { result ≡ names.is_same_name name.now (bytes_of buffer.now span) }
+{
+    // Most names that differ do so in length, and where the span lies in the buffer its own is that of its bytes.
+    let (start, len) = (span.start as usize, span.len as usize);
+    if len != name.len() && start + len <= buffer.len() {
+        return false;
+    }
+    is_same_name(name, span.bytes_in(buffer))
+}
+
 /// Whether the item is an entry of the key.
 pub fn is_entry_of(buffer: &[u8], item: &Item, key: &[u8]) -> bool
     ensures { result ≡ state.is_entry_of key.now (item_of buffer.now item.now) }
 {
-    matches!(item, Item::Entry(entry) if is_same_name(key, entry.name().bytes_in(buffer)))
+    matches!(item, Item::Entry(entry) if is_named(buffer, entry.name(), key))
 }
 
 /// The place of the last entry of a key, if there is one. It walks from the end up to that entry.
