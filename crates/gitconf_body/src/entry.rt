@@ -20,7 +20,7 @@ use gitconf_text::parse::span;
 use gitconf_text::value::escaped_len;
 
 /// Whether the bytes of a span are a name, without ASCII case.
-fn is_named(buffer: &[u8], span: Span, name: &[u8]) -> bool
+pub fn is_named(buffer: &[u8], span: Span, name: &[u8]) -> bool
     ensures { result ≡ names.is_same_name name.now (bytes_of buffer.now span) }
 {
     // Most names that differ do so in length, and where the span lies in the buffer its own is that of its bytes.

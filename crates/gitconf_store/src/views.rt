@@ -16,12 +16,12 @@ use crate::section::SectionRef;
 use crate::tokens::entry_count;
 use crate::values::{entry_meaning, entry_value};
 use bstr::BString;
+use gitconf_body::entry::is_named;
 use gitconf_parse::entry::Entry;
 use gitconf_parse::event::Header;
 use gitconf_parse::events::subsection_name;
 use gitconf_parse::items::Item;
 use gitconf_text::NoMemory;
-use gitconf_text::parse::section::bytes::is_same_name;
 use gitconf_write::sections::write_header;
 use std::alloc::Global;
 use std::iter::FusedIterator;
@@ -64,7 +64,7 @@ fn meanings(
     let mut values = Vec::new(alloc);
     let mut rest = items;
     while let Some((entry, behind)) = next_entry(rest) {
-        if is_same_name(key, entry.name().bytes_in(buffer)) {
+        if is_named(buffer, entry.name(), key) {
             let value = entry_meaning(alloc, buffer, entry)?;
             values.push(value)?;
         }
@@ -79,7 +79,7 @@ fn contains_key(buffer: &[u8], items: &[Item], key: &[u8]) -> bool
 {
     let mut rest = items;
     while let Some((entry, behind)) = next_entry(rest) {
-        if is_same_name(key, entry.name().bytes_in(buffer)) {
+        if is_named(buffer, entry.name(), key) {
             return true;
         }
         rest = behind;

@@ -10,10 +10,10 @@ use crate::lists::put;
 use crate::lookup::found::{Deciding, Found, same_view};
 use crate::lookup::last_entry;
 use crate::section::SectionRef;
+use gitconf_body::entry::is_named;
 use gitconf_parse::entry::{AssignedRef, Entry};
 use gitconf_parse::items::Item;
 use gitconf_text::NoMemory;
-use gitconf_text::parse::section::bytes::is_same_name;
 
 /// The last entry of a key in a section, where it decides.
 pub(crate) fn deciding_entry<'a>(
@@ -43,7 +43,7 @@ pub(crate) fn push_entries<'a>(
     let mut rest = section.items;
     while let Some((item, behind)) = rest.split_first() {
         if let Item::Entry(entry) = item {
-            if is_same_name(key, entry.name().bytes_in(section.buffer)) {
+            if is_named(section.buffer, entry.name(), key) {
                 let section = same_view(section);
                 let place = Found { section, entry };
                 put(found, place)?;

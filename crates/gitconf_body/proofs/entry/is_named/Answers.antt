@@ -2,7 +2,7 @@ use Rattle.std.proofs.Common.{sym, arith}
 use Rattle.gitconf_body.proofs.NamedSpans.{other_length}
 use Rattle.gitconf_body.proofs.entry.is_named.Goals as goal
 
--- src/entry.rt:30:9
+-- src/entry.rt:29:9
 pub returns-then-start-len : goal.returns-then-start-len
 returns-then-start-len c =
     let within = c.if-start-len.true in
