@@ -10,6 +10,7 @@ ghost use Rattle.gitconf_store.specs.Lookups.{IsFound, shown_with, texts_of, unl
 use crate::lists::put;
 use crate::lookup::found::Found;
 use crate::section::SectionRef;
+use crate::values::entry_meaning;
 use bstr::BString;
 use gitconf_text::NoMemory;
 use std::alloc::Global;
@@ -19,7 +20,8 @@ pub(crate) fn text(alloc: Global, found: &Option<Found<'_>>) -> Result<Option<BS
     ensures { IsFound bstring_bytes result (option_map (λ (p : Place). meant p.1) (option_map place_of found.now)) }
 {
     match found {
-        Some(place) => Ok(Some(place.meaning(alloc)?)),
+        // Not `meaning` of the place: for that the view of its section would be put into memory.
+        Some(place) => Ok(Some(entry_meaning(alloc, place.section.buffer, place.entry)?)),
         None => Ok(None),
     }
 }
