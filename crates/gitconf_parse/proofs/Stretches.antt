@@ -27,7 +27,7 @@ use Rattle.gitconf_parse.specs.Items.{item_of, tokens_of_items}
 use Rattle.gitconf_parse.specs.ItemsFit.{AreItemsWithin, EventsWithin}
 use Rattle.gitconf_parse.specs.Parsing.{IsFault, IsMisread}
 use Rattle.gitconf_parse.specs.Reading.{Gives, header_at, part_at, wanted_behind}
-use Rattle.gitconf_parse.specs.Stretches.{wanted_part, wanted_after, IsFaultAt, IsStretch, IsKeptStretch, IsBroken, IsBreak}
+use Rattle.gitconf_parse.specs.Stretches.{wanted_part, wanted_after, IsFaultAt, IsStretch, IsKeptStretch, IsReadOn, IsBroken, IsBreak}
 use Rattle.gitconf_parse.proofs.At.{behind_front, byte_at}
 use Rattle.gitconf_parse.proofs.Runs.{cut_at}
 use Rattle.gitconf_parse.proofs.Fitting.{part_events_fit}
@@ -229,12 +229,29 @@ kept_fit keep input at end wanted old new fits r = subst (λ is. AreItemsWithin 
     all_put [] h = r.fits
     all_put (i ∷ is) h = (h.0, all_put is h.1)
 
+-- no section was read yet
+pub none_read : (keep : Keep) (input : List ℕ) (n : ℕ) (tokens : List Token) → IsReadOn keep input n n expected.SectionHeader tokens tokens
+none_read keep input n tokens = record { more = []; kept = nothing_kept keep input n expected.SectionHeader; behind = sym (append-nil tokens) }
+
 -- A section more was read.
-pub more_stretch : (keep : Keep) (input : List ℕ) (a b c d : ℕ) (u v : Expected) (front some more body : List Token) (h : Spans) → IsKeptStretch keep input a u b v (front ++ some)
+pub section_read : (keep : Keep) (input : List ℕ) (a b c d : ℕ) (v : Expected) (before old new body : List Token) (h : Spans) → IsReadOn keep input a b v before old
     → IsStretch input b v c expected.Name (HeaderToken (header_of input h) ∷ []) → IsKeptStretch keep input c expected.Name d expected.Name body
-    → more ≡ some ++ HeaderToken (header_of input h) ∷ body → IsKeptStretch keep input a u d expected.Name (front ++ more)
-more_stretch keep input a b c d u v front some more body h x y z is =
+    → new ≡ old ++ HeaderToken (header_of input h) ∷ body → IsReadOn keep input a d expected.Name before new
+section_read keep input a b c d v before old new body h r y z is =
     let headed : IsKeptStretch keep input b v c expected.Name (HeaderToken (header_of input h) ∷ [])
     = record { tokens = HeaderToken (header_of input h) ∷ []; stretch = y; kept_are = sym (header_kept keep (header_of input h)) } in
-    let section = kept_stretches keep input b c d v expected.Name expected.Name _ _ headed z in
-    subst (λ t. IsKeptStretch keep input a u d expected.Name t) (append_assoc front some _ ∙ ap (λ t. front ++ t) (sym is)) (kept_stretches keep input a b d u v expected.Name _ _ x section)
+    let section = kept_stretches keep input b c d v expected.Name expected.Name _ _ headed z in record {
+      more = r.more ++ HeaderToken (header_of input h) ∷ body;
+      kept = kept_stretches keep input a b d expected.SectionHeader v expected.Name _ _ r.kept section;
+      behind = is ∙ ap (λ t. t ++ HeaderToken (header_of input h) ∷ body) r.behind ∙ append_assoc before r.more _;
+    }
+
+-- What stands before the first header, and then the sections were read, up to the end of the text.
+pub all_read : (keep : Keep) (input : List ℕ) (start at : ℕ) (last : Expected) (front before now : List Token) → drop start input ≡ unmarked input → before ≡ []
+    → IsKeptStretch keep input start expected.SectionHeader at expected.SectionHeader front → IsReadOn keep input at (length input) last before now
+    → (parts : List Part) × IsText input parts × (front ++ now ≡ tokens_kept keep (tokens_of parts))
+all_read keep input start at last front before now mark none x r =
+    let whole = kept_stretches keep input start at (length input) expected.SectionHeader expected.SectionHeader last _ _ x r.kept in
+    let is : front ++ now ≡ front ++ r.more = ap (λ t. front ++ t) (r.behind ∙ ap (λ t. t ++ r.more) none) in
+    whole_text keep input start expected.SectionHeader last (length input) (front ++ now) mark (omega arith)
+    (subst (λ t. IsKeptStretch keep input start expected.SectionHeader (length input) last t) (sym is) whole)

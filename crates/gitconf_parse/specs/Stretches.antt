@@ -53,6 +53,13 @@ pub record IsKeptStretch (keep : Keep) (input : List ℕ) (from : ℕ) (first : 
   pub stretch : IsStretch input from first to last tokens
   pub kept_are : kept ≡ tokens_kept keep tokens
 
+-- Parts stand from one offset, where a header is looked for, up to another; behind the tokens that were handed over before, those that are kept of them
+-- were handed over too.
+pub record IsReadOn (keep : Keep) (input : List ℕ) (from to : ℕ) (last : Expected) (before now : List Token) : Type 0 where
+  pub more : List Token
+  pub kept : IsKeptStretch keep input from expected.SectionHeader to last more
+  pub behind : now ≡ before ++ more
+
 -- Parts stand from an offset on, and behind them the text can't be read on.
 pub record IsBroken (input : List ℕ) (from : ℕ) (first : Expected) (f : Fault) : Type 0 where
   pub parts : List Part

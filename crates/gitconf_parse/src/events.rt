@@ -17,7 +17,8 @@ mod lend;
 use crate::compact::EventVec;
 use crate::error::Error;
 use crate::event_ref::EventRef;
-use crate::items::{Item, grouped};
+use crate::few::FewItems;
+use crate::items::grouped;
 use crate::reading::{Fault, ReadError, read};
 use crate::section_sink::SectionSink;
 pub use decode::decoded_header;
@@ -239,7 +240,7 @@ impl Events {
         self,
         alloc: Global,
         sections: &mut S,
-    ) -> Result<(Vec<u8>, Vec<Item>), NoMemory>
+    ) -> Result<(Vec<u8>, FewItems), NoMemory>
         requires entries { (parts : List Part) × (self.tokens ≡ tokens_of parts) }
         requires keeps { (buffer : List ℕ) → (first : S) × S.keeps buffer first sections.old }
         requires none { (buffer : List ℕ) → S.tokens buffer sections.old ≡ [] }

@@ -13,6 +13,7 @@ ghost use Rattle.gitconf_parse.specs.Grouping.{Place, Between, BehindName, Behin
 use crate::compact::EventSlice;
 use crate::entry::{Assigned, Entry, EntryParts, Piece, Value};
 use crate::event::{Event, Header, Span, is_header};
+use crate::few::{FewItems, taken};
 use crate::section_sink::SectionSink;
 use gitconf_text::NoMemory;
 use smallvec::SmallVec;
@@ -29,6 +30,13 @@ pub enum Item {
 }
 
 const _: () = prove!(size_of::<Item>() == 24);
+
+/// No blanks; it stands in the places of a short list that aren't used.
+impl Default for Item {
+    fn default() -> Item {
+        Item::Blanks(NOTHING)
+    }
+}
 
 /// What a load keeps of a text.
 #[derive(Clone, Copy)]
@@ -243,13 +251,16 @@ fn push_items<'e>(
     Ok(rest)
 }
 
-/// Hands over the sections that the events are, in order; their spans are offsets of the buffer.
+/// Hands over the sections that the events are, in order; their spans are offsets of the buffer. The items of each go through
+/// `scratch`.
 fn push_sections<S: SectionSink>(
     alloc: Global,
     buffer: &[u8],
     events: EventSlice<'_>,
+    scratch: &mut Vec<Item>,
     sections: &mut S,
 ) -> Result<(), NoMemory>
+    requires empty { scratch.old.items ≡ [] }
     requires items { are_items Between (map (token_of buffer.now) (events_of events)) ≡ true }
     requires cut { is_cut is_header_event (events_of events) ≡ true }
     requires within { EventsWithin (length buffer.now) (events_of events) }
@@ -257,11 +268,10 @@ fn push_sections<S: SectionSink>(
     ensures keeps { OnOk result ((first : S) → S.keeps buffer.now first sections.old → S.keeps buffer.now first sections.new) }
     ensures tokens { OnOk result (S.tokens buffer.now sections.new ≡ S.tokens buffer.now sections.old ++ map (token_of buffer.now) (events_of events.entry)) }
 {
-    let mut scratch = Vec::new(alloc);
     let mut rest = events;
     while let Some((Event::SectionHeader(header), behind)) = rest.split_first() {
-        rest = push_items(alloc, buffer, behind, &mut scratch)?;
-        sections.take(buffer, header, &mut scratch)?;
+        rest = push_items(alloc, buffer, behind, scratch)?;
+        sections.take(buffer, header, scratch)?;
     }
     Ok(())
 }
@@ -279,7 +289,7 @@ pub(crate) fn grouped<S: SectionSink>(
     buffer: &[u8],
     events: EventSlice<'_>,
     sections: &mut S,
-) -> Result<Vec<Item>, NoMemory>
+) -> Result<FewItems, NoMemory>
     requires items { are_items Between (map (token_of buffer.now) (events_of events)) ≡ true }
     requires within { EventsWithin (length buffer.now) (events_of events) }
     requires keeps { (first : S) × S.keeps buffer.now first sections.old }
@@ -288,8 +298,9 @@ pub(crate) fn grouped<S: SectionSink>(
     ensures keeps { OnOk result ((first : S) → S.keeps buffer.now first sections.old → S.keeps buffer.now first sections.new) }
     ensures tokens { IfOk result (λ front. spec.tokens_of_items buffer.now front.items ++ S.tokens buffer.now sections.new ≡ map (token_of buffer.now) (events_of events.entry)) }
 {
-    let mut front = Vec::new(alloc);
-    let behind = push_items(alloc, buffer, events, &mut front)?;
-    push_sections(alloc, buffer, behind, sections)?;
+    let mut scratch = Vec::new(alloc);
+    let behind = push_items(alloc, buffer, events, &mut scratch)?;
+    let front = taken(alloc, &mut scratch);
+    push_sections(alloc, buffer, behind, &mut scratch, sections)?;
     Ok(front)
 }

@@ -7,6 +7,7 @@ pub mod error;
 pub mod event;
 pub mod event_ref;
 pub mod events;
+pub mod few;
 pub mod items;
 pub mod laws;
 pub mod loading;

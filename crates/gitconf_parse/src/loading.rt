@@ -1,21 +1,56 @@
 //! A text read to its items, section by section.
-ghost use Rattle.std.specs.Prelude.{◌≡◌, ◌<◌, ◌^◌, ◌++◌, [], List, length, IfOk, IfErr, OnOk};
+ghost use Rattle.std.specs.Prelude.{◌≡◌, ◌<◌, ◌≤◌, ◌^◌, ◌++◌, [], List, length, get_or, IfOk, IfErr, OnOk};
 ghost use Rattle.gitconf_text.specs.Part.{Part};
 ghost use Rattle.gitconf_text.specs.Document.{IsText};
 ghost use Rattle.gitconf_text.specs.Token.{tokens_of};
+ghost use Rattle.gitconf_parse.specs.declared.reading.Expected.{Expected};
+ghost use Rattle.gitconf_parse.specs.declared.reading.Expected.TheVariants.{SectionHeader};
 ghost use Rattle.gitconf_parse.specs.EventResult.{IsRefused};
 ghost use Rattle.gitconf_parse.specs.Items.{tokens_of_items};
 ghost use Rattle.gitconf_parse.specs.ItemsFit.{AreItemsWithin};
 ghost use Rattle.gitconf_parse.specs.Parsing.{IsMisread};
+ghost use Rattle.gitconf_parse.specs.Stretches.{IsBreak, IsReadOn};
 ghost use Rattle.gitconf_parse.specs.TokenDocument.{tokens_kept};
 
 use crate::error::Error;
 use crate::events::refusal;
+use crate::few::{FewItems, taken};
 use crate::items::{Item, Keep};
 use crate::reading::item::{header_first, push_items};
 use crate::reading::{Expected, ReadError, mark_len};
 use crate::section_sink::SectionSink;
 use std::alloc::Global;
+
+/// Hands over the sections from the first header on, each with what is kept of its items, as soon as it is read. The items of each go
+/// through `scratch`.
+fn push_sections<S: SectionSink>(
+    alloc: Global,
+    input: &[u8],
+    from: usize,
+    keep: Keep,
+    scratch: &mut Vec<Item>,
+    sections: &mut S,
+) -> Result<(), ReadError>
+    requires within { from ≤ length input.now }
+    requires fits { length input.now < 2 ^ 32 }
+    requires headed { from < length input.now → get_or input.now from 0 ≡ 91 }
+    requires empty { scratch.old.items ≡ [] }
+    requires keeps { (first : S) × S.keeps input.now first sections.old }
+    ensures read { OnOk result ((last : Expected)
+        × IsReadOn keep input.now from (length input.now) last (S.tokens input.now sections.old) (S.tokens input.now sections.new)) }
+    ensures keeps { OnOk result ((first : S) → S.keeps input.now first sections.old → S.keeps input.now first sections.new) }
+    ensures broken { IfErr result (IsBreak input.now from SectionHeader) }
+{
+    let mut at = from;
+    let mut wanted = Expected::SectionHeader;
+    while at < input.len() {
+        let (header, behind) = header_first(input, at, wanted)?;
+        at = push_items(alloc, input, behind, Expected::Name, keep, scratch)?;
+        sections.take(input, header, scratch)?;
+        wanted = Expected::Name;
+    }
+    Ok(())
+}
 
 /// What is kept of the items before the first header; the sections are handed over as they are read.
 fn read_items<S: SectionSink>(
@@ -23,7 +58,7 @@ fn read_items<S: SectionSink>(
     input: &[u8],
     keep: Keep,
     sections: &mut S,
-) -> Result<Vec<Item>, ReadError>
+) -> Result<FewItems, ReadError>
     requires fits { length input.now < 2 ^ 32 }
     requires keeps { (first : S) × S.keeps input.now first sections.old }
     requires none { S.tokens input.now sections.old ≡ [] }
@@ -33,32 +68,27 @@ fn read_items<S: SectionSink>(
     ensures keeps { OnOk result ((first : S) → S.keeps input.now first sections.old → S.keeps input.now first sections.new) }
     ensures misread { IfErr result (IsMisread input.now) }
 {
-    let mut front = Vec::new(alloc);
+    let mut scratch = Vec::new(alloc);
     let start = mark_len(input);
-    let mut at = push_items(
+    let at = push_items(
         alloc,
         input,
         start,
         Expected::SectionHeader,
         keep,
-        &mut front,
+        &mut scratch,
     )?;
-    let mut scratch = Vec::new(alloc);
-    let mut wanted = Expected::SectionHeader;
-    while at < input.len() {
-        let (header, behind) = header_first(input, at, wanted)?;
-        at = push_items(alloc, input, behind, Expected::Name, keep, &mut scratch)?;
-        sections.take(input, header, &mut scratch)?;
-        wanted = Expected::Name;
-    }
+    let front = taken(alloc, &mut scratch);
+    push_sections(alloc, input, at, keep, &mut scratch, sections)?;
     Ok(front)
 }
 
 /// What is kept of the items of a text before its first header; its sections are handed over in order, each with what is kept of
 /// its items, as soon as it is read. All spans are offsets of the text.
 ///
-/// The text is read once, section by section. Memory is taken for the items before the first header, for one list that holds the
-/// items of a section until they are handed over, so for those of the longest section, and for what the sections are handed over to.
+/// The text is read once, section by section. Memory is taken for one list that holds the items of a section until they are handed
+/// over, so for those of the longest section; for the items before the first header where they are more than four; and for what the
+/// sections are handed over to.
 ///
 /// # Errors
 ///
@@ -69,7 +99,7 @@ pub fn read_sections<S: SectionSink>(
     input: &[u8],
     keep: Keep,
     sections: &mut S,
-) -> Result<Vec<Item>, Error>
+) -> Result<FewItems, Error>
     requires fits { length input.now < 2 ^ 32 }
     requires keeps { (first : S) × S.keeps input.now first sections.old }
     requires none { S.tokens input.now sections.old ≡ [] }

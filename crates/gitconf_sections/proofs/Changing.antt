@@ -1,10 +1,9 @@
 -- The section at a place is changed, in the list or beside it.
-use Rattle.std.proofs.Common.{◌≡◌, ℕ, zero, suc, ◌≤◌, List, [], ◌∷◌, length, Some, Result, Ok, Err, refl, ap, sym, subst, ◌∙◌}
-use Rattle.std.specs.List.{slice_get}
+use Rattle.std.proofs.Common.{◌≡◌, ℕ, ◌≤◌, List, length, Some, Result, Ok, Err, ap, sym, subst, ◌∙◌}
 use Rattle.std.specs.Prelude.{IfOk, OnErr, OnOk}
 use Rattle.std.specs.Option.{option_map}
 use Rattle.gitconf_parse.specs.declared.items.Item.{Item}
-use Rattle.gitconf_table.specs.Sections.{SectionEntry, Sections, changed_at, edited_at, section_at, with_section}
+use Rattle.gitconf_table.specs.Sections.{Sections, changed_at, edited_at, section_at, with_section}
 use Rattle.gitconf_table.proofs.SectionLemmas.{section_edited, tables}
 use Rattle.gitconf_sections.specs.declared.row.Row.{Row}
 use Rattle.gitconf_sections.specs.Section.{AreListed, IsSameButIn, NeedsNoMore, Section, end_behind, read, read_all}

@@ -1,7 +1,8 @@
 -- What is held behind a section.
-use Rattle.std.specs.Prelude.{ℕ, ◌-◌, List, [], ◌∷◌, Option, Some, None, vec_capacity, vec_len}
+use Rattle.std.specs.Prelude.{ℕ, ◌-◌, List, [], ◌∷◌, Option, Some, None}
 use Rattle.std.specs.List.{AllZip}
-use Rattle.std.specs.Global.{Box, Vec}
+use Rattle.std.specs.Global.{Box}
+use Rattle.smallvec.specs.SmallVec.{SmallVec, small_vec_len}
 use Rattle.gitconf_parse.specs.declared.event.Span.{Span}
 use Rattle.gitconf_parse.specs.declared.items.Item.{Item}
 use Rattle.gitconf_parse.specs.declared.items.Item.TheVariants as items
@@ -13,9 +14,9 @@ pub record HeldItems : Type 0 where
   pub room : ℕ
 
 -- the items of a list that is there only where some are held
-abbrev pub held_in : Option (Box (Vec Item)) → HeldItems
+abbrev pub held_in : Option (Box (SmallVec Item)) → HeldItems
 held_in None = record { items = []; room = 0 }
-held_in (Some list) = record { items = list.value.items; room = vec_capacity list.value - vec_len list.value }
+held_in (Some list) = record { items = list.value.items; room = list.value.capacity - small_vec_len list.value }
 
 -- clones of the items, one by one
 abbrev pub AreClones : HeldItems → HeldItems → Type 0

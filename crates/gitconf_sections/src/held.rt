@@ -1,10 +1,12 @@
 //! Items held behind a section.
-ghost use Rattle.std.specs.Prelude.{◌≡◌, ◌+◌, ◌-◌, ◌^◌, ◌≤◌, ◌++◌, [], length, vec_capacity, vec_len, OnOk};
+ghost use Rattle.std.specs.Prelude.{◌≡◌, ◌+◌, ◌-◌, ◌^◌, ◌≤◌, ◌++◌, [], length, OnOk};
+ghost use Rattle.smallvec.specs.SmallVec.{HasRoomFor, small_vec_len};
 ghost use Rattle.gitconf_parse.specs.ItemsFit.{AreItemsWithin};
 ghost use Rattle.gitconf_parse.specs.Moves.{AreItemsMoved};
 ghost use Rattle.gitconf_sections.specs.Held.{line_end_item};
 
 use gitconf_parse::event::Span;
+use gitconf_parse::few::FewItems;
 use gitconf_parse::items::Item;
 use gitconf_parse::moving::move_items;
 use std::alloc::{AllocError, Global};
@@ -12,8 +14,8 @@ use std::marker::Model;
 use std::mem::size_of;
 
 /// Puts a line end, if one is given, and others behind the items, within the room that there is.
-pub fn join(items: &mut Vec<Item>, line_end: Option<Span>, others: &mut Vec<Item>)
-    requires room { vec_len items.old + vec_len others.old + 1 ≤ vec_capacity items.old }
+pub fn join(items: &mut FewItems, line_end: Option<Span>, others: &mut FewItems)
+    requires room { HasRoomFor items.old (small_vec_len others.old + 1) }
     ensures { items.new.items ≡ items.old.items ++ (line_end_item line_end ++ others.old.items) }
 {
     if let Some(run) = line_end {
@@ -22,10 +24,11 @@ pub fn join(items: &mut Vec<Item>, line_end: Option<Span>, others: &mut Vec<Item
     items.append(others).unwrap();
 }
 
-/// The items held behind a section: their list stands in a box, since nearly every section holds none. It takes 16 bytes.
+/// The items held behind a section: their list stands in a box, since nearly every section holds none, and up to four take no memory
+/// but the box. It takes 16 bytes.
 #[derive(Drop)]
 pub struct Held {
-    list: Option<Box<Vec<Item>>>,
+    list: Option<Box<FewItems>>,
 }
 
 const _: () = prove!(size_of::<Held>() == 16);
@@ -67,7 +70,7 @@ impl Held {
     {
         let mut list = match self.list.take() {
             Some(list) => list,
-            None => Box::new(alloc, Vec::new(alloc))?,
+            None => Box::new(alloc, FewItems::new(alloc))?,
         };
         let reserved = list.reserve(more);
         self.list = Some(list);
@@ -75,8 +78,8 @@ impl Held {
     }
 
     /// Puts a line end, if one is given, and others behind the items, within the room that there is.
-    pub fn join(&mut self, line_end: Option<Span>, others: &mut Vec<Item>)
-        requires room { vec_len others.old + 1 ≤ self.old.room }
+    pub fn join(&mut self, line_end: Option<Span>, others: &mut FewItems)
+        requires room { small_vec_len others.old + 1 ≤ self.old.room }
         ensures { self.new.items ≡ self.old.items ++ (line_end_item line_end ++ others.old.items) }
     {
         match self.list.take() {

@@ -1,5 +1,5 @@
 //! Items of another file, behind the items of this one.
-ghost use Rattle.std.specs.Prelude.{◌≡◌, ◌+◌, ◌<◌, ◌≤◌, ◌↔◌, ◌++◌, [], ◌∷◌, if◌then◌else◌, length, vec_capacity, vec_len, IfErr, IsErrOf, OnErr, OnOk};
+ghost use Rattle.std.specs.Prelude.{◌≡◌, ◌+◌, ◌<◌, ◌≤◌, ◌↔◌, ◌++◌, [], ◌∷◌, if◌then◌else◌, length, IfErr, IsErrOf, OnErr, OnOk};
 ghost use Rattle.gitconf_text.specs.Part as parts;
 ghost use Rattle.gitconf_state.specs.Edits as edits;
 ghost use Rattle.gitconf_parse.specs.Items.{items_of};
@@ -9,6 +9,7 @@ ghost use Rattle.gitconf_store.specs.Joining.{front_then, AreBehind, AreSame};
 ghost use Rattle.gitconf_table.specs.Sections.{no_number};
 
 use gitconf_parse::event::Span;
+use gitconf_parse::few::FewItems;
 use gitconf_parse::items::Item;
 use gitconf_sections::held::join;
 use gitconf_sections::sections::SectionList;
@@ -56,10 +57,10 @@ pub(crate) fn parts_lines(
 ///
 /// Those of [`put_behind_last`]. The front is then as it was, too.
 fn put_behind_front(
-    front: &mut Vec<Item>,
+    front: &mut FewItems,
     sections: &mut SectionList,
     line_end: Option<Span>,
-    others: Vec<Item>,
+    others: FewItems,
     other: SectionList,
 ) -> Result<(), span::Error>
     requires none { sections.old.entries ≡ [] }
@@ -71,7 +72,7 @@ fn put_behind_front(
     ensures memory { IfErr result (λ e. sections.old.next + length other.entries ≤ no_number → e ≡ 27) }
 {
     let mut others = others;
-    front.reserve(others.len() + 1)?;
+    front.reserve(others.as_slice().len() + 1)?;
     sections.append(other)?;
     join(front, line_end, &mut others);
     Ok(())
@@ -87,7 +88,7 @@ fn put_behind_front(
 pub(crate) fn put_behind_last(
     sections: &mut SectionList,
     line_end: Option<Span>,
-    others: Vec<Item>,
+    others: FewItems,
     other: SectionList,
 ) -> Result<(), span::Error>
     requires some { 0 < length sections.old.entries }
@@ -107,10 +108,10 @@ pub(crate) fn put_behind_last(
 ///
 /// Those of [`put_behind_last`]. The front is then as it was, too.
 pub(crate) fn put_behind(
-    front: &mut Vec<Item>,
+    front: &mut FewItems,
     sections: &mut SectionList,
     line_end: Option<Span>,
-    others: Vec<Item>,
+    others: FewItems,
     other: SectionList,
 ) -> Result<(), span::Error>
     ensures front { OnOk result (front.new.items ≡ front_then sections.old.entries front.old.items (line_end_item line_end ++ others.items)) }

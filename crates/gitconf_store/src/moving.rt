@@ -13,6 +13,7 @@ ghost use Rattle.gitconf_store.specs.Store.{AllSectionsFit, section_state, secti
 use gitconf_base::meta::Metadata;
 use gitconf_parse::event::Header;
 use gitconf_parse::events::subsection_name;
+use gitconf_parse::few::FewItems;
 use gitconf_parse::items::Item;
 use gitconf_parse::moving::move_items;
 use gitconf_sections::sections::SectionList;
@@ -37,7 +38,7 @@ pub(crate) fn copies_before(copies: &[u8], others: &[u8]) -> Result<u32, NoMemor
 }
 
 /// Items in a list, moved as [`move_items`] does.
-pub(crate) fn move_list(list: &mut Vec<Item>, by: u32)
+pub(crate) fn move_list(list: &mut FewItems, by: u32)
     requires { AreItemsWithin (2 ^ 32 - 1 - by) list.old.items }
     ensures { AreItemsMoved by list.old.items list.new.items }
 {

@@ -25,7 +25,8 @@ use gitconf_body::entry::{check_set_value, set_value};
 use gitconf_body::section::section_with;
 use gitconf_parse::error::Error;
 use gitconf_parse::events::{Events, check_len, copied_with_room};
-use gitconf_parse::items::{Item, Keep};
+use gitconf_parse::few::FewItems;
+use gitconf_parse::items::Keep;
 use gitconf_parse::loading::read_sections;
 use gitconf_parse::sink::{Sink, SinkFault};
 use gitconf_sections::sections::SectionList;
@@ -46,7 +47,7 @@ pub struct Store {
     buffer: Vec<u8>,
     /// The decoded subsections of the headers that need one.
     copies: Vec<u8>,
-    front: Vec<Item>,
+    front: FewItems,
     meta: Rc<Metadata>,
     sections: SectionList,
 }
@@ -108,14 +109,14 @@ impl Store {
         Store {
             buffer: Vec::new(alloc),
             copies: Vec::new(alloc),
-            front: Vec::new(alloc),
+            front: FewItems::new(alloc),
             meta,
             sections: SectionList::new(alloc),
         }
     }
 
     /// The state of a text that was loaded: what stands before its first header, and its sections.
-    fn of_loading(buffer: Vec<u8>, front: Vec<Item>, loading: Loading) -> Store
+    fn of_loading(buffer: Vec<u8>, front: FewItems, loading: Loading) -> Store
         requires room { length buffer.items < 2 ^ 32 }
         requires front { AreItemsWithin (length buffer.items) front.items }
         requires loading { IsLoading buffer.items loading.meta.value loading.copies.items loading.sections }

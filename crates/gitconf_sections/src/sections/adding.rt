@@ -12,6 +12,7 @@ use crate::row::Row;
 use crate::sections::SectionList;
 use gitconf_base::meta::Metadata;
 use gitconf_parse::event::{Header, Span};
+use gitconf_parse::few::FewItems;
 use gitconf_parse::items::Item;
 use gitconf_table::table::{SectionId, SectionTable};
 use gitconf_text::NoMemory;
@@ -170,7 +171,7 @@ impl SectionList {
     pub fn append_behind(
         &mut self,
         line_end: Option<Span>,
-        others: &mut Vec<Item>,
+        others: &mut FewItems,
         other: SectionList,
     ) -> Result<(), span::Error>
         requires { 0 < length self.old.entries }
@@ -186,7 +187,7 @@ impl SectionList {
         let last = self.table.len() - 1;
         let alloc = *self.list.allocator();
         let row = self.table.at_mut(last);
-        row.held.reserve(alloc, others.len() + 1)?;
+        row.held.reserve(alloc, others.as_slice().len() + 1)?;
         append_parts(&mut self.table, &mut self.list, table, list)?;
         let row = self.table.at_mut(last);
         row.held.join(line_end, others);

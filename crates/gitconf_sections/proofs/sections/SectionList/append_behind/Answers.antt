@@ -1,5 +1,5 @@
 use Rattle.std.proofs.Common.{rules, ◌≡◌, ◌++◌, ◌∙◌, ◌+◌, ◌-◌, ◌<◌, ◌≤◌, Some, length, refl, sym, subst, ap, arith}
-use Rattle.std.specs.Prelude.{vec_len}
+use Rattle.smallvec.specs.SmallVec.{small_vec_len}
 use Rattle.std.proofs.lemmas.List.{length-map}
 use Rattle.gitconf_table.specs.Sections.{Sections, edited_at, section_at, with_all, with_section}
 use Rattle.gitconf_sections.specs.declared.row.Row.{Row}
@@ -93,8 +93,8 @@ join-requires c =
     let s = c.at_mut-row-2.result.now in
     let there : section_at at (with_all (length first.entries) (all_rebased (length list) other) first) ≡ Some s = subst (λ all. section_at at all ≡ Some s) put c.at_mut-row-2.ensures.value in
     let is : s ≡ t = there_before first (all_rebased (length list) other) at t s (put_there table at r t c.at_mut-row.ensures.value) there in
-    let room : vec_len c.args.others.now + 1 ≤ t.held.room = search rules in
-    record { room = subst (λ (w : Row). vec_len c.args.others.now + 1 ≤ w.held.room) (sym is) room }
+    let room : small_vec_len c.args.others.now + 1 ≤ t.held.room = search rules in
+    record { room = subst (λ (w : Row). small_vec_len c.args.others.now + 1 ≤ w.held.room) (sym is) room }
 
 pub invariant_of-self-2 : goal.invariant_of-self-2
 invariant_of-self-2 c =
