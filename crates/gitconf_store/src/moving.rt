@@ -38,11 +38,19 @@ pub(crate) fn copies_before(copies: &[u8], others: &[u8]) -> Result<u32, NoMemor
 }
 
 /// Items in a list, moved as [`move_items`] does.
-pub(crate) fn move_list(list: &mut FewItems, by: u32)
+pub(crate) fn move_list(list: &mut Vec<Item>, by: u32)
     requires { AreItemsWithin (2 ^ 32 - 1 - by) list.old.items }
     ensures { AreItemsMoved by list.old.items list.new.items }
 {
     move_items(list.as_mut_slice(), by);
+}
+
+/// The items before the first section, moved as [`move_items`] does.
+pub(crate) fn move_front(front: &mut FewItems, by: u32)
+    requires { AreItemsWithin (2 ^ 32 - 1 - by) front.old.items }
+    ensures { AreItemsMoved by front.old.items front.new.items }
+{
+    move_items(front.as_mut_slice(), by);
 }
 
 /// All sections, moved as [`SectionList::move_section`] does. One pass over them, which takes no memory.

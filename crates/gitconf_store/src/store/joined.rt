@@ -7,7 +7,7 @@ ghost use Rattle.gitconf_state.specs.Edits.{Append, apply};
 ghost use Rattle.gitconf_store.specs.Appends.{appended_bytes, last_items, line_between, IsLineAt};
 
 use crate::joining::{parts_lines, put_behind};
-use crate::moving::{copies_before, move_list, move_sections};
+use crate::moving::{copies_before, move_front, move_sections};
 use crate::store::Store;
 use gitconf_body::buffer::{append, check_room};
 use gitconf_parse::event::Span;
@@ -127,7 +127,7 @@ impl Store {
             &buffer,
             &copies,
         )?;
-        move_list(&mut front, by);
+        move_front(&mut front, by);
         move_sections(&mut sections, by, copies_by);
         put_behind(&mut self.front, &mut self.sections, line, front, sections)
     }

@@ -27,8 +27,8 @@ returns-in_err-line-clause-err c =
     rw (← c.self.view_is) (if_err_at_all c.from_residual-in_err-line.result
     (longer_state here.buffer.items c.put_bytes.new.buffer.items here.copies.items here.front.items here.meta.value here.sections c.put_bytes.ensures.grows.extended c.self.invariant))
 
-pub move_list-requires : goal.move_list-requires
-move_list-requires c =
+pub move_front-requires : goal.move_front-requires
+move_front-requires c =
     let b = c.self.inside.buffer.items in
     let theirs = c.other.inside.buffer.items in
     let bytes = c.line_between-line_end.result.now in
@@ -66,12 +66,12 @@ invariant_of-self-2 c =
     let by : c.len-3.result + length bytes ≡ length (b ++ bytes) = (let l : c.len-3.result ≡ length b = search rules in let m = length-append b bytes in omega (arith, l, m)) in
     let copies_by : c.in_ok-copies_by.copies_by ≡ length copies = search rules in
     let told = c.line_between-line_end.ensures.bytes ∙ (λ i. line_between (sym c.other.view_is i) (sym c.self.view_is i)) in
-    let front_moved = subst (λ n. AreItemsMoved n there.front.items c.move_list.new.list.items) by c.move_list.ensures in
+    let front_moved = subst (λ n. AreItemsMoved n there.front.items c.move_front.new.front.items) by c.move_front.ensures in
     let moved : AreSectionsMoved (length (b ++ bytes)) (length copies) there.sections c.move_sections.new.sections = subst (λ n. AreSectionsMoved n (length copies) there.sections c.move_sections.new.sections) by
     (subst (λ m. AreSectionsMoved (c.len-3.result + length bytes) m there.sections c.move_sections.new.sections) copies_by c.move_sections.ensures) in
     let stands = c.in_ok-line.ensures.line in
     by_result c.put_behind.result
-    (λ front put. appended_fits b bytes theirs copies there.copies.items new more here.front.items there.front.items c.move_list.new.list.items here.meta.value there.meta.value
+    (λ front put. appended_fits b bytes theirs copies there.copies.items new more here.front.items there.front.items c.move_front.new.front.items here.meta.value there.meta.value
     here.sections there.sections c.move_sections.new.sections c.put_behind.new.sections c.in_ok-line.line is are c.self.invariant c.other.invariant told stands front_moved moved c.put_behind.new.front.items front put c.put_bytes.ensures.grows.room)
     (λ front same. same_fits b copies new more here.front.items c.put_behind.new.front.items here.meta.value here.sections c.put_behind.new.sections c.put_bytes.ensures.grows.extended c.self.invariant front same (there.copies.items, are) c.put_bytes.ensures.grows.room)
     c.put_behind.ensures.front c.put_behind.ensures.ok c.put_behind.ensures.err_front c.put_behind.ensures.err
@@ -91,11 +91,11 @@ returns-clause-ok c =
     let by : c.len-3.result + length bytes ≡ length (b ++ bytes) = (let l : c.len-3.result ≡ length b = search rules in let m = length-append b bytes in omega (arith, l, m)) in
     let copies_by : c.in_ok-copies_by.copies_by ≡ length copies = search rules in
     let told = c.line_between-line_end.ensures.bytes ∙ (λ i. line_between (sym c.other.view_is i) (sym c.self.view_is i)) in
-    let front_moved = subst (λ n. AreItemsMoved n there.front.items c.move_list.new.list.items) by c.move_list.ensures in
+    let front_moved = subst (λ n. AreItemsMoved n there.front.items c.move_front.new.front.items) by c.move_front.ensures in
     let moved : AreSectionsMoved (length (b ++ bytes)) (length copies) there.sections c.move_sections.new.sections = subst (λ n. AreSectionsMoved n (length copies) there.sections c.move_sections.new.sections) by
     (subst (λ m. AreSectionsMoved (c.len-3.result + length bytes) m there.sections c.move_sections.new.sections) copies_by c.move_sections.ensures) in
     two_ok c.put_behind.result
-    (λ front put. appended_state b bytes theirs copies there.copies.items new more here.front.items there.front.items c.move_list.new.list.items here.meta.value there.meta.value
+    (λ front put. appended_state b bytes theirs copies there.copies.items new more here.front.items there.front.items c.move_front.new.front.items here.meta.value there.meta.value
     here.sections there.sections c.move_sections.new.sections c.put_behind.new.sections c.in_ok-line.line is are c.self.invariant c.other.invariant told c.in_ok-line.ensures.line front_moved moved c.put_behind.new.front.items front put
     ∙ (λ i. with_used (length new) (appended (c.other.view_is i) (c.self.view_is i))))
     c.put_behind.ensures.front c.put_behind.ensures.ok

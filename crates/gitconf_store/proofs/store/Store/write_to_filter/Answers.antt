@@ -17,7 +17,7 @@ use Rattle.gitconf_store.proofs.store.Store.write_to_filter.Goals as goal
 pub returns-in_err-write_front-clause-exact : goal.returns-in_err-write_front-clause-exact
 returns-in_err-write_front-clause-exact g c = λ keeps h.
     let state = c.args.self.now in
-    let seen : items_of c.deref.result.now c.deref-2.result.now ≡ state.front = (λ i. items_of (c.deref.ensures.value i) (c.deref-2.ensures.value i)) ∙ ap (λ (s : State). s.front) c.self.view_is in
+    let seen : items_of c.deref.result.now c.deref-2.result.now ≡ state.front = (λ i. items_of (c.deref.ensures.value i) (c.deref-2.ensures i)) ∙ ap (λ (s : State). s.front) c.self.view_is in
     let shown : items_text false (bytes_of_line_end c.line_end-line_end.result) Closed (items_of c.deref.result.now c.deref-2.result.now) ≡ items_text false (file_line_end state) Closed state.front = λ i. items_text false (c.line_end-line_end.ensures i) Closed (seen i) in
     let same = shown ∙ front_written state in
     front_fault c.from_residual.result keeps state _ _ _ c.from_residual.ensures.0 same c.in_err-write_front.ensures.written
@@ -27,11 +27,11 @@ returns-in_err-write_line_end_unless-clause-exact g c = λ keeps h.
     let state = c.args.self.now in
     let le = bytes_of_line_end c.line_end-line_end.result in
     let ended = c.front_is_ended-ended.ensures.exact keeps h in
-    let seen : items_of c.deref.result.now c.deref-2.result.now ≡ state.front = (λ i. items_of (c.deref.ensures.value i) (c.deref-2.ensures.value i)) ∙ ap (λ (s : State). s.front) c.self.view_is in
+    let seen : items_of c.deref.result.now c.deref-2.result.now ≡ state.front = (λ i. items_of (c.deref.ensures.value i) (c.deref-2.ensures i)) ∙ ap (λ (s : State). s.front) c.self.view_is in
     let shown : items_text false le Closed (items_of c.deref.result.now c.deref-2.result.now) ≡ items_text false (file_line_end state) Closed state.front = λ i. items_text false (c.line_end-line_end.ensures i) Closed (seen i) in
     let same = shown ∙ front_written state in
     let same_end : le ≡ file_line_end state = c.line_end-line_end.ensures in
-    let same_front : items_of c.deref-3.result.now c.deref-4.result.now ≡ state.front = (λ i. items_of (c.deref-3.ensures.value i) (c.deref-4.ensures.value i)) ∙ ap (λ (s : State). s.front) c.self.view_is in
+    let same_front : items_of c.deref-3.result.now c.deref-4.result.now ≡ state.front = (λ i. items_of (c.deref-3.ensures.value i) (c.deref-4.ensures i)) ∙ ap (λ (s : State). s.front) c.self.view_is in
     let same_sections : sections_left c.sections.result ≡ state.sections = c.sections.ensures.left in
     let behind = behind_same keeps le (file_line_end state) _ state.front _ state.sections same_end same_front same_sections in
     left_fault c.from_residual-in_err-write_line_end_unless.result (printed_kept keeps state) (behind_text keeps state ++ sections_text keeps (file_line_end state) true state.sections)
@@ -46,11 +46,11 @@ returns-clause-exact g c = λ keeps h.
     let state = c.args.self.now in
     let le = bytes_of_line_end c.line_end-line_end.result in
     let ended = c.front_is_ended-ended.ensures.exact keeps h in
-    let seen : items_of c.deref.result.now c.deref-2.result.now ≡ state.front = (λ i. items_of (c.deref.ensures.value i) (c.deref-2.ensures.value i)) ∙ ap (λ (s : State). s.front) c.self.view_is in
+    let seen : items_of c.deref.result.now c.deref-2.result.now ≡ state.front = (λ i. items_of (c.deref.ensures.value i) (c.deref-2.ensures i)) ∙ ap (λ (s : State). s.front) c.self.view_is in
     let shown : items_text false le Closed (items_of c.deref.result.now c.deref-2.result.now) ≡ items_text false (file_line_end state) Closed state.front = λ i. items_text false (c.line_end-line_end.ensures i) Closed (seen i) in
     let same = shown ∙ front_written state in
     let same_end : le ≡ file_line_end state = c.line_end-line_end.ensures in
-    let same_front : items_of c.deref-3.result.now c.deref-4.result.now ≡ state.front = (λ i. items_of (c.deref-3.ensures.value i) (c.deref-4.ensures.value i)) ∙ ap (λ (s : State). s.front) c.self.view_is in
+    let same_front : items_of c.deref-3.result.now c.deref-4.result.now ≡ state.front = (λ i. items_of (c.deref-3.ensures.value i) (c.deref-4.ensures i)) ∙ ap (λ (s : State). s.front) c.self.view_is in
     let same_sections : sections_left c.sections.result ≡ state.sections = c.sections.ensures.left in
     let behind = behind_same keeps le (file_line_end state) _ state.front _ state.sections same_end same_front same_sections in
     let others : sections_text keeps (file_line_end state) true state.sections ≡ sections_text keeps le true (sections_left c.sections-2.result) = search rules in
@@ -66,7 +66,7 @@ returns-clause-exact g c = λ keeps h.
 pub returns-in_err-write_front-clause-some : goal.returns-in_err-write_front-clause-some
 returns-in_err-write_front-clause-some g c =
     let state = c.args.self.now in
-    let seen : items_of c.deref.result.now c.deref-2.result.now ≡ state.front = (λ i. items_of (c.deref.ensures.value i) (c.deref-2.ensures.value i)) ∙ ap (λ (s : State). s.front) c.self.view_is in
+    let seen : items_of c.deref.result.now c.deref-2.result.now ≡ state.front = (λ i. items_of (c.deref.ensures.value i) (c.deref-2.ensures i)) ∙ ap (λ (s : State). s.front) c.self.view_is in
     let shown : items_text false (bytes_of_line_end c.line_end-line_end.result) Closed (items_of c.deref.result.now c.deref-2.result.now) ≡ items_text false (file_line_end state) Closed state.front = λ i. items_text false (c.line_end-line_end.ensures i) Closed (seen i) in
     some_front_fault c.from_residual.result state _ _ _ c.from_residual.ensures.0 (shown ∙ front_written state) c.in_err-write_front.ensures.written
 
@@ -74,10 +74,10 @@ pub returns-in_err-write_line_end_unless-clause-some : goal.returns-in_err-write
 returns-in_err-write_line_end_unless-clause-some g c =
     let state = c.args.self.now in
     let le = bytes_of_line_end c.line_end-line_end.result in
-    let seen : items_of c.deref.result.now c.deref-2.result.now ≡ state.front = (λ i. items_of (c.deref.ensures.value i) (c.deref-2.ensures.value i)) ∙ ap (λ (s : State). s.front) c.self.view_is in
+    let seen : items_of c.deref.result.now c.deref-2.result.now ≡ state.front = (λ i. items_of (c.deref.ensures.value i) (c.deref-2.ensures i)) ∙ ap (λ (s : State). s.front) c.self.view_is in
     let shown : items_text false le Closed (items_of c.deref.result.now c.deref-2.result.now) ≡ items_text false (file_line_end state) Closed state.front = λ i. items_text false (c.line_end-line_end.ensures i) Closed (seen i) in
     let same_end : le ≡ file_line_end state = c.line_end-line_end.ensures in
-    let same_front : items_of c.deref-3.result.now c.deref-4.result.now ≡ state.front = (λ i. items_of (c.deref-3.ensures.value i) (c.deref-4.ensures.value i)) ∙ ap (λ (s : State). s.front) c.self.view_is in
+    let same_front : items_of c.deref-3.result.now c.deref-4.result.now ≡ state.front = (λ i. items_of (c.deref-3.ensures.value i) (c.deref-4.ensures i)) ∙ ap (λ (s : State). s.front) c.self.view_is in
     let same_sections : sections_left c.sections.result ≡ state.sections = c.sections.ensures.left in
     let ends = ended_so le (file_line_end state) _ state.front _ state.sections c.front_is_ended-ended.result same_end same_front same_sections c.front_is_ended-ended.ensures.some in
     some_behind_fault c.from_residual-in_err-write_line_end_unless.result state _ le c.front_is_ended-ended.result _ _ _ c.from_residual-in_err-write_line_end_unless.ensures.0
@@ -87,10 +87,10 @@ pub returns-clause-some : goal.returns-clause-some
 returns-clause-some g c =
     let state = c.args.self.now in
     let le = bytes_of_line_end c.line_end-line_end.result in
-    let seen : items_of c.deref.result.now c.deref-2.result.now ≡ state.front = (λ i. items_of (c.deref.ensures.value i) (c.deref-2.ensures.value i)) ∙ ap (λ (s : State). s.front) c.self.view_is in
+    let seen : items_of c.deref.result.now c.deref-2.result.now ≡ state.front = (λ i. items_of (c.deref.ensures.value i) (c.deref-2.ensures i)) ∙ ap (λ (s : State). s.front) c.self.view_is in
     let shown : items_text false le Closed (items_of c.deref.result.now c.deref-2.result.now) ≡ items_text false (file_line_end state) Closed state.front = λ i. items_text false (c.line_end-line_end.ensures i) Closed (seen i) in
     let same_end : le ≡ file_line_end state = c.line_end-line_end.ensures in
-    let same_front : items_of c.deref-3.result.now c.deref-4.result.now ≡ state.front = (λ i. items_of (c.deref-3.ensures.value i) (c.deref-4.ensures.value i)) ∙ ap (λ (s : State). s.front) c.self.view_is in
+    let same_front : items_of c.deref-3.result.now c.deref-4.result.now ≡ state.front = (λ i. items_of (c.deref-3.ensures.value i) (c.deref-4.ensures i)) ∙ ap (λ (s : State). s.front) c.self.view_is in
     let same_sections : sections_left c.sections.result ≡ state.sections = c.sections.ensures.left in
     let same_others : sections_left c.sections-2.result ≡ state.sections = c.sections-2.ensures.left in
     let ends = ended_so le (file_line_end state) _ state.front _ state.sections c.front_is_ended-ended.result same_end same_front same_sections c.front_is_ended-ended.ensures.some in
