@@ -1,6 +1,7 @@
 """The programs that are measured, how they are built, and what they tell."""
 
 import os
+import re
 import shlex
 import shutil
 import subprocess
@@ -56,6 +57,15 @@ class Ours:
                 return int(told.split("\n")[rounds - 1]) * 1000
             told = out([*under(), self.program("file_bench"), what, str(rounds), key, "times"], stdin=text)
             return int(told.split("\n")[rounds - 1])
+
+    def instructions(self, what, file, key):
+        """How many instructions a process takes that does this once with a file's text, loading counted in."""
+        if not shutil.which("valgrind"):
+            raise Missing("there is no program valgrind, which counts instructions")
+        counter = ["valgrind", "--tool=callgrind", "--callgrind-out-file=/dev/null", "--log-fd=1"]
+        with open(file, "rb") as text:
+            told = out([*counter, self.program("file_bench"), what, "1", key], stdin=text)
+        return int(re.search(r"Collected : ([0-9]+)", told)[1])
 
 
 class Theirs:
