@@ -1,6 +1,6 @@
 //! Times what the Rust crate does with a file, as often as asked: `bench WHAT ROUNDS KEY FILE`.
 //!
-//! WHAT is a word of `crates/file_bench`, or `events`; each round prints its nanoseconds.
+//! WHAT is a word of `crates/bench`, but `match`; each round prints its nanoseconds.
 use std::{hint::black_box, mem, time::Instant};
 
 use gix_config::{

@@ -52,10 +52,11 @@ class Ours:
         """The nanoseconds of what is done with a file's text, the last time of so many; as often as `rounds_of` says where left out."""
         rounds = rounds or rounds_of(what)
         with open(file, "rb") as text:
-            if what == "events":
+            if what == "events" and (self.top / "crates/parse_bench").exists():
+                # An earlier checkout, where a program of its own tells microseconds.
                 told = out([*under(), self.program("parse_bench"), str(rounds), "times"], stdin=text)
                 return int(told.split("\n")[rounds - 1]) * 1000
-            told = out([*under(), self.program("file_bench"), what, str(rounds), key, "times"], stdin=text)
+            told = out([*under(), self.program("bench"), what, str(rounds), key, "times"], stdin=text)
             return int(told.split("\n")[rounds - 1])
 
     def instructions(self, what, file, key):
@@ -64,7 +65,7 @@ class Ours:
             raise Missing("there is no program valgrind, which counts instructions")
         counter = ["valgrind", "--tool=callgrind", "--callgrind-out-file=/dev/null", "--log-fd=1"]
         with open(file, "rb") as text:
-            told = out([*counter, self.program("file_bench"), what, "1", key], stdin=text)
+            told = out([*counter, self.program("bench"), what, "1", key], stdin=text)
         return int(re.search(r"Collected : ([0-9]+)", told)[1])
 
 

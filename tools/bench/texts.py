@@ -58,6 +58,16 @@ SHORT_ITEMS = [
 ]
 
 
+# Path patterns, and texts to match them against: what a pattern begins with, what is repeated behind that, how often, what it ends
+# with; what is repeated in the text, and how often.
+PATTERNS = [("", "*a", 64, "b", "a", 200)]
+PATTERNS += [("*", "[", n, "]", "a", m) for n, m in ((1000, 1000), (2000, 1000), (4000, 1000), (1000, 2000), (1000, 4000))]
+PATTERNS += [("*", "[:", n, "]", "a", 1000) for n in (1000, 2000, 4000)]
+PATTERNS += [("*", "a", n, "", "a", 1000) for n in (1000, 2000, 4000)]
+PATTERNS += [("", "[", n, "]", "[", 1) for n in (1000, 2000, 4000)]
+PATTERNS += [("", "[a-z]", n, "", "a", n) for n in (1000, 2000, 4000)]
+
+
 def repeated(item, size):
     """A text of that many bytes, or up to an item fewer."""
     before, again = item

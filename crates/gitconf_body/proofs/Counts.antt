@@ -12,8 +12,8 @@ use Rattle.gitconf_state.specs.LineEnds.{file_line_end}
 use Rattle.gitconf_state.specs.State.{SectionState, State, is_entry}
 use Rattle.gitconf_text.specs.Header.{spelled_header}
 use Rattle.gitconf_state.proofs.EditLists.{filter_none, last_passing}
-use Rattle.gitconf_body.specs.Places.{IsLastAt}
-use Rattle.gitconf_body.specs.Spacings.{option_bytes, spacing_bytes}
+use Rattle.gitconf_lines.specs.Places.{IsLastAt}
+use Rattle.gitconf_lines.specs.Spacings.{option_bytes, spacing_bytes}
 
 run_bytes : (run : List ℕ) → token_bytes (filled WhitespaceToken run) ≡ length run
 run_bytes [] = refl

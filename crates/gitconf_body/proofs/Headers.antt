@@ -4,15 +4,15 @@ use Rattle.gitconf_text.specs.Header as grammar
 use Rattle.gitconf_text.specs.Header.{spelled_header}
 use Rattle.gitconf_text.specs.Names.{is_valid_or_none}
 use Rattle.gitconf_text.specs.Token.{HeaderToken}
-use Rattle.gitconf_parse.specs.declared.event.Copied.{Copied}
-use Rattle.gitconf_parse.specs.declared.event.Span.{Span}
-use Rattle.gitconf_parse.specs.declared.event.Event.TheVariants as kinds
-use Rattle.gitconf_parse.specs.EventRef.{ShownHeader, escaped_subsection}
-use Rattle.gitconf_parse.specs.Events.{header_of}
-use Rattle.gitconf_parse.specs.ShownEvents.{CopyFits, IsShown, decoded_or, shown_token}
+use Rattle.gitconf_items.specs.declared.event.Copied.{Copied}
+use Rattle.gitconf_items.specs.declared.event.Span.{Span}
+use Rattle.gitconf_items.specs.declared.event.Event.TheVariants as kinds
+use Rattle.gitconf_items.specs.EventRef.{ShownHeader, escaped_subsection}
+use Rattle.gitconf_items.specs.Events.{header_of}
+use Rattle.gitconf_items.specs.ShownEvents.{CopyFits, IsShown, decoded_or, shown_token}
 use Rattle.gitconf_state.specs.Edit.{made_header}
 use Rattle.gitconf_state.proofs.EditValues.{made_subsection}
-use Rattle.gitconf_body.specs.Buffers.{StandsAt}
+use Rattle.gitconf_lines.specs.Buffers.{StandsAt}
 use Rattle.gitconf_body.specs.Lines.{QuotedStands}
 use Rattle.gitconf_body.specs.declared.section.Quoted.{Quoted}
 

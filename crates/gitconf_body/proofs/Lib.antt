@@ -1,15 +1,5 @@
-pub mod Append
-pub mod Buffers
-pub mod Places
-pub mod NamedSpans
-pub mod Raw
-pub mod Spacings
-pub mod Entries
 pub mod Counts
 pub mod Headers
-pub mod Copies
-pub mod Editors
-pub mod Standing
 pub mod Changing
 pub mod Taken
 pub mod ValuesAt

@@ -4,20 +4,20 @@ use Rattle.std.specs.List.{list_any}
 use Rattle.std.specs.Option.{is_some}
 use Rattle.std.proofs.lemmas.List.{map-append}
 use Rattle.gitconf_text.specs.Part as parts
-use Rattle.gitconf_parse.specs.declared.items.Item.{Item}
-use Rattle.gitconf_parse.specs.declared.items.Item.TheVariants as items
-use Rattle.gitconf_parse.specs.Items.{item_of, items_of}
-use Rattle.gitconf_parse.specs.ItemsFit.{AreItemsWithin, ItemFits}
+use Rattle.gitconf_items.specs.declared.items.Item.{Item}
+use Rattle.gitconf_items.specs.declared.items.Item.TheVariants as items
+use Rattle.gitconf_items.specs.Items.{item_of, items_of}
+use Rattle.gitconf_items.specs.ItemsFit.{AreItemsWithin, ItemFits}
 use Rattle.gitconf_state.specs.State.{cut_last, is_entry}
 use Rattle.gitconf_state.specs.Edit.{is_entry_of, old_value}
 use Rattle.gitconf_state.specs.Editors.{entry_told, removed, popped, popped_entry, without_last_blanks, without_first_line_ends}
 use Rattle.gitconf_state.proofs.EditPlaces.{old_value_at}
-use Rattle.gitconf_body.specs.Places.{IsLastAt, IsLastPlace}
-use Rattle.gitconf_body.specs.Spacings.{is_stored_entry}
+use Rattle.gitconf_lines.specs.Places.{IsLastAt, IsLastPlace}
+use Rattle.gitconf_lines.specs.Spacings.{is_stored_entry}
 use Rattle.gitconf_body.specs.Taken.{begins_line_ends, is_blanks, ends_blanks, behind_line_ends, before_blanks, StayWithin}
-use Rattle.gitconf_body.proofs.Places.{any_shown, none_found}
-use Rattle.gitconf_body.proofs.Entries.{all_both, last_shown}
-use Rattle.gitconf_body.proofs.Spacings.{any_entry_shown}
+use Rattle.gitconf_lines.proofs.Places.{any_shown, none_found}
+use Rattle.gitconf_lines.proofs.Entries.{all_both, last_shown}
+use Rattle.gitconf_lines.proofs.Spacings.{any_entry_shown}
 
 pub ends_with : (before : List Item) (i : Item) → ends_blanks (before ++ i ∷ []) ≡ is_blanks i
 ends_with [] i = refl

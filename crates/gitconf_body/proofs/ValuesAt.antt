@@ -4,26 +4,26 @@ use Rattle.std.specs.Prelude.{if◌then◌else◌}
 use Rattle.std.specs.List.{AllByRecursion}
 use Rattle.std.proofs.lemmas.List.{take-map, drop-map, take_min, take_all, drop_all, length-drop, map-append}
 use Rattle.gitconf_text.specs.Part as parts
-use Rattle.gitconf_parse.specs.declared.event.Span.{Span}
-use Rattle.gitconf_parse.specs.declared.entry.Assigned.{Assigned}
-use Rattle.gitconf_parse.specs.declared.entry.Assigned.TheVariants as forms
-use Rattle.gitconf_parse.specs.declared.items.Item.{Item}
-use Rattle.gitconf_parse.specs.declared.items.Item.TheVariants as items
-use Rattle.gitconf_parse.specs.declared.entry.Piece.{Piece}
-use Rattle.gitconf_parse.specs.Events.{bytes_of, SpanFits}
-use Rattle.gitconf_parse.specs.Items.{piece_of, assigned_of, item_of, items_of}
-use Rattle.gitconf_parse.specs.ItemsFit.{AreItemsWithin, AssignedFits, ItemFits, PieceFits}
-use Rattle.gitconf_parse.specs.ShownEvents.{IsExtended}
+use Rattle.gitconf_items.specs.declared.event.Span.{Span}
+use Rattle.gitconf_items.specs.declared.entry.Assigned.{Assigned}
+use Rattle.gitconf_items.specs.declared.entry.Assigned.TheVariants as forms
+use Rattle.gitconf_items.specs.declared.items.Item.{Item}
+use Rattle.gitconf_items.specs.declared.items.Item.TheVariants as items
+use Rattle.gitconf_items.specs.declared.entry.Piece.{Piece}
+use Rattle.gitconf_items.specs.Events.{bytes_of, SpanFits}
+use Rattle.gitconf_items.specs.Items.{piece_of, assigned_of, item_of, items_of}
+use Rattle.gitconf_items.specs.ItemsFit.{AreItemsWithin, AssignedFits, ItemFits, PieceFits}
+use Rattle.gitconf_items.specs.ShownEvents.{IsExtended}
 use Rattle.gitconf_state.specs.Editors as states
 use Rattle.gitconf_state.specs.Editors.{behind_old, deleted_at, entry_made, line_end_item, written_at}
 use Rattle.gitconf_body.specs.declared.value_at.InPlaceOf.{InPlaceOf}
 use Rattle.gitconf_body.specs.declared.value_at.InPlaceOf.TheVariants.{Nothing, EntryButLineEnd}
 use Rattle.gitconf_body.specs.declared.value_at.InPlaceOf.TheVariants as in_place_of
-use Rattle.gitconf_body.specs.Standing.{Stand, end_items}
+use Rattle.gitconf_lines.specs.Standing.{Stand, end_items}
 use Rattle.gitconf_body.specs.Taken.{StayWithin}
 use Rattle.gitconf_body.specs.ValuesAt.{IfReplaces, behind_way, is_before_comment, kept_behind, kept_end, keeps_line_end, last_end, stands, unless_short, way_before, without_first}
-use Rattle.gitconf_body.proofs.Entries.{all_both}
-use Rattle.gitconf_body.proofs.Standing.{line_ends_stand, none_stand, stand_both, stand_more}
+use Rattle.gitconf_lines.proofs.Entries.{all_both}
+use Rattle.gitconf_lines.proofs.Standing.{line_ends_stand, none_stand, stand_both, stand_more}
 use Rattle.gitconf_body.proofs.Taken.{dropped_all, taken_all}
 
 -- the last of the pieces

@@ -1,10 +1,3 @@
-pub mod Buffers
-pub mod Places
 pub mod Lines
-pub mod Spacings
-pub mod Copies
-pub mod Editors
-pub mod Standing
 pub mod Taken
 pub mod ValuesAt
-pub mod Blanks

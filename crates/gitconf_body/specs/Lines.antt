@@ -1,7 +1,7 @@
 -- Where the parts of new texts stand in a buffer.
 use Rattle.std.specs.Prelude.{ℕ, List, [], ◌∷◌}
 use Rattle.gitconf_body.specs.declared.section.Quoted.{Quoted}
-use Rattle.gitconf_body.specs.Buffers.{StandsAt}
+use Rattle.gitconf_lines.specs.Buffers.{StandsAt}
 
 -- A header's name, its blank and its spelled subsection in a buffer.
 pub record QuotedStands (buffer : List ℕ) (q : Quoted) (text spelling : List ℕ) : Type 0 where

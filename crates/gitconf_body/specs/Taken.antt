@@ -1,8 +1,8 @@
 -- What is left of items, as they are stored, where an entry is taken out.
 use Rattle.std.specs.Prelude.{ℕ, Bool, true, false, List, [], ◌∷◌}
-use Rattle.gitconf_parse.specs.declared.items.Item.{Item}
-use Rattle.gitconf_parse.specs.declared.items.Item.TheVariants as items
-use Rattle.gitconf_parse.specs.ItemsFit.{AreItemsWithin}
+use Rattle.gitconf_items.specs.declared.items.Item.{Item}
+use Rattle.gitconf_items.specs.declared.items.Item.TheVariants as items
+use Rattle.gitconf_items.specs.ItemsFit.{AreItemsWithin}
 
 -- whether line ends stand first
 abbrev pub begins_line_ends : List Item → Bool

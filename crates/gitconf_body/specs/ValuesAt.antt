@@ -2,22 +2,22 @@
 use Rattle.std.specs.Prelude.{ℕ, zero, suc, ◌+◌, Bool, true, false, List, [], ◌∷◌, ◌++◌, length, Option, Some, None}
 use Rattle.gitconf_text.specs.Part as parts
 use Rattle.gitconf_text.specs.Value.{escaped}
-use Rattle.gitconf_parse.specs.declared.event.Span.{Span}
-use Rattle.gitconf_parse.specs.declared.entry.Assigned.{Assigned}
-use Rattle.gitconf_parse.specs.declared.entry.Assigned.TheVariants as forms
-use Rattle.gitconf_parse.specs.declared.entry.EntryParts.{EntryParts as Entry}
-use Rattle.gitconf_parse.specs.declared.items.Item.{Item}
-use Rattle.gitconf_parse.specs.declared.items.Item.TheVariants as items
-use Rattle.gitconf_parse.specs.declared.entry.Piece.{Piece}
-use Rattle.gitconf_body.specs.declared.editor.Editor.{Editor}
+use Rattle.gitconf_items.specs.declared.event.Span.{Span}
+use Rattle.gitconf_items.specs.declared.entry.Assigned.{Assigned}
+use Rattle.gitconf_items.specs.declared.entry.Assigned.TheVariants as forms
+use Rattle.gitconf_items.specs.declared.entry.EntryParts.{EntryParts as Entry}
+use Rattle.gitconf_items.specs.declared.items.Item.{Item}
+use Rattle.gitconf_items.specs.declared.items.Item.TheVariants as items
+use Rattle.gitconf_items.specs.declared.entry.Piece.{Piece}
+use Rattle.gitconf_lines.specs.declared.editor.Editor.{Editor}
 use Rattle.gitconf_body.specs.declared.value_at.InPlaceOf.{InPlaceOf}
 use Rattle.gitconf_body.specs.declared.value_at.InPlaceOf.TheVariants.{Nothing, EntryButLineEnd}
 use Rattle.gitconf_body.specs.declared.value_at.InPlaceOf.TheVariants as in_place_of
 use Rattle.gitconf_body.specs.declared.value_at.Way.{Way}
 use Rattle.gitconf_body.specs.declared.value_at.Way.TheVariants.{Before, Over}
-use Rattle.gitconf_body.specs.Editors.{around_bytes, value_put}
-use Rattle.gitconf_body.specs.Spacings.{nothing}
-use Rattle.gitconf_body.specs.Standing.{end_items}
+use Rattle.gitconf_lines.specs.Editors.{around_bytes, value_put}
+use Rattle.gitconf_lines.specs.Spacings.{nothing}
+use Rattle.gitconf_lines.specs.Standing.{end_items}
 
 -- whether an entry stands there that goes, and whether the last line end of its value stays
 abbrev pub stands : InPlaceOf → Bool

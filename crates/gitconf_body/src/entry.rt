@@ -1,57 +1,18 @@
 //! Setting the value of a key in a body.
 ghost use Rattle.std.specs.Prelude.{◌≡◌, ◌↔◌, ◌+◌, ◌-◌, ◌<◌, ◌≤◌, ◌^◌, min, length, IfOk, IfErr, OnOk, OnErr, IsErrOf, option_map};
-ghost use Rattle.gitconf_text.specs.Names as names;
 ghost use Rattle.gitconf_text.specs.Value.{escaped};
-ghost use Rattle.gitconf_parse.specs.Events.{bytes_of};
-ghost use Rattle.gitconf_parse.specs.Items.{item_of, items_of};
-ghost use Rattle.gitconf_parse.specs.ItemsFit.{AreItemsWithin};
+ghost use Rattle.gitconf_items.specs.Items.{items_of};
+ghost use Rattle.gitconf_items.specs.ItemsFit.{AreItemsWithin};
 ghost use Rattle.gitconf_state.specs.Edit as state;
 ghost use Rattle.gitconf_text.specs.LineEnds.{bytes_of_line_end};
-ghost use Rattle.gitconf_body.specs.Buffers.{Grows};
-ghost use Rattle.gitconf_body.specs.Places.{IsLastPlace};
+ghost use Rattle.gitconf_lines.specs.Buffers.{Grows};
 
-use crate::editor::editor_of;
 use crate::set::{check_set, set};
-use gitconf_parse::event::Span;
-use gitconf_parse::items::Item;
+use gitconf_items::items::Item;
+use gitconf_lines::editor::editor_of;
 use gitconf_text::line_end::LineEnd;
-use gitconf_text::parse::section::bytes::is_same_name;
 use gitconf_text::parse::span;
 use gitconf_text::value::escaped_len;
-
-/// Whether the bytes of a span are a name, without ASCII case.
-pub fn is_named(buffer: &[u8], span: Span, name: &[u8]) -> bool
-    ensures { result ≡ names.is_same_name name.now (bytes_of buffer.now span) }
-{
-    // Most names that differ do so in length, and where the span lies in the buffer its own is that of its bytes.
-    let (start, len) = (span.start as usize, span.len as usize);
-    if len != name.len() && start + len <= buffer.len() {
-        return false;
-    }
-    is_same_name(name, span.bytes_in(buffer))
-}
-
-/// Whether the item is an entry of the key.
-pub fn is_entry_of(buffer: &[u8], item: &Item, key: &[u8]) -> bool
-    ensures { result ≡ state.is_entry_of key.now (item_of buffer.now item.now) }
-{
-    matches!(item, Item::Entry(entry) if is_named(buffer, entry.name(), key))
-}
-
-/// The place of the last entry of a key, if there is one. It walks from the end up to that entry.
-#[tactic(auto, using(crate::proofs::Places::fronts))]
-pub fn last_place(buffer: &[u8], items: &[Item], key: &[u8]) -> Option<usize>
-    ensures { IsLastPlace (λ i. state.is_entry_of key.now (item_of buffer.now i)) items.now result }
-{
-    let mut rest = items;
-    while let Some((item, before)) = rest.split_last() {
-        if is_entry_of(buffer, item, key) {
-            return Some(before.len());
-        }
-        rest = before;
-    }
-    None
-}
 
 /// How many bytes a new entry puts into a buffer; the greatest number where they are more.
 pub(crate) fn entry_len(blanks: usize, line_end: LineEnd, key: &[u8], value: &[u8]) -> usize

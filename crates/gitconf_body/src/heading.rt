@@ -2,15 +2,15 @@
 ghost use Rattle.std.specs.Prelude.{◌≡◌, ◌↔◌, ◌+◌, ◌<◌, ◌≤◌, ◌^◌, true, length, IfErr, IfOk, IsErrOf, OnOk};
 ghost use Rattle.std.specs.Option.{option_copied};
 ghost use Rattle.gitconf_text.specs.Names.{is_valid_or_none};
-ghost use Rattle.gitconf_parse.specs.declared.event.Event.TheVariants as events;
-ghost use Rattle.gitconf_parse.specs.Events.{header_of};
-ghost use Rattle.gitconf_parse.specs.ShownEvents.{IsExtended, IsShown};
+ghost use Rattle.gitconf_items.specs.declared.event.Event.TheVariants as events;
+ghost use Rattle.gitconf_items.specs.Events.{header_of};
+ghost use Rattle.gitconf_items.specs.ShownEvents.{IsExtended, IsShown};
 ghost use Rattle.gitconf_state.specs.Edit.{header_bytes, made_header};
-ghost use Rattle.gitconf_body.specs.Buffers.{Grows};
+ghost use Rattle.gitconf_lines.specs.Buffers.{Grows};
 
-use crate::buffer::check_room;
 use crate::section::{append_header, header_len};
-use gitconf_parse::event::Header;
+use gitconf_items::event::Header;
+use gitconf_lines::buffer::check_room;
 use gitconf_text::parse::span;
 
 /// Asks whether the text of a header may be put behind the bytes of a buffer. Takes no memory.

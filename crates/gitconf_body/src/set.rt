@@ -2,31 +2,31 @@
 ghost use Rattle.std.specs.Prelude.{◌≡◌, ◌↔◌, ℕ, List, ◌+◌, ◌-◌, ◌<◌, ◌≤◌, ◌^◌, min, true, Option, Some, None, ◌∷◌, [], length, IfOk, IfErr, OnOk, OnErr, IsErrOf, option_map};
 ghost use Rattle.gitconf_text.specs.Part as parts;
 ghost use Rattle.gitconf_text.specs.Value.{escaped};
-ghost use Rattle.gitconf_parse.specs.declared.items.Item.TheVariants as kinds;
-ghost use Rattle.gitconf_parse.specs.Items.{item_of, entry_of, items_of};
-ghost use Rattle.gitconf_parse.specs.ItemsFit.{AreItemsWithin, EntryFits};
+ghost use Rattle.gitconf_items.specs.declared.items.Item.TheVariants as kinds;
+ghost use Rattle.gitconf_items.specs.Items.{item_of, entry_of, items_of};
+ghost use Rattle.gitconf_items.specs.ItemsFit.{AreItemsWithin, EntryFits};
 ghost use Rattle.gitconf_state.specs.Edit.{is_entry_of, item_raw, old_value, with_value};
 ghost use Rattle.gitconf_state.specs.Editors as state;
-ghost use Rattle.gitconf_body.specs.Buffers.{Grows, StandsAt};
-ghost use Rattle.gitconf_body.specs.Editors as spec;
-ghost use Rattle.gitconf_body.specs.Editors.{around_in, editor_in, AroundFits, EditorFits, IfEntry};
-ghost use Rattle.gitconf_body.specs.Places.{IsLastAt};
-ghost use Rattle.gitconf_body.specs.Standing.{Stand};
+ghost use Rattle.gitconf_lines.specs.Buffers.{Grows, StandsAt};
+ghost use Rattle.gitconf_lines.specs.Editors as spec;
+ghost use Rattle.gitconf_lines.specs.Editors.{around_in, editor_in, AroundFits, EditorFits, IfEntry};
+ghost use Rattle.gitconf_lines.specs.Places.{IsLastAt};
+ghost use Rattle.gitconf_lines.specs.Standing.{Stand};
 
-use crate::buffer::check_room;
-use crate::editor::{Around, Editor};
-use crate::entry::last_place;
-use crate::push::{around_len, check_push, entry_with, push, put_around, put_value};
-use crate::values::item_text;
-use gitconf_parse::entry::{AssignedRef, Entry};
-use gitconf_parse::event::Span;
-use gitconf_parse::items::Item;
+use gitconf_items::entry::{AssignedRef, Entry};
+use gitconf_items::event::Span;
+use gitconf_items::items::Item;
+use gitconf_lines::buffer::check_room;
+use gitconf_lines::editor::{Around, Editor};
+use gitconf_lines::push::{around_len, check_push, entry_with, push, put_around, put_value};
+use gitconf_lines::seeking::last_place;
+use gitconf_lines::values::item_text;
 use gitconf_text::parse::span;
 use gitconf_text::value::escaped_len;
 
 /// The blanks before and behind the `=` of an entry; where it has none, those of the editor, put into the buffer where they don't stand
 /// there.
-#[tactic(auto, using(crate::proofs::Buffers::extending))]
+#[tactic(auto, using(gitconf_lines::proofs::Buffers::extending))]
 fn separator_of(
     buffer: &mut Vec<u8>,
     around: &Around<'_>,
@@ -47,7 +47,7 @@ fn separator_of(
 }
 
 /// The entry with another value, which is put into the buffer: its own blanks around `=`, or those of the editor where it has none.
-#[tactic(auto, using(crate::proofs::Buffers::extending))]
+#[tactic(auto, using(gitconf_lines::proofs::Buffers::extending))]
 fn changed_entry(
     buffer: &mut Vec<u8>,
     around: &Around<'_>,
@@ -176,7 +176,7 @@ pub fn check_set(
 }
 
 /// Gives the last entry of a key another value: what stands behind `=` is replaced, and `=` is put in where there is none, with the
-/// editor's blanks around it. Where no entry has the key, a line with it is pushed, as [`push`](crate::push::push) does. Answers the raw
+/// editor's blanks around it. Where no entry has the key, a line with it is pushed, as [`push`](gitconf_lines::push::push) does. Answers the raw
 /// text of the old value: its pieces joined, not decoded; nothing for an entry without `=`; `None` where there was no entry.
 ///
 /// One walk over the items. Takes memory for the old value, for what is put into the buffer, and for new items.

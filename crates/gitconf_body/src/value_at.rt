@@ -1,24 +1,24 @@
 //! Entries that are written and deleted at a place among the items of a body.
 ghost use Rattle.std.specs.Prelude.{◌≡◌, ◌↔◌, ℕ, List, ◌+◌, ◌-◌, ◌<◌, ◌≤◌, ◌^◌, ◌∷◌, ◌++◌, min, drop, take, length, true, IfErr, OnOk, OnErr, IsErrOf};
 ghost use Rattle.gitconf_text.specs.Value.{escaped};
-ghost use Rattle.gitconf_parse.specs.declared.items.Item.TheVariants as kinds;
-ghost use Rattle.gitconf_parse.specs.Items.{assigned_of, items_of};
-ghost use Rattle.gitconf_parse.specs.ItemsFit.{AreItemsWithin, EntryFits};
+ghost use Rattle.gitconf_items.specs.declared.items.Item.TheVariants as kinds;
+ghost use Rattle.gitconf_items.specs.Items.{assigned_of, items_of};
+ghost use Rattle.gitconf_items.specs.ItemsFit.{AreItemsWithin, EntryFits};
 ghost use Rattle.gitconf_state.specs.Edit.{spacing_of};
 ghost use Rattle.gitconf_state.specs.Editors as state;
-ghost use Rattle.gitconf_body.specs.Buffers.{Grows};
-ghost use Rattle.gitconf_body.specs.Editors.{editor_in, EditorFits};
-ghost use Rattle.gitconf_body.specs.Standing.{Stand, end_items};
+ghost use Rattle.gitconf_lines.specs.Buffers.{Grows};
+ghost use Rattle.gitconf_lines.specs.Editors.{editor_in, EditorFits};
+ghost use Rattle.gitconf_lines.specs.Standing.{Stand, end_items};
 ghost use Rattle.gitconf_body.specs.Taken.{StayWithin};
 ghost use Rattle.gitconf_body.specs.ValuesAt as spec;
 ghost use Rattle.gitconf_body.specs.ValuesAt.{IfReplaces, behind_way, keeps_line_end, rewritten_put, stands, written_put};
 
-use crate::buffer::check_room;
-use crate::editor::{Editor, editor_of};
-use crate::push::{put_entry, value_len};
-use gitconf_parse::entry::{AssignedRef, Entry, Value};
-use gitconf_parse::event::Span;
-use gitconf_parse::items::Item;
+use gitconf_items::entry::{AssignedRef, Entry, Value};
+use gitconf_items::event::Span;
+use gitconf_items::items::Item;
+use gitconf_lines::buffer::check_room;
+use gitconf_lines::editor::{Editor, editor_of};
+use gitconf_lines::push::{put_entry, value_len};
 use gitconf_text::NoMemory;
 use gitconf_text::line_end::LineEnd;
 use gitconf_text::parse::span;
@@ -158,7 +158,7 @@ pub fn check_write(
 ///
 /// A [`span::Error`]: number 3 exactly where the buffer would be longer than 4294967295 bytes, before any growth, and else 27 for want of
 /// memory. The items are then as they were, and the buffer may have grown.
-#[tactic(auto, using(crate::proofs::Buffers::extending))]
+#[tactic(auto, using(gitconf_lines::proofs::Buffers::extending))]
 pub fn write_at(
     buffer: &mut Vec<u8>,
     items: &mut Vec<Item>,

@@ -11,8 +11,8 @@ use Rattle.gitconf_text.specs.Header.{Header}
 use Rattle.gitconf_text.specs.Names.{is_value_name}
 use Rattle.gitconf_text.specs.Part.{Assigned, Entry, BlanksItem, LineEndsItem, CommentItem, EntryItem, Part, ItemPart, HeaderPart, spelled_item, spelled, FitsItem, AreFit}
 use Rattle.gitconf_text.specs.Token.{HeaderToken}
-use Rattle.gitconf_parse.specs.EventRef.{Shown, written}
-use Rattle.gitconf_parse.specs.ShownEvents.{shown_token}
+use Rattle.gitconf_items.specs.EventRef.{Shown, written}
+use Rattle.gitconf_items.specs.ShownEvents.{shown_token}
 use Rattle.gitconf_text.proofs.Tests.{both_true, false_not}
 use Rattle.gitconf_state.proofs.Follows.{may_follow, line_end_follows}
 use Rattle.gitconf_state.proofs.LoadingNames.{is_line_closed, Follows, first_fits, behind_item}

@@ -8,8 +8,8 @@ use Rattle.gitconf_text.specs.Names.{is_value_name}
 use Rattle.gitconf_text.specs.Header.{Header, PlainHeader, DottedHeader, QuotedHeader, spelled_header}
 use Rattle.gitconf_text.specs.Part.{BlanksItem, LineEndsItem, CommentItem, EntryItem, Part, ItemPart, HeaderPart, spelled_part, spelled, FitsPart, AreFit}
 use Rattle.gitconf_text.specs.Token.{tokens_of}
-use Rattle.gitconf_parse.specs.EventRef.{Shown}
-use Rattle.gitconf_parse.specs.ShownEvents.{shown_token}
+use Rattle.gitconf_items.specs.EventRef.{Shown}
+use Rattle.gitconf_items.specs.ShownEvents.{shown_token}
 use Rattle.gitconf_text.proofs.Tests.{both_true}
 use Rattle.gitconf_text.proofs.ByteLaws.{letter_no_blank, letter_no_line_end, mark_no_blank, mark_no_line_end, line_end_no_blank}
 use Rattle.gitconf_state.proofs.Follows.{blank_cases}

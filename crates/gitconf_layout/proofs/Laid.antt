@@ -12,8 +12,8 @@ use Rattle.gitconf_text.specs.Header.{Header, PlainHeader, DottedHeader, QuotedH
 use Rattle.gitconf_text.specs.Part.{Assigned, Entry, BlanksItem, LineEndsItem, CommentItem, EntryItem, Part, ItemPart, HeaderPart, spelled_item, spelled, FitsItem, AreFit}
 use Rattle.gitconf_text.specs.Token.{HeaderToken, item_tokens, tokens_of}
 use Rattle.gitconf_text.specs.Document.{Document, with_part, gathered}
-use Rattle.gitconf_parse.specs.EventRef.{written}
-use Rattle.gitconf_parse.specs.ShownEvents.{shown_token}
+use Rattle.gitconf_items.specs.EventRef.{written}
+use Rattle.gitconf_items.specs.ShownEvents.{shown_token}
 use Rattle.gitconf_text.proofs.Tests.{both_true}
 use Rattle.gitconf_state.specs.Comments.{without_white_end, comments_of}
 use Rattle.gitconf_state.specs.Writing.{may_stand_behind, Open, Closed, OpenKey, OpenKeyAndBlanks, OpenValue, OpenComment, after_blanks, after_entry, after}

@@ -6,8 +6,8 @@ use Rattle.gitconf_text.specs.Text.{ends, is_line_end}
 use Rattle.gitconf_text.specs.Part.{Part}
 use Rattle.gitconf_text.specs.Token.{tokens_of}
 use Rattle.gitconf_text.specs.Document.{IsText, gathered}
-use Rattle.gitconf_parse.specs.EventRef.{Shown, ShownComment, ShownHeader, ShownValueName, ShownValue, ShownNewline, ShownUnfinished, ShownLast, ShownBlanks, ShownSeparator}
-use Rattle.gitconf_parse.specs.ShownEvents.{shown_token}
+use Rattle.gitconf_items.specs.EventRef.{Shown, ShownComment, ShownHeader, ShownValueName, ShownValue, ShownNewline, ShownUnfinished, ShownLast, ShownBlanks, ShownSeparator}
+use Rattle.gitconf_items.specs.ShownEvents.{shown_token}
 use Rattle.gitconf_state.specs.Comments.{comments_of}
 use Rattle.gitconf_state.specs.Writing.{Closed}
 use Rattle.gitconf_state.proofs.Fitted.{Fitted, respelled}

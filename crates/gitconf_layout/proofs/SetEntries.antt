@@ -7,8 +7,8 @@ use Rattle.gitconf_text.specs.Text.{is_line_end}
 use Rattle.gitconf_text.specs.Value.{Piece, Value as ValueOf, spelled_value}
 use Rattle.gitconf_text.specs.Part.{Assigned, Entry, EntryItem, spelled_assigned, spelled_item}
 use Rattle.gitconf_text.specs.Token.{Token, NewlineToken, ValueNotDoneToken, ValueDoneToken, WhitespaceToken, filled, piece_tokens, value_tokens, assigned_tokens, item_tokens}
-use Rattle.gitconf_parse.specs.EventRef.{Shown, ShownNewline}
-use Rattle.gitconf_parse.specs.ShownEvents.{shown_token}
+use Rattle.gitconf_items.specs.EventRef.{Shown, ShownNewline}
+use Rattle.gitconf_items.specs.ShownEvents.{shown_token}
 use Rattle.gitconf_text.proofs.Tests.{both_true}
 use Rattle.gitconf_layout.specs.declared.format.Options.{Options}
 use Rattle.gitconf_layout.specs.declared.place.Before.{Before}

@@ -10,10 +10,10 @@ use Rattle.gitconf_text.specs.Bytes.{is_blank, is_header_byte, fold}
 use Rattle.gitconf_text.specs.Unit.{TextUnit, Escape, OpenEscape, Plain, units_of}
 use Rattle.gitconf_text.specs.Header.{Header, PlainHeader, DottedHeader, QuotedHeader, spelled_header, is_subsection_unit, subsection_byte, unquoted, FitsHeader, name_of, subsection_of}
 use Rattle.gitconf_text.specs.Token.{HeaderToken}
-use Rattle.gitconf_parse.specs.EventRef.{ShownHeader, written, escaped_subsection}
-use Rattle.gitconf_parse.specs.ShownEvents.{separator_of, shown_token}
+use Rattle.gitconf_items.specs.EventRef.{ShownHeader, written, escaped_subsection}
+use Rattle.gitconf_items.specs.ShownEvents.{separator_of, shown_token}
 use Rattle.gitconf_text.proofs.Tests.{both_true, apart}
-use Rattle.gitconf_parse.proofs.Subsections.{reads_back}
+use Rattle.gitconf_items.proofs.Subsections.{reads_back}
 
 -- letters in lower case stay
 fold_again : (name : List ℕ) → fold (fold name) ≡ fold name

@@ -6,7 +6,7 @@ use Rattle.std.proofs.lemmas.Bool.{eqb-true}
 use Rattle.std.proofs.lemmas.List.{length-append}
 use Rattle.gitconf_text.specs.Bytes.{is_blank}
 use Rattle.gitconf_text.specs.Text.{begins, begins_line_end, are_line_ends, is_line_end}
-use Rattle.gitconf_parse.specs.EventRef.{Shown}
+use Rattle.gitconf_items.specs.EventRef.{Shown}
 use Rattle.gitconf_text.proofs.Tests.{both_true}
 use Rattle.gitconf_state.specs.Comments.{without_white_end}
 use Rattle.gitconf_state.proofs.Fitted.{line_ends-append}

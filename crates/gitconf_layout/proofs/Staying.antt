@@ -3,8 +3,8 @@ use Rattle.std.proofs.Common.{◌≡◌, ◌≤◌, ◌<◌, ℕ, ◌+◌, ◌-�
 use Rattle.std.specs.Prelude.{◌==◌, ◌&&◌, ◌||◌, nat_lt, is_none}
 use Rattle.std.specs.List.{list_any}
 use Rattle.std.proofs.lemmas.Bool.{ltb-true, ltb-false, ne_eqb}
-use Rattle.gitconf_parse.specs.EventRef.{Shown, ShownComment, ShownHeader, ShownValueName, ShownValue, ShownNewline, ShownUnfinished, ShownLast, ShownBlanks, ShownSeparator}
-use Rattle.gitconf_parse.specs.Sections.{is_shown_header}
+use Rattle.gitconf_items.specs.EventRef.{Shown, ShownComment, ShownHeader, ShownValueName, ShownValue, ShownNewline, ShownUnfinished, ShownLast, ShownBlanks, ShownSeparator}
+use Rattle.gitconf_items.specs.Sections.{is_shown_header}
 use Rattle.gitconf_layout.specs.declared.format.Options.{Options}
 use Rattle.gitconf_layout.specs.declared.place.Before.{Before}
 use Rattle.gitconf_layout.specs.declared.place.Before.TheVariants.{Nothing, Value, Other}

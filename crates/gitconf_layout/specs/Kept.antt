@@ -5,8 +5,8 @@ use Rattle.gitconf_text.specs.Text.{ends, is_line_end}
 use Rattle.gitconf_text.specs.Part.{BlanksItem, LineEndsItem, CommentItem, EntryItem, Part, ItemPart, HeaderPart}
 use Rattle.gitconf_text.specs.Token.{tokens_of}
 use Rattle.gitconf_text.specs.Document.{IsText, gathered}
-use Rattle.gitconf_parse.specs.EventRef.{Shown, ShownNewline}
-use Rattle.gitconf_parse.specs.ShownEvents.{shown_token}
+use Rattle.gitconf_items.specs.EventRef.{Shown, ShownNewline}
+use Rattle.gitconf_items.specs.ShownEvents.{shown_token}
 use Rattle.gitconf_state.specs.Comments.{comments_of}
 use Rattle.gitconf_layout.specs.declared.format.Options.{Options}
 use Rattle.gitconf_layout.specs.Layout.{line_end_of, is_cr_or_lf}

@@ -4,9 +4,9 @@ use Rattle.std.specs.List.{list_any}
 use Rattle.gitconf_text.specs.Part.{Part}
 use Rattle.gitconf_text.specs.Document.{IsText}
 use Rattle.gitconf_text.specs.Token.{tokens_of}
-use Rattle.gitconf_parse.specs.EventRef.{Shown, ShownComment, ShownHeader, ShownValueName, ShownValue, ShownNewline, ShownUnfinished, ShownLast, ShownBlanks, ShownSeparator, written}
-use Rattle.gitconf_parse.specs.ShownEvents.{shown_token}
-use Rattle.gitconf_parse.specs.Sections.{is_shown_header}
+use Rattle.gitconf_items.specs.EventRef.{Shown, ShownComment, ShownHeader, ShownValueName, ShownValue, ShownNewline, ShownUnfinished, ShownLast, ShownBlanks, ShownSeparator, written}
+use Rattle.gitconf_items.specs.ShownEvents.{shown_token}
+use Rattle.gitconf_items.specs.Sections.{is_shown_header}
 use Rattle.gitconf_layout.specs.declared.format.Indent.{Indent}
 use Rattle.gitconf_layout.specs.declared.format.Indent.TheVariants.{Tabs, Spaces}
 use Rattle.gitconf_layout.specs.declared.format.Newline.{Newline}

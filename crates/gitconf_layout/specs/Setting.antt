@@ -1,8 +1,8 @@
 -- What one pass over the tokens of a text writes.
 use Rattle.std.specs.Prelude.{ℕ, ◌-◌, Bool, true, false, List, [], ◌∷◌, ◌++◌, ◌==◌, ◌||◌, ◌&&◌, Option, Some, None}
 use Rattle.std.specs.Prelude as prelude
-use Rattle.gitconf_parse.specs.EventRef.{Shown}
-use Rattle.gitconf_parse.specs.Sections.{is_shown_header}
+use Rattle.gitconf_items.specs.EventRef.{Shown}
+use Rattle.gitconf_items.specs.Sections.{is_shown_header}
 use Rattle.gitconf_layout.specs.declared.format.Options.{Options}
 use Rattle.gitconf_layout.specs.declared.place.Before.TheVariants.{Nothing}
 use Rattle.gitconf_layout.specs.declared.place.Place.{Place}

@@ -1,9 +1,9 @@
 //! Where a token stands.
 ghost use Rattle.std.specs.Prelude.{◌≡◌};
-ghost use Rattle.gitconf_parse.specs.EventRef.{shown};
+ghost use Rattle.gitconf_items.specs.EventRef.{shown};
 ghost use Rattle.gitconf_layout.specs.Layout.{behind};
 
-use gitconf_parse::event_ref::EventRef;
+use gitconf_items::event_ref::EventRef;
 
 /// What stands before a token on its line, blanks aside.
 #[derive(Clone, Copy, Debug)]

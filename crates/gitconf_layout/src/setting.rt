@@ -1,6 +1,6 @@
 //! One pass over the events of a text, which sets each.
 ghost use Rattle.std.specs.Prelude.{◌≡◌, ◌++◌, Bool, OnOk, IfOk};
-ghost use Rattle.gitconf_parse.specs.EventRef.{shown, written};
+ghost use Rattle.gitconf_items.specs.EventRef.{shown, written};
 ghost use Rattle.gitconf_parse.specs.EventIters.{events_left};
 ghost use Rattle.gitconf_layout.specs.Layout as spec;
 ghost use Rattle.gitconf_layout.specs.Setting as setting;
@@ -8,7 +8,7 @@ ghost use Rattle.gitconf_layout.specs.Setting as setting;
 use crate::format::{Indent, Newline, Options};
 use crate::place::{Before, Place};
 use crate::trimming::without_cr;
-use gitconf_parse::event_ref::EventRef;
+use gitconf_items::event_ref::EventRef;
 use gitconf_parse::events::EventIter;
 use gitconf_text::NoMemory;
 use std::alloc::Global;
@@ -170,7 +170,7 @@ fn set_token(
 
 impl Place {
     ghost use Rattle.std.specs.Prelude.{◌≡◌};
-    ghost use Rattle.gitconf_parse.specs.EventRef.{shown};
+    ghost use Rattle.gitconf_items.specs.EventRef.{shown};
     ghost use Rattle.gitconf_layout.specs.Setting as setting;
 
     /// Before the first token.

@@ -4,17 +4,17 @@ use Rattle.std.proofs.Math.ListN.{set}
 use Rattle.std.specs.List.{AllByRecursion}
 use Rattle.std.proofs.lemmas.Bool.{cases_eq}
 use Rattle.std.proofs.lemmas.List.{length-append, map-append, take-map, drop-map, take-append-drop}
-use Rattle.gitconf_parse.specs.declared.event.Header.{Header}
-use Rattle.gitconf_parse.specs.declared.event.Event.TheVariants as kinds
+use Rattle.gitconf_items.specs.declared.event.Header.{Header}
+use Rattle.gitconf_items.specs.declared.event.Event.TheVariants as kinds
 use Rattle.gitconf_parse.specs.declared.compact.Compact.{Compact}
 use Rattle.gitconf_parse.specs.declared.compact.Compact.TheVariants as kept
 use Rattle.gitconf_text.specs.Token.{HeaderToken}
-use Rattle.gitconf_parse.specs.declared.event.Event.{Event}
+use Rattle.gitconf_items.specs.declared.event.Event.{Event}
 use Rattle.gitconf_parse.specs.Compact.{no_header, event_at, events_in, is_kept_header, AreDecoded, AreNamed, IsCompact, IsDecodedAt, IsSectionFirst, StandsAmong}
-use Rattle.gitconf_parse.specs.Events.{header_of, token_of, EventFits, HeaderFits}
-use Rattle.gitconf_parse.specs.ShownEvents.{IsShown}
-use Rattle.gitconf_parse.specs.Sections.{is_header_event, front_of, sections_of, is_cut}
-use Rattle.gitconf_parse.proofs.Shown.{front_of-map, sections_of-map, all_shown_more}
+use Rattle.gitconf_items.specs.Events.{header_of, token_of, EventFits, HeaderFits}
+use Rattle.gitconf_items.specs.ShownEvents.{IsShown}
+use Rattle.gitconf_items.specs.Sections.{is_header_event, front_of, sections_of, is_cut}
+use Rattle.gitconf_items.proofs.Shown.{front_of-map, sections_of-map, all_shown_more}
 
 get_more : {A : Type 0} (xs more : List A) (i : ℕ) (d : A) → i < length xs → get_or (xs ++ more) i d ≡ get_or xs i d
 get_more [] more i d within = absurd (omega (arith, within))

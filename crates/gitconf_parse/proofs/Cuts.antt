@@ -1,6 +1,6 @@
 -- Sections of a list that begins with a header.
 use Rattle.std.proofs.Common.{◌≡◌, Bool, true, List, ◌∷◌, refl}
-use Rattle.gitconf_parse.specs.Sections.{front_of, sections_of, is_cut}
+use Rattle.gitconf_items.specs.Sections.{front_of, sections_of, is_cut}
 
 -- the first section, and the others
 pub first_section : {A : Type 0} (is_header : A → Bool) (x : A) (xs : List A) → is_cut is_header (x ∷ xs) ≡ true → sections_of is_header (x ∷ xs) ≡ (x ∷ front_of is_header xs) ∷ sections_of is_header xs

@@ -3,9 +3,9 @@ use Rattle.std.proofs.Common.{◌≡◌, ℕ, Bool, true, false, not, List, [], 
 use Rattle.std.specs.Prelude.{filter, ◌||◌}
 use Rattle.std.specs.List.{list_all}
 use Rattle.gitconf_text.specs.Token.{Token, tokens_of}
-use Rattle.gitconf_parse.specs.EventRef.{Shown}
-use Rattle.gitconf_parse.specs.ShownEvents.{shown_token}
-use Rattle.gitconf_parse.specs.EventList.{EventList, is_header_token, is_entry_token, keeps_token, keeps_entry_token, IsWhole, IsFiltered, IsParsed}
+use Rattle.gitconf_items.specs.EventRef.{Shown}
+use Rattle.gitconf_items.specs.ShownEvents.{shown_token}
+use Rattle.gitconf_items.specs.EventList.{EventList, is_header_token, is_entry_token, keeps_token, keeps_entry_token, IsWhole, IsFiltered, IsParsed}
 
 or_last : (a b : Bool) → b ≡ true → (a || b) ≡ true
 or_last true b h = refl

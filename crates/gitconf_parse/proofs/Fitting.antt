@@ -5,10 +5,10 @@ use Rattle.std.specs.List.{AllByRecursion, flat_map}
 use Rattle.gitconf_text.specs.Value.{Piece, spelled_value}
 use Rattle.gitconf_text.specs.Header as grammar
 use Rattle.gitconf_text.specs.Part.{Assigned, Entry, BlanksItem, LineEndsItem, CommentItem, EntryItem, Part, ItemPart, HeaderPart, spelled_assigned, spelled_part, spelled}
-use Rattle.gitconf_parse.specs.declared.event.Event.{Event}
-use Rattle.gitconf_parse.specs.declared.event.Event.TheVariants as kinds
+use Rattle.gitconf_items.specs.declared.event.Event.{Event}
+use Rattle.gitconf_items.specs.declared.event.Event.TheVariants as kinds
 use Rattle.gitconf_parse.specs.Reading.{span, with_blanks}
-use Rattle.gitconf_parse.specs.Events.{SpanFits, HeaderFits, EventFits}
+use Rattle.gitconf_items.specs.Events.{SpanFits, HeaderFits, EventFits}
 use Rattle.gitconf_parse.proofs.ValueAgain.{newline_after, value_after}
 use Rattle.gitconf_parse.proofs.HeaderAgain.{header_spans}
 use Rattle.gitconf_parse.proofs.PartAgain.{after_assigned, after_part}

@@ -5,7 +5,7 @@ use Rattle.std.specs.List.{list_all}
 use Rattle.gitconf_text.specs.Bytes.{is_blank, is_name_byte, is_header_byte}
 use Rattle.gitconf_text.specs.Text.{begins}
 use Rattle.gitconf_text.specs.Header as grammar
-use Rattle.gitconf_parse.specs.declared.event.Header.{Header}
+use Rattle.gitconf_items.specs.declared.event.Header.{Header}
 use Rattle.gitconf_parse.specs.Reading.{span, end_of_run, spelling_from, quoted_header, header_at}
 use Rattle.gitconf_parse.proofs.RunLaws.{run_again, all_places, begins_stops}
 use Rattle.gitconf_text.proofs.ByteLaws.{name_byte_header, blank_no_header_byte, blank_no_bracket}

@@ -6,9 +6,10 @@ use Rattle.std.proofs.lemmas.Bool.{le-ltb, ltb-true, eqb-true}
 use Rattle.gitconf_text.specs.Bytes.{is_blank, is_name_byte, is_header_byte}
 use Rattle.gitconf_text.specs.Text.{begins}
 use Rattle.gitconf_text.specs.Header as grammar
-use Rattle.gitconf_parse.specs.declared.event.Header.{Header}
+use Rattle.gitconf_items.specs.declared.event.Header.{Header}
 use Rattle.gitconf_parse.specs.Reading.{end_of_run, spelling_from, unquoted_header, quoted_header, header_at}
-use Rattle.gitconf_parse.proofs.RunLaws.{Run, run_takes, run_again, Stops, places_all}
+use Rattle.gitconf_text.proofs.CommentEnds.{Stops}
+use Rattle.gitconf_parse.proofs.RunLaws.{Run, run_takes, run_again, places_all}
 use Rattle.gitconf_parse.proofs.At.{behind_front, behind_byte}
 use Rattle.gitconf_text.proofs.Tests.{both_true}
 use Rattle.gitconf_parse.proofs.SpellingAgain.{spelling_again, SpellingShape, spelling_takes}

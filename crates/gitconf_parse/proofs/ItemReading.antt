@@ -7,10 +7,10 @@ use Rattle.std.proofs.lemmas.List.{length-drop, length-take-le, map-append, take
 use Rattle.gitconf_text.specs.Part.{EntryItem}
 use Rattle.gitconf_text.specs.Text.{begins}
 use Rattle.gitconf_text.specs.Token.{Token, NameToken, NewlineToken, ValueToken, ValueNotDoneToken, ValueDoneToken, WhitespaceToken, SeparatorToken, CommentToken, filled, piece_tokens, value_tokens, item_tokens}
-use Rattle.gitconf_parse.specs.declared.event.Event.{Event}
-use Rattle.gitconf_parse.specs.declared.event.Event.TheVariants as kinds
-use Rattle.gitconf_parse.specs.declared.entry.EntryParts.{EntryParts}
-use Rattle.gitconf_parse.specs.declared.entry.Piece.{Piece}
+use Rattle.gitconf_items.specs.declared.event.Event.{Event}
+use Rattle.gitconf_items.specs.declared.event.Event.TheVariants as kinds
+use Rattle.gitconf_items.specs.declared.entry.EntryParts.{EntryParts}
+use Rattle.gitconf_items.specs.declared.entry.Piece.{Piece}
 use Rattle.gitconf_parse.specs.declared.reading.Expected.{Expected}
 use Rattle.gitconf_parse.specs.declared.reading.Expected.TheVariants as expected
 use Rattle.gitconf_parse.specs.declared.reading.part.Opening.{Opening}
@@ -19,9 +19,9 @@ use Rattle.gitconf_parse.specs.declared.reading.ReadError.{ReadError}
 use Rattle.gitconf_parse.specs.declared.reading.run.Run.TheVariants as runs
 use Rattle.gitconf_parse.specs.declared.reading.value.PieceEnd.{PieceEnd}
 use Rattle.gitconf_parse.specs.declared.reading.value.PieceEnd.TheVariants as ends
-use Rattle.gitconf_parse.specs.Events.{bytes_of, token_of}
+use Rattle.gitconf_items.specs.Events.{bytes_of, token_of}
 use Rattle.gitconf_parse.specs.ItemReading.{IsReadTo, IsValueRead, IsValueRefusal, IsEntryWith, IsRefusal}
-use Rattle.gitconf_parse.specs.Items.{entry_of, piece_of}
+use Rattle.gitconf_items.specs.Items.{entry_of, piece_of}
 use Rattle.gitconf_parse.specs.Reading.{span, with_blanks, run_end_at, value_at, value_from, value_behind, piece_from, assigned_at, entry_at, opening_of, part_at}
 use Rattle.gitconf_parse.proofs.At.{byte_at}
 use Rattle.gitconf_parse.proofs.PartTakes.{IsOpening, opening_is}

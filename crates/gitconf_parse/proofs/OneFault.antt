@@ -12,7 +12,7 @@ use Rattle.gitconf_text.specs.Header.{PlainHeader, DottedHeader, QuotedHeader}
 use Rattle.gitconf_text.specs.Part.{Assigned, Entry, BlanksItem, LineEndsItem, CommentItem, EntryItem, Part, ItemPart, HeaderPart, spelled_assigned, spelled_part, spelled, FitsAssigned, FitsPart, AreFit}
 use Rattle.gitconf_text.specs.Document.{unmarked, IsText}
 use Rattle.gitconf_text.specs.Stuck.{IsAssignment, spelled_assignment, NoValue, line_behind, IsPartFault, IsValueFault, IsStuck}
-use Rattle.gitconf_parse.specs.declared.event.Event.{Event}
+use Rattle.gitconf_items.specs.declared.event.Event.{Event}
 use Rattle.gitconf_parse.specs.declared.reading.Fault.{Fault}
 use Rattle.gitconf_parse.specs.declared.reading.Expected.{Expected}
 use Rattle.gitconf_parse.specs.declared.reading.Expected.TheVariants as expected

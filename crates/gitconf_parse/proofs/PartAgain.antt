@@ -9,12 +9,13 @@ use Rattle.gitconf_text.specs.Value.{Value, spelled_value, are_paired, FitsValue
 use Rattle.gitconf_text.specs.Unit.{is_mark}
 use Rattle.gitconf_text.specs.Header.{Header, PlainHeader, DottedHeader, QuotedHeader, spelled_header}
 use Rattle.gitconf_text.specs.Part.{Assigned, Entry, Item, BlanksItem, LineEndsItem, CommentItem, EntryItem, Part, ItemPart, HeaderPart, spelled_assigned, spelled_item, spelled_part, FitsAssigned, FitsItem, FitsPart}
-use Rattle.gitconf_parse.specs.declared.event.Event.{Event}
-use Rattle.gitconf_parse.specs.declared.event.Event.TheVariants as kinds
+use Rattle.gitconf_items.specs.declared.event.Event.{Event}
+use Rattle.gitconf_items.specs.declared.event.Event.TheVariants as kinds
 use Rattle.gitconf_parse.specs.declared.reading.Expected.{Expected}
 use Rattle.gitconf_parse.specs.declared.reading.part.Opening.TheVariants as openings
 use Rattle.gitconf_parse.specs.Reading.{span, end_of_run, with_blanks, value_at, assigned_at, entry_at, opening_of, part_at}
-use Rattle.gitconf_parse.proofs.RunLaws.{run_again, line_ends_places, line_end_stops, is_comment_text, comment_places}
+use Rattle.gitconf_text.proofs.CommentEnds.{is_comment_text, comment_places}
+use Rattle.gitconf_parse.proofs.RunLaws.{run_again, line_ends_places, line_end_stops}
 use Rattle.gitconf_text.proofs.ByteLaws.{line_end_more, letter_no_blank, letter_no_line_end, letter_no_mark, letter_no_bracket, mark_no_blank, mark_no_line_end, line_end_no_blank, blank_no_name_byte}
 use Rattle.gitconf_parse.proofs.At.{behind_front, behind_byte, byte_at}
 use Rattle.gitconf_text.proofs.Tests.{both_true}

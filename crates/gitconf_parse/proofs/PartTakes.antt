@@ -11,16 +11,17 @@ use Rattle.gitconf_text.specs.Value.{Value, spelled_value, are_paired}
 use Rattle.gitconf_text.specs.Names.{is_value_name}
 use Rattle.gitconf_text.specs.Part.{Assigned, BlanksItem, LineEndsItem, CommentItem, EntryItem, Part, ItemPart, HeaderPart, spelled_assigned, spelled_part, FitsAssigned, FitsPart}
 use Rattle.gitconf_text.specs.Stuck.{IsAssignment, spelled_assignment, NoValue, NoPart}
-use Rattle.gitconf_parse.specs.declared.event.Event.{Event}
-use Rattle.gitconf_parse.specs.declared.event.Event.TheVariants as kinds
-use Rattle.gitconf_parse.specs.declared.event.Header.{Header as Spans}
+use Rattle.gitconf_items.specs.declared.event.Event.{Event}
+use Rattle.gitconf_items.specs.declared.event.Event.TheVariants as kinds
+use Rattle.gitconf_items.specs.declared.event.Header.{Header as Spans}
 use Rattle.gitconf_parse.specs.declared.reading.Fault.{Fault}
 use Rattle.gitconf_parse.specs.declared.reading.Expected.{Expected}
 use Rattle.gitconf_parse.specs.declared.reading.Expected.TheVariants as expected
 use Rattle.gitconf_parse.specs.declared.reading.part.Opening.{Opening}
 use Rattle.gitconf_parse.specs.declared.reading.part.Opening.TheVariants as openings
 use Rattle.gitconf_parse.specs.Reading.{end_of_run, with_blanks, opening_of, value_from, value_at, value_end, Behind, NothingBehind, LineFeedBehind, CrLfBehind, EscapeBehind, OtherBehind, behind, assigned_at, entry_at, header_at, part_at}
-use Rattle.gitconf_parse.proofs.RunLaws.{Run, run_takes, places_all, stops_begins, places_line_ends, stops_line_end, is_comment_text, places_comment, places_ended}
+use Rattle.gitconf_text.proofs.CommentEnds.{is_comment_text}
+use Rattle.gitconf_parse.proofs.RunLaws.{Run, run_takes, places_all, stops_begins, places_line_ends, stops_line_end, places_comment, places_ended}
 use Rattle.gitconf_parse.proofs.At.{behind_front, behind_byte}
 use Rattle.gitconf_text.proofs.Tests.{both_true}
 use Rattle.gitconf_parse.proofs.ValueAgain.{pieces_text-is, pieces_units-is}

@@ -3,9 +3,9 @@ use Rattle.std.proofs.Common.{◌≡◌, ℕ, zero, suc, ◌+◌, ◌-◌, Bool,
 use Rattle.std.specs.Prelude.{if◌then◌else◌}
 use Rattle.std.proofs.lemmas.List.{drop-drop}
 use Rattle.gitconf_text.specs.Unit.{Class, LineFeed, Quote, Mark, Backslash, White, Other, class_of}
-use Rattle.gitconf_parse.specs.declared.event.Span.{Span}
-use Rattle.gitconf_parse.specs.declared.event.Event.{Event}
-use Rattle.gitconf_parse.specs.declared.event.Event.TheVariants as kinds
+use Rattle.gitconf_items.specs.declared.event.Span.{Span}
+use Rattle.gitconf_items.specs.declared.event.Event.{Event}
+use Rattle.gitconf_items.specs.declared.event.Event.TheVariants as kinds
 use Rattle.gitconf_parse.specs.declared.reading.Expected.TheVariants as expected
 use Rattle.gitconf_parse.specs.declared.reading.value.PieceEnd.{PieceEnd}
 use Rattle.gitconf_parse.specs.declared.reading.value.PieceEnd.TheVariants as ends

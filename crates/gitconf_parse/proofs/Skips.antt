@@ -1,7 +1,7 @@
 -- The parts one behind the other: bytes that were read already are skipped.
 use Rattle.std.proofs.Common.{◌≡◌, ℕ, zero, suc, ◌+◌, ◌-◌, ◌<◌, List, [], ◌∷◌, length, drop, get_or, Result, Ok, Err, refl, ap, sym, ◌∙◌, arith, add-zero}
 use Rattle.std.proofs.lemmas.List.{drop-drop}
-use Rattle.gitconf_parse.specs.declared.event.Event.{Event}
+use Rattle.gitconf_items.specs.declared.event.Event.{Event}
 use Rattle.gitconf_parse.specs.declared.reading.Expected.{Expected}
 use Rattle.gitconf_parse.specs.declared.reading.Fault.{Fault}
 use Rattle.gitconf_parse.specs.declared.reading.ReadError.{ReadError}

@@ -7,10 +7,10 @@ use Rattle.gitconf_text.specs.Bytes.{is_whitespace}
 use Rattle.std.specs.List.{list_all}
 use Rattle.gitconf_text.specs.Unit.{Class, LineFeed, Quote, Mark, Backslash, White, Other, class_of, Plain, units_of, units_behind}
 use Rattle.gitconf_text.specs.Header.{is_subsection_unit, is_spelling}
+use Rattle.gitconf_text.proofs.ByteLaws.{unchosen, backslash_is}
 use Rattle.gitconf_parse.specs.Reading.{spelling_from, escapes_in_subsection}
 use Rattle.gitconf_text.proofs.Tests.{both_true}
-use Rattle.gitconf_parse.proofs.ValueAgain.{unchosen, skip_of}
-use Rattle.gitconf_parse.proofs.ValueTakes.{backslash_is}
+use Rattle.gitconf_parse.proofs.ValueAgain.{skip_of}
 
 quote_is : (b : ℕ) → class_of b ≡ Quote → b ≡ 34
 quote_is b h = go (b == 34) refl

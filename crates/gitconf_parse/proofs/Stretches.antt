@@ -8,23 +8,23 @@ use Rattle.gitconf_text.specs.Header.{Header}
 use Rattle.gitconf_text.specs.Part.{Part, spelled_part, spelled, FitsPart, AreFit}
 use Rattle.gitconf_text.specs.Document.{unmarked, IsText}
 use Rattle.gitconf_text.specs.Token.{Token, HeaderToken, item_tokens, part_tokens, tokens_of}
-use Rattle.gitconf_parse.specs.declared.event.Event.{Event}
-use Rattle.gitconf_parse.specs.declared.event.Header.{Header as Spans}
-use Rattle.gitconf_parse.specs.declared.event.Event.TheVariants as kinds
+use Rattle.gitconf_items.specs.declared.event.Event.{Event}
+use Rattle.gitconf_items.specs.declared.event.Header.{Header as Spans}
+use Rattle.gitconf_items.specs.declared.event.Event.TheVariants as kinds
 use Rattle.gitconf_parse.specs.declared.reading.Fault.{Fault}
 use Rattle.gitconf_parse.specs.declared.reading.Expected.{Expected}
 use Rattle.gitconf_parse.specs.declared.reading.Expected.TheVariants as expected
 use Rattle.gitconf_parse.specs.declared.reading.ReadError.{ReadError}
 use Rattle.gitconf_parse.specs.declared.reading.ReadError.TheVariants as errors
-use Rattle.gitconf_parse.specs.declared.items.Item.{Item}
-use Rattle.gitconf_parse.specs.declared.items.Keep.{Keep}
-use Rattle.gitconf_parse.specs.declared.items.Keep.TheVariants as keeps
-use Rattle.gitconf_parse.specs.EventList.{keeps_token}
-use Rattle.gitconf_parse.specs.TokenDocument.{keeps_meaning, tokens_kept}
-use Rattle.gitconf_parse.specs.Events.{header_of, token_of, HeaderFits}
+use Rattle.gitconf_items.specs.declared.items.Item.{Item}
+use Rattle.gitconf_items.specs.declared.items.Keep.{Keep}
+use Rattle.gitconf_items.specs.declared.items.Keep.TheVariants as keeps
+use Rattle.gitconf_items.specs.EventList.{keeps_token}
+use Rattle.gitconf_items.specs.TokenDocument.{keeps_meaning, tokens_kept}
+use Rattle.gitconf_items.specs.Events.{header_of, token_of, HeaderFits}
 use Rattle.gitconf_parse.specs.ItemReading.{IsReadTo, IsKeptRead}
-use Rattle.gitconf_parse.specs.Items.{item_of, tokens_of_items}
-use Rattle.gitconf_parse.specs.ItemsFit.{AreItemsWithin, EventsWithin}
+use Rattle.gitconf_items.specs.Items.{item_of, tokens_of_items}
+use Rattle.gitconf_items.specs.ItemsFit.{AreItemsWithin, EventsWithin}
 use Rattle.gitconf_parse.specs.Parsing.{IsFault, IsMisread}
 use Rattle.gitconf_parse.specs.Reading.{Gives, header_at, part_at, wanted_behind}
 use Rattle.gitconf_parse.specs.Stretches.{wanted_part, wanted_after, IsFaultAt, IsStretch, IsKeptStretch, IsReadOn, IsBroken, IsBreak}

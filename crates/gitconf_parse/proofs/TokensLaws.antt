@@ -9,10 +9,10 @@ use Rattle.gitconf_text.specs.Value.{Piece, spelled_value}
 use Rattle.gitconf_text.specs.Header as grammar
 use Rattle.gitconf_text.specs.Part.{Assigned, Entry, BlanksItem, LineEndsItem, CommentItem, EntryItem, Part, ItemPart, HeaderPart, spelled_assigned, spelled_part, spelled, FitsPart, AreFit}
 use Rattle.gitconf_text.specs.Token.{Token, CommentToken, HeaderToken, NameToken, ValueToken, NewlineToken, ValueNotDoneToken, ValueDoneToken, WhitespaceToken, SeparatorToken, filled, piece_tokens, value_tokens, assigned_tokens, part_tokens, tokens_of}
-use Rattle.gitconf_parse.specs.declared.event.Event.{Event}
-use Rattle.gitconf_parse.specs.declared.event.Event.TheVariants as kinds
+use Rattle.gitconf_items.specs.declared.event.Event.{Event}
+use Rattle.gitconf_items.specs.declared.event.Event.TheVariants as kinds
 use Rattle.gitconf_parse.specs.Reading.{span, with_blanks}
-use Rattle.gitconf_parse.specs.Events.{bytes_of, header_of, token_of}
+use Rattle.gitconf_items.specs.Events.{bytes_of, header_of, token_of}
 use Rattle.gitconf_parse.proofs.At.{behind_front, behind_byte}
 use Rattle.gitconf_text.proofs.Tests.{both_true, apart}
 use Rattle.gitconf_parse.proofs.ValueAgain.{pieces_text, pieces_text-is, newline_after, value_after}

@@ -4,15 +4,14 @@ use Rattle.std.specs.Prelude.{◌==◌, ◌⊎◌, if◌then◌else◌}
 use Rattle.std.specs.List.{fold, flat_map}
 use Rattle.std.specs.Prelude.{◌||◌}
 use Rattle.gitconf_text.specs.Bytes.{is_whitespace}
-use Rattle.std.proofs.lemmas.Bool.{eqb-true}
 use Rattle.std.proofs.lemmas.Bool.Decides.{nat_tests}
 use Rattle.gitconf_text.specs.Unit.{Class, LineFeed, Quote, Mark, Backslash, White, Other, class_of, TextUnit, units_behind, units_of, is_white}
 use Rattle.gitconf_text.specs.Value.{is_value_escape, are_paired, may_follow_value, Piece, IsEnded}
-use Rattle.gitconf_text.specs.Text.{is_line_end}
+use Rattle.gitconf_text.proofs.ByteLaws.{line_end_is, unchosen}
 use Rattle.gitconf_text.proofs.Tests.{both_true, apart}
-use Rattle.gitconf_parse.specs.declared.event.Event.{Event}
+use Rattle.gitconf_items.specs.declared.event.Event.{Event}
 use Rattle.gitconf_parse.specs.Reading.{Read, value_from, value_end, span, behind, EscapeBehind}
-use Rattle.gitconf_parse.specs.declared.event.Event.TheVariants as kinds
+use Rattle.gitconf_items.specs.declared.event.Event.TheVariants as kinds
 
 -- behind the last byte that isn't white, or `kept` where all are
 abbrev pub kept_behind : (kept n : ℕ) → List ℕ → ℕ
@@ -31,11 +30,6 @@ escape_behind b rest h = rw (apart is_value_escape 10 b refl h, apart is_value_e
 pub paired_escape : (text : List ℕ) (more : List TextUnit) (quoted : Bool) (rest : List ℕ) → are_paired quoted (units_behind true text ++ more) ≡ true → behind (text ++ rest) ≡ EscapeBehind
 paired_escape [] more quoted rest paired = absurd (let e = paired in cc)
 paired_escape (b ∷ text) more quoted rest paired = escape_behind b (text ++ rest) (both_true _ _ paired).0
-
--- a test that fails, since what it chooses is not what was chosen
-pub unchosen : {A : Type 0} (test : Bool) (x y z : A) → (x ≡ z → ⊥) → cond test x y ≡ z → (test ≡ false) × (y ≡ z)
-unchosen true x y z differs h = absurd (differs h)
-unchosen false x y z differs h = (refl, h)
 
 -- no white byte is an escape
 pub white_is_whitespace : (b : ℕ) → class_of b ≡ White → is_whitespace b ≡ true
@@ -180,13 +174,6 @@ value_after events joined n [] last = (events ++ (if joined then kinds.ValueDone
 value_after events joined n (p ∷ pieces) last =
     let m = n + length p.text in
     value_after (newline_after (events ++ kinds.ValueNotDone (span n m) ∷ []) (m + 1) p.line_end) true (m + 1 + length p.line_end) pieces last
-
--- one line end is LF, or CR and LF
-pub line_end_is : (text : List ℕ) → is_line_end text ≡ true → (text ≡ 10 ∷ []) ⊎ (text ≡ 13 ∷ 10 ∷ [])
-line_end_is [] h = absurd (cc)
-line_end_is (b ∷ []) h = inl (ap (λ x. x ∷ []) (eqb-true b 10 h))
-line_end_is (b ∷ c ∷ []) h = let p = both_true (b == 13) (c == 10) h in inr (rw (eqb-true b 13 p.0, eqb-true c 10 p.1) refl)
-line_end_is (b ∷ c ∷ d ∷ rest) h = absurd (let e = h in cc)
 
 -- A value that fits is read to its pieces, and up to its end.
 pub pieces_again : (pieces : List Piece) (last rest : List ℕ) (first : ℕ) (events : List Event) (joined : Bool) (n : ℕ) (quoted : Bool)

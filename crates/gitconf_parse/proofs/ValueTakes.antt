@@ -6,10 +6,11 @@ use Rattle.gitconf_text.specs.Bytes.{is_whitespace}
 use Rattle.gitconf_text.specs.Text.{begins, ends, is_line_end}
 use Rattle.gitconf_text.specs.Unit.{Class, LineFeed, Quote, Mark, Backslash, White, Other, class_of, is_white, TextUnit, Escape, Plain, units_of, units_behind}
 use Rattle.gitconf_text.specs.Value.{is_value_escape, are_paired, may_follow_value, Piece, IsEnded}
-use Rattle.gitconf_parse.specs.declared.event.Event.{Event}
+use Rattle.gitconf_text.proofs.ByteLaws.{backslash_is}
+use Rattle.gitconf_items.specs.declared.event.Event.{Event}
 use Rattle.gitconf_parse.specs.Reading.{value_from, value_end, Behind, NothingBehind, LineFeedBehind, CrLfBehind, EscapeBehind, OtherBehind, behind}
 use Rattle.gitconf_text.proofs.Tests.{both_true}
-use Rattle.gitconf_parse.proofs.ValueAgain.{unchosen, white_is_whitespace, whitespace_no_escape, pieces_text, pieces_units}
+use Rattle.gitconf_parse.proofs.ValueAgain.{white_is_whitespace, whitespace_no_escape, pieces_text, pieces_units}
 
 -- a text that begins with a value, whose first piece may begin between quotes
 pub record ValueShape (quoted : Bool) (text : List ℕ) : Type 0 where
@@ -52,21 +53,6 @@ dark_byte b e (c ∷ t) h = h
 dark_escape : (b : ℕ) → is_white b ≡ false → (t : List ℕ) → ends is_white t ≡ false → ends is_white ((92 ∷ b ∷ []) ++ t) ≡ false
 dark_escape b e [] h = e
 dark_escape b e (c ∷ t) h = h
-
-pub backslash_is : (b : ℕ) → class_of b ≡ Backslash → b ≡ 92
-backslash_is b h =
-    let a = unchosen (b == 10) LineFeed _ Backslash (λ e. absurd (cc)) h in
-    let c = unchosen (b == 34) Quote _ Backslash (λ e. absurd (cc)) a.1 in
-    let d = unchosen (b == 59 || b == 35) Mark _ Backslash (λ e. absurd (cc)) c.1 in
-    go (b == 92) refl d.1
-  where
-    go : (t : Bool) → (b == 92) ≡ t → cond (b == 92) Backslash (cond (is_whitespace b) White Other) ≡ Backslash → b ≡ 92
-    go true e k = eqb-true b 92 e
-    go false e k = go2 (is_whitespace b) refl (rw e at k)
-      where
-        go2 : (t : Bool) → is_whitespace b ≡ t → cond (is_whitespace b) White Other ≡ Backslash → b ≡ 92
-        go2 true e k = absurd (let h = rw e at k in cc)
-        go2 false e k = absurd (let h = rw e at k in cc)
 
 -- what stands behind a backslash, by its kind
 abbrev pub IsBehind : Behind → List ℕ → Type 0

@@ -8,13 +8,13 @@ use Rattle.std.proofs.lemmas.List.{length-drop, take_at}
 use Rattle.gitconf_text.specs.Part.{Part, ItemPart, HeaderPart, spelled, AreFit}
 use Rattle.gitconf_text.specs.Document.{unmarked, IsText}
 use Rattle.gitconf_text.specs.Stuck.{spelled_assignment, kind_behind, line_behind}
-use Rattle.gitconf_parse.specs.declared.event.Event.{Event}
+use Rattle.gitconf_items.specs.declared.event.Event.{Event}
 use Rattle.gitconf_parse.specs.declared.reading.Fault.{Fault}
 use Rattle.gitconf_parse.specs.declared.reading.ReadError.{ReadError}
 use Rattle.gitconf_parse.specs.declared.reading.ReadError.TheVariants as errors
 use Rattle.gitconf_parse.specs.declared.reading.Expected.TheVariants as expected
 use Rattle.gitconf_parse.specs.Reading.{text_from, GivesAll}
-use Rattle.gitconf_parse.specs.Events.{token_of, EventFits}
+use Rattle.gitconf_items.specs.Events.{token_of, EventFits}
 use Rattle.gitconf_parse.specs.ParseError.{kind_of}
 use Rattle.gitconf_parse.specs.Parsing.{IsRead, IsFault, IsReading, NoFault}
 use Rattle.gitconf_parse.proofs.At.{behind_front}

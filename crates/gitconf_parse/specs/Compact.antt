@@ -1,12 +1,12 @@
 -- Events as they are kept: in 12 bytes each, with the headers in a list of their own.
 use Rattle.std.specs.Prelude.{◌≡◌, ℕ, ◌<◌, Bool, true, false, List, ◌∷◌, ◌++◌, length, get_or, set, map, None}
 use Rattle.std.specs.List.{AllByRecursion}
-use Rattle.gitconf_parse.specs.declared.event.Header.{Header}
-use Rattle.gitconf_parse.specs.declared.event.Event.{Event}
-use Rattle.gitconf_parse.specs.declared.event.Event.TheVariants as kinds
-use Rattle.gitconf_parse.specs.Events.{header_of}
-use Rattle.gitconf_parse.specs.ShownEvents.{IsShown, IsExtended}
-use Rattle.gitconf_parse.specs.Sections.{is_header_event, front_of, sections_of, is_cut}
+use Rattle.gitconf_items.specs.declared.event.Header.{Header}
+use Rattle.gitconf_items.specs.declared.event.Event.{Event}
+use Rattle.gitconf_items.specs.declared.event.Event.TheVariants as kinds
+use Rattle.gitconf_items.specs.Events.{header_of}
+use Rattle.gitconf_items.specs.ShownEvents.{IsShown, IsExtended}
+use Rattle.gitconf_items.specs.Sections.{is_header_event, front_of, sections_of, is_cut}
 use Rattle.gitconf_parse.specs.declared.compact.Compact.{Compact}
 use Rattle.gitconf_parse.specs.declared.compact.Compact.TheVariants as kept
 use Rattle.gitconf_parse.specs.declared.compact.EventSlice.{EventSlice}

@@ -4,9 +4,9 @@ use Rattle.gitconf_parse.specs.declared.events.iters.EventIter.{EventIter}
 use Rattle.gitconf_parse.specs.declared.events.iters.SectionRef.{SectionRef}
 use Rattle.gitconf_parse.specs.declared.events.iters.SectionIter.{SectionIter}
 use Rattle.gitconf_parse.specs.Compact.{events_of}
-use Rattle.gitconf_parse.specs.EventRef.{Shown}
-use Rattle.gitconf_parse.specs.ShownEvents.{shown_event}
-use Rattle.gitconf_parse.specs.Sections.{is_header_event, sections_of}
+use Rattle.gitconf_items.specs.EventRef.{Shown}
+use Rattle.gitconf_items.specs.ShownEvents.{shown_event}
+use Rattle.gitconf_items.specs.Sections.{is_header_event, sections_of}
 
 abbrev pub events_left : EventIter → List Shown
 events_left s = map (shown_event s.buffer.now s.copies.now) (events_of s.events)

@@ -2,20 +2,20 @@
 use Rattle.std.specs.Prelude.{◌≡◌, ◌≤◌, ◌<◌, ◌+◌, ℕ, List, [], ◌∷◌, ◌++◌, drop, length, map, Ok, Err}
 use Rattle.gitconf_text.specs.Part.{EntryItem}
 use Rattle.gitconf_text.specs.Token.{Token, NameToken, WhitespaceToken, SeparatorToken, filled, item_tokens}
-use Rattle.gitconf_parse.specs.declared.event.Span.{Span}
-use Rattle.gitconf_parse.specs.declared.entry.EntryParts.{EntryParts}
-use Rattle.gitconf_parse.specs.declared.event.Event.{Event}
+use Rattle.gitconf_items.specs.declared.event.Span.{Span}
+use Rattle.gitconf_items.specs.declared.entry.EntryParts.{EntryParts}
+use Rattle.gitconf_items.specs.declared.event.Event.{Event}
 use Rattle.gitconf_parse.specs.declared.reading.Expected.{Expected}
 use Rattle.gitconf_parse.specs.declared.reading.ReadError.{ReadError}
 use Rattle.gitconf_parse.specs.declared.reading.value.PieceEnd.{PieceEnd}
 use Rattle.gitconf_parse.specs.declared.reading.value.PieceEnd.TheVariants as ends
-use Rattle.gitconf_parse.specs.declared.items.Item.{Item}
-use Rattle.gitconf_parse.specs.declared.items.Keep.{Keep}
-use Rattle.gitconf_parse.specs.Events.{bytes_of, token_of}
-use Rattle.gitconf_parse.specs.Items.{entry_of, tokens_of_items}
-use Rattle.gitconf_parse.specs.ItemsFit.{AreItemsWithin}
+use Rattle.gitconf_items.specs.declared.items.Item.{Item}
+use Rattle.gitconf_items.specs.declared.items.Keep.{Keep}
+use Rattle.gitconf_items.specs.Events.{bytes_of, token_of}
+use Rattle.gitconf_items.specs.Items.{entry_of, tokens_of_items}
+use Rattle.gitconf_items.specs.ItemsFit.{AreItemsWithin}
 use Rattle.gitconf_parse.specs.Reading.{Read, Gives, value_at, part_at}
-use Rattle.gitconf_parse.specs.TokenDocument.{tokens_kept}
+use Rattle.gitconf_items.specs.TokenDocument.{tokens_kept}
 
 -- the piece that began at an offset ends behind it, and within a text of so many bytes
 abbrev pub EndsWithin : (from limit : ℕ) → PieceEnd → Type 0

@@ -5,12 +5,12 @@ use Rattle.gitconf_text.specs.Part.{Part}
 use Rattle.gitconf_text.specs.Document.{IsText}
 use Rattle.gitconf_text.specs.Token.{tokens_of}
 use Rattle.gitconf_text.specs.Stuck.{line_behind, IsStuck}
-use Rattle.gitconf_parse.specs.declared.event.Event.{Event}
+use Rattle.gitconf_items.specs.declared.event.Event.{Event}
 use Rattle.gitconf_parse.specs.declared.reading.Fault.{Fault}
 use Rattle.gitconf_parse.specs.declared.reading.ReadError.{ReadError}
 use Rattle.gitconf_parse.specs.declared.reading.ReadError.TheVariants as errors
 use Rattle.gitconf_parse.specs.ParseError.{kind_of}
-use Rattle.gitconf_parse.specs.Events.{token_of, EventFits}
+use Rattle.gitconf_items.specs.Events.{token_of, EventFits}
 
 -- the input has a document, and the events are its tokens
 pub record IsRead (input : List ℕ) (events : List Event) : Type 0 where

@@ -6,10 +6,10 @@ use Rattle.gitconf_text.specs.Value.{is_value_escape}
 use Rattle.gitconf_text.specs.Text.{begins, begins_line_end}
 use Rattle.gitconf_text.specs.Bytes.{is_blank, is_name_byte, is_header_byte}
 use Rattle.std.specs.Char.{is_ascii_alphabetic}
-use Rattle.gitconf_parse.specs.declared.event.Span.{Span}
-use Rattle.gitconf_parse.specs.declared.event.Header.{Header}
-use Rattle.gitconf_parse.specs.declared.event.Event.{Event}
-use Rattle.gitconf_parse.specs.declared.event.Event.TheVariants as kinds
+use Rattle.gitconf_items.specs.declared.event.Span.{Span}
+use Rattle.gitconf_items.specs.declared.event.Header.{Header}
+use Rattle.gitconf_items.specs.declared.event.Event.{Event}
+use Rattle.gitconf_items.specs.declared.event.Event.TheVariants as kinds
 use Rattle.gitconf_parse.specs.declared.reading.Fault.{Fault}
 use Rattle.gitconf_parse.specs.declared.reading.Expected.{Expected}
 use Rattle.gitconf_parse.specs.declared.reading.Expected.TheVariants as expected

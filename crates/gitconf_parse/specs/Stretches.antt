@@ -5,8 +5,8 @@ use Rattle.gitconf_text.specs.Text.{begins}
 use Rattle.gitconf_text.specs.Part.{Part, ItemPart, HeaderPart, spelled, AreFit}
 use Rattle.gitconf_text.specs.Stuck.{IsAssignment, spelled_assignment, NoValue, NoPart}
 use Rattle.gitconf_text.specs.Token.{Token, tokens_of}
-use Rattle.gitconf_parse.specs.declared.items.Keep.{Keep}
-use Rattle.gitconf_parse.specs.TokenDocument.{tokens_kept}
+use Rattle.gitconf_items.specs.declared.items.Keep.{Keep}
+use Rattle.gitconf_items.specs.TokenDocument.{tokens_kept}
 use Rattle.gitconf_parse.specs.declared.reading.Fault.{Fault}
 use Rattle.gitconf_parse.specs.declared.reading.Expected.{Expected}
 use Rattle.gitconf_parse.specs.declared.reading.Expected.TheVariants as expected

@@ -2,10 +2,10 @@
 ghost use Rattle.std.specs.Prelude.{◌≡◌, ◌∷◌, ◌++◌, [], true, ◌<◌, ◌≤◌, MatchOption, get_or, length, map, take, drop, OnOk, IfOk};
 ghost use Rattle.gitconf_parse.specs.Compact as spec;
 ghost use Rattle.gitconf_parse.specs.Compact.{no_header, is_kept_header};
-ghost use Rattle.gitconf_parse.specs.Sections.{front_of, sections_of, is_cut};
+ghost use Rattle.gitconf_items.specs.Sections.{front_of, sections_of, is_cut};
 
-use crate::event::{Event, Header, Span};
 use crate::events::decode::decode_headers;
+use gitconf_items::event::{Event, Header, Span};
 use gitconf_text::NoMemory;
 use std::alloc::Global;
 use std::marker::Model;
@@ -93,7 +93,7 @@ pub struct EventSlice<'e> {
 impl<'e> EventSlice<'e> {
     ghost use Rattle.std.specs.Prelude.{◌≡◌, ◌∷◌, ◌++◌, ◌+◌, [], true, ◌≤◌, MatchOption, length, take, drop};
     ghost use Rattle.gitconf_parse.specs.Compact.{events_of, IsSectionFirst};
-    ghost use Rattle.gitconf_parse.specs.Sections.{front_of, sections_of, is_header_event, is_cut};
+    ghost use Rattle.gitconf_items.specs.Sections.{front_of, sections_of, is_header_event, is_cut};
 
     /// How many they are.
     #[inline(always)]
@@ -164,7 +164,7 @@ pub struct EventVec {
 impl Model for EventVec {
     ghost use Rattle.std.specs.Prelude.{List, length};
     ghost use Rattle.gitconf_parse.specs.Compact.{events_in, IsCompact};
-    ghost use Rattle.gitconf_parse.specs.declared.event.Event.{Event};
+    ghost use Rattle.gitconf_items.specs.declared.event.Event.{Event};
 
     ghost Value = { List Event };
 
@@ -177,8 +177,8 @@ impl EventVec {
     ghost use Rattle.std.specs.Prelude.{◌≡◌, ◌∷◌, [], ◌++◌, length, map, OnOk, IfOk};
     ghost use Rattle.std.specs.List.{AllByRecursion};
     ghost use Rattle.gitconf_parse.specs.Compact.{events_of};
-    ghost use Rattle.gitconf_parse.specs.Events.{token_of, EventFits};
-    ghost use Rattle.gitconf_parse.specs.ShownEvents.{IsShown};
+    ghost use Rattle.gitconf_items.specs.Events.{token_of, EventFits};
+    ghost use Rattle.gitconf_items.specs.ShownEvents.{IsShown};
 
     /// No events. Takes no memory.
     pub fn new(alloc: Global) -> EventVec

@@ -3,30 +3,27 @@ ghost use Rattle.std.specs.Prelude.{◌≡◌, ◌↔◌, ◌≤◌, ◌<◌, �
 ghost use Rattle.std.specs.Option.{ForSome, ForNone};
 ghost use Rattle.gitconf_text.specs.Document.{Document, Reads};
 ghost use Rattle.gitconf_text.specs.Stuck.{IsStuck};
-ghost use Rattle.gitconf_parse.specs.EventRef.{Shown, shown};
+ghost use Rattle.gitconf_items.specs.EventRef.{Shown, shown};
 ghost use Rattle.gitconf_parse.specs.Parsing.{IsRead};
 ghost use Rattle.gitconf_parse.specs.ParseError.{too_large_input};
-ghost use Rattle.gitconf_parse.specs.EventList.{IsParsed};
+ghost use Rattle.gitconf_items.specs.EventList.{IsParsed};
 ghost use Rattle.gitconf_parse.specs.EventResult.{IsRefusal, IsRefused};
 
 pub(crate) mod decode;
 mod filter;
 mod iters;
-mod lend;
 
 use crate::compact::EventVec;
 use crate::error::Error;
-use crate::event_ref::EventRef;
-use crate::few::FewItems;
-use crate::items::grouped;
+use crate::grouping::grouped;
 use crate::reading::{Fault, ReadError, read};
-use crate::section_sink::SectionSink;
-pub use decode::decoded_header;
 pub use filter::keeps_meaning;
 use filter::kept_events;
+use gitconf_items::event_ref::EventRef;
+use gitconf_items::few::FewItems;
+use gitconf_items::section_sink::SectionSink;
 use gitconf_text::NoMemory;
 pub use iters::{EventIter, SectionIter, SectionRef};
-pub use lend::subsection_name;
 use std::alloc::Global;
 use std::marker::Model;
 
@@ -42,8 +39,8 @@ pub struct Events {
 
 impl Model for Events {
     ghost use Rattle.std.specs.Prelude.{map, length};
-    ghost use Rattle.gitconf_parse.specs.EventList.{EventList, EventsFit};
-    ghost use Rattle.gitconf_parse.specs.Events.{token_of};
+    ghost use Rattle.gitconf_items.specs.EventList.{EventList, EventsFit};
+    ghost use Rattle.gitconf_items.specs.Events.{token_of};
 
     ghost Value = { EventList };
 
@@ -128,14 +125,14 @@ impl Events {
     ghost use Rattle.gitconf_text.specs.Part.{Part};
     ghost use Rattle.gitconf_text.specs.Document.{IsText};
     ghost use Rattle.gitconf_text.specs.Token.{tokens_of};
-    ghost use Rattle.gitconf_parse.specs.EventRef.{Shown, shown};
-    ghost use Rattle.gitconf_parse.specs.ShownEvents.{shown_token};
-    ghost use Rattle.gitconf_parse.specs.Sections.{is_shown_header, front_of, sections_of};
+    ghost use Rattle.gitconf_items.specs.EventRef.{Shown, shown};
+    ghost use Rattle.gitconf_items.specs.ShownEvents.{shown_token};
+    ghost use Rattle.gitconf_items.specs.Sections.{is_shown_header, front_of, sections_of};
     ghost use Rattle.gitconf_parse.specs.EventIters.{events_left, sections_left};
-    ghost use Rattle.gitconf_parse.specs.EventList.{IsParsed, IsWhole, IsFiltered, IsSelected};
+    ghost use Rattle.gitconf_items.specs.EventList.{IsParsed, IsWhole, IsFiltered, IsSelected};
     ghost use Rattle.gitconf_parse.specs.EventResult.{IsRefused};
-    ghost use Rattle.gitconf_parse.specs.Items.{tokens_of_items};
-    ghost use Rattle.gitconf_parse.specs.ItemsFit.{AreItemsWithin};
+    ghost use Rattle.gitconf_items.specs.Items.{tokens_of_items};
+    ghost use Rattle.gitconf_items.specs.ItemsFit.{AreItemsWithin};
 
     /// All events of a text.
     fn whole(alloc: Global, input: &[u8]) -> Result<Events, Error>
@@ -188,7 +185,7 @@ impl Events {
     ///
     /// Refusal 1 where the text has no document, with the line and the data from where it can't be read on; refusal 2 for
     /// more than 4294967295 bytes; refusal 27 for want of memory.
-    #[tactic(auto, using(crate::proofs::Filtering::filtering, crate::proofs::Selections::whole_selected))]
+    #[tactic(auto, using(crate::proofs::Filtering::filtering, gitconf_items::proofs::Selections::whole_selected))]
     pub fn from_bytes(
         alloc: Global,
         input: &[u8],
@@ -217,7 +214,7 @@ impl Events {
     /// # Errors
     ///
     /// Those of `from_bytes`.
-    #[tactic(auto, using(crate::proofs::Selections::whole_selected))]
+    #[tactic(auto, using(gitconf_items::proofs::Selections::whole_selected))]
     pub fn from_str(alloc: Global, input: &str) -> Result<Events, Error>
         ensures parsed { IfOk result (IsWhole input.now) }
         ensures selected { IfOk result (IsSelected input.now) }
@@ -235,7 +232,7 @@ impl Events {
     /// # Errors
     ///
     /// Want of memory. Some sections may have been handed over.
-    #[tactic(auto, using(crate::proofs::GroupLaws::tokens_items))]
+    #[tactic(auto, using(gitconf_items::proofs::GroupLaws::tokens_items))]
     pub fn into_sections<S: SectionSink>(
         self,
         alloc: Global,

@@ -7,9 +7,9 @@ ghost use Rattle.gitconf_text.specs.Document.{Document, IsText, Reads, gathered,
 ghost use Rattle.gitconf_text.specs.Stuck.{IsStuck};
 ghost use Rattle.gitconf_text.specs.Token.{Token, spelled_token, tokens_of};
 ghost use Rattle.gitconf_text.specs.Header.{is_spelling, unquoted};
-ghost use Rattle.gitconf_parse.specs.EventRef.{Shown, escaped_subsection};
-ghost use Rattle.gitconf_parse.specs.EventList.{EventList, IsParsed, IsSelected, IsSelection, IsWhole, keeps_token};
-ghost use Rattle.gitconf_parse.specs.TokenDocument.{SayDocument, keeps_meaning};
+ghost use Rattle.gitconf_items.specs.EventRef.{Shown, escaped_subsection};
+ghost use Rattle.gitconf_items.specs.EventList.{EventList, IsParsed, IsSelected, IsSelection, IsWhole, keeps_token};
+ghost use Rattle.gitconf_items.specs.TokenDocument.{SayDocument, keeps_meaning};
 
 /// A subsection without LF that is spelled in quotes, with `"` and `\` each behind a backslash, may stand in a header,
 /// and is read back as it was.

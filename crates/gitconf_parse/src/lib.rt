@@ -2,17 +2,9 @@
 #![tactic(auto)]
 
 mod compact;
-pub mod entry;
 pub mod error;
-pub mod event;
-pub mod event_ref;
 pub mod events;
-pub mod few;
-pub mod items;
+mod grouping;
 pub mod laws;
 pub mod loading;
-pub mod moving;
 mod reading;
-pub mod section_sink;
-pub mod sink;
-mod stripping;

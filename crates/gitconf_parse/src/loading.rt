@@ -6,19 +6,19 @@ ghost use Rattle.gitconf_text.specs.Token.{tokens_of};
 ghost use Rattle.gitconf_parse.specs.declared.reading.Expected.{Expected};
 ghost use Rattle.gitconf_parse.specs.declared.reading.Expected.TheVariants.{SectionHeader};
 ghost use Rattle.gitconf_parse.specs.EventResult.{IsRefused};
-ghost use Rattle.gitconf_parse.specs.Items.{tokens_of_items};
-ghost use Rattle.gitconf_parse.specs.ItemsFit.{AreItemsWithin};
+ghost use Rattle.gitconf_items.specs.Items.{tokens_of_items};
+ghost use Rattle.gitconf_items.specs.ItemsFit.{AreItemsWithin};
 ghost use Rattle.gitconf_parse.specs.Parsing.{IsMisread};
 ghost use Rattle.gitconf_parse.specs.Stretches.{IsBreak, IsReadOn};
-ghost use Rattle.gitconf_parse.specs.TokenDocument.{tokens_kept};
+ghost use Rattle.gitconf_items.specs.TokenDocument.{tokens_kept};
 
 use crate::error::Error;
 use crate::events::refusal;
-use crate::few::{FewItems, taken};
-use crate::items::{Item, Keep};
 use crate::reading::item::{header_first, push_items};
 use crate::reading::{Expected, ReadError, mark_len};
-use crate::section_sink::SectionSink;
+use gitconf_items::few::{FewItems, taken};
+use gitconf_items::items::{Item, Keep};
+use gitconf_items::section_sink::SectionSink;
 use std::alloc::Global;
 
 /// Hands over the sections from the first header on, each with what is kept of its items, as soon as it is read. The items of each go

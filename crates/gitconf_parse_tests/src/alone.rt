@@ -1,6 +1,6 @@
 //! Events that stand alone: what each is written as, and shown as.
 
-use gitconf_parse::event_ref::EventRef;
+use gitconf_items::event_ref::EventRef;
 use std::alloc::Global;
 use std::test::Fail;
 
@@ -37,8 +37,8 @@ fn events_alone(rt: HostRuntime) -> Result<(), Fail> {
         (EventRef::Newline(b"\r\n"), b"\r\n", "\r\n"),
         (EventRef::KeyValueSeparator, b"=", "="),
     ];
-    for (event, bytes, text) in rows {
-        assert!(rt; is_written(rt.alloc(), event, bytes, text)?);
+    for (event, bytes, text) in rows.iter() {
+        assert!(rt; is_written(rt.alloc(), *event, bytes, text)?);
     }
     Ok(())
 }
@@ -63,7 +63,7 @@ fn is_header_written(
 }
 
 /// Headers, and what they are written as.
-const HEADERS: [(Header, &str); 9] = [
+static HEADERS: [(Header, &str); 9] = [
     ((b"a", None, None), "[a]"),
     ((b"", None, None), "[]"),
     ((b"", Some(b"."), Some(b"b")), "[.b]"),
@@ -80,11 +80,8 @@ const HEADERS: [(Header, &str); 9] = [
 
 #[test]
 fn headers_alone(rt: HostRuntime) -> Result<(), Fail> {
-    for (header, text) in HEADERS {
-        assert!(rt;
-            is_header_written(rt.alloc(), header, text.as_bytes(), text)?,
-            "{text}"
-        );
+    for (header, text) in HEADERS.iter() {
+        assert!(rt; is_header_written(rt.alloc(), *header, text.as_bytes(), text)?);
     }
     Ok(())
 }

@@ -1,8 +1,8 @@
 //! Texts and numbers of refusals, and the limit of spans.
 
+use gitconf_items::event::Span;
+use gitconf_items::sink::SinkFault;
 use gitconf_parse::error::{Error, Expected};
-use gitconf_parse::event::Span;
-use gitconf_parse::sink::SinkFault;
 use gitconf_text::parse::span;
 use std::alloc::{AllocError, Global};
 use std::test::Fail;
@@ -55,6 +55,11 @@ fn a_text_that_is_too_large(rt: HostRuntime) -> Result<(), Fail> {
     Ok(())
 }
 
+/// Whether want of memory equals itself, and no other refusal.
+fn is_want_of_memory_alone() -> bool {
+    Error::memory() == Error::memory() && Error::memory() != Error::too_large(4294967296)
+}
+
 #[test]
 fn want_of_memory(rt: HostRuntime) -> Result<(), Fail> {
     assert!(rt;
@@ -64,18 +69,19 @@ fn want_of_memory(rt: HostRuntime) -> Result<(), Fail> {
             (27, 1, "", b"", "out of memory")
         )?
     );
-    assert!(rt; Error::memory() == Error::memory());
-    assert!(rt; Error::memory() != Error::too_large(4294967296));
+    assert!(rt; is_want_of_memory_alone());
     Ok(())
+}
+
+/// Whether the fault is shown as this text.
+fn is_shown(alloc: Global, fault: SinkFault, text: &str) -> Result<bool, AllocError> {
+    Ok(format!(in alloc; "{fault}")?.as_str() == text)
 }
 
 #[test]
 fn a_writer_that_failed(rt: HostRuntime) -> Result<(), Fail> {
     let fault = SinkFault;
-    assert_eq!(rt;
-        format!(in rt.alloc(); "{fault}")?.as_str(),
-        "the writer failed"
-    );
+    assert!(rt; is_shown(rt.alloc(), fault, "the writer failed")?);
     Ok(())
 }
 
@@ -98,8 +104,7 @@ fn spans_end_at_the_limit(rt: HostRuntime) {
         (0, 4294967296, Some(3)),
     ];
     for (start, len, expected) in rows {
-        let span = Span::try_new(start, len);
-        assert_eq!(rt; refusal(&span), expected, "start {start}, length {len}");
+        assert!(rt; refusal(&Span::try_new(start, len)) == expected);
     }
 }
 

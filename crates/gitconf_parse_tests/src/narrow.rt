@@ -1,6 +1,6 @@
 //! Writers that fail, and writers that take little at a time.
 
-use gitconf_parse::sink::{Sink, SinkFault};
+use gitconf_items::sink::{Sink, SinkFault};
 use std::alloc::Global;
 use std::test::Fail;
 
@@ -28,7 +28,7 @@ impl Narrow {
 
 impl Sink for Narrow {
     ghost use Rattle.std.specs.Prelude.{Some};
-    ghost use Rattle.gitconf_parse.specs.Sink.{told_count};
+    ghost use Rattle.gitconf_items.specs.Sink.{told_count};
 
     ghost told = { λ s. Some s.taken.items };
 

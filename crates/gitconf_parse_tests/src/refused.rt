@@ -2,9 +2,9 @@
 
 use crate::events::{read, written};
 use crate::texts::{TEXT, WRITTEN};
-use gitconf_parse::event_ref::EventRef;
+use gitconf_items::event_ref::EventRef;
+use gitconf_items::items::{Keep, Section};
 use gitconf_parse::events::Events;
-use gitconf_parse::items::{Keep, Section};
 use gitconf_parse::laws::kept_entries_make_items;
 use gitconf_parse::loading::read_sections;
 use gitconf_tests::shim::{Outcome, begin, each_refused, was_refused};

@@ -1,8 +1,8 @@
 //! What writers that fail take of a header, and a vector as a writer.
 
 use crate::narrow::check;
-use gitconf_parse::event_ref::EventRef;
-use gitconf_parse::sink::write_all;
+use gitconf_items::event_ref::EventRef;
+use gitconf_items::sink::write_all;
 use std::test::Fail;
 
 #[test]

@@ -1,6 +1,6 @@
 //! The commands of a script, by their words.
 
-use crate::words::Word;
+use crate::words::{Word, named_in};
 
 /// A command, by what it asks for.
 #[derive(Clone, Copy)]
@@ -230,172 +230,142 @@ pub fn command_of<'a, 'b>(words: &'a [Word<'b>]) -> (Option<Command>, &'a [Word<
 }
 
 fn named(word: &[u8]) -> Option<Command> {
-    if let Some(command) = text_command(word) {
+    if let Some(command) = named_in(&TEXT_COMMANDS, word) {
         return Some(Command::Text(command));
     }
-    if let Some(command) = value_command(word) {
+    if let Some(command) = named_in(&VALUE_COMMANDS, word) {
         return Some(Command::Value(command));
     }
-    if let Some(command) = look_up_command(word) {
+    if let Some(command) = named_in(&LOOK_UP_COMMANDS, word) {
         return Some(Command::LookUp(command));
     }
-    if let Some(command) = typed_command(word) {
+    if let Some(command) = named_in(&TYPED_COMMANDS, word) {
         return Some(Command::Typed(command));
     }
-    if let Some(command) = view_command(word) {
+    if let Some(command) = named_in(&VIEW_COMMANDS, word) {
         return Some(Command::View(command));
     }
-    if let Some(command) = section_command(word) {
+    if let Some(command) = named_in(&SECTION_COMMANDS, word) {
         return Some(Command::Section(command));
     }
-    if let Some(command) = part_command(word) {
+    if let Some(command) = named_in(&PART_COMMANDS, word) {
         return Some(Command::Part(command));
     }
-    if let Some(command) = print_command(word) {
+    if let Some(command) = named_in(&PRINT_COMMANDS, word) {
         return Some(Command::Print(command));
     }
-    if let Some(command) = edit_command(word) {
+    if let Some(command) = named_in(&EDIT_COMMANDS, word) {
         return Some(Command::Edit(command));
     }
-    match state_command(word) {
+    match named_in(&STATE_COMMANDS, word) {
         Some(command) => Some(Command::State(command)),
         None => None,
     }
 }
 
-fn text_command(word: &[u8]) -> Option<TextCommand> {
-    match word {
-        b"events" => Some(TextCommand::Events),
-        b"errtext" => Some(TextCommand::ErrorText),
-        b"keeps" => Some(TextCommand::Keeps),
-        b"name" => Some(TextCommand::Name),
-        b"valuename" => Some(TextCommand::ValueName),
-        b"fmt" => Some(TextCommand::Layout),
-        _ => None,
-    }
-}
+static TEXT_COMMANDS: [(&[u8], TextCommand); 6] = [
+    (b"events", TextCommand::Events),
+    (b"errtext", TextCommand::ErrorText),
+    (b"keeps", TextCommand::Keeps),
+    (b"name", TextCommand::Name),
+    (b"valuename", TextCommand::ValueName),
+    (b"fmt", TextCommand::Layout),
+];
 
-fn value_command(word: &[u8]) -> Option<ValueCommand> {
-    match word {
-        b"decode" => Some(ValueCommand::Decode),
-        b"escape" => Some(ValueCommand::Escape),
-        b"boolean" => Some(ValueCommand::Boolean),
-        b"integer" => Some(ValueCommand::Integer),
-        b"match" => Some(ValueCommand::Match),
-        b"interpolate" => Some(ValueCommand::Interpolate),
-        _ => None,
-    }
-}
+static VALUE_COMMANDS: [(&[u8], ValueCommand); 6] = [
+    (b"decode", ValueCommand::Decode),
+    (b"escape", ValueCommand::Escape),
+    (b"boolean", ValueCommand::Boolean),
+    (b"integer", ValueCommand::Integer),
+    (b"match", ValueCommand::Match),
+    (b"interpolate", ValueCommand::Interpolate),
+];
 
-fn look_up_command(word: &[u8]) -> Option<LookUpCommand> {
-    match word {
-        b"string" => Some(LookUpCommand::Text),
-        b"stringkey" => Some(LookUpCommand::TextOfKey),
-        b"strings" => Some(LookUpCommand::Texts),
-        b"raw" => Some(LookUpCommand::Raw),
-        b"raws" => Some(LookUpCommand::RawAll),
-        b"path" => Some(LookUpCommand::Path),
-        b"bool" => Some(LookUpCommand::Boolean),
-        b"int" => Some(LookUpCommand::Integer),
-        b"ints" => Some(LookUpCommand::Integers),
-        _ => None,
-    }
-}
+static LOOK_UP_COMMANDS: [(&[u8], LookUpCommand); 9] = [
+    (b"string", LookUpCommand::Text),
+    (b"stringkey", LookUpCommand::TextOfKey),
+    (b"strings", LookUpCommand::Texts),
+    (b"raw", LookUpCommand::Raw),
+    (b"raws", LookUpCommand::RawAll),
+    (b"path", LookUpCommand::Path),
+    (b"bool", LookUpCommand::Boolean),
+    (b"int", LookUpCommand::Integer),
+    (b"ints", LookUpCommand::Integers),
+];
 
-fn typed_command(word: &[u8]) -> Option<TypedCommand> {
-    match word {
-        b"rawwith" => Some(TypedCommand::RawWithSection),
-        b"rawswith" => Some(TypedCommand::RawAllWithSections),
-        b"flag" => Some(TypedCommand::Flag),
-        b"tryflag" => Some(TypedCommand::FlagIfAny),
-        b"flags" => Some(TypedCommand::Flags),
-        b"flagwith" => Some(TypedCommand::FlagWithSection),
-        b"flagswith" => Some(TypedCommand::FlagsWithSections),
-        _ => None,
-    }
-}
+static TYPED_COMMANDS: [(&[u8], TypedCommand); 7] = [
+    (b"rawwith", TypedCommand::RawWithSection),
+    (b"rawswith", TypedCommand::RawAllWithSections),
+    (b"flag", TypedCommand::Flag),
+    (b"tryflag", TypedCommand::FlagIfAny),
+    (b"flags", TypedCommand::Flags),
+    (b"flagwith", TypedCommand::FlagWithSection),
+    (b"flagswith", TypedCommand::FlagsWithSections),
+];
 
-fn view_command(word: &[u8]) -> Option<ViewCommand> {
-    match word {
-        b"dump" => Some(ViewCommand::Dump),
-        b"printsec" => Some(ViewCommand::PrintSection),
-        b"front" => Some(ViewCommand::Front),
-        b"body" => Some(ViewCommand::Body),
-        b"post" => Some(ViewCommand::Held),
-        b"count" => Some(ViewCommand::Count),
-        b"void" => Some(ViewCommand::Void),
-        b"newline" => Some(ViewCommand::LineEnd),
-        _ => None,
-    }
-}
+static VIEW_COMMANDS: [(&[u8], ViewCommand); 8] = [
+    (b"dump", ViewCommand::Dump),
+    (b"printsec", ViewCommand::PrintSection),
+    (b"front", ViewCommand::Front),
+    (b"body", ViewCommand::Body),
+    (b"post", ViewCommand::Held),
+    (b"count", ViewCommand::Count),
+    (b"void", ViewCommand::Void),
+    (b"newline", ViewCommand::LineEnd),
+];
 
-fn section_command(word: &[u8]) -> Option<SectionCommand> {
-    match word {
-        b"section" => Some(SectionCommand::Last),
-        b"sectionkey" => Some(SectionCommand::LastOfKey),
-        b"sectionif" => Some(SectionCommand::LastPassing),
-        b"ids" => Some(SectionCommand::Numbers),
-        b"byname" => Some(SectionCommand::ByName),
-        b"bynameif" => Some(SectionCommand::ByNamePassing),
-        b"equal" => Some(SectionCommand::Equal),
-        b"display" => Some(SectionCommand::Display),
-        _ => None,
-    }
-}
+static SECTION_COMMANDS: [(&[u8], SectionCommand); 8] = [
+    (b"section", SectionCommand::Last),
+    (b"sectionkey", SectionCommand::LastOfKey),
+    (b"sectionif", SectionCommand::LastPassing),
+    (b"ids", SectionCommand::Numbers),
+    (b"byname", SectionCommand::ByName),
+    (b"bynameif", SectionCommand::ByNamePassing),
+    (b"equal", SectionCommand::Equal),
+    (b"display", SectionCommand::Display),
+];
 
-fn part_command(word: &[u8]) -> Option<PartCommand> {
-    match word {
-        b"headerof" => Some(PartCommand::Header),
-        b"valueof" => Some(PartCommand::Value),
-        b"implicitof" => Some(PartCommand::Implicit),
-        b"valuesof" => Some(PartCommand::Values),
-        b"namesof" => Some(PartCommand::Names),
-        b"hasname" => Some(PartCommand::HasName),
-        b"entriesof" => Some(PartCommand::Entries),
-        b"countof" => Some(PartCommand::Count),
-        _ => None,
-    }
-}
+static PART_COMMANDS: [(&[u8], PartCommand); 8] = [
+    (b"headerof", PartCommand::Header),
+    (b"valueof", PartCommand::Value),
+    (b"implicitof", PartCommand::Implicit),
+    (b"valuesof", PartCommand::Values),
+    (b"namesof", PartCommand::Names),
+    (b"hasname", PartCommand::HasName),
+    (b"entriesof", PartCommand::Entries),
+    (b"countof", PartCommand::Count),
+];
 
-fn print_command(word: &[u8]) -> Option<PrintCommand> {
-    match word {
-        b"print" => Some(PrintCommand::All),
-        b"printif" => Some(PrintCommand::Kept),
-        b"printfail" => Some(PrintCommand::Refused),
-        b"printnone" => Some(PrintCommand::NothingTaken),
-        _ => None,
-    }
-}
+static PRINT_COMMANDS: [(&[u8], PrintCommand); 4] = [
+    (b"print", PrintCommand::All),
+    (b"printif", PrintCommand::Kept),
+    (b"printfail", PrintCommand::Refused),
+    (b"printnone", PrintCommand::NothingTaken),
+];
 
-fn edit_command(word: &[u8]) -> Option<EditCommand> {
-    match word {
-        b"setraw" => Some(EditCommand::SetRaw),
-        b"setkey" => Some(EditCommand::SetByKey),
-        b"remove" => Some(EditCommand::Remove),
-        b"removeif" => Some(EditCommand::RemovePassing),
-        b"removeid" => Some(EditCommand::RemoveNumbered),
-        b"rename" => Some(EditCommand::Rename),
-        b"renameif" => Some(EditCommand::RenamePassing),
-        b"setexisting" => Some(EditCommand::SetExisting),
-        b"setmulti" => Some(EditCommand::SetExistingAll),
-        b"newsection" => Some(EditCommand::NewSection),
-        b"detached" => Some(EditCommand::NewAlone),
-        b"pushsection" => Some(EditCommand::PushSection),
-        _ => None,
-    }
-}
+static EDIT_COMMANDS: [(&[u8], EditCommand); 12] = [
+    (b"setraw", EditCommand::SetRaw),
+    (b"setkey", EditCommand::SetByKey),
+    (b"remove", EditCommand::Remove),
+    (b"removeif", EditCommand::RemovePassing),
+    (b"removeid", EditCommand::RemoveNumbered),
+    (b"rename", EditCommand::Rename),
+    (b"renameif", EditCommand::RenamePassing),
+    (b"setexisting", EditCommand::SetExisting),
+    (b"setmulti", EditCommand::SetExistingAll),
+    (b"newsection", EditCommand::NewSection),
+    (b"detached", EditCommand::NewAlone),
+    (b"pushsection", EditCommand::PushSection),
+];
 
-fn state_command(word: &[u8]) -> Option<StateCommand> {
-    match word {
-        b"use" => Some(StateCommand::Select),
-        b"load" => Some(StateCommand::Load),
-        b"lossy" => Some(StateCommand::LoadLossy),
-        b"loadkept" => Some(StateCommand::LoadKept),
-        b"new" => Some(StateCommand::New),
-        b"clone" => Some(StateCommand::Clone),
-        b"append" => Some(StateCommand::Append),
-        b"reset" => Some(StateCommand::Reset),
-        b"refusals" => Some(StateCommand::Refusals),
-        _ => None,
-    }
-}
+static STATE_COMMANDS: [(&[u8], StateCommand); 9] = [
+    (b"use", StateCommand::Select),
+    (b"load", StateCommand::Load),
+    (b"lossy", StateCommand::LoadLossy),
+    (b"loadkept", StateCommand::LoadKept),
+    (b"new", StateCommand::New),
+    (b"clone", StateCommand::Clone),
+    (b"append", StateCommand::Append),
+    (b"reset", StateCommand::Reset),
+    (b"refusals", StateCommand::Refusals),
+];

@@ -1,6 +1,6 @@
 //! The commands of editors: what opens one, and what its lines ask for, up to `end`.
 
-use crate::words::Word;
+use crate::words::{Word, named_in};
 
 /// What opens an editor.
 #[derive(Clone, Copy)]
@@ -109,7 +109,7 @@ pub enum ValuesLine {
 /// The editor that the first word opens, and the words behind it; nothing, and all words, where it opens none.
 pub fn opening_of<'a, 'b>(words: &'a [Word<'b>]) -> (Option<Opening>, &'a [Word<'b>]) {
     match words.split_first() {
-        Some((Word::Plain(word), rest)) => (opening_named(word), rest),
+        Some((Word::Plain(word), rest)) => (named_in(&OPENINGS, word), rest),
         _ => (None, words),
     }
 }
@@ -125,7 +125,7 @@ pub fn section_line_of<'a, 'b>(words: &'a [Word<'b>]) -> (Option<SectionLine>, &
 /// What a line asks of the editor of one value, and the words behind it; nothing, and all words, for any other line.
 pub fn value_line_of<'a, 'b>(words: &'a [Word<'b>]) -> (Option<ValueLine>, &'a [Word<'b>]) {
     match words.split_first() {
-        Some((Word::Plain(word), rest)) => (value_line_named(word), rest),
+        Some((Word::Plain(word), rest)) => (named_in(&VALUE_LINES, word), rest),
         _ => (None, words),
     }
 }
@@ -134,91 +134,73 @@ pub fn value_line_of<'a, 'b>(words: &'a [Word<'b>]) -> (Option<ValueLine>, &'a [
 /// line.
 pub fn values_line_of<'a, 'b>(words: &'a [Word<'b>]) -> (Option<ValuesLine>, &'a [Word<'b>]) {
     match words.split_first() {
-        Some((Word::Plain(word), rest)) => (values_line_named(word), rest),
+        Some((Word::Plain(word), rest)) => (named_in(&VALUES_LINES, word), rest),
         _ => (None, words),
     }
 }
 
-fn opening_named(word: &[u8]) -> Option<Opening> {
-    match word {
-        b"edit" => Some(Opening::Section),
-        b"editid" => Some(Opening::SectionNumbered),
-        b"editnew" => Some(Opening::SectionOrNew),
-        b"editdetached" => Some(Opening::SectionAlone),
-        b"value" => Some(Opening::Value),
-        b"multi" => Some(Opening::Values),
-        _ => None,
-    }
-}
+static OPENINGS: [(&[u8], Opening); 6] = [
+    (b"edit", Opening::Section),
+    (b"editid", Opening::SectionNumbered),
+    (b"editnew", Opening::SectionOrNew),
+    (b"editdetached", Opening::SectionAlone),
+    (b"value", Opening::Value),
+    (b"multi", Opening::Values),
+];
 
 fn section_line_named(word: &[u8]) -> Option<SectionLine> {
-    if let Some(change) = section_change_named(word) {
+    if let Some(change) = named_in(&SECTION_CHANGES, word) {
         return Some(SectionLine::Change(change));
     }
-    if let Some(style) = section_style_named(word) {
+    if let Some(style) = named_in(&SECTION_STYLES, word) {
         return Some(SectionLine::Style(style));
     }
-    if let Some(view) = section_view_named(word) {
+    if let Some(view) = named_in(&SECTION_VIEWS, word) {
         return Some(SectionLine::View(view));
     }
-    match word {
-        b"end" => Some(SectionLine::End),
-        _ => None,
+    if word == b"end".as_slice() {
+        return Some(SectionLine::End);
     }
+    None
 }
 
-fn section_change_named(word: &[u8]) -> Option<SectionChange> {
-    match word {
-        b"push" => Some(SectionChange::Push),
-        b"pushc" => Some(SectionChange::PushWithComment),
-        b"set" => Some(SectionChange::Set),
-        b"remove" => Some(SectionChange::Remove),
-        b"pop" => Some(SectionChange::Pop),
-        b"nl" => Some(SectionChange::LineEnd),
-        b"header" => Some(SectionChange::Header),
-        _ => None,
-    }
-}
+static SECTION_CHANGES: [(&[u8], SectionChange); 7] = [
+    (b"push", SectionChange::Push),
+    (b"pushc", SectionChange::PushWithComment),
+    (b"set", SectionChange::Set),
+    (b"remove", SectionChange::Remove),
+    (b"pop", SectionChange::Pop),
+    (b"nl", SectionChange::LineEnd),
+    (b"header", SectionChange::Header),
+];
 
-fn section_style_named(word: &[u8]) -> Option<SectionStyle> {
-    match word {
-        b"implicit" => Some(SectionStyle::ImplicitLineEnd),
-        b"leading" => Some(SectionStyle::LeadingBlanks),
-        _ => None,
-    }
-}
+static SECTION_STYLES: [(&[u8], SectionStyle); 2] = [
+    (b"implicit", SectionStyle::ImplicitLineEnd),
+    (b"leading", SectionStyle::LeadingBlanks),
+];
 
-fn section_view_named(word: &[u8]) -> Option<SectionView> {
-    match word {
-        b"blanks" => Some(SectionView::Blanks),
-        b"value" => Some(SectionView::Value),
-        b"implicitvalue" => Some(SectionView::ImplicitValue),
-        b"values" => Some(SectionView::Values),
-        b"text" => Some(SectionView::Text),
-        _ => None,
-    }
-}
+static SECTION_VIEWS: [(&[u8], SectionView); 5] = [
+    (b"blanks", SectionView::Blanks),
+    (b"value", SectionView::Value),
+    (b"implicitvalue", SectionView::ImplicitValue),
+    (b"values", SectionView::Values),
+    (b"text", SectionView::Text),
+];
 
-fn value_line_named(word: &[u8]) -> Option<ValueLine> {
-    match word {
-        b"get" => Some(ValueLine::Get),
-        b"set" => Some(ValueLine::Set),
-        b"delete" => Some(ValueLine::Delete),
-        b"end" => Some(ValueLine::End),
-        _ => None,
-    }
-}
+static VALUE_LINES: [(&[u8], ValueLine); 4] = [
+    (b"get", ValueLine::Get),
+    (b"set", ValueLine::Set),
+    (b"delete", ValueLine::Delete),
+    (b"end", ValueLine::End),
+];
 
-fn values_line_named(word: &[u8]) -> Option<ValuesLine> {
-    match word {
-        b"get" => Some(ValuesLine::Get),
-        b"len" => Some(ValuesLine::Count),
-        b"setat" => Some(ValuesLine::SetAt),
-        b"setvalues" => Some(ValuesLine::SetEach),
-        b"setall" => Some(ValuesLine::SetAll),
-        b"delete" => Some(ValuesLine::DeleteAt),
-        b"deleteall" => Some(ValuesLine::DeleteAll),
-        b"end" => Some(ValuesLine::End),
-        _ => None,
-    }
-}
+static VALUES_LINES: [(&[u8], ValuesLine); 8] = [
+    (b"get", ValuesLine::Get),
+    (b"len", ValuesLine::Count),
+    (b"setat", ValuesLine::SetAt),
+    (b"setvalues", ValuesLine::SetEach),
+    (b"setall", ValuesLine::SetAll),
+    (b"delete", ValuesLine::DeleteAt),
+    (b"deleteall", ValuesLine::DeleteAll),
+    (b"end", ValuesLine::End),
+];

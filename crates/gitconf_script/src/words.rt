@@ -208,3 +208,13 @@ fn is_name(word: &Word<'_>, name: &[u8]) -> bool {
         Word::Plain(_) => false,
     }
 }
+
+/// What a word stands for in a table of words.
+pub fn named_in<T: Copy>(table: &[(&[u8], T)], word: &[u8]) -> Option<T> {
+    for (name, command) in table {
+        if *name == word {
+            return Some(*command);
+        }
+    }
+    None
+}

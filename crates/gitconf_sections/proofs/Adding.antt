@@ -5,7 +5,7 @@ use Rattle.std.specs.Option.{option_map}
 use Rattle.std.proofs.lemmas.List.{drop_all, length-append, length-map, map-append, take_all}
 use Rattle.std.proofs.Math.Seq.{drop-append-add, drop-append_seam}
 use Rattle.gitconf_text.specs.Bytes.{fold}
-use Rattle.gitconf_parse.specs.declared.items.Item.{Item}
+use Rattle.gitconf_items.specs.declared.items.Item.{Item}
 use Rattle.gitconf_table.specs.Renames.{with_names_at}
 use Rattle.gitconf_table.specs.Sections.{SectionEntry, Sections, changed_at, edited_at, entry_of, numbered_from, section_at, with_all, with_last, with_names, with_section}
 use Rattle.gitconf_table.proofs.SectionLemmas.{tables}

@@ -1,8 +1,8 @@
 -- Clones of a list and of the rows whose bodies stand in it.
 use Rattle.std.proofs.Common.{◌≡◌, ℕ, zero, suc, List, [], ◌∷◌, length, take, drop, map, refl, ap, sym, subst}
 use Rattle.std.specs.List.{AllZip}
-use Rattle.gitconf_parse.specs.declared.items.Item.{Item}
-use Rattle.gitconf_parse.specs.contracts.items.ItemClone.TheImpl as item
+use Rattle.gitconf_items.specs.declared.items.Item.{Item}
+use Rattle.gitconf_items.specs.contracts.items.ItemClone.TheImpl as item
 use Rattle.gitconf_table.specs.Sections.{SectionEntry, Sections, IsEntryClone, IsTableClone}
 use Rattle.gitconf_sections.specs.declared.body.Body.{Body}
 use Rattle.gitconf_sections.specs.declared.body.Body.TheVariants.{Listed, Nothing, Own}

@@ -1,7 +1,7 @@
 -- A list of which a part is changed where it stands.
 use Rattle.std.proofs.Common.{◌≡◌, ℕ, zero, suc, ◌+◌, ◌<◌, List, [], ◌∷◌, ◌++◌, length, take, drop, get_or, set, refl, ap, sym, ◌∙◌, arith}
 use Rattle.std.proofs.lemmas.List.{length-append}
-use Rattle.gitconf_parse.specs.declared.items.Item.{Item}
+use Rattle.gitconf_items.specs.declared.items.Item.{Item}
 use Rattle.gitconf_sections.specs.Section.{IsSameBut}
 
 front_is : {A : Type 0} (front more : List A) (n : ℕ) → length front ≡ n → take n (front ++ more) ≡ front

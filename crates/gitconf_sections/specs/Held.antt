@@ -3,10 +3,10 @@ use Rattle.std.specs.Prelude.{ℕ, ◌-◌, List, [], ◌∷◌, Option, Some, N
 use Rattle.std.specs.List.{AllZip}
 use Rattle.std.specs.Global.{Box}
 use Rattle.smallvec.specs.SmallVec.{SmallVec, small_vec_len}
-use Rattle.gitconf_parse.specs.declared.event.Span.{Span}
-use Rattle.gitconf_parse.specs.declared.items.Item.{Item}
-use Rattle.gitconf_parse.specs.declared.items.Item.TheVariants as items
-use Rattle.gitconf_parse.specs.contracts.items.ItemClone.TheImpl as item
+use Rattle.gitconf_items.specs.declared.event.Span.{Span}
+use Rattle.gitconf_items.specs.declared.items.Item.{Item}
+use Rattle.gitconf_items.specs.declared.items.Item.TheVariants as items
+use Rattle.gitconf_items.specs.contracts.items.ItemClone.TheImpl as item
 
 -- items, and the room for more of them
 pub record HeldItems : Type 0 where

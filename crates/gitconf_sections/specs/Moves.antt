@@ -1,9 +1,9 @@
 -- Sections whose bytes stand behind others.
 use Rattle.std.specs.Prelude.{◌≡◌, ℕ, ◌-◌, ◌^◌, Some}
-use Rattle.gitconf_parse.specs.Events.{HeaderFits}
-use Rattle.gitconf_parse.specs.ItemsFit.{AreItemsWithin}
-use Rattle.gitconf_parse.specs.ShownEvents.{CopyFits}
-use Rattle.gitconf_parse.specs.Moves.{AreItemsMoved, IsHeaderMoved}
+use Rattle.gitconf_items.specs.Events.{HeaderFits}
+use Rattle.gitconf_items.specs.ItemsFit.{AreItemsWithin}
+use Rattle.gitconf_items.specs.ShownEvents.{CopyFits}
+use Rattle.gitconf_items.specs.Moves.{AreItemsMoved, IsHeaderMoved}
 use Rattle.gitconf_table.specs.Sections.{Sections, section_at, with_section}
 use Rattle.gitconf_sections.specs.Section.{Section}
 

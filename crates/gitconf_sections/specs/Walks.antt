@@ -1,6 +1,6 @@
 -- What walks over the sections have left.
 use Rattle.std.specs.Prelude.{ℕ, List, map}
-use Rattle.gitconf_parse.specs.declared.items.Item.{Item}
+use Rattle.gitconf_items.specs.declared.items.Item.{Item}
 use Rattle.gitconf_table.specs.SectionIters as table
 use Rattle.gitconf_sections.specs.declared.row.Row.{Row}
 use Rattle.gitconf_sections.specs.declared.row.Section as views

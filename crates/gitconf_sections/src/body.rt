@@ -2,7 +2,7 @@
 ghost use Rattle.std.specs.Prelude.{◌≡◌, drop, take};
 ghost use Rattle.gitconf_sections.specs.Section.{body_items};
 
-use gitconf_parse::items::Item;
+use gitconf_items::items::Item;
 use std::mem::size_of;
 
 /// Where the items of a body stand.

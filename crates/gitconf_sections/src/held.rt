@@ -1,14 +1,14 @@
 //! Items held behind a section.
 ghost use Rattle.std.specs.Prelude.{◌≡◌, ◌+◌, ◌-◌, ◌^◌, ◌≤◌, ◌++◌, [], length, OnOk};
 ghost use Rattle.smallvec.specs.SmallVec.{HasRoomFor, small_vec_len};
-ghost use Rattle.gitconf_parse.specs.ItemsFit.{AreItemsWithin};
-ghost use Rattle.gitconf_parse.specs.Moves.{AreItemsMoved};
+ghost use Rattle.gitconf_items.specs.ItemsFit.{AreItemsWithin};
+ghost use Rattle.gitconf_items.specs.Moves.{AreItemsMoved};
 ghost use Rattle.gitconf_sections.specs.Held.{line_end_item};
 
-use gitconf_parse::event::Span;
-use gitconf_parse::few::FewItems;
-use gitconf_parse::items::Item;
-use gitconf_parse::moving::move_items;
+use gitconf_items::event::Span;
+use gitconf_items::few::FewItems;
+use gitconf_items::items::Item;
+use gitconf_items::moving::move_items;
 use std::alloc::{AllocError, Global};
 use std::marker::Model;
 use std::mem::size_of;

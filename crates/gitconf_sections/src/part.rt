@@ -1,15 +1,15 @@
 //! Items that are changed where they stand: in the list that the sections share, or in a list of their own.
 ghost use Rattle.std.specs.Prelude.{◌≡◌, ◌+◌, ◌-◌, ◌^◌, ◌≤◌, length, drop, take, IfOk, OnErr, OnOk};
-ghost use Rattle.gitconf_parse.specs.ItemsFit.{AreItemsWithin};
-ghost use Rattle.gitconf_parse.specs.Moves.{AreItemsMoved};
+ghost use Rattle.gitconf_items.specs.ItemsFit.{AreItemsWithin};
+ghost use Rattle.gitconf_items.specs.Moves.{AreItemsMoved};
 ghost use Rattle.gitconf_sections.specs.declared.body.Body.TheVariants.{Nothing};
 ghost use Rattle.gitconf_sections.specs.LeavingOut.{is_next, without_all, Ascend};
 ghost use Rattle.gitconf_sections.specs.Section.{body_items, end_behind, IsSameBut, IsSameButIn, NeedsNoMore};
 
 use crate::body::Body;
-use gitconf_parse::event::Span;
-use gitconf_parse::items::Item;
-use gitconf_parse::moving::move_items;
+use gitconf_items::event::Span;
+use gitconf_items::items::Item;
+use gitconf_items::moving::move_items;
 use gitconf_table::table::SectionId;
 use gitconf_text::NoMemory;
 use std::alloc::{AllocError, Global};

@@ -11,7 +11,7 @@ mod editing;
 pub mod walks;
 
 use crate::row::{Row, Section, read};
-use gitconf_parse::items::Item;
+use gitconf_items::items::Item;
 use gitconf_table::table::{SectionId, SectionTable};
 use gitconf_text::NoMemory;
 use std::alloc::Global;

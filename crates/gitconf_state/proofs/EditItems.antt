@@ -12,10 +12,10 @@ use Rattle.gitconf_text.specs.Names.{is_made_name, is_value_name, is_valid_subse
 use Rattle.gitconf_text.specs.Part.{Assigned, Entry, Item, BlanksItem, LineEndsItem, CommentItem, EntryItem}
 use Rattle.gitconf_text.specs.Token.{item_tokens}
 use Rattle.gitconf_text.proofs.ValuesEscaped.{written_fits}
-use Rattle.gitconf_parse.proofs.Subsections.{reads_back}
+use Rattle.gitconf_items.proofs.Subsections.{reads_back}
 use Rattle.gitconf_text.proofs.ByteLaws.{name_byte_header}
 use Rattle.gitconf_text.proofs.Tests.{both_true, false_not}
-use Rattle.gitconf_parse.proofs.ValueAgain.{line_end_is}
+use Rattle.gitconf_text.proofs.ByteLaws.{line_end_is}
 use Rattle.gitconf_base.specs.Metadata.{Meta}
 use Rattle.gitconf_state.specs.State.{SectionState, State, is_value, is_assigned, is_item, is_header, HasSectionItems, is_entry}
 use Rattle.gitconf_state.specs.LineEnds.{file_line_end}

@@ -14,7 +14,7 @@ use Rattle.gitconf_text.specs.Part.{Assigned, Entry, Item, BlanksItem, LineEndsI
 use Rattle.gitconf_text.specs.Document.{DocumentEntry, document_entry}
 use Rattle.gitconf_text.proofs.ValuesEscaped.{plain-escaped}
 use Rattle.gitconf_base.specs.Metadata.{Meta}
-use Rattle.gitconf_parse.proofs.Subsections.{reads_back}
+use Rattle.gitconf_items.proofs.Subsections.{reads_back}
 use Rattle.gitconf_state.specs.State.{SectionState, State, entries_of}
 use Rattle.gitconf_state.specs.LineEnds.{file_line_end}
 use Rattle.gitconf_state.specs.Lookup.{is_named, named, listing, listed, entries_of_key, deciding, last_value}

@@ -19,7 +19,6 @@ pub mod PrintedApart
 pub mod SectionsApart
 pub mod PrintedDocument
 pub mod ReadsBack
-pub mod CommentLaws
 pub mod ExactEnds
 pub mod ExactItems
 pub mod ExactLineEnds

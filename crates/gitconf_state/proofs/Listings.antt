@@ -5,7 +5,7 @@ use Rattle.std.specs.Option.{option_map}
 use Rattle.std.specs.List.{cons_option, last_or, filter_map}
 use Rattle.gitconf_text.specs.Document.{Document, DocumentEntry}
 use Rattle.gitconf_text.specs.Part.{Part}
-use Rattle.gitconf_parse.specs.TokenDocument.{keeps_meaning}
+use Rattle.gitconf_items.specs.TokenDocument.{keeps_meaning}
 use Rattle.gitconf_text.specs.Value.{plain}
 use Rattle.gitconf_base.specs.Metadata.{Meta}
 use Rattle.gitconf_state.specs.State.{SectionState, State, section_document}

@@ -5,11 +5,11 @@ use Rattle.std.proofs.lemmas.List.Folds.{list_all-map}
 use Rattle.gitconf_text.specs.Header.{Header, PlainHeader, DottedHeader, QuotedHeader, FitsHeader}
 use Rattle.gitconf_text.specs.Part.{Item, BlanksItem, LineEndsItem, CommentItem, EntryItem, Part, ItemPart, HeaderPart, FitsPart, AreFit}
 use Rattle.gitconf_text.specs.Token.{tokens_of}
-use Rattle.gitconf_parse.specs.EventRef.{Shown}
-use Rattle.gitconf_parse.specs.EventList.{keeps_entry_token}
-use Rattle.gitconf_parse.specs.TokenDocument.{keeps_meaning}
-use Rattle.gitconf_parse.proofs.Selections.{filter_selection}
-use Rattle.gitconf_parse.proofs.TextLaws.{lossy_keeps_entries}
+use Rattle.gitconf_items.specs.EventRef.{Shown}
+use Rattle.gitconf_items.specs.EventList.{keeps_entry_token}
+use Rattle.gitconf_items.specs.TokenDocument.{keeps_meaning}
+use Rattle.gitconf_items.proofs.Selections.{filter_selection}
+use Rattle.gitconf_items.proofs.TextLaws.{lossy_keeps_entries}
 use Rattle.gitconf_text.proofs.Tests.{both_true, false_not}
 use Rattle.gitconf_state.specs.State.{SectionState, State, entries_of, HasSectionItems, HasItems}
 use Rattle.gitconf_state.specs.Clean.{is_nameless, IsCleanSection, IsClean}

@@ -3,8 +3,8 @@ use Rattle.std.proofs.Common.{◌≡◌, List, [], ◌∷◌, ◌++◌, flat_map
 use Rattle.gitconf_text.specs.Header.{name_of, subsection_of}
 use Rattle.gitconf_text.specs.Part.{Item, BlanksItem, LineEndsItem, CommentItem, EntryItem, Part, ItemPart, HeaderPart}
 use Rattle.gitconf_text.specs.Document.{DocumentEntry, DocumentSection, Document, with_item, with_part, gathered}
-use Rattle.gitconf_parse.specs.TokenDocument.{SayDocument, keeps_meaning}
-use Rattle.gitconf_parse.proofs.Documents.{same_tokens, selected_say, lossy_say}
+use Rattle.gitconf_items.specs.TokenDocument.{SayDocument, keeps_meaning}
+use Rattle.gitconf_items.proofs.Documents.{same_tokens, selected_say, lossy_say}
 use Rattle.gitconf_state.specs.State.{SectionState, State, entries_of, section_document, document_of}
 use Rattle.gitconf_state.specs.Loads.{state_tokens, IsLoad, IsFullLoad, IsPartLoad}
 use Rattle.gitconf_state.proofs.LoadingTokens.{own_section_parts, own_parts, own_tokens}

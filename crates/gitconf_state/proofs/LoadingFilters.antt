@@ -5,7 +5,7 @@ use Rattle.std.specs.List.{list_all}
 use Rattle.std.proofs.lemmas.List.Folds.{list_all-append}
 use Rattle.gitconf_text.specs.Part.{Part, FitsPart, spelled, AreFit}
 use Rattle.gitconf_text.specs.Token.{Token, filled}
-use Rattle.gitconf_parse.specs.EventList.{may_miss, IsSelection}
+use Rattle.gitconf_items.specs.EventList.{may_miss, IsSelection}
 use Rattle.gitconf_text.proofs.Tests.{both_true}
 
 -- two tests that hold, in one

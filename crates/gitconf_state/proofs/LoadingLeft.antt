@@ -10,7 +10,7 @@ use Rattle.gitconf_text.specs.Unit.{is_white, units_of}
 use Rattle.gitconf_text.specs.Value.{Piece, Value, spelled_value, value_units, are_paired}
 use Rattle.gitconf_text.specs.Part.{Assigned, Entry, BlanksItem, LineEndsItem, CommentItem, EntryItem, Part, ItemPart, HeaderPart}
 use Rattle.gitconf_text.specs.Token.{Token, CommentToken, HeaderToken, NameToken, ValueToken, NewlineToken, ValueNotDoneToken, ValueDoneToken, WhitespaceToken, SeparatorToken, filled, piece_tokens, value_tokens, assigned_tokens, part_tokens, tokens_of}
-use Rattle.gitconf_parse.specs.EventList.{IsSelection}
+use Rattle.gitconf_items.specs.EventList.{IsSelection}
 use Rattle.gitconf_text.proofs.Tests.{both_true}
 use Rattle.gitconf_state.specs.State.{is_piece, is_value, is_assigned, is_item}
 use Rattle.gitconf_state.specs.Clean.{is_nameless, has_blanks}

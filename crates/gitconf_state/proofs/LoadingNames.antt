@@ -12,7 +12,7 @@ use Rattle.gitconf_text.specs.Value.{Piece, IsEnded, may_follow_value}
 use Rattle.gitconf_text.specs.Names.{is_value_name}
 use Rattle.gitconf_text.specs.Part.{Assigned, Entry, Item, BlanksItem, LineEndsItem, CommentItem, EntryItem, Part, ItemPart, spelled_assigned, spelled_item, FitsAssigned, FitsItem, FitsPart, spelled, AreFit}
 use Rattle.gitconf_text.proofs.Tests.{both_true, apart, refuted}
-use Rattle.gitconf_parse.proofs.RunLaws.{Stops, is_comment_text, comment_places}
+use Rattle.gitconf_text.proofs.CommentEnds.{Stops, is_comment_text, comment_places}
 use Rattle.gitconf_text.proofs.ByteLaws.{letter_no_line_end, letter_name_byte, mark_no_line_end, line_end_no_blank}
 use Rattle.gitconf_state.specs.State.{is_entry}
 use Rattle.gitconf_state.specs.Writing.{Open, Closed, OpenKey, OpenKeyAndBlanks, OpenValue, OpenComment, after_blanks, after_entry, after, may_stand_behind, stand_apart_behind}

@@ -8,7 +8,7 @@ use Rattle.gitconf_text.specs.Value.{raw_of, escaped}
 use Rattle.gitconf_text.specs.Header.{Header, PlainHeader, QuotedHeader}
 use Rattle.gitconf_text.specs.Part.{Assigned, Item, BlanksItem, LineEndsItem, EntryItem}
 use Rattle.gitconf_text.specs.Token.{Token, HeaderToken, NewlineToken, ValueToken, WhitespaceToken, item_tokens, assigned_tokens, filled, spelled_token}
-use Rattle.gitconf_parse.specs.EventRef.{escaped_subsection}
+use Rattle.gitconf_items.specs.EventRef.{escaped_subsection}
 use Rattle.gitconf_base.specs.Metadata.{Meta}
 use Rattle.gitconf_state.specs.State.{SectionState, State, is_entry}
 use Rattle.gitconf_state.specs.LineEnds.{file_line_end}

@@ -3,8 +3,8 @@ use Rattle.std.specs.Prelude.{◌≡◌, Bool, true, List, [], ◌∷◌, ◌++�
 use Rattle.std.specs.List.{AllByRecursion}
 use Rattle.gitconf_text.specs.Part.{Part}
 use Rattle.gitconf_text.specs.Token.{Token, HeaderToken, item_tokens, tokens_of}
-use Rattle.gitconf_parse.specs.EventRef.{Shown}
-use Rattle.gitconf_parse.specs.EventList.{keeps_token, IsSelection}
+use Rattle.gitconf_items.specs.EventRef.{Shown}
+use Rattle.gitconf_items.specs.EventList.{keeps_token, IsSelection}
 use Rattle.gitconf_state.specs.State.{SectionState, State}
 
 abbrev pub section_tokens : SectionState → List Token

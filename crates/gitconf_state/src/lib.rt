@@ -1,4 +1,2 @@
-//! What a file's state is, what look-ups find in it, and how it is written; and the laws of these definitions.
+//! What a file's state is, what look-ups find in it, what an edit changes, and how it is written: definitions and lemmas, no code.
 #![tactic(auto)]
-
-pub mod laws;

@@ -9,10 +9,10 @@ use Rattle.gitconf_text.specs.Header.{name_of, subsection_of}
 use Rattle.gitconf_text.specs.Part as parts
 use Rattle.gitconf_text.specs.Text.{is_line_end}
 use Rattle.gitconf_base.specs.Metadata.{Meta}
-use Rattle.gitconf_parse.specs.declared.event.Span.{Span}
-use Rattle.gitconf_parse.specs.declared.items.Item.{Item}
-use Rattle.gitconf_parse.specs.ItemsFit.{AreItemsWithin}
-use Rattle.gitconf_parse.specs.ShownEvents.{IsExtended}
+use Rattle.gitconf_items.specs.declared.event.Span.{Span}
+use Rattle.gitconf_items.specs.declared.items.Item.{Item}
+use Rattle.gitconf_items.specs.ItemsFit.{AreItemsWithin}
+use Rattle.gitconf_items.specs.ShownEvents.{IsExtended}
 use Rattle.gitconf_table.specs.Sections.{SectionEntry, Sections}
 use Rattle.gitconf_state.specs.Edit.{with_used}
 use Rattle.gitconf_state.specs.Edits.{between, begins_with, held_behind_last, joined, numbered_from, appended, Append}
@@ -20,20 +20,20 @@ use Rattle.gitconf_state.specs.LineEnds.{ends_line, file_line_end}
 use Rattle.gitconf_state.specs.State.{HasItems, SectionState, State}
 use Rattle.gitconf_state.proofs.EditItems.{file_line_end_is}
 use Rattle.gitconf_state.proofs.EditsKeep.{apply_items}
-use Rattle.gitconf_parse.specs.Items.{items_of}
-use Rattle.gitconf_parse.specs.Moves.{AreItemsMoved}
-use Rattle.gitconf_body.proofs.Append.{items_fit_more, items_more}
-use Rattle.gitconf_body.proofs.Buffers.{extended_fit, extended_items}
+use Rattle.gitconf_items.specs.Items.{items_of}
+use Rattle.gitconf_items.specs.Moves.{AreItemsMoved}
+use Rattle.gitconf_lines.proofs.Append.{items_fit_more, items_more}
+use Rattle.gitconf_lines.proofs.Buffers.{extended_fit, extended_items}
 use Rattle.gitconf_sections.specs.Section.{Section}
 use Rattle.gitconf_store.specs.Appends.{held_or, items_before, kept_or, last_items, line_between, line_bytes, line_items, IsLineAt}
 use Rattle.gitconf_sections.specs.Held.{line_end_item}
-use Rattle.gitconf_store.specs.Joining.{front_then, held_last, AreBehind, AreSame}
+use Rattle.gitconf_joining.specs.Joining.{front_then, held_last, AreBehind, AreSame}
 use Rattle.gitconf_sections.specs.Moves.{IsMovable}
-use Rattle.gitconf_store.specs.Moves.{AreSectionsMoved, IsEntryMoved}
-use Rattle.gitconf_store.specs.Store.{section_state, state_of, AllSectionsFit, SectionFits, StoreFits}
+use Rattle.gitconf_joining.specs.Moves.{AreSectionsMoved, IsEntryMoved}
+use Rattle.gitconf_views.specs.Store.{section_state, state_of, AllSectionsFit, SectionFits, StoreFits}
 use Rattle.gitconf_store.proofs.Appending.{copy_up, header_same, header_shown, header_up, items_there, items_up}
-use Rattle.gitconf_store.proofs.Joined.{is_at, items_both, within_both}
-use Rattle.gitconf_store.proofs.Loading.{sections_fit_more}
+use Rattle.gitconf_joining.proofs.Joined.{is_at, items_both, within_both}
+use Rattle.gitconf_joining.proofs.Loading.{sections_fit_more}
 use Rattle.gitconf_store.proofs.Setting.{sections_fit_in, sections_in}
 
 -- The items at the end of a store.

@@ -7,32 +7,32 @@ use Rattle.std.specs.Str.{bytes_eq}
 use Rattle.gitconf_text.specs.Header as grammar
 use Rattle.gitconf_text.specs.Token.{HeaderToken}
 use Rattle.gitconf_base.specs.Metadata.{Meta}
-use Rattle.gitconf_parse.specs.declared.event.Copied.{Copied}
-use Rattle.gitconf_parse.specs.declared.event.Header.{Header}
-use Rattle.gitconf_parse.specs.declared.event.Span.{Span}
-use Rattle.gitconf_parse.specs.declared.event.Event.TheVariants as kinds
-use Rattle.gitconf_parse.specs.declared.entry.Assigned.{Assigned}
-use Rattle.gitconf_parse.specs.declared.entry.Assigned.TheVariants as forms
-use Rattle.gitconf_parse.specs.declared.items.Item.{Item}
-use Rattle.gitconf_parse.specs.declared.items.Item.TheVariants as items
-use Rattle.gitconf_parse.specs.declared.entry.Piece.{Piece}
-use Rattle.gitconf_parse.specs.Events.{bytes_of, header_form, header_of, HeaderFits, OptionFits, SpanFits}
-use Rattle.gitconf_parse.specs.EventRef.{ShownHeader}
-use Rattle.gitconf_parse.specs.ItemsFit.{AreItemsWithin, AssignedFits, ItemFits, PieceFits}
-use Rattle.gitconf_parse.specs.ShownEvents.{decoded_or, shown_token, CopyFits, IsExtended, IsShown}
+use Rattle.gitconf_items.specs.declared.event.Copied.{Copied}
+use Rattle.gitconf_items.specs.declared.event.Header.{Header}
+use Rattle.gitconf_items.specs.declared.event.Span.{Span}
+use Rattle.gitconf_items.specs.declared.event.Event.TheVariants as kinds
+use Rattle.gitconf_items.specs.declared.entry.Assigned.{Assigned}
+use Rattle.gitconf_items.specs.declared.entry.Assigned.TheVariants as forms
+use Rattle.gitconf_items.specs.declared.items.Item.{Item}
+use Rattle.gitconf_items.specs.declared.items.Item.TheVariants as items
+use Rattle.gitconf_items.specs.declared.entry.Piece.{Piece}
+use Rattle.gitconf_items.specs.Events.{bytes_of, header_form, header_of, HeaderFits, OptionFits, SpanFits}
+use Rattle.gitconf_items.specs.EventRef.{ShownHeader}
+use Rattle.gitconf_items.specs.ItemsFit.{AreItemsWithin, AssignedFits, ItemFits, PieceFits}
+use Rattle.gitconf_items.specs.ShownEvents.{decoded_or, shown_token, CopyFits, IsExtended, IsShown}
 use Rattle.gitconf_text.proofs.Lists.{all_push}
 use Rattle.gitconf_table.specs.Sections.{Sections}
 use Rattle.gitconf_state.specs.Edit.{with_used}
 use Rattle.gitconf_state.specs.Edits.{with_last}
 use Rattle.gitconf_state.specs.State.{HasItems, HasSectionItems}
-use Rattle.gitconf_parse.specs.Items.{items_of}
-use Rattle.gitconf_parse.specs.Moves.{copy_of, AreItemsMoved, IsHeaderMoved}
-use Rattle.gitconf_body.proofs.Buffers.{extended_fit, extended_items}
+use Rattle.gitconf_items.specs.Items.{items_of}
+use Rattle.gitconf_items.specs.Moves.{copy_of, AreItemsMoved, IsHeaderMoved}
+use Rattle.gitconf_lines.proofs.Buffers.{extended_fit, extended_items}
 use Rattle.gitconf_sections.specs.Section.{Section}
-use Rattle.gitconf_store.specs.declared.section.Section.{Section as Own}
-use Rattle.gitconf_store.specs.Alone.{StandsAlone, detached_of, whole}
+use Rattle.gitconf_views.specs.declared.section.Section.{Section as Own}
+use Rattle.gitconf_views.specs.Alone.{StandsAlone, detached_of, whole}
 use Rattle.gitconf_sections.specs.Moves.{IsSectionMoved}
-use Rattle.gitconf_store.specs.Store.{section_state, section_under, state_of, AllSectionsFit, StoreFits}
+use Rattle.gitconf_views.specs.Store.{section_state, section_under, state_of, AllSectionsFit, StoreFits}
 use Rattle.gitconf_store.proofs.Setting.{sections_in}
 
 -- What stands within fewer bytes stands within more.
@@ -179,10 +179,6 @@ module _ (b theirs copies their_copies new more : List ℕ) (front : List Item) 
 pub two_ok : {T E : Type 0} {P Q R : Type 0} (r : Result T E) → (P → Q → R) → OnOk r P → OnOk r Q → OnOk r R
 two_ok (Ok t) f p q = f p q
 two_ok (Err e) f p q = p
-
-pub ok_three : {T E : Type 0} {P Q R S : Type 0} (r : Result T E) → (P → Q → R → S) → OnOk r P → OnOk r Q → OnOk r R → OnOk r S
-ok_three (Ok t) f p q s = f p q s
-ok_three (Err e) f p q s = p
 
 pub ok_or_err : {T E : Type 0} {P Q R S U : Type 0} (r : Result T E) → (P → Q → R → U) → (S → U) → OnOk r P → OnOk r Q → OnOk r R → OnErr r S → U
 ok_or_err (Ok t) f g p q s e = f p q s

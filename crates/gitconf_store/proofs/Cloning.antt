@@ -5,15 +5,15 @@ use Rattle.gitconf_text.specs.Bytes.{fold}
 use Rattle.gitconf_text.specs.Header.{name_of, subsection_of}
 use Rattle.gitconf_base.specs.Metadata.{Meta}
 use Rattle.gitconf_table.specs.Sections.{SectionEntry, Sections, IsEntryClone, IsTableClone}
-use Rattle.gitconf_parse.specs.declared.items.Item.{Item}
-use Rattle.gitconf_parse.specs.declared.event.Event.TheVariants as kinds
-use Rattle.gitconf_parse.specs.contracts.items.ItemClone.TheImpl as item
-use Rattle.gitconf_parse.specs.Events.{header_of}
-use Rattle.gitconf_parse.specs.ShownEvents.{IsShown}
-use Rattle.gitconf_parse.proofs.Clones.{cloned_items, items_within}
+use Rattle.gitconf_items.specs.declared.items.Item.{Item}
+use Rattle.gitconf_items.specs.declared.event.Event.TheVariants as kinds
+use Rattle.gitconf_items.specs.contracts.items.ItemClone.TheImpl as item
+use Rattle.gitconf_items.specs.Events.{header_of}
+use Rattle.gitconf_items.specs.ShownEvents.{IsShown}
+use Rattle.gitconf_items.proofs.Clones.{cloned_items, items_within}
 use Rattle.gitconf_state.specs.State.{HasItems}
 use Rattle.gitconf_sections.specs.Section.{Section, IsSectionClone}
-use Rattle.gitconf_store.specs.Store.{section_state, state_of, SectionFits, StoreFits}
+use Rattle.gitconf_views.specs.Store.{section_state, state_of, SectionFits, StoreFits}
 
 abbrev IsClonedTable : Sections Section → Sections Section → Type 0
 IsClonedTable = IsTableClone IsSectionClone

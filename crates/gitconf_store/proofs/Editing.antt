@@ -7,29 +7,25 @@ use Rattle.std.proofs.lemmas.Bool.{eq-eqb, eqb-false, ne_eqb, ltb-false}
 use Rattle.gitconf_text.specs.Part as parts
 use Rattle.gitconf_base.specs.Metadata.{Meta}
 use Rattle.gitconf_table.specs.Sections.{AreNumbered, SectionEntry, Sections, changed_at, has_number, with_section, section_at, place_of, number_at}
-use Rattle.gitconf_parse.specs.declared.items.Item.{Item}
-use Rattle.gitconf_parse.specs.Events.{header_of}
-use Rattle.gitconf_parse.specs.ItemsFit.{AreItemsWithin}
-use Rattle.gitconf_parse.specs.ShownEvents.{IsExtended}
+use Rattle.gitconf_items.specs.declared.items.Item.{Item}
+use Rattle.gitconf_items.specs.Events.{header_of}
+use Rattle.gitconf_items.specs.ItemsFit.{AreItemsWithin}
+use Rattle.gitconf_items.specs.ShownEvents.{IsExtended}
 use Rattle.gitconf_state.specs.Edit.{with_used}
 use Rattle.gitconf_state.specs.Edits.{change_items, items_of_numbered, numbered, told_of, Raw, Entry}
 use Rattle.gitconf_state.specs.State.{SectionState, State, HasItems}
-use Rattle.gitconf_parse.specs.Items.{items_of}
-use Rattle.gitconf_text.specs.LineEnds.{bytes_of_line_end}
-use Rattle.gitconf_body.specs.declared.editor.Editor.{Editor}
-use Rattle.gitconf_body.specs.declared.editor.Leading.{Leading}
-use Rattle.gitconf_body.specs.declared.editor.Leading.TheVariants as leadings
-use Rattle.gitconf_body.specs.declared.editor.Around.{Around}
-use Rattle.gitconf_body.specs.declared.editor.Around.TheVariants as arounds
-use Rattle.gitconf_body.specs.Editors.{editor_in, leading_in, around_in, EditorFits, LeadingFits, AroundFits}
-use Rattle.gitconf_body.proofs.Buffers.{extended_fit, extended_items, same_extended}
+use Rattle.gitconf_items.specs.Items.{items_of}
+use Rattle.gitconf_lines.specs.declared.editor.Leading.{Leading}
+use Rattle.gitconf_lines.specs.declared.editor.Leading.TheVariants as leadings
+use Rattle.gitconf_lines.specs.declared.editor.Around.{Around}
+use Rattle.gitconf_lines.specs.declared.editor.Around.TheVariants as arounds
+use Rattle.gitconf_lines.proofs.Buffers.{extended_fit, extended_items, same_extended}
 use Rattle.gitconf_sections.specs.Section.{Section}
 use Rattle.gitconf_sections.proofs.Edits.{put_again}
-use Rattle.gitconf_store.specs.Alone.{with_items}
+use Rattle.gitconf_views.specs.Alone.{with_items}
 use Rattle.gitconf_store.specs.Edits.{UsedGrows}
-use Rattle.gitconf_body.specs.Blanks.{given_editor, IsGiven, IsGivenLeading, IsGivenAround}
 use Rattle.gitconf_store.specs.Editors.{PutsIn}
-use Rattle.gitconf_store.specs.Store.{section_state, state_of, SectionFits, AllSectionsFit, StoreFits}
+use Rattle.gitconf_views.specs.Store.{section_state, state_of, SectionFits, AllSectionsFit, StoreFits}
 use Rattle.gitconf_store.proofs.Setting.{HasOthers, changed_fits, kept_view, section_in, sections_in}
 
 abbrev chosen : (id : ℕ) → (List parts.Item → List parts.Item) → SectionState → SectionState
@@ -192,37 +188,6 @@ raw_inside is = cc
 
 pub entry_inside : {o p : Option (List ℕ × List ℕ)} → Entry o ≡ Entry p → o ≡ p
 entry_inside is = cc
-
--- An editor whose blanks are bytes of its own is the same whatever buffer it edits.
-pub given_same : (b : List ℕ) (e : Editor) → IsGiven e → editor_in b e ≡ given_editor e
-given_same b e given = λ i. record {
-  spacing = record { leading = leading e.leading given.0 i; before = (around e.around given.1 i).0; behind = (around e.around given.1 i).1 };
-  line_end = bytes_of_line_end e.line_end;
-  ends = e.ends;
-}
-  where
-    leading : (l : Leading) → IsGivenLeading l → leading_in b l ≡ leading_in [] l
-    leading leadings.Nothing given = refl
-    leading (leadings.Given bytes) given = refl
-    leading (leadings.Stored run) given = absurd given
-
-    around : (a : Around) → IsGivenAround a → around_in b a ≡ around_in [] a
-    around arounds.Spaces given = refl
-    around (arounds.Given before behind) given = refl
-    around (arounds.Stored before behind) given = absurd given
-
-pub given_fits : (limit : ℕ) (e : Editor) → IsGiven e → EditorFits limit e
-given_fits limit e given = (leading e.leading given.0, around e.around given.1)
-  where
-    leading : (l : Leading) → IsGivenLeading l → LeadingFits limit l
-    leading leadings.Nothing given = tt
-    leading (leadings.Given bytes) given = tt
-    leading (leadings.Stored run) given = absurd given
-
-    around : (a : Around) → IsGivenAround a → AroundFits limit a
-    around arounds.Spaces given = tt
-    around (arounds.Given before behind) given = tt
-    around (arounds.Stored before behind) given = absurd given
 
 -- what is put where the section stands, and where none has the number
 pub puts_at : {T : Type 0} (b : List ℕ) (front : List Item) (meta : Meta) (table : Sections Section) (id at : ℕ) (s : Section) (r : Result T ℕ) (count : ℕ) (new : State)

@@ -2,15 +2,15 @@
 use Rattle.std.proofs.Common.{◌≡◌, ℕ, zero, suc, ◌+◌, ◌<◌, ◌==◌, Bool, true, false, List, [], ◌∷◌, ◌++◌, length, map, take, drop, refl, ap, sym, subst, ◌∙◌, append_assoc, arith}
 use Rattle.std.specs.Prelude.{if◌then◌else◌}
 use Rattle.gitconf_text.specs.Part.{Item}
-use Rattle.gitconf_parse.specs.declared.items.Item as items
+use Rattle.gitconf_items.specs.declared.items.Item as items
 use Rattle.gitconf_state.specs.Editors.{deleted_at}
 use Rattle.gitconf_state.specs.Edits.{DeleteAt, apply, change_items}
 use Rattle.gitconf_state.specs.State.{HasItems, SectionState, State}
 use Rattle.gitconf_state.proofs.EditsKeep.{apply_items}
-use Rattle.gitconf_parse.specs.Items.{items_of}
+use Rattle.gitconf_items.specs.Items.{items_of}
 use Rattle.gitconf_body.specs.Taken.{StayWithin}
 use Rattle.gitconf_body.proofs.ValuesAt.{deleted_shown, deleted_within}
-use Rattle.gitconf_store.specs.Alone.{with_items}
+use Rattle.gitconf_views.specs.Alone.{with_items}
 use Rattle.gitconf_store.specs.Several.{all_deleted}
 use Rattle.gitconf_sections.specs.LeavingOut.{Ascend, without_all}
 use Rattle.gitconf_store.specs.LeavingOut.{AreIn}

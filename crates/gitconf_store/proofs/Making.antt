@@ -8,22 +8,22 @@ use Rattle.gitconf_text.specs.Names.{is_made_name, is_valid_or_none}
 use Rattle.gitconf_text.specs.Part as parts
 use Rattle.gitconf_base.specs.Metadata.{Meta}
 use Rattle.gitconf_table.specs.Sections.{Sections, entry_of, with_last}
-use Rattle.gitconf_parse.specs.declared.items.Item.{Item}
-use Rattle.gitconf_parse.specs.declared.event.Event.TheVariants as kinds
-use Rattle.gitconf_parse.specs.Events.{header_of}
-use Rattle.gitconf_parse.specs.ItemsFit.{AreItemsWithin}
-use Rattle.gitconf_parse.specs.ShownEvents.{IsExtended, IsShown}
+use Rattle.gitconf_items.specs.declared.items.Item.{Item}
+use Rattle.gitconf_items.specs.declared.event.Event.TheVariants as kinds
+use Rattle.gitconf_items.specs.Events.{header_of}
+use Rattle.gitconf_items.specs.ItemsFit.{AreItemsWithin}
+use Rattle.gitconf_items.specs.ShownEvents.{IsExtended, IsShown}
 use Rattle.gitconf_text.proofs.Lists.{all_push}
 use Rattle.gitconf_state.specs.Edit.{made_header, with_used}
 use Rattle.gitconf_state.specs.Edits as states
 use Rattle.gitconf_state.specs.State.{HasItems, HasSectionItems, SectionState, State, is_item}
 use Rattle.gitconf_state.proofs.EditItems.{new_section_is}
 use Rattle.gitconf_state.proofs.EditValues.{made_name, made_subsection}
-use Rattle.gitconf_parse.specs.Items.{items_of}
-use Rattle.gitconf_body.proofs.Buffers.{extended_fit, extended_items}
+use Rattle.gitconf_items.specs.Items.{items_of}
+use Rattle.gitconf_lines.proofs.Buffers.{extended_fit, extended_items}
 use Rattle.gitconf_sections.specs.Section.{Section}
-use Rattle.gitconf_store.specs.Store.{section_state, state_of, SectionFits, AllSectionsFit, StoreFits}
-use Rattle.gitconf_store.proofs.Loading.{sections_fit_more}
+use Rattle.gitconf_views.specs.Store.{section_state, state_of, SectionFits, AllSectionsFit, StoreFits}
+use Rattle.gitconf_joining.proofs.Loading.{sections_fit_more}
 use Rattle.gitconf_store.proofs.Setting.{sections_in, sections_fit_in}
 
 -- a section that was made with these items, in the buffer

@@ -8,10 +8,10 @@ use Rattle.gitconf_text.specs.Names.{is_same_name}
 use Rattle.gitconf_table.specs.Sections.{SectionEntry}
 use Rattle.gitconf_table.specs.Sections as table
 use Rattle.gitconf_table.proofs.SectionLemmas.{has_name-new}
-use Rattle.gitconf_parse.specs.Events.{header_of}
+use Rattle.gitconf_items.specs.Events.{header_of}
 use Rattle.gitconf_state.specs.Lookup as state
 use Rattle.gitconf_sections.specs.Section.{Section}
-use Rattle.gitconf_store.specs.Store.{section_state, SectionFits}
+use Rattle.gitconf_views.specs.Store.{section_state, SectionFits}
 
 -- a section of the table has a name where its header does
 pub named_so : (buffer copies name : List ℕ) (subsection : Option (List ℕ)) (e : SectionEntry Section) → SectionFits buffer copies e

@@ -6,15 +6,15 @@ use Rattle.std.specs.Iterator.{YieldsFirstBy}
 use Rattle.gitconf_text.specs.Header.{name_of}
 use Rattle.gitconf_text.specs.Names.{is_same_name}
 use Rattle.gitconf_table.proofs.SectionLemmas.{has_name-new}
-use Rattle.gitconf_parse.specs.Events.{header_of}
+use Rattle.gitconf_items.specs.Events.{header_of}
 use Rattle.gitconf_table.specs.Sections.{SectionEntry}
 use Rattle.gitconf_table.specs.Sections as table
 use Rattle.gitconf_base.specs.Metadata.{Meta}
-use Rattle.gitconf_parse.specs.declared.items.Item.{Item}
+use Rattle.gitconf_items.specs.declared.items.Item.{Item}
 use Rattle.gitconf_state.specs.State.{State}
 use Rattle.gitconf_state.specs.Lookup as state
 use Rattle.gitconf_sections.specs.Section.{Section}
-use Rattle.gitconf_store.specs.Store.{section_state, state_of, SectionFits, AllSectionsFit}
+use Rattle.gitconf_views.specs.Store.{section_state, state_of, SectionFits, AllSectionsFit}
 use Rattle.gitconf_store.proofs.Named.{named_so}
 
 -- none of the sections passes

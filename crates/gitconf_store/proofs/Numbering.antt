@@ -5,19 +5,19 @@ use Rattle.std.specs.List.{AllByRecursion, last_or}
 use Rattle.std.specs.Option.{option_map}
 use Rattle.std.proofs.lemmas.Bool.{eqb-true}
 use Rattle.gitconf_base.specs.Metadata.{Meta}
-use Rattle.gitconf_parse.specs.declared.items.Item.{Item}
+use Rattle.gitconf_items.specs.declared.items.Item.{Item}
 use Rattle.gitconf_table.specs.Sections.{SectionEntry, Sections, AreNumbered, has_number, section_of, without}
 use Rattle.gitconf_state.specs.Edits.{Detached, RemoveSection, apply, numbered, with_sections, without_numbered}
 use Rattle.gitconf_state.specs.Edits as state
 use Rattle.gitconf_state.specs.Lookup.{is_named, listing}
 use Rattle.gitconf_state.specs.State.{HasSectionItems, SectionState, State}
 use Rattle.gitconf_sections.specs.Section.{Section}
-use Rattle.gitconf_store.specs.Alone.{alone}
-use Rattle.gitconf_store.specs.Picks.{picked}
+use Rattle.gitconf_views.specs.Alone.{alone}
+use Rattle.gitconf_finding.specs.Picks.{picked}
 use Rattle.gitconf_store.specs.Removals.{IsTakenOut, without_section}
-use Rattle.gitconf_store.specs.Store.{section_under, section_state, state_of, StoreFits, SectionFits}
-use Rattle.gitconf_store.specs.Viewed.{IsViewed}
-use Rattle.gitconf_store.proofs.Viewing.{viewed}
+use Rattle.gitconf_views.specs.Store.{section_under, section_state, state_of, StoreFits, SectionFits}
+use Rattle.gitconf_views.specs.Viewed.{IsViewed}
+use Rattle.gitconf_views.proofs.Viewing.{viewed}
 
 -- the section of a number, in the table and in the state
 none_more : (id : ℕ) (buffer : List ℕ) (o : Option SectionState) (es : List (SectionEntry Section)) → AllByRecursion (λ (f : SectionEntry Section). (f.number == id) ≡ false) es

@@ -4,13 +4,13 @@ use Rattle.gitconf_text.specs.Part.{Part}
 use Rattle.gitconf_text.specs.Document.{IsText, Reads, unmarked}
 use Rattle.gitconf_text.specs.Token.{Token, spelled_token, tokens_of}
 use Rattle.gitconf_base.specs.Metadata.{Meta}
-use Rattle.gitconf_parse.specs.declared.items.Keep.{Keep}
-use Rattle.gitconf_parse.specs.declared.items.Keep.TheVariants as keeps
-use Rattle.gitconf_parse.specs.EventList.{EventList, IsSelected, IsSelection, IsWhole}
-use Rattle.gitconf_parse.specs.TokenDocument.{keeps_meaning, tokens_kept}
+use Rattle.gitconf_items.specs.declared.items.Keep.{Keep}
+use Rattle.gitconf_items.specs.declared.items.Keep.TheVariants as keeps
+use Rattle.gitconf_items.specs.EventList.{EventList, IsSelected, IsSelection, IsWhole}
+use Rattle.gitconf_items.specs.TokenDocument.{keeps_meaning, tokens_kept}
 use Rattle.gitconf_parse.proofs.OneDocument.{one_tokens}
-use Rattle.gitconf_parse.proofs.Selections.{filter_selection, selection_all}
-use Rattle.gitconf_parse.proofs.TextLaws.{lossy_keeps_entries}
+use Rattle.gitconf_items.proofs.Selections.{filter_selection, selection_all}
+use Rattle.gitconf_items.proofs.TextLaws.{lossy_keeps_entries}
 use Rattle.gitconf_state.specs.State.{State, HasItems, document_of, entries_of}
 use Rattle.gitconf_state.specs.Clean.{IsClean}
 use Rattle.gitconf_state.specs.Inserted.{Inserted, IsByteForByte}
@@ -20,15 +20,15 @@ use Rattle.gitconf_state.proofs.LoadingClean.{full_is_clean, part_load_has_items
 use Rattle.gitconf_state.proofs.LoadingDocument.{part_load_document}
 use Rattle.gitconf_state.proofs.InsertingLineEnds.{printed_inserted}
 use Rattle.gitconf_state.proofs.ExactPrinting.{byte_for_byte}
-use Rattle.gitconf_parse.specs.Items.{tokens_of_items}
-use Rattle.gitconf_parse.specs.declared.items.Item.{Item}
+use Rattle.gitconf_items.specs.Items.{tokens_of_items}
+use Rattle.gitconf_items.specs.declared.items.Item.{Item}
 use Rattle.gitconf_table.specs.Sections.{Sections}
 use Rattle.gitconf_state.specs.Loads.{section_tokens}
 use Rattle.gitconf_sections.specs.Section.{Section}
-use Rattle.gitconf_store.specs.Loading.{IsLoading}
-use Rattle.gitconf_store.specs.Made.{IsMade}
-use Rattle.gitconf_store.specs.Store.{section_state, state_of}
-use Rattle.gitconf_store.proofs.Loading.{loading_is_made}
+use Rattle.gitconf_joining.specs.Loading.{IsLoading}
+use Rattle.gitconf_joining.specs.Made.{IsMade}
+use Rattle.gitconf_views.specs.Store.{section_state, state_of}
+use Rattle.gitconf_joining.proofs.Loading.{loading_is_made}
 
 -- what was kept of a text, with its entries, is a load of some of its tokens
 selected_load : (input : List ℕ) (list : EventList) (meta : Meta) (s : IsSelected input list) (state : State) → list.keeps_entries ≡ true → IsMade list.tokens meta list.used state → IsPartLoad s.parts state

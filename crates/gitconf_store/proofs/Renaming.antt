@@ -8,11 +8,11 @@ use Rattle.gitconf_text.specs.Bytes.{fold}
 use Rattle.gitconf_text.specs.Header.{name_of, subsection_of}
 use Rattle.gitconf_text.specs.Names.{is_made_name, is_valid_or_none}
 use Rattle.gitconf_base.specs.Metadata.{Meta}
-use Rattle.gitconf_parse.specs.declared.event.Header.{Header}
-use Rattle.gitconf_parse.specs.declared.event.Event.TheVariants as kinds
-use Rattle.gitconf_parse.specs.declared.items.Item.{Item}
-use Rattle.gitconf_parse.specs.Events.{header_of}
-use Rattle.gitconf_parse.specs.ShownEvents.{IsExtended, IsShown}
+use Rattle.gitconf_items.specs.declared.event.Header.{Header}
+use Rattle.gitconf_items.specs.declared.event.Event.TheVariants as kinds
+use Rattle.gitconf_items.specs.declared.items.Item.{Item}
+use Rattle.gitconf_items.specs.Events.{header_of}
+use Rattle.gitconf_items.specs.ShownEvents.{IsExtended, IsShown}
 use Rattle.gitconf_table.specs.Renames.{with_names_at}
 use Rattle.gitconf_table.specs.Sections.{AreNumbered, SectionEntry, Sections, changed_at, with_names}
 use Rattle.gitconf_table.specs.Sections as table
@@ -21,13 +21,13 @@ use Rattle.gitconf_state.specs.Edits.{change_numbered, numbered, renamed}
 use Rattle.gitconf_state.specs.State.{HasItems, HasSectionItems, SectionState, State}
 use Rattle.gitconf_state.proofs.EditItems.{new_section_is}
 use Rattle.gitconf_state.proofs.EditValues.{made_name, made_subsection}
-use Rattle.gitconf_parse.specs.Items.{items_of}
-use Rattle.gitconf_body.proofs.Buffers.{extended_fit, extended_items}
+use Rattle.gitconf_items.specs.Items.{items_of}
+use Rattle.gitconf_lines.proofs.Buffers.{extended_fit, extended_items}
 use Rattle.gitconf_sections.specs.Section.{Section}
 use Rattle.gitconf_store.specs.Renamings.{marked, marked_places, with_headers, with_renamed, AreMarks}
-use Rattle.gitconf_store.specs.Store.{section_state, state_of, SectionFits, StoreFits}
+use Rattle.gitconf_views.specs.Store.{section_state, state_of, SectionFits, StoreFits}
 use Rattle.gitconf_store.proofs.Editing.{missing, number_apart, others_untold}
-use Rattle.gitconf_store.proofs.Loading.{sections_fit_more}
+use Rattle.gitconf_joining.proofs.Loading.{sections_fit_more}
 use Rattle.gitconf_store.proofs.Named.{named_so}
 use Rattle.gitconf_store.proofs.Setting.{section_in, sections_fit_in, sections_in}
 

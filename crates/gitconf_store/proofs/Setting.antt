@@ -1,29 +1,29 @@
 -- A value that is set in a section of the table, in a longer buffer.
-use Rattle.std.proofs.Common.{◌≡◌, ℕ, ◌<◌, ◌^◌, true, List, [], ◌∷◌, length, map, zero, suc, Option, Some, None, Result, Ok, Err, inl, inr, refl, ap, sym, subst, ◌∙◌}
+use Rattle.std.proofs.Common.{◌≡◌, ℕ, ◌<◌, ◌^◌, true, List, [], ◌∷◌, length, map, zero, suc, Option, Some, None, inl, inr, refl, ap, sym, subst, ◌∙◌}
 use Rattle.std.specs.List.{AllByRecursion, slice_get}
 use Rattle.std.specs.Option.{option_map}
-use Rattle.std.specs.Prelude.{◌⊎◌, IfSome, IfOk, OnOk, OnErr}
+use Rattle.std.specs.Prelude.{◌⊎◌, IfSome}
 use Rattle.gitconf_text.specs.Bytes.{fold}
 use Rattle.gitconf_text.specs.Header.{name_of, subsection_of}
 use Rattle.gitconf_text.specs.Names.{is_value_name}
 use Rattle.gitconf_text.specs.Part.{Item as SectionItem}
 use Rattle.gitconf_base.specs.Metadata.{Meta}
 use Rattle.gitconf_table.specs.Sections.{SectionEntry, Sections, changed_at, with_section, section_at}
-use Rattle.gitconf_parse.specs.declared.items.Item.{Item}
-use Rattle.gitconf_parse.specs.declared.event.Event.TheVariants as kinds
-use Rattle.gitconf_parse.specs.Events.{header_of}
-use Rattle.gitconf_parse.specs.ItemsFit.{AreItemsWithin}
-use Rattle.gitconf_parse.specs.ShownEvents.{IsExtended, IsShown}
+use Rattle.gitconf_items.specs.declared.items.Item.{Item}
+use Rattle.gitconf_items.specs.declared.event.Event.TheVariants as kinds
+use Rattle.gitconf_items.specs.Events.{header_of}
+use Rattle.gitconf_items.specs.ItemsFit.{AreItemsWithin}
+use Rattle.gitconf_items.specs.ShownEvents.{IsExtended, IsShown}
 use Rattle.gitconf_state.specs.Edit.{section_with, set_value, with_used}
 use Rattle.gitconf_state.specs.LineEnds.{file_line_end}
 use Rattle.gitconf_state.specs.State.{SectionState, State, HasItems, HasSectionItems}
 use Rattle.gitconf_state.proofs.EditItems.{section_with_is, file_line_end_is}
-use Rattle.gitconf_parse.specs.Items.{items_of}
-use Rattle.gitconf_body.proofs.Buffers.{extended_fit, extended_items}
+use Rattle.gitconf_items.specs.Items.{items_of}
+use Rattle.gitconf_lines.proofs.Buffers.{extended_fit, extended_items}
 use Rattle.gitconf_sections.specs.Section.{Section}
 use Rattle.gitconf_store.specs.Edits.{update_at, set_at}
-use Rattle.gitconf_store.specs.Store.{section_state, state_of, SectionFits, AllSectionsFit, StoreFits}
-use Rattle.gitconf_store.proofs.Append.{section_more, section_fits_more, sections_more, sections_fit_in_more}
+use Rattle.gitconf_views.specs.Store.{section_state, state_of, SectionFits, AllSectionsFit, StoreFits}
+use Rattle.gitconf_views.proofs.Append.{section_more, section_fits_more, sections_more, sections_fit_in_more}
 
 -- sections in the longer buffer
 pub section_in : (b new copies : List ℕ) (e : SectionEntry Section) → IsExtended b new → SectionFits b copies e → section_state new e ≡ section_state b e
@@ -173,23 +173,3 @@ asked_at P b front meta table at s here holds = go (slice_get (map (section_stat
     go : (o : Option SectionState) → slice_get (map (section_state b) table.entries) at ≡ o → IfSome o (λ s. P s.items)
     go None e = tt
     go (Some u) e = subst P (let h = sym (state_at b s table.entries at here) ∙ ap (option_map (λ (s : SectionState). s.items)) e in cc) holds
-
-pub on_ok : {T E : Type 0} {P Q : Type 0} (r : Result T E) → (P → Q) → OnOk r P → OnOk r Q
-on_ok (Ok t) f p = f p
-on_ok (Err e) f p = p
-
-pub on_err : {T E : Type 0} {P Q : Type 0} (r : Result T E) → (P → Q) → OnErr r P → OnErr r Q
-on_err (Ok t) f p = p
-on_err (Err e) f p = f p
-
-pub either_way : {T E : Type 0} {P Q : Type 0} (r : Result T E) → OnOk r P → OnErr r Q → P ⊎ Q
-either_way (Ok t) p q = inl p
-either_way (Err e) p q = inr q
-
-pub if_ok : {T E : Type 0} {P Q : T → Type 0} (r : Result T E) → ((t : T) → P t → Q t) → IfOk r P → IfOk r Q
-if_ok (Ok t) f p = f t p
-if_ok (Err e) f p = p
-
-pub if_err_at_all : {T E : Type 0} {P : Type 0} (r : Result T E) → P → OnErr r P
-if_err_at_all (Ok t) p = tt
-if_err_at_all (Err e) p = p

@@ -7,14 +7,14 @@ use Rattle.gitconf_state.specs.Edit.{with_used}
 use Rattle.gitconf_state.specs.Edits.{apply, items_of_numbered, numbered}
 use Rattle.gitconf_state.specs.State.{SectionState, State}
 use Rattle.gitconf_body.specs.ValuesAt.{rewritten_put}
-use Rattle.gitconf_store.specs.declared.lookup.existing.Error.{Error as ExistingError}
-use Rattle.gitconf_store.specs.declared.lookup.existing.Error.TheVariants as errors
+use Rattle.gitconf_finding.specs.declared.existing.Error.{Error as ExistingError}
+use Rattle.gitconf_finding.specs.declared.existing.Error.TheVariants as errors
 use Rattle.gitconf_store.specs.declared.set_raw_value.Error.{Error}
 use Rattle.gitconf_store.specs.Editors.{PutsIn}
 use Rattle.gitconf_store.specs.Edits.{UsedGrows}
 use Rattle.gitconf_store.specs.SetErrors.{of_existing, of_span, set_number}
 use Rattle.gitconf_store.specs.Several.{AreRewritten, AreSetExisting, all_bytes, all_rewritten, one_rewriting}
-use Rattle.gitconf_store.specs.ValuePlaces.{ArePlaces, AreValuePlaces, key_places}
+use Rattle.gitconf_finding.specs.ValuePlaces.{ArePlaces, AreValuePlaces, key_places}
 use Rattle.gitconf_store.proofs.Sets.{number_of_span}
 
 -- entries that get values, and others behind them

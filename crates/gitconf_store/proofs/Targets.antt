@@ -10,13 +10,13 @@ use Rattle.gitconf_table.specs.Sections.{SectionEntry, AreNumbered, has_number}
 use Rattle.gitconf_state.specs.Edit.{is_target}
 use Rattle.gitconf_state.specs.Lookup.{is_named, listing}
 use Rattle.gitconf_state.specs.State.{SectionState}
-use Rattle.gitconf_body.specs.Places.{IsLastPlace}
+use Rattle.gitconf_lines.specs.Places.{IsLastPlace}
 use Rattle.gitconf_sections.specs.Section.{Section}
-use Rattle.gitconf_store.specs.SomeSections.{AreSome}
-use Rattle.gitconf_store.specs.Store.{section_state}
-use Rattle.gitconf_store.specs.Walks.{passing}
+use Rattle.gitconf_finding.specs.SomeSections.{AreSome}
+use Rattle.gitconf_views.specs.Store.{section_state}
+use Rattle.gitconf_finding.specs.Walks.{passing}
 use Rattle.gitconf_store.proofs.Numbering.{filter_both, last_of_some}
-use Rattle.gitconf_store.proofs.SectionsKept.{any_of_none}
+use Rattle.gitconf_finding.proofs.SectionsKept.{any_of_none}
 
 -- what holds of all holds of each
 parts_fit : {A : Type 0} (P : A → Type 0) (before : List A) (x : A) (behind : List A) → AllByRecursion P (before ++ x ∷ behind) → P x × AllByRecursion P behind

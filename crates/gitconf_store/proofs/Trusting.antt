@@ -4,15 +4,15 @@ use Rattle.std.specs.List.{AllByRecursion, slice_get}
 use Rattle.std.specs.Option.{option_map}
 use Rattle.gitconf_base.specs.Metadata.{Meta}
 use Rattle.gitconf_base.specs.declared.source.Trust.{Trust}
-use Rattle.gitconf_parse.specs.declared.items.Item.{Item}
-use Rattle.gitconf_parse.specs.Events.{header_of}
+use Rattle.gitconf_items.specs.declared.items.Item.{Item}
+use Rattle.gitconf_items.specs.Events.{header_of}
 use Rattle.gitconf_table.specs.Sections.{AreNumbered, SectionEntry, Sections, changed_at, number_at, section_at, with_section}
 use Rattle.gitconf_state.specs.Edits.{change_numbered, with_trust}
 use Rattle.gitconf_state.specs.State.{HasSectionItems, SectionState}
-use Rattle.gitconf_parse.specs.Items.{items_of}
+use Rattle.gitconf_items.specs.Items.{items_of}
 use Rattle.gitconf_sections.specs.Section.{Section}
 use Rattle.gitconf_store.specs.Renamings.{marked}
-use Rattle.gitconf_store.specs.Store.{section_state, state_of, SectionFits, StoreFits}
+use Rattle.gitconf_views.specs.Store.{section_state, state_of, SectionFits, StoreFits}
 use Rattle.gitconf_store.proofs.Renaming.{marks_of, one_changed}
 
 -- the same section, trusted otherwise

@@ -3,13 +3,13 @@ use Rattle.std.specs.Prelude.{◌≡◌, ℕ, ◌+◌, List, [], ◌∷◌, leng
 use Rattle.std.specs.List.{last_or}
 use Rattle.gitconf_text.specs.Part as parts
 use Rattle.gitconf_table.specs.Sections.{SectionEntry}
-use Rattle.gitconf_parse.specs.declared.event.Span.{Span}
-use Rattle.gitconf_parse.specs.declared.items.Item.{Item}
-use Rattle.gitconf_parse.specs.ItemsFit.{AreItemsWithin}
+use Rattle.gitconf_items.specs.declared.event.Span.{Span}
+use Rattle.gitconf_items.specs.declared.items.Item.{Item}
+use Rattle.gitconf_items.specs.ItemsFit.{AreItemsWithin}
 use Rattle.gitconf_state.specs.Edits.{between}
 use Rattle.gitconf_state.specs.LineEnds.{file_line_end}
 use Rattle.gitconf_state.specs.State.{SectionState, State}
-use Rattle.gitconf_parse.specs.Items.{items_of}
+use Rattle.gitconf_items.specs.Items.{items_of}
 use Rattle.gitconf_sections.specs.Section.{Section}
 use Rattle.gitconf_sections.specs.Held.{line_end_item}
 

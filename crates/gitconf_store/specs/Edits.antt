@@ -16,6 +16,7 @@ use Rattle.gitconf_text.specs.declared.parse.section.header.Error.TheVariants.{I
 use Rattle.gitconf_store.specs.declared.set_raw_value.Error.{Error}
 use Rattle.gitconf_store.specs.declared.set_raw_value.Error.TheVariants.{Header}
 use Rattle.gitconf_store.specs.SetErrors.{set_number}
+pub use Rattle.gitconf_views.specs.Growth.{UsedGrows}
 
 -- the list with a change of the element at the place
 abbrev pub update_at : {A : Type 0} → ℕ → (A → A) → List A → List A
@@ -32,13 +33,6 @@ set_at at key value state = record {
   used = state.used;
   sections = update_at at (section_with (file_line_end state) key value) state.sections;
 }
-
--- At most so many bytes more are used. A refusal is that they are too many, exactly where they would pass the limit, or want of memory.
-pub record UsedGrows {T : Type 0} (result : Result T ℕ) (count old new : ℕ) : Type 0 where
-  pub grown : new ≤ old + count
-  pub too_large : IsErrOf result 3 → 2 ^ 32 ≤ old + count
-  pub refused : 2 ^ 32 ≤ old + count → IsErrOf result 3
-  pub known : IfErr result (λ e. (e ≡ 3) ⊎ (e ≡ 27))
 
 -- the state with a section more that has the value
 abbrev pub set_new : (name : List ℕ) → (subsection : Option (List ℕ)) → (key value : List ℕ) → State → State

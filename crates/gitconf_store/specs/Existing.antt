@@ -9,9 +9,9 @@ use Rattle.gitconf_state.specs.State.{State}
 use Rattle.gitconf_body.specs.ValuesAt.{rewritten_put}
 use Rattle.gitconf_store.specs.declared.set_raw_value.Error.{Error}
 use Rattle.gitconf_store.specs.Edits.{IsRefusal}
-use Rattle.gitconf_store.specs.Lookups.{miss_at}
+use Rattle.gitconf_finding.specs.Lookups.{miss_at}
 use Rattle.gitconf_store.specs.SetErrors.{of_existing, set_number}
-use Rattle.gitconf_store.specs.ValuePlaces.{editor_of_numbered, refusal_of, value_place}
+use Rattle.gitconf_finding.specs.ValuePlaces.{editor_of_numbered, refusal_of, value_place}
 
 -- the entry at a place is written anew, by the name that is given, with the blanks of its section; the line end of its value that keeps a
 -- comment off stays

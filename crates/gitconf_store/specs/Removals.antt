@@ -3,7 +3,7 @@ use Rattle.std.specs.Prelude.{◌≡◌, ◌≢◌, Option, Some, None, Result, 
 use Rattle.std.specs.Option.{option_map}
 use Rattle.gitconf_state.specs.Edits.{Detached, without_numbered}
 use Rattle.gitconf_state.specs.State.{SectionState, State}
-use Rattle.gitconf_store.specs.Alone.{alone}
+use Rattle.gitconf_views.specs.Alone.{alone}
 
 -- the state without a section, if there is one
 abbrev pub without_section : Option SectionState → State → State

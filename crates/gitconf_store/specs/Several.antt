@@ -6,10 +6,10 @@ use Rattle.gitconf_state.specs.Edit.{with_used}
 use Rattle.gitconf_state.specs.Edits.{Edit, DeleteAt, WriteAt, apply, items_of_numbered, told_of}
 use Rattle.gitconf_state.specs.State.{State}
 use Rattle.gitconf_body.specs.ValuesAt.{rewritten_put}
-use Rattle.gitconf_store.specs.declared.lookup.existing.Error.{Error as ExistingError}
+use Rattle.gitconf_finding.specs.declared.existing.Error.{Error as ExistingError}
 use Rattle.gitconf_store.specs.declared.set_raw_value.Error.{Error}
 use Rattle.gitconf_store.specs.SetErrors.{of_existing, set_number}
-use Rattle.gitconf_store.specs.ValuePlaces.{AreInOrder, ArePlaces, editor_of_numbered, key_places, meaning_at}
+use Rattle.gitconf_finding.specs.ValuePlaces.{AreInOrder, ArePlaces, editor_of_numbered, key_places, meaning_at}
 
 -- one of several entries is written anew, by the name that is given, with the blanks of its section as it then stands; nothing stays of its
 -- old value

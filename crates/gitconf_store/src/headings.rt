@@ -7,13 +7,13 @@ ghost use Rattle.gitconf_base.specs.Metadata.{Meta};
 ghost use Rattle.gitconf_table.specs.Sections.{is_named, place_of};
 ghost use Rattle.gitconf_store.specs.Renamings.{marked_places, with_headers, AreMarks};
 
-use crate::lists::put;
-use crate::lookup::passes;
 use gitconf_base::meta::Metadata;
-use gitconf_parse::event::Header;
+use gitconf_finding::filters::passes;
+use gitconf_items::event::Header;
 use gitconf_sections::sections::SectionList;
 use gitconf_table::table::SectionId;
 use gitconf_text::NoMemory;
+use gitconf_views::lists::put;
 use std::alloc::Global;
 
 /// Puts the place of the section of a number, if one has it, behind others.

@@ -1,7 +1,7 @@
 //! How sections are refused that are to be renamed.
 ghost use Rattle.std.specs.Prelude.{◌≡◌};
 
-use crate::lookup::existing;
+use gitconf_finding::existing;
 use gitconf_text::NoMemory;
 use gitconf_text::parse::section::header;
 use gitconf_text::parse::span;

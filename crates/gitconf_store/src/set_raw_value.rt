@@ -1,7 +1,7 @@
 //! How setting a raw value is refused.
 ghost use Rattle.std.specs.Prelude.{◌≡◌};
 
-use crate::lookup::existing;
+use gitconf_finding::existing;
 use gitconf_text::NoMemory;
 use gitconf_text::parse::section::{ValueNameError, header};
 use gitconf_text::parse::span;

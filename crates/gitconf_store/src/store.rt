@@ -13,22 +13,22 @@ mod trusting;
 mod values_at;
 mod views;
 
-use crate::events::ItemEvents;
-use crate::load::Loading;
-use crate::print::{front_is_ended, write_sections};
-use crate::section::{SectionRef, Sections, shared};
-use crate::store::views::last_passing;
-use crate::{set_raw_value, tokens};
+use crate::set_raw_value;
 use bstr::BString;
 use gitconf_base::meta::Metadata;
 use gitconf_body::entry::{check_set_value, set_value};
 use gitconf_body::section::section_with;
+use gitconf_finding::filters::last_passing;
+use gitconf_finding::print::{front_is_ended, write_sections};
+use gitconf_finding::tokens;
+use gitconf_items::events::ItemEvents;
+use gitconf_items::few::FewItems;
+use gitconf_items::items::Keep;
+use gitconf_items::sink::{Sink, SinkFault};
+use gitconf_joining::load::Loading;
 use gitconf_parse::error::Error;
 use gitconf_parse::events::{Events, check_len, copied_with_room};
-use gitconf_parse::few::FewItems;
-use gitconf_parse::items::Keep;
 use gitconf_parse::loading::read_sections;
-use gitconf_parse::sink::{Sink, SinkFault};
 use gitconf_sections::sections::SectionList;
 use gitconf_text::NoMemory;
 use gitconf_text::line_end::LineEnd;
@@ -36,6 +36,7 @@ use gitconf_text::parse::section::ValueNameError;
 use gitconf_text::parse::section::bytes::is_value_name;
 use gitconf_text::parse::section::header::{Error as HeaderError, validate};
 use gitconf_text::parse::span;
+use gitconf_views::section::{SectionRef, Sections, shared};
 use gitconf_write::sections::{write_front, write_line_end_unless};
 use std::alloc::Global;
 use std::marker::Model;
@@ -54,7 +55,7 @@ pub struct Store {
 
 impl Model for Store {
     ghost use Rattle.gitconf_state.specs.State.{State};
-    ghost use Rattle.gitconf_store.specs.Store.{state_of, StoreFits};
+    ghost use Rattle.gitconf_views.specs.Store.{state_of, StoreFits};
 
     ghost Value = { State };
 
@@ -75,13 +76,13 @@ impl Store {
     ghost use Rattle.gitconf_text.specs.Part.{Part};
     ghost use Rattle.gitconf_text.specs.Token.{tokens_of, spelled_token};
     ghost use Rattle.gitconf_base.specs.Metadata.{Meta};
-    ghost use Rattle.gitconf_parse.specs.EventList.{keeps_token, IsSelected, IsWhole};
+    ghost use Rattle.gitconf_items.specs.EventList.{keeps_token, IsSelected, IsWhole};
     ghost use Rattle.gitconf_parse.specs.EventResult.{IsRefused};
-    ghost use Rattle.gitconf_parse.specs.ItemsFit.{AreItemsWithin};
-    ghost use Rattle.gitconf_parse.specs.ShownEvents.{shown_token};
-    ghost use Rattle.gitconf_parse.specs.Sink.{Writes, Counts};
-    ghost use Rattle.gitconf_parse.specs.TokenDocument.{keeps_meaning, tokens_kept};
-    ghost use Rattle.gitconf_body.specs.Places.{IsLastPlace};
+    ghost use Rattle.gitconf_items.specs.ItemsFit.{AreItemsWithin};
+    ghost use Rattle.gitconf_items.specs.ShownEvents.{shown_token};
+    ghost use Rattle.gitconf_items.specs.Sink.{Writes, Counts};
+    ghost use Rattle.gitconf_items.specs.TokenDocument.{keeps_meaning, tokens_kept};
+    ghost use Rattle.gitconf_lines.specs.Places.{IsLastPlace};
     ghost use Rattle.gitconf_state.specs.Clean.{IsClean};
     ghost use Rattle.gitconf_state.specs.Comments.{comments, comments_of, comments_of_kept};
     ghost use Rattle.gitconf_state.specs.Edit.{is_target, new_section_bytes, old_value, set_bytes, with_used};
@@ -90,17 +91,17 @@ impl Store {
     ghost use Rattle.gitconf_state.specs.Lookup.{is_named, listing};
     ghost use Rattle.gitconf_state.specs.Printing.{printed, printed_kept};
     ghost use Rattle.gitconf_state.specs.State.{HasItems, IsState, State, document_of, document_of_kept, entries_of, SectionState};
-    ghost use Rattle.gitconf_parse.specs.Items.{tokens_in};
+    ghost use Rattle.gitconf_items.specs.Items.{tokens_in};
     ghost use Rattle.gitconf_text.specs.LineEnds.{bytes_of_line_end};
-    ghost use Rattle.gitconf_store.specs.Counts.{are_void, section_entries};
+    ghost use Rattle.gitconf_views.specs.Counts.{are_void, section_entries};
     ghost use Rattle.gitconf_store.specs.Edits as edits;
     ghost use Rattle.gitconf_store.specs.Edits.{EditGrows, IsRefusal, IsSet, IsSetSomewhere, UsedGrows, set_numbers};
-    ghost use Rattle.gitconf_store.specs.ItemEvents.{events_left};
-    ghost use Rattle.gitconf_store.specs.Made.{IsMade};
-    ghost use Rattle.gitconf_store.specs.Loading.{IsLoading};
-    ghost use Rattle.gitconf_store.specs.Store.{state_of};
-    ghost use Rattle.gitconf_store.specs.Texts.{IsTextOfSomeSections};
-    ghost use Rattle.gitconf_store.specs.Views.{sections_left, shown};
+    ghost use Rattle.gitconf_items.specs.ItemEvents.{events_left};
+    ghost use Rattle.gitconf_joining.specs.Made.{IsMade};
+    ghost use Rattle.gitconf_joining.specs.Loading.{IsLoading};
+    ghost use Rattle.gitconf_views.specs.Store.{state_of};
+    ghost use Rattle.gitconf_views.specs.Texts.{IsTextOfSomeSections};
+    ghost use Rattle.gitconf_views.specs.Views.{sections_left, shown};
 
     /// A file without front and sections. Takes no memory.
     pub fn new(alloc: Global, meta: Rc<Metadata>) -> Store
@@ -338,7 +339,7 @@ impl Store {
     /// # Errors
     ///
     /// A write failed, or took nothing. It is not tried again, and a beginning of the text was written.
-    #[tactic(auto, using(gitconf_state::proofs::ReadsBack::kept_reads_back, gitconf_state::proofs::CommentLaws::kept_comments))]
+    #[tactic(auto, using(gitconf_state::proofs::ReadsBack::kept_reads_back, gitconf_laws::proofs::CommentLaws::kept_comments))]
     pub fn write_to_filter<W: Sink, F: FnMut(&SectionRef<'_>) -> bool>(
         &self,
         out: &mut W,
@@ -374,7 +375,7 @@ impl Store {
     /// # Errors
     ///
     /// Those of [`Store::write_to_filter`].
-    #[tactic(auto, using(std::proofs::lemmas::Fn::always_returns_same, gitconf_state::proofs::ReadsBack::all_reads_back, gitconf_state::proofs::CommentLaws::all_comments))]
+    #[tactic(auto, using(std::proofs::lemmas::Fn::always_returns_same, gitconf_state::proofs::ReadsBack::all_reads_back, gitconf_laws::proofs::CommentLaws::all_comments))]
     pub fn write_to<W: Sink>(&self, out: &mut W) -> Result<(), SinkFault>
         ensures written { Writes result (printed self.now) (W.told out.old) (W.told out.new) }
         ensures reads { IsClean self.now → Reads (printed self.now) (document_of self.now) }
@@ -412,7 +413,7 @@ impl Store {
     }
 
     /// The sections in file order.
-    #[tactic(auto, using(crate::proofs::Viewing::sections_viewed))]
+    #[tactic(auto, using(gitconf_views::proofs::Viewing::sections_viewed))]
     pub fn sections(&self) -> Sections<'_>
         ensures left { sections_left result ≡ self.now.sections }
         // What holds of every file, whatever was done to it.

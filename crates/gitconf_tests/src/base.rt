@@ -4,33 +4,50 @@ use crate::users::homes;
 use gitconf_base::meta::Metadata;
 use gitconf_base::source::{Kind, Source, Trust};
 use gitconf_host::{FileFault, Stage};
+use gitconf_text::NoMemory;
 use gitconf_values::Homes;
 use std::alloc::{AllocError, Global};
 use std::cmp::Ordering;
 use std::test::Fail;
 
-/// The sources, lowest first, each with its group, and whether the group lists it.
+/// A source, its group, and whether the group lists it.
+type InGroup = (Source, Kind, bool);
+
+/// The sources, lowest first.
+static SOURCES: [InGroup; 10] = [
+    (Source::GitInstallation, Kind::GitInstallation, true),
+    (Source::System, Kind::System, true),
+    (Source::Git, Kind::Global, true),
+    (Source::User, Kind::Global, true),
+    (Source::Local, Kind::Repository, true),
+    (Source::Worktree, Kind::Repository, true),
+    (Source::Env, Kind::Override, true),
+    (Source::Cli, Kind::Override, true),
+    (Source::Api, Kind::Override, true),
+    (Source::EnvOverride, Kind::Override, false),
+];
+
+/// Whether the source stands in its group so.
+fn is_in_group(row: &InGroup) -> bool {
+    let (source, kind, is_listed) = *row;
+    source.kind() == kind && kind.sources().contains(&source) == is_listed
+}
+
+/// Whether each source is higher than the one before it.
+fn do_ascend(rows: &[InGroup]) -> bool {
+    let mut lower = None;
+    for (source, ..) in rows {
+        if lower >= Some(*source) {
+            return false;
+        }
+        lower = Some(*source);
+    }
+    true
+}
+
 #[test]
 fn sources_stand_in_groups(rt: HostRuntime) {
-    let rows = [
-        (Source::GitInstallation, Kind::GitInstallation, true),
-        (Source::System, Kind::System, true),
-        (Source::Git, Kind::Global, true),
-        (Source::User, Kind::Global, true),
-        (Source::Local, Kind::Repository, true),
-        (Source::Worktree, Kind::Repository, true),
-        (Source::Env, Kind::Override, true),
-        (Source::Cli, Kind::Override, true),
-        (Source::Api, Kind::Override, true),
-        (Source::EnvOverride, Kind::Override, false),
-    ];
-    let mut lower = None;
-    for (source, kind, is_listed) in rows {
-        assert!(rt; source.kind() == kind, "{source:?}");
-        assert_eq!(rt; kind.sources().contains(&source), is_listed, "{source:?}");
-        assert!(rt; lower < Some(source), "{source:?}");
-        lower = Some(source);
-    }
+    assert!(rt; SOURCES.iter().all(is_in_group) && do_ascend(&SOURCES));
 }
 
 /// The four parts of metadata.
@@ -51,53 +68,79 @@ fn of_parts(alloc: Global, parts: &Parts<'_>) -> Result<Metadata, AllocError> {
     })
 }
 
-/// Whether it is the metadata of these four parts.
-fn is_of_parts(alloc: Global, made: &Metadata, parts: &Parts<'_>) -> Result<bool, AllocError> {
-    Ok(*made == of_parts(alloc, parts)?)
+/// Whether the metadata has these four parts.
+fn has_parts(made: &Metadata, parts: &Parts<'_>) -> bool {
+    (made.path.as_deref(), made.source, made.level, made.trust) == *parts
 }
 
-#[test]
-fn metadata_is_made(rt: HostRuntime) -> Result<(), Fail> {
-    let alloc = rt.alloc();
-    let api = (None, Source::Api, 0, Trust::Full);
-    assert!(rt; is_of_parts(alloc, &Metadata::api(), &api)?);
-    assert!(rt; is_of_parts(alloc, &Metadata::default(), &api)?);
-    let variables = (None, Source::Env, 0, Trust::Full);
-    assert!(rt; is_of_parts(alloc, &Metadata::from(Source::Env), &variables)?);
-    let made = Metadata::from(Source::Env)
-        .with(Trust::Reduced)
-        .at(String::from_str(alloc, "/a")?);
-    assert!(rt; is_of_parts(alloc, &made, &FILE)?);
-    Ok(())
-}
+/// What a program makes.
+const API: Parts<'static> = (None, Source::Api, 0, Trust::Full);
+
+/// What variables of the environment are.
+const VARIABLES: Parts<'static> = (None, Source::Env, 0, Trust::Full);
 
 /// The file `/a`, which isn't trusted.
 const FILE: Parts<'static> = (Some("/a"), Source::Env, 0, Trust::Reduced);
 
+fn is_made_of_api() -> bool {
+    has_parts(&Metadata::api(), &API) && has_parts(&Metadata::default(), &API)
+}
+
+fn is_made_of_variables() -> bool {
+    has_parts(&Metadata::from(Source::Env), &VARIABLES)
+}
+
+fn is_made_of_file(path: String) -> bool {
+    let made = Metadata::from(Source::Env).with(Trust::Reduced).at(path);
+    has_parts(&made, &FILE)
+}
+
 #[test]
-fn metadata_of_a_file(rt: HostRuntime) -> Result<(), Fail> {
-    let alloc = rt.alloc();
-    let path = String::from_str(alloc, "/a")?;
+fn metadata_is_made(rt: HostRuntime) -> Result<(), Fail> {
+    let path = String::from_str(rt.alloc(), "/a")?;
+    assert!(rt; is_made_of_api() && is_made_of_variables() && is_made_of_file(path));
+    Ok(())
+}
+
+fn is_made_of_path(path: String) -> bool {
     let made: Result<Metadata, FileFault> = Metadata::try_from_path(
         path,
         Source::Env,
         Ok(Trust::Reduced),
     );
-    assert!(rt; made == Ok(of_parts(alloc, &FILE)?));
+    match made {
+        Ok(made) => has_parts(&made, &FILE),
+        Err(_) => false,
+    }
+}
+
+fn is_refused_path(path: String) -> bool {
     let fault = FileFault {
         stage: Stage::Read,
         not_found: true,
     };
-    let path = String::from_str(alloc, "/a")?;
-    let made = Metadata::try_from_path(path, Source::Env, Err(fault));
-    assert!(rt; made == Err(fault));
+    match Metadata::try_from_path(path, Source::Env, Err(fault)) {
+        Ok(_) => false,
+        Err(told) => told == fault,
+    }
+}
+
+#[test]
+fn metadata_of_a_file(rt: HostRuntime) -> Result<(), Fail> {
+    assert!(rt; is_made_of_path(String::from_str(rt.alloc(), "/a")?));
+    assert!(rt; is_refused_path(String::from_str(rt.alloc(), "/a")?));
     Ok(())
 }
 
-/// Whether a copy of the metadata of these parts has these parts.
+/// Whether a copy of the metadata has these parts.
+fn has_same_copy(made: &Metadata, parts: &Parts<'_>) -> Result<bool, NoMemory> {
+    Ok(has_parts(&made.try_clone()?, parts))
+}
+
+/// Whether metadata of these parts has them, and a copy of it too.
 fn is_copied(alloc: Global, parts: &Parts<'_>) -> Result<bool, Fail> {
-    let copy = of_parts(alloc, parts)?.try_clone()?;
-    Ok((copy.path.as_deref(), copy.source, copy.level, copy.trust) == *parts)
+    let made = of_parts(alloc, parts)?;
+    Ok(has_parts(&made, parts) && has_same_copy(&made, parts)?)
 }
 
 /// How the metadata of two rows stands in order, and whether it is the same.
@@ -112,7 +155,7 @@ fn compared(
 }
 
 /// Metadata in ascending order.
-const ASCENDING: [Parts<'static>; 10] = [
+static ASCENDING: [Parts<'static>; 10] = [
     (None, Source::System, 9, Trust::Full),
     (None, Source::Api, 0, Trust::Reduced),
     (None, Source::Api, 0, Trust::Full),
@@ -125,35 +168,54 @@ const ASCENDING: [Parts<'static>; 10] = [
     (Some("/b"), Source::GitInstallation, 0, Trust::Full),
 ];
 
+/// Whether the metadata at this place stands in order as its place does.
+fn is_in_order(alloc: Global, at: usize, one: &Parts<'_>) -> Result<bool, AllocError> {
+    for (place, other) in ASCENDING.iter().enumerate() {
+        if compared(alloc, one, other)? != (at.cmp(&place), at == place) {
+            return Ok(false);
+        }
+    }
+    Ok(true)
+}
+
 #[test]
 fn metadata_is_ordered_and_copied(rt: HostRuntime) -> Result<(), Fail> {
     for (at, one) in ASCENDING.iter().enumerate() {
-        assert!(rt; is_copied(rt.alloc(), one)?, "{at}");
-        for (place, other) in ASCENDING.iter().enumerate() {
-            let found = compared(rt.alloc(), one, other)?;
-            assert!(rt; found == (at.cmp(&place), at == place), "{at}, {place}");
-        }
+        assert!(rt; is_copied(rt.alloc(), one)? && is_in_order(rt.alloc(), at, one)?);
     }
     Ok(())
 }
 
-/// The last folder that was put in counts.
+/// Users, each with a folder. The last folder that was put in counts.
+static USERS: [(&str, &str); 4] = [("u", "/u"), ("v", "/v"), ("", "/e"), ("u", "/w")];
+
+/// Users, and the folder that each has.
+static FOLDERS: [(&str, Option<&str>); 5] = [
+    ("u", Some("/w")),
+    ("v", Some("/v")),
+    ("", Some("/e")),
+    ("U", None),
+    ("w", None),
+];
+
+/// Whether the users have these folders.
+fn have_folders(homes: &Homes) -> bool {
+    FOLDERS.iter().all(|row| homes.get(row.0) == row.1)
+}
+
+/// Whether a table of the users tells them.
+fn are_found(alloc: Global) -> Result<bool, NoMemory> {
+    let homes = homes(alloc, &USERS)?;
+    Ok(have_folders(&homes))
+}
+
+/// Whether no user is known where none was put in.
+fn knows_nobody(alloc: Global) -> bool {
+    Homes::new(alloc).get("u").is_none()
+}
+
 #[test]
 fn home_folders(rt: HostRuntime) -> Result<(), Fail> {
-    assert!(rt; Homes::new(rt.alloc()).get("u").is_none());
-    let homes = homes(
-        rt.alloc(),
-        &[("u", "/u"), ("v", "/v"), ("", "/e"), ("u", "/w")],
-    )?;
-    let rows: [(&str, Option<&str>); 5] = [
-        ("u", Some("/w")),
-        ("v", Some("/v")),
-        ("", Some("/e")),
-        ("U", None),
-        ("w", None),
-    ];
-    for (user, folder) in rows {
-        assert!(rt; homes.get(user) == folder, "'{user}'");
-    }
+    assert!(rt; are_found(rt.alloc())? && knows_nobody(rt.alloc()));
     Ok(())
 }

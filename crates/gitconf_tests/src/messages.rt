@@ -5,7 +5,7 @@ use gitconf_text::parse::section::{Name, ValueName};
 use gitconf_values::path::interpolate;
 use std::alloc::{AllocError, Global};
 use std::fmt::Display;
-use std::str;
+use std::str::{self, Utf8Error};
 use std::test::Fail;
 
 /// Whether it is shown as this text.
@@ -13,26 +13,34 @@ fn is_shown<T: Display>(alloc: Global, shown: &T, text: &str) -> Result<bool, Al
     Ok(format!(in alloc; "{shown}")?.as_str() == text)
 }
 
+/// Whether what is no name is refused by this number and text.
+fn is_name_refused(alloc: Global, number: u8, text: &str) -> Result<bool, AllocError> {
+    match Name::try_from_bytes(alloc, b"a_b") {
+        Ok(_) => Ok(false),
+        Err(error) => Ok(error.number() == number && is_shown(alloc, &error, text)?),
+    }
+}
+
 #[test]
 fn a_refused_name(rt: HostRuntime) -> Result<(), Fail> {
-    let Err(error) = Name::try_from_bytes(rt.alloc(), b"a_b") else {
-        return Err(Fail::new("a name"));
-    };
-    assert_eq!(rt; error.number(), 6);
     let text = "Valid names consist of alphanumeric characters or dashes.";
-    assert!(rt; is_shown(rt.alloc(), &error, text)?);
+    assert!(rt; is_name_refused(rt.alloc(), 6, text)?);
     Ok(())
+}
+
+/// The same of a name of a value.
+fn is_value_name_refused(alloc: Global, number: u8, text: &str) -> Result<bool, AllocError> {
+    match ValueName::try_from_bytes(alloc, b"1a") {
+        Ok(_) => Ok(false),
+        Err(error) => Ok(error.number() == number && is_shown(alloc, &error, text)?),
+    }
 }
 
 #[test]
 fn a_refused_name_of_a_value(rt: HostRuntime) -> Result<(), Fail> {
-    let Err(error) = ValueName::try_from_bytes(rt.alloc(), b"1a") else {
-        return Err(Fail::new("a name of a value"));
-    };
-    assert_eq!(rt; error.number(), 6);
     let text =
         "Valid value names consist of alphanumeric characters or dashes, starting with an alphabetic character.";
-    assert!(rt; is_shown(rt.alloc(), &error, text)?);
+    assert!(rt; is_value_name_refused(rt.alloc(), 6, text)?);
     Ok(())
 }
 
@@ -43,24 +51,22 @@ fn want_of_memory(rt: HostRuntime) -> Result<(), Fail> {
     Ok(())
 }
 
-/// How a path is refused that isn't UTF-8.
+/// What a path is refused by that isn't UTF-8, and a user's name that isn't.
+fn refusals(err: Utf8Error) -> [interpolate::Error; 2] {
+    let what = "path to interpolate";
+    [
+        interpolate::Error::Utf8Conversion { what, err },
+        interpolate::Error::UsernameConversion(err),
+    ]
+}
+
 #[test]
 fn refused_paths(rt: HostRuntime) -> Result<(), Fail> {
     let Err(err) = str::from_utf8(b"\xff") else {
         return Err(Fail::new("UTF-8"));
     };
-    let error = interpolate::Error::Utf8Conversion {
-        what: "path to interpolate",
-        err,
-    };
-    assert!(rt;
-        is_shown(
-            rt.alloc(),
-            &error,
-            "Ill-formed UTF-8 in path to interpolate"
-        )?
-    );
-    let error = interpolate::Error::UsernameConversion(err);
-    assert!(rt; is_shown(rt.alloc(), &error, "Ill-formed UTF-8 in username")?);
+    let [path, user] = refusals(err);
+    assert!(rt; is_shown(rt.alloc(), &path, "Ill-formed UTF-8 in path to interpolate")?);
+    assert!(rt; is_shown(rt.alloc(), &user, "Ill-formed UTF-8 in username")?);
     Ok(())
 }

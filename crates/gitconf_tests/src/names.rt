@@ -1,81 +1,63 @@
 //! Names without case, and keys of all types.
 
-use bstr::{BStr, BString};
+use bstr::BString;
 use gitconf_base::key::{AsKey, KeyRef};
-use gitconf_text::parse::section::{Name, ValueName, unvalidated};
+use gitconf_text::NoMemory;
+use gitconf_text::parse::section::{Name, ValueName};
 use std::alloc::{AllocError, Global};
 use std::str;
 use std::test::Fail;
 
-/// Whether both texts are the same name of a section. The second one is kept as it is spelled.
-fn is_same_name(alloc: Global, one: &[u8], other: &[u8]) -> Result<bool, Fail> {
-    let first = Name::try_from_bytes(alloc, one)?;
-    let second = Name::try_from(BString::from_slice(alloc, other)?)?;
-    let is_same = first == second;
-    if is_same != first.cmp(&second).is_eq() || second.to_owned()?.as_bytes() != other {
-        return Err(Fail::new("not ordered or not copied as it is"));
-    }
-    Ok(is_same)
+/// Two texts, and whether they are the same name.
+type Row = (&'static [u8], &'static [u8], bool);
+
+/// Whether both names are the same, as it is told, and ordered so.
+fn are_told(one: &Name, other: &Name, is_same: bool) -> bool {
+    (*one == *other) == is_same && one.cmp(other).is_eq() == is_same
+}
+
+/// Whether a copy of the name is spelled so.
+fn is_copied(name: &Name, text: &[u8]) -> Result<bool, NoMemory> {
+    Ok(name.to_owned()?.as_bytes() == text)
+}
+
+/// Whether both texts are names of sections as it is told. The second one is kept as it is spelled.
+fn are_names(alloc: Global, row: &Row) -> Result<bool, Fail> {
+    let first = Name::try_from_bytes(alloc, row.0)?;
+    let second = Name::try_from(BString::from_slice(alloc, row.1)?)?;
+    Ok(are_told(&first, &second, row.2) && is_copied(&second, row.1)?)
 }
 
 /// The same of names of values.
-fn is_same_value_name(alloc: Global, one: &[u8], other: &[u8]) -> Result<bool, Fail> {
-    let first = ValueName::try_from_bytes(alloc, one)?;
-    let second = ValueName::try_from(BString::from_slice(alloc, other)?)?;
-    let is_same = first == second;
-    if is_same != first.cmp(&second).is_eq() || second.to_owned()?.as_bytes() != other {
-        return Err(Fail::new("not ordered or not copied as it is"));
-    }
-    Ok(is_same)
+fn are_values_told(one: &ValueName, other: &ValueName, is_same: bool) -> bool {
+    (*one == *other) == is_same && one.cmp(other).is_eq() == is_same
 }
 
-/// Two texts, and whether they are the same name.
+fn is_value_name_copied(name: &ValueName, text: &[u8]) -> Result<bool, NoMemory> {
+    Ok(name.to_owned()?.as_bytes() == text)
+}
+
+fn are_value_names(alloc: Global, row: &Row) -> Result<bool, Fail> {
+    let first = ValueName::try_from_bytes(alloc, row.0)?;
+    let second = ValueName::try_from(BString::from_slice(alloc, row.1)?)?;
+    Ok(are_values_told(&first, &second, row.2) && is_value_name_copied(&second, row.1)?)
+}
+
+static NAMES: [Row; 6] = [
+    (b"a", b"A", true),
+    (b"Path-1", b"pATH-1", true),
+    (b"core", b"core", true),
+    (b"a", b"b", false),
+    (b"a", b"aa", false),
+    (b"a-b", b"ab", false),
+];
+
 #[test]
 fn names_have_no_case(rt: HostRuntime) -> Result<(), Fail> {
-    let rows: [(&[u8], &[u8], bool); 6] = [
-        (b"a", b"A", true),
-        (b"Path-1", b"pATH-1", true),
-        (b"core", b"core", true),
-        (b"a", b"b", false),
-        (b"a", b"aa", false),
-        (b"a-b", b"ab", false),
-    ];
-    for (one, other, is_same) in rows {
-        assert_eq!(rt; is_same_name(rt.alloc(), one, other)?, is_same);
-        assert_eq!(rt; is_same_value_name(rt.alloc(), one, other)?, is_same);
+    for row in NAMES.iter() {
+        assert!(rt; are_names(rt.alloc(), row)? && are_value_names(rt.alloc(), row)?);
     }
     Ok(())
-}
-
-/// A key of a section, cut at its first dot.
-#[test]
-fn keys_of_sections(rt: HostRuntime) {
-    let rows: [(&[u8], Option<(&str, Option<&[u8]>)>); 7] = [
-        (
-            b"remote.https:///home/user.git",
-            Some(("remote", Some(b"https:///home/user.git"))),
-        ),
-        (b"remote.origin", Some(("remote", Some(b"origin")))),
-        (b"core", Some(("core", None))),
-        (b"core.", Some(("core", Some(b"")))),
-        (b"", Some(("", None))),
-        (b".\xff", Some(("", Some(b"\xff")))),
-        (b"\xff.a", None),
-    ];
-    for (text, expected) in rows {
-        let expected = match expected {
-            Some((section_name, subsection_name)) => Some(unvalidated::KeyRef {
-                section_name,
-                subsection_name,
-            }),
-            None => None,
-        };
-        assert!(rt;
-            unvalidated::KeyRef::parse(text) == expected,
-            "'{}'",
-            BStr::new(text)
-        );
-    }
 }
 
 /// Whether both calls of a key answer these three names, or both would answer none.
@@ -144,7 +126,7 @@ fn is_key(alloc: Global, text: &[u8], names: Option<Names<'_>>) -> Result<bool, 
 }
 
 /// A key of a value, cut at its first dot and at its last.
-const KEYS: [(&[u8], Option<Names<'static>>); 13] = [
+static KEYS: [(&[u8], Option<Names<'static>>); 13] = [
     (b"", None),
     (b"core", None),
     (b".", Some(("", None, ""))),
@@ -168,8 +150,8 @@ const KEYS: [(&[u8], Option<Names<'static>>); 13] = [
 
 #[test]
 fn keys_of_values(rt: HostRuntime) -> Result<(), Fail> {
-    for (text, names) in KEYS {
-        assert!(rt; is_key(rt.alloc(), text, names)?, "'{}'", BStr::new(text));
+    for (text, names) in KEYS.iter() {
+        assert!(rt; is_key(rt.alloc(), text, *names)?);
     }
     Ok(())
 }

@@ -1,7 +1,7 @@
 //! Calls that no command makes, each with one of its growths refused in turn, and calls that take no memory.
 
 use crate::shim::{Outcome, begin, each_refused, was_refused};
-use crate::users::homes;
+use crate::users::put;
 use gitconf_base::key::KeyRef;
 use gitconf_base::meta::Metadata;
 use gitconf_base::source::Source;
@@ -9,7 +9,7 @@ use gitconf_text::NoMemory;
 use gitconf_text::parse::section::{Name, ValueName};
 use gitconf_text::value::{append_escaped, escape, normalize};
 use gitconf_values::Homes;
-use std::alloc::Global;
+use std::alloc::{AllocError, Global};
 use std::test::Fail;
 
 fn a_name_copied(alloc: Global) -> Result<Outcome, Fail> {
@@ -60,17 +60,6 @@ fn names_and_metadata(rt: HostRuntime) -> Result<(), Fail> {
     each_refused(rt.alloc(), "a copy of metadata", metadata_copied)
 }
 
-fn a_value_normalized(alloc: Global) -> Result<Outcome, Fail> {
-    begin(alloc)?;
-    let answer = normalize(alloc, b"\"a;b\" \\t c");
-    let refused = was_refused(alloc);
-    let fits = match answer {
-        Ok(meaning) => meaning.as_slice() == b"a;b \t c".as_slice(),
-        Err(NoMemory) => refused,
-    };
-    Ok(Outcome { refused, fits })
-}
-
 fn a_value_escaped(alloc: Global) -> Result<Outcome, Fail> {
     begin(alloc)?;
     let answer = escape(alloc, b" a;\"b\n");
@@ -96,19 +85,15 @@ fn a_value_appended(alloc: Global) -> Result<Outcome, Fail> {
 
 #[test]
 fn values(rt: HostRuntime) -> Result<(), Fail> {
-    each_refused(rt.alloc(), "a value's meaning", a_value_normalized)?;
     each_refused(rt.alloc(), "a meaning written", a_value_escaped)?;
     each_refused(rt.alloc(), "a meaning appended", a_value_appended)
 }
 
 /// These users, with one home.
-fn homes_of(alloc: Global, users: &[&str]) -> Result<Homes, Fail> {
+fn homes_of(alloc: Global, users: &[&str]) -> Result<Homes, NoMemory> {
     let mut homes = Homes::new(alloc);
     for user in users {
-        homes.insert(
-            String::from_str(alloc, user)?,
-            String::from_str(alloc, "/home")?,
-        )?;
+        put(alloc, &mut homes, user, "/home")?;
     }
     Ok(homes)
 }
@@ -118,23 +103,31 @@ fn has_folders(homes: &Homes, users: &[&str], folder: Option<&str>) -> bool {
     users.iter().all(|user| homes.get(user) == Some("/home")) && homes.get("u") == folder
 }
 
-/// The user `u`, put beside these.
-fn another_user(alloc: Global, others: &[&str]) -> Result<Outcome, Fail> {
-    let mut homes = homes_of(alloc, others)?;
+/// The user `u`, and this folder.
+fn user_and_folder(alloc: Global, folder: &str) -> Result<(String, String), AllocError> {
     let user = String::from_str(alloc, "u")?;
-    let folder = String::from_str(alloc, "/u")?;
-    begin(alloc)?;
-    let answer = homes.insert(user, folder);
+    Ok((user, String::from_str(alloc, folder)?))
+}
+
+/// The user `u`, put into a table that has these.
+fn put_beside(alloc: Global, homes: &mut Homes, others: &[&str]) -> Result<Outcome, AllocError> {
+    let (user, folder) = user_and_folder(alloc, "/u")?;
+    let is_begun = begin(alloc).is_ok();
+    let is_put = homes.insert(user, folder).is_ok();
     let refused = was_refused(alloc);
-    let fits = match answer {
-        Ok(()) => has_folders(&homes, others, Some("/u")),
-        Err(NoMemory) => refused && has_folders(&homes, others, None),
-    };
+    let stands = has_folders(homes, others, if is_put { Some("/u") } else { None });
+    let fits = is_begun && stands && (is_put || refused);
     Ok(Outcome { refused, fits })
 }
 
+/// The user `u`, put beside these.
+fn another_user(alloc: Global, others: &[&str]) -> Result<Outcome, Fail> {
+    let mut homes = homes_of(alloc, others)?;
+    Ok(put_beside(alloc, &mut homes, others)?)
+}
+
 /// As many users as a node of the table has room for.
-const FIFTEEN: [&str; 15] = [
+static FIFTEEN: [&str; 15] = [
     "a", "b", "c", "d", "e", "f", "g", "h", "i", "j", "k", "l", "m", "n", "o",
 ];
 
@@ -149,26 +142,41 @@ fn users(rt: HostRuntime) -> Result<(), Fail> {
     )
 }
 
+/// Whether `u` gets another folder, and no memory is taken.
+fn is_put_without_memory(alloc: Global, homes: &mut Homes) -> Result<bool, AllocError> {
+    let (user, folder) = user_and_folder(alloc, "/v")?;
+    let is_begun = begin(alloc).is_ok();
+    let is_put = homes.insert(user, folder).is_ok();
+    Ok(is_begun && !was_refused(alloc) && is_put && homes.get("u") == Some("/v"))
+}
+
+/// The same in a table that has this user alone.
+fn is_put_in_place(alloc: Global) -> Result<bool, Fail> {
+    let mut homes = homes_of(alloc, &["u"])?;
+    Ok(is_put_without_memory(alloc, &mut homes)?)
+}
+
 /// A user that has a folder gets another, and no memory is taken.
 #[test]
 fn another_home_folder(rt: HostRuntime) -> Result<(), Fail> {
-    let mut homes = homes(rt.alloc(), &[("u", "/u")])?;
-    let user = String::from_str(rt.alloc(), "u")?;
-    let folder = String::from_str(rt.alloc(), "/v")?;
-    begin(rt.alloc())?;
-    let answer = homes.insert(user, folder);
-    assert!(rt; !was_refused(rt.alloc()));
-    assert!(rt; answer.is_ok() && homes.get("u") == Some("/v"));
+    assert!(rt; is_put_in_place(rt.alloc())?);
     Ok(())
+}
+
+/// Whether the value has that meaning, which is told.
+fn means(alloc: Global, value: &[u8], meaning: &[u8]) -> bool {
+    match normalize(alloc, value) {
+        Ok(found) => found.as_slice() == meaning,
+        Err(NoMemory) => false,
+    }
 }
 
 /// A key that is cut, and a meaning that stands in the text, take no memory.
 #[test]
 fn keys_and_plain_values(rt: HostRuntime) -> Result<(), Fail> {
     begin(rt.alloc())?;
-    let key = KeyRef::parse_unvalidated(b"remote.o.url");
-    let meaning = normalize(rt.alloc(), b"\"a b\"");
-    assert!(rt; !was_refused(rt.alloc()) && key.is_some());
-    assert!(rt; meaning?.as_slice() == b"a b".as_slice());
+    let is_key = KeyRef::parse_unvalidated(b"remote.o.url").is_some();
+    let means_it = means(rt.alloc(), b"\"a b\"", b"a b");
+    assert!(rt; !was_refused(rt.alloc()) && is_key && means_it);
     Ok(())
 }

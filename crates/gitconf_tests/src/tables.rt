@@ -5,7 +5,7 @@ use crate::shim::{MOST, Outcome, begin, each_refused, was_refused};
 use gitconf_table::table::{SectionId, SectionTable};
 use gitconf_text::NoMemory;
 use gitconf_text::parse::span;
-use std::alloc::{AllocError, Global};
+use std::alloc::Global;
 use std::test::Fail;
 
 /// A section's name and its subsection.
@@ -38,14 +38,20 @@ enum Step<'a> {
     Change(usize, u8),
 }
 
-/// A table of those sections, from which one was removed before.
-fn table_of(alloc: Global, sections: &[(Names<'_>, u8)]) -> Result<SectionTable<u8>, span::Error> {
-    let mut table = SectionTable::new(alloc);
+/// Puts a section in, then those, and removes the first.
+fn fill(table: &mut SectionTable<u8>, sections: &[(Names<'_>, u8)]) -> Result<(), span::Error> {
     let first = table.push(b"x", None, b'x')?;
     for (names, content) in sections {
         table.push(names.0, names.1, *content)?;
     }
     table.remove(first);
+    Ok(())
+}
+
+/// A table of those sections, from which one was removed before.
+fn table_of(alloc: Global, sections: &[(Names<'_>, u8)]) -> Result<SectionTable<u8>, span::Error> {
+    let mut table = SectionTable::new(alloc);
+    fill(&mut table, sections)?;
     Ok(table)
 }
 
@@ -111,48 +117,96 @@ fn take(
     Ok(None)
 }
 
-/// The numbers that a table gives first.
-fn numbers(alloc: Global) -> Result<Vec<SectionId>, Fail> {
-    let mut numbers = Vec::new(alloc);
-    let mut table = SectionTable::new(alloc);
-    for _ in 0..11 {
-        numbers.push(table.push(b"", None, b'x')?)?;
+/// The numbers that a table gives to sections that are put in.
+fn give(table: &mut SectionTable<u8>, numbers: &mut [SectionId]) -> Result<(), span::Error> {
+    for number in numbers.iter_mut() {
+        *number = table.push(b"", None, b'x')?;
     }
+    Ok(())
+}
+
+/// The numbers that a table gives first.
+fn numbers(alloc: Global) -> Result<[SectionId; 11], span::Error> {
+    let mut numbers = [SectionId::default(); 11];
+    let mut table = SectionTable::new(alloc);
+    give(&mut table, &mut numbers)?;
     Ok(numbers)
 }
 
-/// The contents of all sections, of those of four names, and of those with a name, with a `|` behind each of these
-/// lists; last what stands under each number.
-fn told(
-    alloc: Global,
+/// The place behind this letter, where it stands at that place.
+fn behind(told: &[u8], at: usize, letter: u8) -> Option<usize> {
+    if told.get(at) == Some(&letter) {
+        at.checked_add(1)
+    } else {
+        None
+    }
+}
+
+/// The place behind the contents of all sections.
+fn behind_all(table: &SectionTable<u8>, told: &[u8]) -> Option<usize> {
+    let mut at = 0;
+    for (_, content) in table.iter() {
+        at = behind(told, at, *content)?;
+    }
+    Some(at)
+}
+
+/// The place behind a `|` and the contents of the sections of the names.
+fn behind_named(table: &SectionTable<u8>, names: &Asked, told: &[u8], at: usize) -> Option<usize> {
+    let mut at = behind(told, at, b'|')?;
+    for (_, content) in table.named(names.0, names.1) {
+        at = behind(told, at, *content)?;
+    }
+    Some(at)
+}
+
+/// The same of the sections of one name.
+fn behind_name(table: &SectionTable<u8>, told: &[u8], at: usize) -> Option<usize> {
+    let mut at = behind(told, at, b'|')?;
+    for (_, content) in table.with_name("Remote") {
+        at = behind(told, at, *content)?;
+    }
+    Some(at)
+}
+
+/// The same of what stands under each number.
+fn behind_numbers(
     table: &SectionTable<u8>,
     numbers: &[SectionId],
-) -> Result<Vec<u8>, AllocError> {
-    let asked: [(&str, Option<&[u8]>); 4] = [
-        ("core", None),
-        ("Core", Some(b"")),
-        ("REMOTE", Some(b"origin")),
-        ("remote", Some(b"Origin")),
-    ];
-    let mut out = Vec::new(alloc);
-    for (_, content) in table.iter() {
-        out.push(*content)?;
-    }
-    for (name, subsection) in asked {
-        out.push(b'|')?;
-        for (_, content) in table.named(name, subsection) {
-            out.push(*content)?;
-        }
-    }
-    out.push(b'|')?;
-    for (_, content) in table.with_name("Remote") {
-        out.push(*content)?;
-    }
-    out.push(b'|')?;
+    told: &[u8],
+    at: usize,
+) -> Option<usize> {
+    let mut at = behind(told, at, b'|')?;
     for id in numbers {
-        out.push(table.get(*id).copied().unwrap_or(b'-'))?;
+        at = behind(told, at, table.get(*id).copied().unwrap_or(b'-'))?;
     }
-    Ok(out)
+    Some(at)
+}
+
+/// A name and a subsection that are asked for.
+type Asked = (&'static str, Option<&'static [u8]>);
+
+static ASKED: [Asked; 4] = [
+    ("core", None),
+    ("Core", Some(b"")),
+    ("REMOTE", Some(b"origin")),
+    ("remote", Some(b"Origin")),
+];
+
+/// The place behind all that is told of a table.
+fn end(table: &SectionTable<u8>, numbers: &[SectionId], told: &[u8]) -> Option<usize> {
+    let mut at = behind_all(table, told)?;
+    for names in ASKED.iter() {
+        at = behind_named(table, names, told, at)?;
+    }
+    let at = behind_name(table, told, at)?;
+    behind_numbers(table, numbers, told, at)
+}
+
+/// Whether this is told of the table: the contents of all sections, of those of four names, and of those with a name, with
+/// a `|` behind each of these lists; last what stands under each number.
+fn is_told(table: &SectionTable<u8>, numbers: &[SectionId], told: &[u8]) -> bool {
+    end(table, numbers, told) == Some(told.len())
 }
 
 /// Whether the step was taken. Where a growth of it was refused instead, the table is as it was.
@@ -160,17 +214,17 @@ fn is_taken(
     alloc: Global,
     table: &mut SectionTable<u8>,
     numbers: &[SectionId],
-    step: Step<'_>,
-    answer: Option<u8>,
+    row: &Row,
+    before: &[u8],
 ) -> Result<bool, Fail> {
-    let before = told(alloc, table, numbers)?;
     begin(alloc)?;
-    let taken = take(alloc, table, numbers, step);
+    let taken = take(alloc, table, numbers, row.0);
     let refused = was_refused(alloc);
     match taken {
-        Ok(taken) if taken == answer => Ok(true),
-        Err(error) if refused && error.number() == 27 && told(alloc, table, numbers)? == before =>
-            Ok(false),
+        Ok(answer) if answer == row.1 => Ok(true),
+        Err(error) if refused && error.number() == 27 && is_told(table, numbers, before) => Ok(
+            false,
+        ),
         _ => Err(Fail::new("a step's answer")),
     }
 }
@@ -180,16 +234,12 @@ fn leads_to(
     alloc: Global,
     table: &mut SectionTable<u8>,
     numbers: &[SectionId],
-    step: Step<'_>,
-    answer: Option<u8>,
-    expected: &[u8],
+    row: &Row,
+    before: &[u8],
 ) -> Result<bool, Fail> {
     for _ in 0..MOST {
-        if is_taken(alloc, table, numbers, step, answer)? {
-            return Ok(
-                table.get(SectionId::default()).is_none()
-                    && told(alloc, table, numbers)?.as_slice() == expected,
-            );
+        if is_taken(alloc, table, numbers, row, before)? {
+            return Ok(table.get(SectionId::default()).is_none() && is_told(table, numbers, row.2));
         }
     }
     Err(Fail::new("too many growths"))
@@ -213,7 +263,9 @@ const TEN: [(Names<'static>, u8); 10] = [
 ];
 
 /// A step, its answer, and what is told of the table behind it.
-const ROWS: [(Step<'static>, Option<u8>, &[u8]); 18] = [
+type Row = (Step<'static>, Option<u8>, &'static [u8]);
+
+static ROWS: [Row; 18] = [
     (Put(LAST, CORE, b'a'), Some(b'a'), b"a|a|||||a----------"),
     (
         Put(LAST, LOWER, b'b'),
@@ -258,24 +310,43 @@ const ROWS: [(Step<'static>, Option<u8>, &[u8]); 18] = [
     ),
 ];
 
+/// What is told before the row of this place: behind the row before it, or of an empty table.
+fn told_before(rows: &[Row], at: usize) -> &'static [u8] {
+    if at == 0 || at > rows.len() {
+        return b"||||||-----------";
+    }
+    rows[at - 1].2
+}
+
+/// Whether the table is told as the rows say, step by step.
+fn goes_through(alloc: Global, table: &mut SectionTable<u8>, rows: &[Row]) -> Result<bool, Fail> {
+    let numbers = numbers(alloc)?;
+    for (at, row) in rows.iter().enumerate() {
+        if !leads_to(alloc, table, &numbers, row, told_before(rows, at))? {
+            return Ok(false);
+        }
+    }
+    Ok(true)
+}
+
+fn are_changed(alloc: Global) -> Result<bool, Fail> {
+    let mut table = SectionTable::new(alloc);
+    goes_through(alloc, &mut table, &ROWS)
+}
+
 #[test]
 fn tables_are_changed(rt: HostRuntime) -> Result<(), Fail> {
-    let numbers = numbers(rt.alloc())?;
-    let mut table = SectionTable::new(rt.alloc());
-    for (step, answer, expected) in ROWS {
-        assert!(rt; leads_to(rt.alloc(), &mut table, &numbers, step, answer, expected)?);
-    }
+    assert!(rt; are_changed(rt.alloc())?);
     Ok(())
 }
 
-/// A table that has three sections of one name, and another one, and the numbers of the three.
-fn three_of_one_name(alloc: Global) -> Result<(SectionTable<char>, [SectionId; 3]), Fail> {
-    let mut table = SectionTable::new(alloc);
+/// Puts three sections of one name in, and another one, and answers the numbers of the three.
+fn three_of_one_name(table: &mut SectionTable<char>) -> Result<[SectionId; 3], span::Error> {
     let first = table.push(b"core", None, 'a')?;
     table.push(b"other", None, 'b')?;
     let second = table.push(b"Core", None, 'c')?;
     let third = table.push(b"CORE", None, 'd')?;
-    Ok((table, [first, second, third]))
+    Ok([first, second, third])
 }
 
 /// Whether the numbers of a name are found so from both ends.
@@ -317,13 +388,28 @@ fn all_are_walked(table: &SectionTable<char>, numbers: &[SectionId; 3]) -> bool 
     all.next_back() == Some((third, &'d')) && all.next() == Some((first, &'a')) && all.count() == 2
 }
 
+/// All four.
+fn are_walked(table: &SectionTable<char>, numbers: &[SectionId; 3]) -> bool {
+    ids_are_walked(table, numbers)
+        && named_are_walked(table, numbers)
+        && with_name_are_walked(table, numbers)
+        && all_are_walked(table, numbers)
+}
+
+/// The same of a table that is filled here.
+fn is_filled_and_walked(table: &mut SectionTable<char>) -> Result<bool, span::Error> {
+    let numbers = three_of_one_name(table)?;
+    Ok(are_walked(table, &numbers))
+}
+
+fn is_one_walked(alloc: Global) -> Result<bool, span::Error> {
+    let mut table = SectionTable::new(alloc);
+    is_filled_and_walked(&mut table)
+}
+
 #[test]
 fn tables_are_walked_from_both_ends(rt: HostRuntime) -> Result<(), Fail> {
-    let (table, numbers) = three_of_one_name(rt.alloc())?;
-    assert!(rt; ids_are_walked(&table, &numbers));
-    assert!(rt; named_are_walked(&table, &numbers));
-    assert!(rt; with_name_are_walked(&table, &numbers));
-    assert!(rt; all_are_walked(&table, &numbers));
+    assert!(rt; is_one_walked(rt.alloc())?);
     Ok(())
 }
 
@@ -337,9 +423,9 @@ fn a_table_copied(
     begin(alloc)?;
     let answer = table.try_clone();
     let refused = was_refused(alloc);
-    let stays = told(alloc, table, numbers)?.as_slice() == expected;
+    let stays = is_told(table, numbers, expected);
     let fits = match answer {
-        Ok(copy) => stays && told(alloc, &copy, numbers)?.as_slice() == expected,
+        Ok(copy) => stays && is_told(&copy, numbers, expected),
         Err(NoMemory) => stays && refused,
     };
     Ok(Outcome { refused, fits })
@@ -347,8 +433,8 @@ fn a_table_copied(
 
 #[test]
 fn tables_are_copied(rt: HostRuntime) -> Result<(), Fail> {
-    let table = table_of(rt.alloc(), &[(CORE, b'c'), (LOWER, b'r')])?;
     let numbers = numbers(rt.alloc())?;
+    let table = table_of(rt.alloc(), &[(CORE, b'c'), (LOWER, b'r')])?;
     each_refused(rt.alloc(), "a copy of a table", |alloc| {
         a_table_copied(alloc, &table, &numbers)
     })

@@ -1,12 +1,13 @@
 -- Classes of bytes exclude each other.
-use Rattle.std.proofs.Common.{◌≡◌, ℕ, Bool, true, false, List, [], ◌∷◌, ◌++◌, refl, arith}
-use Rattle.std.specs.Prelude.{◌==◌, ◌&&◌, ◌||◌}
+use Rattle.std.proofs.Common.{◌≡◌, ℕ, Bool, true, false, List, [], ◌∷◌, ◌++◌, refl, ap, arith, cond, inl, inr}
+use Rattle.std.specs.Prelude.{◌==◌, ◌&&◌, ◌||◌, ◌⊎◌}
 use Rattle.std.specs.Char.{is_ascii_alphabetic}
+use Rattle.std.proofs.lemmas.Bool.{eqb-true}
 use Rattle.std.proofs.lemmas.Bool.Decides.{nat_tests}
 use Rattle.gitconf_text.specs.Bytes.{is_blank, is_whitespace, is_name_byte, is_header_byte}
-use Rattle.gitconf_text.specs.Text.{begins, begins_line_end}
-use Rattle.gitconf_text.specs.Unit.{Other, class_of, is_mark}
-use Rattle.gitconf_text.proofs.Tests.{apart, refuted}
+use Rattle.gitconf_text.specs.Text.{begins, begins_line_end, is_line_end}
+use Rattle.gitconf_text.specs.Unit.{LineFeed, Quote, Mark, Backslash, White, Other, class_of, is_mark}
+use Rattle.gitconf_text.proofs.Tests.{apart, both_true, refuted}
 
 pub letter_no_blank : (b : ℕ) → is_ascii_alphabetic b ≡ true → is_blank b ≡ false
 letter_no_blank b h = rw (apart is_ascii_alphabetic 32 b refl h, apart is_ascii_alphabetic 9 b refl h) refl
@@ -81,3 +82,30 @@ line_end_more b [] rest h = go (b == 10) refl
         none true k = cc
         none false k = cc
 line_end_more b (c ∷ front) rest h = h
+
+-- one line end is LF, or CR and LF
+pub line_end_is : (text : List ℕ) → is_line_end text ≡ true → (text ≡ 10 ∷ []) ⊎ (text ≡ 13 ∷ 10 ∷ [])
+line_end_is [] h = absurd (cc)
+line_end_is (b ∷ []) h = inl (ap (λ x. x ∷ []) (eqb-true b 10 h))
+line_end_is (b ∷ c ∷ []) h = let p = both_true (b == 13) (c == 10) h in inr (rw (eqb-true b 13 p.0, eqb-true c 10 p.1) refl)
+line_end_is (b ∷ c ∷ d ∷ rest) h = absurd (let e = h in cc)
+
+-- a test that fails, since what it chooses is not what was chosen
+pub unchosen : {A : Type 0} (test : Bool) (x y z : A) → (x ≡ z → ⊥) → cond test x y ≡ z → (test ≡ false) × (y ≡ z)
+unchosen true x y z differs h = absurd (differs h)
+unchosen false x y z differs h = (refl, h)
+
+pub backslash_is : (b : ℕ) → class_of b ≡ Backslash → b ≡ 92
+backslash_is b h =
+    let a = unchosen (b == 10) LineFeed _ Backslash (λ e. absurd (cc)) h in
+    let c = unchosen (b == 34) Quote _ Backslash (λ e. absurd (cc)) a.1 in
+    let d = unchosen (b == 59 || b == 35) Mark _ Backslash (λ e. absurd (cc)) c.1 in
+    go (b == 92) refl d.1
+  where
+    go : (t : Bool) → (b == 92) ≡ t → cond (b == 92) Backslash (cond (is_whitespace b) White Other) ≡ Backslash → b ≡ 92
+    go true e k = eqb-true b 92 e
+    go false e k = go2 (is_whitespace b) refl (rw e at k)
+      where
+        go2 : (t : Bool) → is_whitespace b ≡ t → cond (is_whitespace b) White Other ≡ Backslash → b ≡ 92
+        go2 true e k = absurd (let h = rw e at k in cc)
+        go2 false e k = absurd (let h = rw e at k in cc)

@@ -9,3 +9,4 @@ pub mod ValuesPlain
 pub mod ValuesEscaped
 pub mod ValuesRows
 pub mod TypedRows
+pub mod CommentEnds

@@ -2,8 +2,8 @@
 use Rattle.std.proofs.Common.{◌≡◌, ℕ, ◌+◌, ◌<◌, List, ◌∷◌, length, get_or, drop, ap, sym, ◌∙◌}
 use Rattle.std.proofs.lemmas.List.{at_drop_more}
 use Rattle.gitconf_text.specs.Part as parts
-use Rattle.gitconf_parse.specs.declared.items.Item.{Item}
-use Rattle.gitconf_parse.specs.Items.{item_of, items_of}
+use Rattle.gitconf_items.specs.declared.items.Item.{Item}
+use Rattle.gitconf_items.specs.Items.{item_of, items_of}
 
 -- what is left of a list is its next item and those behind it
 pub at_next : {T : Type 0} (F : List parts.Item → T) (buffer : List ℕ) (items : List Item) (i : ℕ) (x d : Item) → i < length items → x ≡ get_or items i d

@@ -4,9 +4,9 @@ use Rattle.std.specs.Prelude.{if◌then◌else◌}
 use Rattle.std.proofs.lemmas.Slice.Eq.{bytes_eq-Decides}
 use Rattle.std.specs.Str.{bytes_eq}
 use Rattle.gitconf_text.specs.Header.{DottedHeader, QuotedHeader, spelled_header}
-use Rattle.gitconf_parse.specs.declared.event.Span.{Span}
-use Rattle.gitconf_parse.specs.declared.event.Header.{Header}
-use Rattle.gitconf_parse.specs.Events.{bytes_of, header_form, header_of}
+use Rattle.gitconf_items.specs.declared.event.Span.{Span}
+use Rattle.gitconf_items.specs.declared.event.Header.{Header}
+use Rattle.gitconf_items.specs.Events.{bytes_of, header_form, header_of}
 use Rattle.gitconf_write.specs.Runs.{behind_name}
 
 spelled_is : (name separator subsection : List ℕ) (dot : Bool) → Decides dot (separator ≡ 46 ∷ [])

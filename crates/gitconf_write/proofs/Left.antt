@@ -2,9 +2,9 @@
 use Rattle.std.proofs.Common.{◌≡◌, ℕ, true, List, [], ◌++◌, Option, Result, Ok, Err, refl, ap, sym, subst, ◌∙◌, append_assoc}
 use Rattle.std.proofs.lemmas.List.{append-nil}
 use Rattle.std.specs.Prelude.{IsErr}
-use Rattle.gitconf_parse.specs.Sink.{with_text, is_begun, Writes}
+use Rattle.gitconf_items.specs.Sink.{with_text, is_begun, Writes}
 pub use Rattle.gitconf_write.specs.Runs.{IsLeft}
-use Rattle.gitconf_parse.proofs.SinkLaws.{with_text-with_text, with_text-empty, begun_behind, begun_before, Writes-fault}
+use Rattle.gitconf_items.proofs.SinkLaws.{with_text-with_text, with_text-empty, begun_behind, begun_before, Writes-fault}
 
 -- at first all of it
 pub left_all : (text : List ℕ) (old : Option (List ℕ)) → IsLeft text text old old

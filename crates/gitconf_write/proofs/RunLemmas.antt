@@ -4,12 +4,12 @@ use Rattle.std.specs.List.{slice_get}
 use Rattle.std.proofs.lemmas.List.{append-nil, drop-drop}
 use Rattle.std.proofs.lemmas.Option.{slice_get_within, get_or_from_slice_get}
 use Rattle.std.proofs.Math.Seq.{take-add, drop-cons}
-use Rattle.gitconf_parse.specs.declared.event.Span.{Span}
-use Rattle.gitconf_parse.specs.declared.event.Header.{Header}
-use Rattle.gitconf_parse.specs.Events.{bytes_of, header_of}
+use Rattle.gitconf_items.specs.declared.event.Span.{Span}
+use Rattle.gitconf_items.specs.declared.event.Header.{Header}
+use Rattle.gitconf_items.specs.Events.{bytes_of, header_of}
 use Rattle.gitconf_text.specs.Header.{spelled_header}
-use Rattle.gitconf_parse.specs.Sink.{is_begun, with_text, Writes}
-use Rattle.gitconf_parse.proofs.SinkLaws.{begun_before, begun_behind, with_text-empty, with_text-with_text, Writes-behind}
+use Rattle.gitconf_items.specs.Sink.{is_begun, with_text, Writes}
+use Rattle.gitconf_items.proofs.SinkLaws.{begun_before, begun_behind, with_text-empty, with_text-with_text, Writes-behind}
 use Rattle.gitconf_write.specs.declared.runs.Run.{Run}
 use Rattle.std.specs.Prelude.{flat_map, IfSome, IsErr}
 use Rattle.gitconf_text.specs.Part.{Item, LineEndsItem, spelled_item}

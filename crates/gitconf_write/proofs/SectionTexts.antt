@@ -4,11 +4,11 @@ use Rattle.std.proofs.lemmas.List.{append-nil}
 use Rattle.std.specs.Prelude.{◌==◌, flat_map}
 use Rattle.gitconf_text.specs.Header.{Header, spelled_header}
 use Rattle.gitconf_text.specs.Part.{spelled_item}
-use Rattle.gitconf_parse.specs.declared.items.Item.{Item}
+use Rattle.gitconf_items.specs.declared.items.Item.{Item}
 use Rattle.gitconf_state.specs.LineEnds.{line_end_of, ends_line}
 use Rattle.gitconf_state.specs.Printing.{begins_on_a_line, unless, behind_header}
 use Rattle.gitconf_state.specs.Writing.{Closed}
-use Rattle.gitconf_parse.specs.Items.{items_of, tokens_in}
+use Rattle.gitconf_items.specs.Items.{items_of, tokens_in}
 use Rattle.gitconf_write.specs.Texts.{items_text, section_lines, section_text, held_text}
 
 -- behind a header stands a line end, unless the body, which is not empty, begins on a line

@@ -4,8 +4,8 @@ use Rattle.std.proofs.lemmas.List.{at_drop_all, append-nil}
 use Rattle.std.specs.Prelude.{flat_map}
 use Rattle.gitconf_text.specs.Part as parts
 use Rattle.gitconf_text.specs.Part.{spelled_item}
-use Rattle.gitconf_parse.specs.declared.items.Item.{Item}
-use Rattle.gitconf_parse.specs.Items.{item_of, items_of}
+use Rattle.gitconf_items.specs.declared.items.Item.{Item}
+use Rattle.gitconf_items.specs.Items.{item_of, items_of}
 use Rattle.gitconf_state.specs.Printing.{closed_item}
 use Rattle.gitconf_state.specs.Writing.{Open, Closed, after, breaks_behind, written_items}
 use Rattle.gitconf_write.proofs.Bodies.{at_next}

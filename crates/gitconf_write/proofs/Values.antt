@@ -3,10 +3,10 @@ use Rattle.std.proofs.Common.{◌≡◌, ℕ, ◌+◌, ◌<◌, ◌≤◌, List,
 use Rattle.std.proofs.lemmas.List.{at_drop_more, at_drop_all}
 use Rattle.std.specs.Prelude.{flat_map}
 use Rattle.gitconf_text.specs.Value.{spelled_value}
-use Rattle.gitconf_parse.specs.declared.event.Span.{Span}
-use Rattle.gitconf_parse.specs.declared.entry.Piece.{Piece}
-use Rattle.gitconf_parse.specs.Events.{bytes_of}
-use Rattle.gitconf_parse.specs.Items.{piece_of}
+use Rattle.gitconf_items.specs.declared.event.Span.{Span}
+use Rattle.gitconf_items.specs.declared.entry.Piece.{Piece}
+use Rattle.gitconf_items.specs.Events.{bytes_of}
+use Rattle.gitconf_items.specs.Items.{piece_of}
 use Rattle.gitconf_state.specs.Printing.{closed_piece}
 use Rattle.gitconf_write.specs.Texts.{spelled_piece, closed_value}
 

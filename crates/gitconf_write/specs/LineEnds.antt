@@ -6,7 +6,7 @@ use Rattle.gitconf_text.specs.Token.{Token, NewlineToken}
 use Rattle.gitconf_text.specs.Part.{Item}
 use Rattle.gitconf_state.specs.State.{SectionState}
 use Rattle.gitconf_state.specs.LineEnds.{ends_line}
-use Rattle.gitconf_parse.specs.Items.{tokens_in}
+use Rattle.gitconf_items.specs.Items.{tokens_in}
 
 -- the line end of the first newline of tokens, if any
 abbrev pub first_newline : List Token → Option (List ℕ)

@@ -1,8 +1,8 @@
 -- Runs of a buffer's bytes that are written at once.
 use Rattle.std.specs.Prelude.{◌≡◌, ℕ, ◌-◌, true, List, [], ◌++◌, take, drop, Option, Some, Result, Ok, Err}
-use Rattle.gitconf_parse.specs.declared.event.Span.{Span}
-use Rattle.gitconf_parse.specs.Events.{bytes_of}
-use Rattle.gitconf_parse.specs.Sink.{is_begun, with_text}
+use Rattle.gitconf_items.specs.declared.event.Span.{Span}
+use Rattle.gitconf_items.specs.Events.{bytes_of}
+use Rattle.gitconf_items.specs.Sink.{is_begun, with_text}
 use Rattle.gitconf_write.specs.declared.runs.Run.{Run}
 use Rattle.gitconf_write.specs.Texts.{subsection_text}
 

@@ -7,7 +7,7 @@ use Rattle.gitconf_text.specs.Part.{Item, spelled_item}
 use Rattle.gitconf_state.specs.Printing.{closed_piece, unless, behind_header}
 use Rattle.gitconf_state.specs.LineEnds.{line_end_of, ends_line}
 use Rattle.gitconf_state.specs.Writing.{Open, Closed, after, breaks_behind, written_items}
-use Rattle.gitconf_parse.specs.Items.{tokens_in}
+use Rattle.gitconf_items.specs.Items.{tokens_in}
 
 abbrev pub spelled_piece : Piece → List ℕ
 spelled_piece p = p.text ++ 92 ∷ p.line_end

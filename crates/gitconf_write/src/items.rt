@@ -2,8 +2,8 @@
 ghost use Rattle.std.specs.Prelude.{◌≡◌, ◌≤◌, ◌++◌, IfOk};
 ghost use Rattle.gitconf_text.specs.Part.{EntryItem, spelled_item};
 ghost use Rattle.gitconf_text.specs.Value.{spelled_value};
-ghost use Rattle.gitconf_parse.specs.Sink.{Writes, Counts};
-ghost use Rattle.gitconf_parse.specs.Items.{piece_of, value_of, entry_of, item_of, items_of};
+ghost use Rattle.gitconf_items.specs.Sink.{Writes, Counts};
+ghost use Rattle.gitconf_items.specs.Items.{piece_of, value_of, entry_of, item_of, items_of};
 ghost use Rattle.gitconf_state.specs.Printing.{closed_piece, closed_item};
 ghost use Rattle.gitconf_state.specs.Writing.{Closed};
 ghost use Rattle.gitconf_text.specs.LineEnds.{bytes_of_line_end};
@@ -13,13 +13,13 @@ ghost use Rattle.gitconf_write.specs.Open.{open_of};
 
 use crate::open::Open;
 use crate::runs::{Run, item_run};
-use gitconf_parse::entry::{AssignedRef, Entry, Piece, Value};
-use gitconf_parse::items::Item;
-use gitconf_parse::sink::{Sink, SinkFault, write_all};
+use gitconf_items::entry::{AssignedRef, Entry, Piece, Value};
+use gitconf_items::items::Item;
+use gitconf_items::sink::{Sink, SinkFault, write_all};
 use gitconf_text::line_end::LineEnd;
 
 /// Writes a piece of a value, and a line end behind its backslash: its own, or else this one.
-#[tactic(auto, using(gitconf_parse::proofs::SinkLaws::in_turn))]
+#[tactic(auto, using(gitconf_items::proofs::SinkLaws::in_turn))]
 fn write_piece<W: Sink>(
     out: &mut W,
     buffer: &[u8],
@@ -57,7 +57,7 @@ fn write_value<W: Sink>(
 }
 
 /// Writes an entry, with a line end behind each piece of its value that goes on.
-#[tactic(auto, using(gitconf_parse::proofs::SinkLaws::in_turn))]
+#[tactic(auto, using(gitconf_items::proofs::SinkLaws::in_turn))]
 fn write_entry<W: Sink>(
     out: &mut W,
     buffer: &[u8],
@@ -85,7 +85,7 @@ fn write_entry<W: Sink>(
 }
 
 /// Writes an item, with a line end behind each piece of a value that goes on.
-#[tactic(auto, using(gitconf_parse::proofs::SinkLaws::in_turn))]
+#[tactic(auto, using(gitconf_items::proofs::SinkLaws::in_turn))]
 fn write_item<W: Sink>(
     out: &mut W,
     buffer: &[u8],
@@ -114,7 +114,7 @@ fn write_run<W: Sink>(out: &mut W, buffer: &[u8], run: Run) -> Result<(), SinkFa
 }
 
 /// Writes a run, and a line end behind it.
-#[tactic(auto, using(gitconf_parse::proofs::SinkLaws::in_turn))]
+#[tactic(auto, using(gitconf_items::proofs::SinkLaws::in_turn))]
 pub(crate) fn end_run<W: Sink>(
     out: &mut W,
     buffer: &[u8],

@@ -5,7 +5,7 @@ ghost use Rattle.gitconf_text.specs.Part.{Item, ItemPart, spelled_item, spelled}
 ghost use Rattle.gitconf_state.specs.State.{SectionState, State};
 ghost use Rattle.gitconf_state.specs.LineEnds.{section_line_end, file_line_end};
 ghost use Rattle.gitconf_state.specs.Printing.{ends_with_line, held_items, printed_section};
-ghost use Rattle.gitconf_parse.specs.Items.{tokens_in};
+ghost use Rattle.gitconf_items.specs.Items.{tokens_in};
 ghost use Rattle.gitconf_write.specs.LineEnds.{first_newline, first_newline_of_bodies, both_end_line};
 ghost use Rattle.gitconf_write.specs.Texts.{section_text, held_text};
 

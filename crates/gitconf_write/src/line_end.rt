@@ -4,12 +4,12 @@ ghost use Rattle.std.specs.Option.{unwrap_or};
 ghost use Rattle.gitconf_text.specs.Token.{item_tokens};
 ghost use Rattle.gitconf_state.specs.LineEnds as spec;
 ghost use Rattle.gitconf_state.specs.LineEnds.{line_end_of};
-ghost use Rattle.gitconf_parse.specs.Items.{item_of, tokens_of_value, items_of, tokens_in};
+ghost use Rattle.gitconf_items.specs.Items.{item_of, tokens_of_value, items_of, tokens_in};
 ghost use Rattle.gitconf_text.specs.LineEnds.{bytes_of_line_end, line_end_in};
 ghost use Rattle.gitconf_write.specs.LineEnds.{first_newline, both_end_line};
 
-use gitconf_parse::entry::{AssignedRef, Value};
-use gitconf_parse::items::Item;
+use gitconf_items::entry::{AssignedRef, Value};
+use gitconf_items::items::Item;
 use gitconf_text::line_end::LineEnd;
 
 /// The line end of the first piece of a value that has one.

@@ -1,12 +1,12 @@
 //! What a next item would run together with.
 ghost use Rattle.std.specs.Prelude.{◌≡◌, ℕ, List};
-ghost use Rattle.gitconf_parse.specs.Items.{item_of, assigned_of};
+ghost use Rattle.gitconf_items.specs.Items.{item_of, assigned_of};
 ghost use Rattle.gitconf_state.specs.Writing as spec;
-ghost use Rattle.gitconf_parse.specs.Events.{bytes_of};
+ghost use Rattle.gitconf_items.specs.Events.{bytes_of};
 ghost use Rattle.gitconf_write.specs.Open.{open_of};
 
-use gitconf_parse::entry::{AssignedRef, Entry};
-use gitconf_parse::items::Item;
+use gitconf_items::entry::{AssignedRef, Entry};
+use gitconf_items::items::Item;
 
 /// What stands before in the same list, with no line end between.
 #[derive(Clone, Copy, Debug)]

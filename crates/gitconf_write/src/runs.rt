@@ -1,15 +1,15 @@
 //! Runs of a buffer's bytes, so that what stands side by side there is written at once.
 ghost use Rattle.gitconf_text.specs.Part.{EntryItem, spelled_item};
 ghost use Rattle.gitconf_text.specs.Header.{spelled_header};
-ghost use Rattle.gitconf_parse.specs.Items.{entry_of, item_of};
-ghost use Rattle.gitconf_parse.specs.Events.{header_of};
+ghost use Rattle.gitconf_items.specs.Items.{entry_of, item_of};
+ghost use Rattle.gitconf_items.specs.Events.{header_of};
 ghost use Rattle.gitconf_state.specs.Printing.{closed_item};
 ghost use Rattle.gitconf_write.specs.Runs.{behind_name, run_of};
 ghost use Rattle.std.specs.Prelude.{◌≡◌, ◌≤◌, List, ℕ, ◌++◌, ◌∷◌, [], IfSome};
 
-use gitconf_parse::entry::{AssignedRef, Entry};
-use gitconf_parse::event::{Header, Span};
-use gitconf_parse::items::Item;
+use gitconf_items::entry::{AssignedRef, Entry};
+use gitconf_items::event::{Header, Span};
+use gitconf_items::items::Item;
 
 /// A run of bytes: where it begins, and where the byte behind its last one stands.
 #[derive(Clone, Copy, Debug)]
@@ -20,7 +20,7 @@ pub(crate) struct Run {
 
 impl Run {
     ghost use Rattle.std.specs.Prelude.{◌≡◌, ◌≤◌, List, ℕ, ◌++◌, ◌∷◌, [], IfSome};
-    ghost use Rattle.gitconf_parse.specs.Events.{bytes_of};
+    ghost use Rattle.gitconf_items.specs.Events.{bytes_of};
     ghost use Rattle.gitconf_write.specs.Runs.{run_of};
 
     /// No bytes.

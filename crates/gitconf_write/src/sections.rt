@@ -2,12 +2,12 @@
 ghost use Rattle.std.specs.Prelude.{◌≡◌, ◌≤◌, ℕ, List, true, false, flat_map, IfOk};
 ghost use Rattle.gitconf_text.specs.Header.{spelled_header};
 ghost use Rattle.gitconf_text.specs.Part.{spelled_item};
-ghost use Rattle.gitconf_parse.specs.Sink.{Writes, Counts};
-ghost use Rattle.gitconf_parse.specs.Events.{header_of};
+ghost use Rattle.gitconf_items.specs.Sink.{Writes, Counts};
+ghost use Rattle.gitconf_items.specs.Events.{header_of};
 ghost use Rattle.gitconf_state.specs.Printing as spec;
 ghost use Rattle.gitconf_state.specs.Printing.{unless};
 ghost use Rattle.gitconf_state.specs.Writing.{Closed};
-ghost use Rattle.gitconf_parse.specs.Items.{items_of};
+ghost use Rattle.gitconf_items.specs.Items.{items_of};
 ghost use Rattle.gitconf_text.specs.LineEnds.{bytes_of_line_end};
 ghost use Rattle.gitconf_write.specs.Runs.{run_of, WritesBut};
 ghost use Rattle.gitconf_write.specs.Texts.{items_text, subsection_text, section_text, held_text};
@@ -15,9 +15,9 @@ ghost use Rattle.gitconf_write.specs.Texts.{items_text, subsection_text, section
 use crate::items::{end_run, write_behind, write_items};
 use crate::line_end::{body_line_end, ends_line};
 use crate::runs::{Run, header_run};
-use gitconf_parse::event::Header;
-use gitconf_parse::items::Item;
-use gitconf_parse::sink::{Sink, SinkFault, write_all};
+use gitconf_items::event::Header;
+use gitconf_items::items::Item;
+use gitconf_items::sink::{Sink, SinkFault, write_all};
 use gitconf_text::line_end::LineEnd;
 
 /// Writes a header as it is spelled: in brackets the name, and the subsection behind a dot or, in quotes, behind blanks.
@@ -27,7 +27,7 @@ use gitconf_text::line_end::LineEnd;
 /// # Errors
 ///
 /// A write failed, or took nothing. It is not tried again, and a beginning of the header was written.
-#[tactic(auto, using(gitconf_parse::proofs::SinkLaws::in_turn, crate::proofs::Headers::header_parts))]
+#[tactic(auto, using(gitconf_items::proofs::SinkLaws::in_turn, crate::proofs::Headers::header_parts))]
 pub fn write_header<W: Sink>(out: &mut W, buffer: &[u8], header: &Header) -> Result<(), SinkFault>
     ensures written { Writes result (spelled_header (header_of buffer.now header.now)) (W.told out.old) (W.told out.new) }
     ensures counted { Counts result (W.faults out.old) (W.faults out.new) }
@@ -41,7 +41,7 @@ pub fn write_header<W: Sink>(out: &mut W, buffer: &[u8], header: &Header) -> Res
 }
 
 /// Writes a subsection behind its separator: behind a dot as it is, and else in quotes.
-#[tactic(auto, using(gitconf_parse::proofs::SinkLaws::in_turn))]
+#[tactic(auto, using(gitconf_items::proofs::SinkLaws::in_turn))]
 fn write_subsection<W: Sink>(
     out: &mut W,
     separator: &[u8],
@@ -64,7 +64,7 @@ fn write_subsection<W: Sink>(
 /// # Errors
 ///
 /// A write failed, or took nothing. It is not tried again, and a beginning of the line end was written.
-#[tactic(auto, using(gitconf_parse::proofs::SinkLaws::in_turn))]
+#[tactic(auto, using(gitconf_items::proofs::SinkLaws::in_turn))]
 pub fn write_line_end_unless<W: Sink>(
     out: &mut W,
     ended: bool,
@@ -125,7 +125,7 @@ fn begin_header<W: Sink>(out: &mut W, buffer: &[u8], header: &Header) -> Result<
 /// # Errors
 ///
 /// A write failed, or took nothing. It is not tried again, and a beginning of the section was written.
-#[tactic(auto, using(gitconf_parse::proofs::SinkLaws::in_turn))]
+#[tactic(auto, using(gitconf_items::proofs::SinkLaws::in_turn))]
 pub fn write_section<W: Sink>(
     out: &mut W,
     buffer: &[u8],
@@ -151,7 +151,7 @@ pub fn write_section<W: Sink>(
 /// # Errors
 ///
 /// A write failed, or took nothing. It is not tried again, and a beginning of the text was written.
-#[tactic(auto, using(gitconf_parse::proofs::SinkLaws::in_turn))]
+#[tactic(auto, using(gitconf_items::proofs::SinkLaws::in_turn))]
 pub fn write_held<W: Sink>(
     out: &mut W,
     buffer: &[u8],

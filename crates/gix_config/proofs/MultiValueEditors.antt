@@ -3,10 +3,10 @@ use Rattle.std.proofs.Common.{◌≡◌, ℕ, zero, suc, ◌+◌, ◌<◌, List,
 use Rattle.std.specs.declared.vec.Vec.{Vec}
 use Rattle.gitconf_base.specs.Key.{Key}
 use Rattle.gitconf_state.specs.State.{State}
-use Rattle.gitconf_store.specs.declared.lookup.existing.Error.{Error}
-use Rattle.gitconf_store.specs.declared.lookup.existing.Error.TheVariants.{Memory}
+use Rattle.gitconf_finding.specs.declared.existing.Error.{Error}
+use Rattle.gitconf_finding.specs.declared.existing.Error.TheVariants.{Memory}
 use Rattle.gitconf_store.specs.Several.{moved_up}
-use Rattle.gitconf_store.specs.ValuePlaces.{ArePlaces}
+use Rattle.gitconf_finding.specs.ValuePlaces.{ArePlaces}
 use Rattle.gitconf_store.proofs.Several.{other_memory}
 use Rattle.gix_config.specs.MultiValueEditors.{AreFoundTargets, AreTargets}
 use Rattle.gix_config.specs.Targeted.{Targeted}

@@ -13,8 +13,8 @@ use Rattle.gitconf_state.specs.Lookup.{is_named, listing}
 use Rattle.gitconf_state.specs.State.{HasItems, HasSectionItems, SectionState, State, is_item}
 use Rattle.gitconf_state.proofs.EditItems.{are_blanks, file_line_end_is, one_line_end, spacing_blank, spacing_fits}
 use Rattle.gitconf_state.proofs.EditLists.{filter_both}
-use Rattle.gitconf_store.specs.Picks.{picked}
-use Rattle.gitconf_store.specs.ValuePlaces.{editor_of_numbered}
+use Rattle.gitconf_finding.specs.Picks.{picked}
+use Rattle.gitconf_finding.specs.ValuePlaces.{editor_of_numbered}
 use Rattle.gix_config.specs.SectionEditors.{with_leading}
 
 -- what holds of all holds of the last one that passes

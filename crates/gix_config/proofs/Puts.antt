@@ -11,13 +11,13 @@ use Rattle.gitconf_state.specs.Edits.{Edit, items_of_numbered, new_bytes, value_
 use Rattle.gitconf_state.specs.Editors as states
 use Rattle.gitconf_state.specs.Editors.{comment_made, end_made, entry_made, line_made}
 use Rattle.gitconf_state.specs.State.{State}
-use Rattle.gitconf_body.specs.declared.editor.Editor.{Editor}
-use Rattle.gitconf_body.specs.declared.editor.Leading.{Leading}
-use Rattle.gitconf_body.specs.declared.editor.Leading.TheVariants as leadings
-use Rattle.gitconf_body.specs.Blanks.{given_editor, IsGiven, IsGivenLeading, PutsAround}
-use Rattle.gitconf_body.specs.Editors.{changed_put, comment_put, end_put, leading_in, leading_put, line_put, set_put, value_put}
+use Rattle.gitconf_lines.specs.declared.editor.Editor.{Editor}
+use Rattle.gitconf_lines.specs.declared.editor.Leading.{Leading}
+use Rattle.gitconf_lines.specs.declared.editor.Leading.TheVariants as leadings
+use Rattle.gitconf_lines.specs.Blanks.{given_editor, IsGiven, IsGivenLeading, PutsAround}
+use Rattle.gitconf_lines.specs.Editors.{changed_put, comment_put, end_put, leading_in, leading_put, line_put, set_put, value_put}
 use Rattle.gitconf_store.proofs.HeaderBytes.{header_tokens}
-use Rattle.gitconf_store.proofs.LineBytes.{both_bytes, comment_within, items_bytes, made_bytes, one_bytes, run_bytes}
+use Rattle.gitconf_views.proofs.LineBytes.{both_bytes, comment_within, items_bytes, made_bytes, one_bytes, run_bytes}
 use Rattle.gix_config.specs.Puts as puts
 use Rattle.gix_config.specs.Puts.{assigned_bytes, changed_bytes, line_bytes, put_bytes, value_set_bytes}
 

@@ -1,2 +1,2 @@
 -- Editors of sections that stand alone.
-pub use Rattle.gitconf_store.specs.AloneEditors.{edited, editor, lent}
+pub use Rattle.gitconf_views.specs.AloneEditors.{edited, editor, lent}

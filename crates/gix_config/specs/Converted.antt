@@ -7,10 +7,10 @@ use Rattle.bstr.specs.Owned.{bstring_bytes}
 use Rattle.gitconf_base.specs.Key.{Key}
 use Rattle.gitconf_state.specs.Lookup.{Miss}
 use Rattle.gitconf_state.specs.State.{SectionState, State}
-use Rattle.gitconf_store.specs.declared.section.SectionRef.{SectionRef}
-use Rattle.gitconf_store.specs.Lookups.{miss_at, value_at, value_in, values_at, values_in}
-use Rattle.gitconf_store.specs.Misses.{missing}
-use Rattle.gitconf_store.specs.Views.{shown}
+use Rattle.gitconf_views.specs.declared.section.SectionRef.{SectionRef}
+use Rattle.gitconf_finding.specs.Lookups.{miss_at, value_at, value_in, values_at, values_in}
+use Rattle.gitconf_finding.specs.Misses.{missing}
+use Rattle.gitconf_views.specs.Views.{shown}
 use Rattle.gix_config.specs.declared.lookup.Error.{Error}
 use Rattle.gix_config.specs.declared.lookup.Error.TheVariants.{ValueMissing, FailedConversion, Memory}
 

@@ -1,5 +1,4 @@
 pub mod Keys
-pub mod Options
 pub mod Errors
 pub mod Made
 pub mod Typed

@@ -2,11 +2,11 @@
 use Rattle.std.specs.Prelude.{◌<◌, ◌^◌, ℕ, Bool, true, false, List, filter, length}
 use Rattle.gitconf_text.specs.Part.{Part}
 use Rattle.gitconf_text.specs.Token.{Token, tokens_of}
-use Rattle.gitconf_parse.specs.EventList.{keeps_token}
+use Rattle.gitconf_items.specs.EventList.{keeps_token}
 use Rattle.gitconf_parse.specs.EventResult.{IsRefused}
-use Rattle.gitconf_parse.specs.TokenDocument.{keeps_meaning}
-use Rattle.gix_config.specs.declared.file.init.Error.{Error}
-use Rattle.gix_config.specs.declared.file.init.Error.TheVariants.{Parse, Memory}
+use Rattle.gitconf_items.specs.TokenDocument.{keeps_meaning}
+use Rattle.gitconf_includes.specs.declared.init.Error.{Error}
+use Rattle.gitconf_includes.specs.declared.init.Error.TheVariants.{Parse, Memory}
 
 -- the tokens of a text that stay: all, or in a lossy load those that are no blanks, line ends or comments
 abbrev pub loaded_tokens : (lossy : Bool) → List Part → List Token

@@ -10,13 +10,13 @@ use Rattle.gitconf_state.specs.Edit.{with_used}
 use Rattle.gitconf_state.specs.Edits.{Edit, DeleteAt, apply, items_of_numbered, numbered}
 use Rattle.gitconf_state.specs.State.{State}
 use Rattle.gitconf_body.specs.ValuesAt.{rewritten_put}
-use Rattle.gitconf_store.specs.declared.lookup.existing.Error.{Error}
-use Rattle.gitconf_store.specs.declared.lookup.existing.Error.TheVariants.{KeyMissing, Memory}
+use Rattle.gitconf_finding.specs.declared.existing.Error.{Error}
+use Rattle.gitconf_finding.specs.declared.existing.Error.TheVariants.{KeyMissing, Memory}
 use Rattle.gitconf_store.specs.Editors.{PutsIn}
-use Rattle.gitconf_store.specs.Lookups.{texts_of}
+use Rattle.gitconf_finding.specs.Lookups.{texts_of}
 use Rattle.gitconf_store.specs.Several.{all_meanings, one_rewriting}
-use Rattle.gitconf_store.specs.SomeSections.{WithSome}
-use Rattle.gitconf_store.specs.ValuePlaces.{AreInOrder, ArePlaces, key_places}
+use Rattle.gitconf_finding.specs.SomeSections.{WithSome}
+use Rattle.gitconf_finding.specs.ValuePlaces.{AreInOrder, ArePlaces, key_places}
 use Rattle.gix_config.specs.Targeted.{Targeted, place_at}
 use Rattle.gix_config.specs.declared.file.multi_value_mut.MultiValueMut.{MultiValueMut}
 

@@ -9,7 +9,7 @@ use Rattle.gitconf_state.specs.Edits.{Edit, NewSection, Push, PushLineEnd, Renam
 use Rattle.gitconf_state.specs.Editors.{Editor}
 use Rattle.gitconf_state.specs.LineEnds.{file_line_end}
 use Rattle.gitconf_state.specs.State.{State}
-use Rattle.gitconf_body.specs.Editors.{comment_put}
+use Rattle.gitconf_lines.specs.Editors.{comment_put}
 
 -- blanks, where there are any
 abbrev pub run_bytes : Option (List ℕ) → ℕ

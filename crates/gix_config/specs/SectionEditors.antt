@@ -15,14 +15,14 @@ use Rattle.gitconf_state.specs.Edits.{NewSection, apply, numbered}
 use Rattle.gitconf_state.specs.Editors.{Editor, editor_of}
 use Rattle.gitconf_state.specs.Lookup.{listed, miss_of}
 use Rattle.gitconf_state.specs.State.{SectionState, State}
-use Rattle.gitconf_body.specs.Blanks.{editor_with}
-use Rattle.gitconf_store.specs.declared.lookup.existing.Error.{Error as Existing}
-use Rattle.gitconf_store.specs.declared.lookup.existing.Error.TheVariants.{KeyMissing, Memory}
-use Rattle.gitconf_store.specs.Misses.{IsExisting}
+use Rattle.gitconf_lines.specs.Blanks.{editor_with}
+use Rattle.gitconf_finding.specs.declared.existing.Error.{Error as Existing}
+use Rattle.gitconf_finding.specs.declared.existing.Error.TheVariants.{KeyMissing, Memory}
+use Rattle.gitconf_finding.specs.Misses.{IsExisting}
 use Rattle.gitconf_store.specs.NewSections.{HasNoPlace}
-use Rattle.gitconf_store.specs.Picks.{picked, HasSection, IsMissing}
+use Rattle.gitconf_finding.specs.Picks.{picked, HasSection, IsMissing}
 use Rattle.gitconf_store.specs.Renamings.{header_numbers}
-use Rattle.gitconf_store.specs.SomeSections.{WithSome}
+use Rattle.gitconf_finding.specs.SomeSections.{WithSome}
 use Rattle.gix_config.specs.Puts.{put_bytes}
 use Rattle.gix_config.specs.declared.file.section_mut.SectionMut.{SectionMut}
 use Rattle.gix_config.specs.declared.file.section_mut.making.Error.{Error}

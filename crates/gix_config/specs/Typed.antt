@@ -8,7 +8,7 @@ use Rattle.gitconf_values.specs.Integers.{integer_or_refusal}
 use Rattle.gitconf_base.specs.Key.{Key}
 use Rattle.gitconf_base.specs.Metadata.{Meta}
 use Rattle.gitconf_state.specs.State.{State}
-use Rattle.gitconf_store.specs.Lookups.{IsFound, implicit_at, unless_empty, value_at, values_at}
+use Rattle.gitconf_finding.specs.Lookups.{IsFound, implicit_at, unless_empty, value_at, values_at}
 
 -- the boolean of an entry by what it means, or how that is refused: true where the entry has no value
 abbrev pub boolean_or_refusal : Option (List ℕ) → Result Bool ValueError

@@ -6,11 +6,11 @@ use Rattle.gitconf_base.specs.Metadata.{Meta}
 use Rattle.gitconf_state.specs.Edits.{Edit, DeleteAt, WriteAt, apply, told_of}
 use Rattle.gitconf_state.specs.Editors.{Editor}
 use Rattle.gitconf_state.specs.State.{State}
-use Rattle.gitconf_body.specs.Blanks.{editor_with}
-use Rattle.gitconf_store.specs.declared.lookup.existing.Error.{Error}
-use Rattle.gitconf_store.specs.declared.lookup.existing.Error.TheVariants.{Memory}
-use Rattle.gitconf_store.specs.SomeSections.{WithSome}
-use Rattle.gitconf_store.specs.ValuePlaces.{IsPlace, editor_of_numbered, meaning_at, value_place}
+use Rattle.gitconf_lines.specs.Blanks.{editor_with}
+use Rattle.gitconf_finding.specs.declared.existing.Error.{Error}
+use Rattle.gitconf_finding.specs.declared.existing.Error.TheVariants.{Memory}
+use Rattle.gitconf_finding.specs.SomeSections.{WithSome}
+use Rattle.gitconf_finding.specs.ValuePlaces.{IsPlace, editor_of_numbered, meaning_at, value_place}
 use Rattle.gix_config.specs.Spelled.{Spelled}
 use Rattle.gix_config.specs.declared.file.value_mut.ValueMut.{ValueMut}
 

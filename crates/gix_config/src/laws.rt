@@ -6,8 +6,8 @@ ghost use Rattle.gitconf_state.specs.Edit.{new_section};
 ghost use Rattle.gitconf_state.specs.Edits.{Edit, has_blank_leading, new_bytes, numbered, IsEditor};
 ghost use Rattle.gitconf_state.specs.Editors.{Editor, editor_of};
 ghost use Rattle.gitconf_state.specs.State.{HasItems, SectionState, State};
-ghost use Rattle.gitconf_store.specs.Picks.{picked};
-ghost use Rattle.gitconf_store.specs.ValuePlaces.{editor_of_numbered};
+ghost use Rattle.gitconf_finding.specs.Picks.{picked};
+ghost use Rattle.gitconf_finding.specs.ValuePlaces.{editor_of_numbered};
 ghost use Rattle.gix_config.specs.Puts.{put_bytes};
 ghost use Rattle.gix_config.specs.SectionEditors.{with_leading};
 

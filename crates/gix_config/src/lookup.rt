@@ -1,5 +1,5 @@
 //! How look-ups are refused.
-pub use gitconf_store::lookup::existing;
+pub use gitconf_finding::existing;
 use gitconf_text::NoMemory;
 use std::fmt::Display;
 use thiserror::Error;

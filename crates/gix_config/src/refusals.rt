@@ -4,8 +4,8 @@ ghost use Rattle.std.specs.Prelude.{◌≡◌};
 use crate::file::{includes, init, rename_section, section, section_mut, set_raw_value};
 use crate::lookup;
 use crate::lookup::existing;
+use gitconf_items::sink::SinkFault;
 use gitconf_parse::error as parse;
-use gitconf_parse::sink::SinkFault;
 use gitconf_text::parse::section::{NameError, ValueNameError, header};
 use gitconf_text::parse::span;
 use gitconf_text::{NoMemory, value};
@@ -94,7 +94,7 @@ impl Refusal for header::Error {
 }
 
 impl Refusal for existing::Error {
-    ghost use Rattle.gitconf_store.specs.Misses.{existing_number};
+    ghost use Rattle.gitconf_finding.specs.Misses.{existing_number};
 
     ghost number_of = { existing_number };
 
@@ -124,7 +124,7 @@ impl<E> Refusal for lookup::Error<E> {
 }
 
 impl Refusal for section::value::Error {
-    ghost use Rattle.gitconf_store.specs.ValueErrors.{value_number};
+    ghost use Rattle.gitconf_views.specs.ValueErrors.{value_number};
 
     ghost number_of = { value_number };
 
@@ -196,7 +196,7 @@ impl Refusal for interpolate::Error {
 }
 
 impl Refusal for includes::Error {
-    ghost use Rattle.gix_config.specs.Errors.{includes_number};
+    ghost use Rattle.gitconf_includes.specs.Errors.{includes_number};
 
     ghost number_of = { includes_number };
 
@@ -217,7 +217,7 @@ impl Refusal for includes::Error {
 }
 
 impl Refusal for init::Error {
-    ghost use Rattle.gix_config.specs.Errors.{init_number};
+    ghost use Rattle.gitconf_includes.specs.Errors.{init_number};
 
     ghost number_of = { init_number };
 

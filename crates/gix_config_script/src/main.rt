@@ -2,15 +2,7 @@
 //! The language is told in docs/scripts.md.
 #![tactic(auto)]
 
-mod answer;
-mod blocks;
-mod commands;
-mod kinds;
 mod program;
-mod refusal;
-mod rendering;
-mod session;
-mod writers;
 
 use program::run;
 use std::process::ExitCode;

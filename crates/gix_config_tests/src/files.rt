@@ -40,23 +40,46 @@ fn has_meta_of_api(file: &File) -> Result<bool, Fail> {
     has_meta(file, &Metadata::api())
 }
 
+/// Whether the file has the metadata of a program, and then that of the user.
+fn has_both_in_turn(alloc: Global, file: &mut File) -> Result<bool, Fail> {
+    Ok(has_meta_of_api(file)? && is_handed_to_user(alloc, file)?)
+}
+
+/// The same of a file that is loaded here, so that one way out alone lets it go.
+fn is_handed_over(alloc: Global) -> Result<bool, Fail> {
+    let mut file = loaded(alloc, b"[a] k = v")?;
+    has_both_in_turn(alloc, &mut file)
+}
+
 /// A file has the metadata that it was made with, or that was set; its sections keep theirs.
 #[test]
 fn metadata_of_a_file(rt: HostRuntime) -> Result<(), Fail> {
-    let mut file = loaded(rt.alloc(), b"[a] k = v")?;
-    assert!(rt; has_meta_of_api(&file)?);
-    assert!(rt; is_handed_to_user(rt.alloc(), &mut file)?);
+    assert!(rt; is_handed_over(rt.alloc())?);
     Ok(())
+}
+
+/// A copy of a file, which is handed to the user behind that.
+fn copied_and_handed(alloc: Global, file: &mut File) -> Result<File, Fail> {
+    let copy = file.try_clone()?;
+    hand_to_user(alloc, file)?;
+    Ok(copy)
+}
+
+/// The copy of a file that is handed to the user and dropped.
+fn copy_that_is_left(alloc: Global) -> Result<File, Fail> {
+    let mut file = loaded(alloc, b"[a] k = v")?;
+    copied_and_handed(alloc, &mut file)
+}
+
+fn keeps_meta(alloc: Global) -> Result<bool, Fail> {
+    let copy = copy_that_is_left(alloc)?;
+    has_meta_of_api(&copy)
 }
 
 /// A copy keeps its metadata where the file is handed to the user and dropped.
 #[test]
 fn metadata_of_a_copy(rt: HostRuntime) -> Result<(), Fail> {
-    let mut file = loaded(rt.alloc(), b"[a] k = v")?;
-    let copy = file.try_clone()?;
-    hand_to_user(rt.alloc(), &mut file)?;
-    drop(file);
-    assert!(rt; has_meta_of_api(&copy)?);
+    assert!(rt; keeps_meta(rt.alloc())?);
     Ok(())
 }
 
@@ -66,11 +89,20 @@ fn is_met_by_an_empty_file(alloc: Global, file: &File) -> Result<bool, Fail> {
     Ok(*empty.meta() == Metadata::from(Source::User) && empty.to_bstring()?.is_empty())
 }
 
+/// The same of this file, where it is handed to the user.
+fn is_met_when_handed(alloc: Global, file: &mut File) -> Result<bool, Fail> {
+    hand_to_user(alloc, file)?;
+    is_met_by_an_empty_file(alloc, file)
+}
+
+fn is_met(alloc: Global) -> Result<bool, Fail> {
+    let mut file = loaded(alloc, b"[a] k = v")?;
+    is_met_when_handed(alloc, &mut file)
+}
+
 #[test]
 fn metadata_of_an_empty_file(rt: HostRuntime) -> Result<(), Fail> {
-    let mut file = loaded(rt.alloc(), b"[a] k = v")?;
-    hand_to_user(rt.alloc(), &mut file)?;
-    assert!(rt; is_met_by_an_empty_file(rt.alloc(), &file)?);
+    assert!(rt; is_met(rt.alloc())?);
     Ok(())
 }
 
@@ -117,6 +149,15 @@ fn is_found_by(file: &File, key: KeyRef<'_>, expected: Option<&[u8]>) -> Result<
 }
 
 /// Whether the key is found so, written and, where it is one, by its names.
+fn is_found_both_ways(file: &File, key: &[u8], expected: Option<&[u8]>) -> Result<bool, Fail> {
+    let is_found_by_names = match KeyRef::parse_unvalidated(key) {
+        Some(names) => is_found_by(file, names, expected)?,
+        None => true,
+    };
+    Ok(is_found_by_names && is_found(file, key, expected)?)
+}
+
+/// The same in the file of a text.
 fn is_found_in(
     alloc: Global,
     text: &[u8],
@@ -124,15 +165,11 @@ fn is_found_in(
     expected: Option<&[u8]>,
 ) -> Result<bool, Fail> {
     let file = loaded(alloc, text)?;
-    let is_found_by_names = match KeyRef::parse_unvalidated(key) {
-        Some(names) => is_found_by(&file, names, expected)?,
-        None => true,
-    };
-    Ok(is_found_by_names && is_found(&file, key, expected)?)
+    is_found_both_ways(&file, key, expected)
 }
 
 /// A text, a key, and its value where all sections pass.
-const VALUES: [(&[u8], &[u8], Option<&[u8]>); 5] = [
+static VALUES: [(&[u8], &[u8], Option<&[u8]>); 5] = [
     (b"[a] k = v", b"a.k", Some(b"v")),
     (b"[a] k", b"a.k", None),
     (b"[a]\nk=1\n[A]\nk=2\n", b"a.k", Some(b"2")),
@@ -142,23 +179,32 @@ const VALUES: [(&[u8], &[u8], Option<&[u8]>); 5] = [
 
 #[test]
 fn values_where_sections_pass(rt: HostRuntime) -> Result<(), Fail> {
-    for (text, key, expected) in VALUES {
-        assert!(rt; is_found_in(rt.alloc(), text, key, expected)?);
+    for (text, key, expected) in VALUES.iter() {
+        assert!(rt; is_found_in(rt.alloc(), text, key, *expected)?);
     }
     Ok(())
 }
 
-/// Sections are asked for from the last one on: a filter that drops the first one that it sees leaves the others.
-#[test]
-fn a_filter_that_changes_its_mind(rt: HostRuntime) -> Result<(), Fail> {
-    let file = loaded(rt.alloc(), b"[a]\nk=1\n[a]\nk=2\n[a]\nk=3\n")?;
+/// What a filter finds that drops the first section that it sees.
+fn second_asked(file: &File) -> Result<Option<BString>, Fail> {
     let mut was_asked = false;
     let found = file.string_filter("a.k", |_| {
         let passes = was_asked;
         was_asked = true;
         passes
     })?;
-    assert!(rt; is_value(&found, Some(b"2")));
+    Ok(found)
+}
+
+fn is_second_found(alloc: Global) -> Result<bool, Fail> {
+    let file = loaded(alloc, b"[a]\nk=1\n[a]\nk=2\n[a]\nk=3\n")?;
+    Ok(is_value(&second_asked(&file)?, Some(b"2")))
+}
+
+/// Sections are asked for from the last one on: a filter that drops the first one that it sees leaves the others.
+#[test]
+fn a_filter_that_changes_its_mind(rt: HostRuntime) -> Result<(), Fail> {
+    assert!(rt; is_second_found(rt.alloc())?);
     Ok(())
 }
 
@@ -218,13 +264,20 @@ fn is_set_beside_by_names(file: &mut File) -> Result<bool, Fail> {
     Ok(replaces_by(file, ("a", "k"), b"5", Source::User, None)? && section_count(file) == 3)
 }
 
+/// All three, one behind the other.
+fn is_set_in_turn(file: &mut File) -> Result<bool, Fail> {
+    Ok(is_set_beside(file)? && is_set_in_place(file)? && is_set_beside_by_names(file)?)
+}
+
+fn is_set(alloc: Global) -> Result<bool, Fail> {
+    let mut file = loaded(alloc, b"[a]\nk=1\n")?;
+    is_set_in_turn(&mut file)
+}
+
 /// A section that the filter drops is left alone, and another one is made.
 #[test]
 fn values_are_set_where_a_filter_passes(rt: HostRuntime) -> Result<(), Fail> {
-    let mut file = loaded(rt.alloc(), b"[a]\nk=1\n")?;
-    assert!(rt; is_set_beside(&mut file)?);
-    assert!(rt; is_set_in_place(&mut file)?);
-    assert!(rt; is_set_beside_by_names(&mut file)?);
+    assert!(rt; is_set(rt.alloc())?);
     Ok(())
 }
 
@@ -249,18 +302,11 @@ fn is_printed_alone(
     Ok(printed_of(alloc, &file, place)?.as_slice() == expected)
 }
 
-/// Sections that are kept by their numbers, of which each has its own.
+/// One of two sections of one name, kept by its number. Those of different names are kept by rows.
 #[test]
 fn sections_by_their_numbers(rt: HostRuntime) -> Result<(), Fail> {
-    let rows: [(&[u8], usize, &[u8]); 4] = [
-        (b"[a][b]\n[c]", 0, b"[a]\n\n\n"),
-        (b"[a][b]\n[c]", 1, b"[b]\n"),
-        (b"[a][b]\n[c]", 2, b"[c]\n"),
-        (b"[a \"x\"] k [a \"y\"]j", 1, b"[a \"y\"]\nj\n"),
-    ];
-    for (text, place, expected) in rows {
-        assert!(rt; is_printed_alone(rt.alloc(), text, place, expected)?);
-    }
+    let text = b"[a \"x\"] k [a \"y\"]j";
+    assert!(rt; is_printed_alone(rt.alloc(), text, 1, b"[a \"y\"]\nj\n")?);
     Ok(())
 }
 
@@ -271,12 +317,17 @@ fn file_of_user(alloc: Global) -> Result<File, Fail> {
     Ok(File::from_bytes_no_includes(alloc, text, meta, init::Options::default())?)
 }
 
-/// Whether this is printed of the front and the sections that come from there.
-fn is_printed_from(alloc: Global, source: Source, text: &[u8]) -> Result<bool, Fail> {
-    let file = file_of_user(alloc)?;
+/// What is printed of the front and the sections that come from there.
+fn printed_from(alloc: Global, file: &File, source: Source) -> Result<Vec<u8>, Fail> {
     let mut out = Vec::new(alloc);
     file.write_to_filter(&mut out, |section| section.meta().source == source)?;
-    Ok(out.as_slice() == text)
+    Ok(out)
+}
+
+/// Whether this is printed of them.
+fn is_printed_from(alloc: Global, source: Source, text: &[u8]) -> Result<bool, Fail> {
+    let file = file_of_user(alloc)?;
+    Ok(printed_from(alloc, &file, source)?.as_slice() == text)
 }
 
 /// Sections that are kept by where they come from.
@@ -299,12 +350,17 @@ fn times_asked(alloc: Global, file: &File, answer: bool) -> Result<u64, Fail> {
 }
 
 /// How often a filter is asked that keeps all sections, and how often one that keeps none.
+fn both_asked(alloc: Global, file: &File) -> Result<(u64, u64), Fail> {
+    Ok((
+        times_asked(alloc, file, true)?,
+        times_asked(alloc, file, false)?,
+    ))
+}
+
+/// The same of the file of a text.
 fn asked(alloc: Global, text: &[u8]) -> Result<(u64, u64), Fail> {
     let file = loaded(alloc, text)?;
-    Ok((
-        times_asked(alloc, &file, true)?,
-        times_asked(alloc, &file, false)?,
-    ))
+    both_asked(alloc, &file)
 }
 
 /// A text, how often a filter is asked that keeps all sections, and how often one that keeps none.

@@ -1,10 +1,9 @@
 //! Calls on files that no command makes, each with one of its growths refused in turn.
 
 use crate::loads::{loaded, section_at};
-use gitconf_parse::sink::SinkFault;
+use gitconf_items::sink::SinkFault;
 use gitconf_parse_tests::texts::{PRINTED, TEXT};
 use gitconf_tests::shim::{Outcome, begin, each_refused, was_refused};
-use gitconf_text::NoMemory;
 use gix_config::File;
 use gix_config::refusals::Refusal as _;
 use std::alloc::Global;
@@ -67,27 +66,11 @@ fn a_section_written(alloc: Global, file: &File) -> Result<Outcome, Fail> {
     Ok(Outcome { refused, fits })
 }
 
-fn a_section_copied(alloc: Global, file: &File) -> Result<Outcome, Fail> {
-    let Some(section) = section_at(file, 0) else {
-        return Err(Fail::new("no section"));
-    };
-    begin(alloc)?;
-    let answer = section.to_bstring();
-    let refused = was_refused(alloc);
-    let fits = match answer {
-        Ok(text) => text.as_bytes() == SECTION,
-        Err(NoMemory) => refused && is_whole(file)?,
-    };
-    Ok(Outcome { refused, fits })
-}
-
+/// What the text of a section is, refused or not, is told by rows.
 #[test]
 fn sections(rt: HostRuntime) -> Result<(), Fail> {
     let file = loaded(rt.alloc(), TEXT)?;
     each_refused(rt.alloc(), "a section that is written", |alloc| {
         a_section_written(alloc, &file)
-    })?;
-    each_refused(rt.alloc(), "a section's text", |alloc| {
-        a_section_copied(alloc, &file)
     })
 }

@@ -5,11 +5,12 @@ use gitconf_parse_tests::texts::TEXT;
 use gitconf_tests::shim::{begin, was_refused};
 use gix_config::File;
 use gix_config::file::Metadata;
+use std::alloc::Global;
 use std::rc::Rc;
 use std::test::Fail;
 
 /// No section, no key in it, a key without a value, and no key at all.
-const MISSES: [&str; 8] = [
+static MISSES: [&str; 8] = [
     "a.k",
     "core.x",
     "core.o.k",
@@ -24,22 +25,39 @@ fn is_a_miss(file: &File, key: &str) -> bool {
     matches!(file.string(key), Ok(None))
 }
 
+/// Whether all of them are told without memory.
+fn are_misses(alloc: Global, file: &File) -> Result<bool, Fail> {
+    begin(alloc)?;
+    let are_misses = MISSES.iter().all(|key| is_a_miss(file, key));
+    Ok(!was_refused(alloc) && are_misses)
+}
+
+fn are_misses_of_text(alloc: Global) -> Result<bool, Fail> {
+    let file = loaded(alloc, TEXT)?;
+    are_misses(alloc, &file)
+}
+
 #[test]
 fn misses(rt: HostRuntime) -> Result<(), Fail> {
-    let file = loaded(rt.alloc(), TEXT)?;
-    begin(rt.alloc())?;
-    let are_misses = MISSES.iter().all(|key| is_a_miss(&file, key));
-    assert!(rt; !was_refused(rt.alloc()) && are_misses);
+    assert!(rt; are_misses_of_text(rt.alloc())?);
     Ok(())
+}
+
+fn is_empty(file: &File) -> bool {
+    file.is_void() && section_count(file) == 0
+}
+
+/// Whether a new file is made without memory, and is empty.
+fn is_made(alloc: Global) -> Result<bool, Fail> {
+    let meta = Rc::new(alloc, Metadata::api())?;
+    begin(alloc)?;
+    let file = File::new(alloc, meta);
+    Ok(!was_refused(alloc) && is_empty(&file))
 }
 
 #[test]
 fn a_new_file(rt: HostRuntime) -> Result<(), Fail> {
-    let meta = Rc::new(rt.alloc(), Metadata::api())?;
-    begin(rt.alloc())?;
-    let file = File::new(rt.alloc(), meta);
-    assert!(rt; !was_refused(rt.alloc()));
-    assert!(rt; file.is_void() && section_count(&file) == 0);
+    assert!(rt; is_made(rt.alloc())?);
     Ok(())
 }
 
@@ -61,14 +79,29 @@ fn is_told(file: &File) -> bool {
     counts(file) == (6, false, 3) && has_line_feeds(file) && has_meta(file, &Metadata::api())
 }
 
+/// Whether the metadata that the file shares is that of a program.
+fn shares_meta(file: &File) -> bool {
+    match file.meta_owned() {
+        Ok(shared) => *shared == Metadata::api(),
+        Err(_) => false,
+    }
+}
+
+/// Whether all of this is told without memory.
+fn is_told_without_memory(alloc: Global, file: &File) -> Result<bool, Fail> {
+    begin(alloc)?;
+    let is_told = is_told(file) && shares_meta(file);
+    Ok(!was_refused(alloc) && is_told)
+}
+
+fn is_text_told(alloc: Global) -> Result<bool, Fail> {
+    let file = loaded(alloc, TEXT)?;
+    is_told_without_memory(alloc, &file)
+}
+
 #[test]
 fn counts_and_views(rt: HostRuntime) -> Result<(), Fail> {
-    let file = loaded(rt.alloc(), TEXT)?;
-    begin(rt.alloc())?;
-    let is_told = is_told(&file);
-    let shared = file.meta_owned();
-    assert!(rt; !was_refused(rt.alloc()));
-    assert!(rt; is_told && *shared? == Metadata::api());
+    assert!(rt; is_text_told(rt.alloc())?);
     Ok(())
 }
 
@@ -77,14 +110,22 @@ fn is_written(file: &File, out: &mut Vec<u8>) -> bool {
     file.write_to(out).is_ok()
 }
 
+/// Whether the file is written without memory where there is room.
+fn is_written_to_room(alloc: Global, file: &File) -> Result<bool, Fail> {
+    let mut out = Vec::with_capacity(alloc, 100)?;
+    begin(alloc)?;
+    let is_written = is_written(file, &mut out);
+    Ok(!was_refused(alloc) && is_written && out.as_slice() == b"[a]\n k = v\n".as_slice())
+}
+
+fn is_text_written(alloc: Global) -> Result<bool, Fail> {
+    let file = loaded(alloc, b"[a] k = v")?;
+    is_written_to_room(alloc, &file)
+}
+
 /// A writer that has room is not refused anything.
 #[test]
 fn a_file_written_where_there_is_room(rt: HostRuntime) -> Result<(), Fail> {
-    let file = loaded(rt.alloc(), b"[a] k = v")?;
-    let mut out = Vec::with_capacity(rt.alloc(), 100)?;
-    begin(rt.alloc())?;
-    let is_written = is_written(&file, &mut out);
-    assert!(rt; !was_refused(rt.alloc()));
-    assert!(rt; is_written && out.as_slice() == b"[a]\n k = v\n".as_slice());
+    assert!(rt; is_text_written(rt.alloc())?);
     Ok(())
 }

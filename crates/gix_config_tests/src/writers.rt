@@ -1,7 +1,7 @@
 //! What writers that fail take of a file, of a part of one, and of a section.
 
 use crate::loads::{loaded, section_at};
-use gitconf_parse::sink::SinkFault;
+use gitconf_items::sink::SinkFault;
 use gitconf_parse_tests::narrow::{Narrow, check};
 use gitconf_parse_tests::texts::{PRINTED, TEXT};
 use gix_config::File;
@@ -10,7 +10,7 @@ use std::alloc::Global;
 use std::test::Fail;
 
 /// Texts, and what is printed of them.
-const ROWS: [(&[u8], &[u8]); 7] = [
+static ROWS: [(&[u8], &[u8]); 7] = [
     (b"", b""),
     (b"# c", b"# c"),
     (b"[a] b c=d", b"[a]\n b \nc=d\n"),
@@ -28,7 +28,7 @@ fn check_file(alloc: Global, text: &[u8], printed: &[u8]) -> Result<(), Fail> {
 
 #[test]
 fn writers_that_fail(rt: HostRuntime) -> Result<(), Fail> {
-    for (text, printed) in ROWS {
+    for (text, printed) in ROWS.iter() {
         check_file(rt.alloc(), text, printed)?;
     }
     Ok(())
@@ -49,14 +49,19 @@ fn write_section(file: &File, place: usize, out: &mut Narrow) -> Result<(), Sink
     }
 }
 
-#[test]
-fn writers_that_fail_at_parts(rt: HostRuntime) -> Result<(), Fail> {
-    let file = loaded(rt.alloc(), b"  [a] k [b]\nj")?;
+/// What failing writers take of a part of the file, and of each of two sections.
+fn check_parts(alloc: Global, file: &File) -> Result<(), Fail> {
     check(
-        rt.alloc(),
+        alloc,
         b"  \n[b]\nj\n",
         |out| file.write_to_filter(out, is_b),
     )?;
-    check(rt.alloc(), b"[a]\n k ", |out| write_section(&file, 0, out))?;
-    check(rt.alloc(), b"[b]\nj", |out| write_section(&file, 1, out))
+    check(alloc, b"[a]\n k ", |out| write_section(file, 0, out))?;
+    check(alloc, b"[b]\nj", |out| write_section(file, 1, out))
+}
+
+#[test]
+fn writers_that_fail_at_parts(rt: HostRuntime) -> Result<(), Fail> {
+    let file = loaded(rt.alloc(), b"  [a] k [b]\nj")?;
+    check_parts(rt.alloc(), &file)
 }

@@ -1,12 +1,12 @@
 //! Iterators over events and sections.
 ghost use Rattle.std.specs.Prelude.{◌≡◌, ◌<◌, true, length};
 ghost use Rattle.gitconf_parse.specs.Compact.{events_of};
-ghost use Rattle.gitconf_parse.specs.EventProps.{AreWithin, AreWithin-prop};
-ghost use Rattle.gitconf_parse.specs.Sections.{is_header_event, is_cut};
+ghost use Rattle.gitconf_items.specs.EventProps.{AreWithin, AreWithin-prop};
+ghost use Rattle.gitconf_items.specs.Sections.{is_header_event, is_cut};
 
-use super::lend::event_ref;
 use crate::compact::EventSlice;
-use crate::event_ref::EventRef;
+use gitconf_items::event_ref::EventRef;
+use gitconf_items::lend::event_ref;
 
 /// Events in the order of their text.
 #[derive(Clone, Copy, Debug)]
@@ -20,8 +20,8 @@ pub struct EventIter<'a> {
 impl<'a> EventIter<'a> {
     ghost use Rattle.std.specs.Prelude.{◌≡◌, map};
     ghost use Rattle.gitconf_parse.specs.Compact.{events_of};
-    ghost use Rattle.gitconf_parse.specs.EventProps.{AreWithin};
-    ghost use Rattle.gitconf_parse.specs.ShownEvents.{shown_event};
+    ghost use Rattle.gitconf_items.specs.EventProps.{AreWithin};
+    ghost use Rattle.gitconf_items.specs.ShownEvents.{shown_event};
     ghost use Rattle.gitconf_parse.specs.EventIters.{events_left};
 
     /// The events of a slice, whose spans are offsets of these buffers.
@@ -41,7 +41,7 @@ impl<'a> Iterator for EventIter<'a> {
     type Item = EventRef<'a>;
 
     ghost use Rattle.std.specs.Iterator.{YieldsFirstBy, item_count};
-    ghost use Rattle.gitconf_parse.specs.EventRef.{shown};
+    ghost use Rattle.gitconf_items.specs.EventRef.{shown};
     ghost use Rattle.gitconf_parse.specs.EventIters.{events_left};
 
     ghost next_gives = { YieldsFirstBy shown events_left };
@@ -67,7 +67,7 @@ pub struct SectionRef<'a> {
 
 impl<'a> SectionRef<'a> {
     ghost use Rattle.std.specs.Prelude.{◌≡◌, ◌∷◌, drop};
-    ghost use Rattle.gitconf_parse.specs.EventRef.{shown};
+    ghost use Rattle.gitconf_items.specs.EventRef.{shown};
     ghost use Rattle.gitconf_parse.specs.EventIters.{events_left, shown_section};
 
     /// The section's header.
@@ -116,9 +116,9 @@ pub struct SectionIter<'a> {
 impl<'a> SectionIter<'a> {
     ghost use Rattle.std.specs.Prelude.{◌≡◌, map};
     ghost use Rattle.gitconf_parse.specs.Compact.{events_of};
-    ghost use Rattle.gitconf_parse.specs.EventProps.{AreWithin};
-    ghost use Rattle.gitconf_parse.specs.ShownEvents.{shown_event};
-    ghost use Rattle.gitconf_parse.specs.Sections.{is_header_event, sections_of};
+    ghost use Rattle.gitconf_items.specs.EventProps.{AreWithin};
+    ghost use Rattle.gitconf_items.specs.ShownEvents.{shown_event};
+    ghost use Rattle.gitconf_items.specs.Sections.{is_header_event, sections_of};
     ghost use Rattle.gitconf_parse.specs.EventIters.{sections_left};
 
     /// The sections of a slice of events, whose spans are offsets of these buffers.

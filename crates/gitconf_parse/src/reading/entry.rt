@@ -9,7 +9,7 @@ use super::ReadError;
 use super::run::{Run, run_end};
 use super::value::value_events;
 use crate::compact::EventVec;
-use crate::event::{Event, Span};
+use gitconf_items::event::{Event, Span};
 
 /// The blanks at an offset, if there are any.
 fn blanks(input: &[u8], at: usize, events: &mut EventVec) -> Result<usize, ReadError>

@@ -4,7 +4,7 @@ ghost use Rattle.std.specs.Option.{option_map};
 ghost use Rattle.gitconf_parse.specs.Reading.{unquoted_header, quoted_header, header_at, spelling_from};
 
 use super::run::{Run, run_end};
-use crate::event::{Header, Span};
+use gitconf_items::event::{Header, Span};
 
 /// The header without quotes whose name, from `from` on, ends with the bracket at `end`.
 fn unquoted(input: &[u8], from: usize, end: usize) -> Option<(Header, usize)>

@@ -4,10 +4,10 @@ ghost use Rattle.gitconf_text.specs.Token.{HeaderToken, item_tokens};
 ghost use Rattle.gitconf_text.specs.Part.{EntryItem};
 ghost use Rattle.gitconf_parse.specs.declared.reading.Expected.TheVariants.{Name};
 ghost use Rattle.gitconf_parse.specs.declared.reading.ReadError.TheVariants.{Memory};
-ghost use Rattle.gitconf_parse.specs.Events.{bytes_of, header_of, SpanFits, HeaderFits};
+ghost use Rattle.gitconf_items.specs.Events.{bytes_of, header_of, SpanFits, HeaderFits};
 ghost use Rattle.gitconf_parse.specs.ItemReading.{IsReadTo, IsRefusal, IsValueRead, IsValueRefusal, IsEntryWith, IsKeptRead};
-ghost use Rattle.gitconf_parse.specs.Items.{entry_of, tokens_of_items, tokens_of_value};
-ghost use Rattle.gitconf_parse.specs.ItemsFit.{AreItemsWithin, EntryFits, ValueFits};
+ghost use Rattle.gitconf_items.specs.Items.{entry_of, tokens_of_items, tokens_of_value};
+ghost use Rattle.gitconf_items.specs.ItemsFit.{AreItemsWithin, EntryFits, ValueFits};
 ghost use Rattle.gitconf_parse.specs.Reading.{entry_at, part_at};
 ghost use Rattle.gitconf_parse.specs.Stretches.{IsStretch, IsKeptStretch, IsBreak};
 
@@ -17,10 +17,10 @@ use super::part::{Opening, part_opening};
 use super::run::{Run, run_end};
 use super::value::{PieceEnd, piece_end};
 use super::{Expected, Fault, ReadError};
-use crate::entry::{Assigned, Entry, EntryParts, Piece, Value};
-use crate::event::{Header, Span};
-use crate::items::{Item, Keep};
-use crate::stripping::kept_entry;
+use gitconf_items::entry::{Assigned, Entry, EntryParts, Piece, Value};
+use gitconf_items::event::{Header, Span};
+use gitconf_items::items::{Item, Keep};
+use gitconf_items::stripping::kept_entry;
 use smallvec::SmallVec;
 use std::alloc::Global;
 

@@ -8,7 +8,7 @@ use super::header::header;
 use super::run::{Run, is_line_end, run_end};
 use super::{Expected, Fault, ReadError};
 use crate::compact::EventVec;
-use crate::event::{Event, Span};
+use gitconf_items::event::{Event, Span};
 
 /// Which part may begin at an offset.
 #[derive(Clone, Copy)]

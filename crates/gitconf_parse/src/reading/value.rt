@@ -1,7 +1,7 @@
 //! Values, piece by piece.
 ghost use Rattle.std.specs.Prelude.{◌≡◌, ◌≤◌, ◌<◌, ◌+◌, ◌^◌, ◌++◌, ◌∷◌, [], ℕ, Bool, slice_index, length, drop, IfOk, IsOkUnless};
 ghost use Rattle.gitconf_text.specs.Unit.{class_of, Other};
-ghost use Rattle.gitconf_parse.specs.declared.event.Event.TheVariants.{Newline, ValueNotDone};
+ghost use Rattle.gitconf_items.specs.declared.event.Event.TheVariants.{Newline, ValueNotDone};
 ghost use Rattle.gitconf_parse.specs.declared.reading.ReadError.TheVariants.{Memory};
 ghost use Rattle.gitconf_parse.specs.Reading.{Gives, span, value_at, piece_from};
 ghost use Rattle.gitconf_parse.specs.ItemReading.{EndsWithin};
@@ -9,7 +9,7 @@ ghost use Rattle.gitconf_parse.specs.ItemReading.{EndsWithin};
 use super::run::{Run, run_end};
 use super::{Expected, Fault, ReadError};
 use crate::compact::EventVec;
-use crate::event::{Event, Span};
+use gitconf_items::event::{Event, Span};
 
 /// How a piece of a value ends.
 #[derive(Clone, Copy)]

@@ -6,7 +6,7 @@ ghost use Rattle.gitconf_sections.specs.Walks.{named_left, sections_left, with_n
 
 use crate::row::{Row, Section, read};
 use crate::sections::SectionList;
-use gitconf_parse::items::Item;
+use gitconf_items::items::Item;
 use gitconf_table::table;
 use gitconf_table::table::{SectionId, SectionIter};
 

@@ -4,13 +4,13 @@ ghost use Rattle.gitconf_table.specs.Sections.{no_number};
 ghost use Rattle.gitconf_state.specs.Edit.{with_used};
 ghost use Rattle.gitconf_state.specs.Edits.{Number, PushSection, answer, apply};
 
-use crate::detached;
-use crate::moving::{copies_before, move_list, put_last};
 use crate::store::Store;
-use gitconf_body::buffer::{append, check_room};
-use gitconf_parse::moving::moved_header;
+use gitconf_items::moving::moved_header;
+use gitconf_joining::moving::{copies_before, move_list, put_last};
+use gitconf_lines::buffer::{append, check_room};
 use gitconf_table::table::SectionId;
 use gitconf_text::parse::span;
+use gitconf_views::detached;
 
 impl Store {
     /// Asks whether [`Store::push_section`] may put the section behind the others. Takes no memory.

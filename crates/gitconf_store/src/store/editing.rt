@@ -1,7 +1,8 @@
 //! Edits of the section of a number, on which an editor of a section stands.
 use crate::store::Store;
-use gitconf_body::editor::Editor;
-use gitconf_body::{push, set, take_out};
+use gitconf_body::{set, take_out};
+use gitconf_lines::editor::Editor;
+use gitconf_lines::push;
 use gitconf_table::table::SectionId;
 use gitconf_text::NoMemory;
 use gitconf_text::parse::span;
@@ -13,7 +14,7 @@ impl Store {
     ghost use Rattle.gitconf_state.specs.Edit.{with_used};
     ghost use Rattle.gitconf_state.specs.Edits.{answer, apply, items_of_numbered, Entry, IsEditor, Pop, Push, PushLineEnd, Raw, Remove, SetValue};
     ghost use Rattle.gitconf_text.specs.LineEnds.{bytes_of_line_end};
-    ghost use Rattle.gitconf_body.specs.Editors.{line_put, set_put};
+    ghost use Rattle.gitconf_lines.specs.Editors.{line_put, set_put};
     ghost use Rattle.gitconf_store.specs.Editors.{given_editor, IsGiven, PutsIn};
 
     /// Pushes a line behind the items of the section of a number: the editor's blanks, the key, and where a value is given `=` with the

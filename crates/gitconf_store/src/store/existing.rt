@@ -6,7 +6,7 @@ use gitconf_body::value_at::InPlaceOf;
 impl Store {
     ghost use Rattle.std.specs.Option.{option_copied};
     ghost use Rattle.gitconf_store.specs.Existing.{IsSetExisting};
-    ghost use Rattle.gitconf_store.specs.Lookups.{key_at};
+    ghost use Rattle.gitconf_finding.specs.Lookups.{key_at};
 
     /// Gives the last entry of a key another value, with `=` or without it, in the last section that has one, of those that have the name,
     /// without ASCII case, and exactly the subsection: the entry is written anew, by the name that is given, with the blanks around `=`

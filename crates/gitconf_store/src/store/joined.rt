@@ -1,17 +1,17 @@
 //! Another store's sections and items put behind those of a store.
 ghost use Rattle.std.specs.Prelude.{◌≡◌, ◌⊎◌, ◌↔◌, ◌+◌, ◌<◌, ◌≤◌, ◌^◌, ◌++◌, length, IfErr, IfOk, IsErrOf, OnErr, OnOk};
-ghost use Rattle.gitconf_body.specs.Buffers.{Grows};
+ghost use Rattle.gitconf_lines.specs.Buffers.{Grows};
 ghost use Rattle.gitconf_table.specs.Sections.{no_number};
 ghost use Rattle.gitconf_state.specs.Edit.{with_used};
 ghost use Rattle.gitconf_state.specs.Edits.{Append, apply};
 ghost use Rattle.gitconf_store.specs.Appends.{appended_bytes, last_items, line_between, IsLineAt};
 
-use crate::joining::{parts_lines, put_behind};
-use crate::moving::{copies_before, move_front, move_sections};
 use crate::store::Store;
-use gitconf_body::buffer::{append, check_room};
-use gitconf_parse::event::Span;
-use gitconf_parse::items::Item;
+use gitconf_items::event::Span;
+use gitconf_items::items::Item;
+use gitconf_joining::joining::{parts_lines, put_behind};
+use gitconf_joining::moving::{copies_before, move_front, move_sections};
+use gitconf_lines::buffer::{append, check_room};
 use gitconf_sections::sections::SectionList;
 use gitconf_text::parse::span;
 
@@ -31,7 +31,7 @@ fn last_items<'a>(front: &'a [Item], sections: &'a SectionList) -> &'a [Item]
 /// # Errors
 ///
 /// Those of [`append`].
-#[tactic(auto, using(gitconf_body::proofs::Buffers::extending))]
+#[tactic(auto, using(gitconf_lines::proofs::Buffers::extending))]
 fn put_line_end(buffer: &mut Vec<u8>, line_end: &[u8]) -> Result<Option<Span>, span::Error>
     requires room { length buffer.old.items < 2 ^ 32 }
     ensures ok { OnOk result (buffer.new.items ≡ buffer.old.items ++ line_end.now) }
@@ -50,7 +50,7 @@ fn put_line_end(buffer: &mut Vec<u8>, line_end: &[u8]) -> Result<Option<Span>, s
 /// # Errors
 ///
 /// Those of [`append`]. The buffer may have grown.
-#[tactic(auto, using(gitconf_body::proofs::Buffers::extending))]
+#[tactic(auto, using(gitconf_lines::proofs::Buffers::extending))]
 fn put_bytes(
     buffer: &mut Vec<u8>,
     copies: &mut Vec<u8>,

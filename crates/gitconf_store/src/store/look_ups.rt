@@ -5,20 +5,20 @@ ghost use Rattle.std.specs.Option.{option_copied, option_map};
 ghost use Rattle.std.specs.Prelude.{◌≡◌, Bool, true};
 ghost use Rattle.gitconf_base.specs.Metadata.{Meta};
 ghost use Rattle.gitconf_state.specs.Lookup.{has_name, is_named, listed, miss_of};
-ghost use Rattle.gitconf_store.specs.Finding.{AreFound, all_places, last_place, place_of};
-ghost use Rattle.gitconf_store.specs.Lookups.{AreRawValues, AreRawValuesWithSections, AreStrings, IsImplicit, IsRawValue, IsRawValueWithSection, IsString, key_at, sections_named};
-ghost use Rattle.gitconf_store.specs.Misses.{existing_or, missing};
-ghost use Rattle.gitconf_store.specs.SomeSections.{AreSomeRawValues, AreSomeRawValuesWithSections, IsSomeRawValue, IsSomeRawValueWithSection, WithSome};
+ghost use Rattle.gitconf_finding.specs.Finding.{AreFound, all_places, last_place, place_of};
+ghost use Rattle.gitconf_finding.specs.Lookups.{AreRawValues, AreRawValuesWithSections, AreStrings, IsImplicit, IsRawValue, IsRawValueWithSection, IsString, key_at, sections_named};
+ghost use Rattle.gitconf_finding.specs.Misses.{existing_or, missing};
+ghost use Rattle.gitconf_finding.specs.SomeSections.{AreSomeRawValues, AreSomeRawValuesWithSections, IsSomeRawValue, IsSomeRawValueWithSection, WithSome};
 
-use crate::lookup::existing;
-use crate::lookup::found::{Deciding, Found};
-use crate::lookup::texts::{implicit_text, text, text_with_section, texts, texts_with_sections};
-use crate::lookup::walk::{all_found, last_found};
-use crate::section::SectionRef;
 use crate::store::Store;
 use bstr::BString;
 use gitconf_base::meta::Metadata;
+use gitconf_finding::existing;
+use gitconf_finding::found::{Deciding, Found};
+use gitconf_finding::texts::{implicit_text, text, text_with_section, texts, texts_with_sections};
+use gitconf_finding::walk::{all_found, last_found};
 use gitconf_text::NoMemory;
+use gitconf_views::section::SectionRef;
 
 impl Store {
     /// The entry that decides in the last of the passing sections where one does. Takes no memory.

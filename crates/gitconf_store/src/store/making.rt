@@ -1,12 +1,12 @@
 //! Sections that are made.
-use crate::section::shared;
 use crate::store::Store;
-use gitconf_body::blanks::Blanks;
 use gitconf_body::section;
+use gitconf_lines::blanks::Blanks;
 use gitconf_table::table::SectionId;
 use gitconf_text::NoMemory;
 use gitconf_text::parse::section::header::{Error, validate};
 use gitconf_text::parse::span;
+use gitconf_views::section::shared;
 
 impl Store {
     ghost use Rattle.std.specs.List.{list_any};

@@ -4,18 +4,18 @@ ghost use Rattle.std.specs.Option.{option_copied, option_map};
 ghost use Rattle.std.specs.Prelude.{◌≡◌, Bool, OnErr, OnOk, true};
 ghost use Rattle.gitconf_base.specs.Metadata.{Meta};
 ghost use Rattle.gitconf_state.specs.Edits.{RemoveNumbered, RemoveSection, apply, numbered};
-ghost use Rattle.gitconf_store.specs.Picks.{picked};
+ghost use Rattle.gitconf_finding.specs.Picks.{picked};
 ghost use Rattle.gitconf_store.specs.Removals.{IsTakenOut};
-ghost use Rattle.gitconf_store.specs.SomeSections.{WithSome};
-ghost use Rattle.gitconf_store.specs.Views.{shown};
+ghost use Rattle.gitconf_finding.specs.SomeSections.{WithSome};
+ghost use Rattle.gitconf_views.specs.Views.{shown};
 
-use crate::detached;
-use crate::section::SectionRef;
 use crate::store::Store;
-use crate::store::views::last_passing;
 use gitconf_base::meta::Metadata;
+use gitconf_finding::filters::last_passing;
 use gitconf_table::table::SectionId;
 use gitconf_text::NoMemory;
+use gitconf_views::detached;
+use gitconf_views::section::SectionRef;
 
 impl Store {
     /// The section of a number, if there is one. Constant time, and no memory.

@@ -10,16 +10,16 @@ ghost use Rattle.gitconf_state.specs.Edit.{header_bytes, is_target, with_used};
 ghost use Rattle.gitconf_state.specs.Edits.{Rename, apply, numbered};
 ghost use Rattle.gitconf_state.specs.Lookup.{is_named, listing};
 ghost use Rattle.gitconf_store.specs.Edits.{UsedGrows};
-ghost use Rattle.gitconf_store.specs.declared.lookup.existing.Error.TheVariants.{KeyMissing};
+ghost use Rattle.gitconf_finding.specs.declared.existing.Error.TheVariants.{KeyMissing};
 ghost use Rattle.gitconf_store.specs.declared.rename_section.Error.TheVariants.{Lookup};
 ghost use Rattle.gitconf_store.specs.Renamings.{header_numbers, marked_places, with_renamed, AreMarks, AreSomeRenamed, HeaderGrows, IsHeaderChecked, IsRenamed};
 
 use crate::headings::{passing_places, set_headers};
-use crate::lookup::existing;
 use crate::rename_section;
 use crate::store::Store;
 use gitconf_base::meta::Metadata;
 use gitconf_body::heading::{check_header, put_header};
+use gitconf_finding::existing;
 use gitconf_table::table::SectionId;
 use gitconf_text::NoMemory;
 use gitconf_text::parse::section::header::{Error as HeaderError, validate};

@@ -13,7 +13,7 @@ impl Store {
     ghost use Rattle.std.specs.Prelude.{◌≡◌, map, true, IfOk};
     ghost use Rattle.bstr.specs.Owned.{bstring_bytes};
     ghost use Rattle.gitconf_text.specs.Names.{is_value_name};
-    ghost use Rattle.gitconf_store.specs.Lookups.{key_at, texts_of};
+    ghost use Rattle.gitconf_finding.specs.Lookups.{key_at, texts_of};
     ghost use Rattle.gitconf_store.specs.Several.{all_deleted, all_meanings, meaning_of_place, AreRewritten, AreSetExisting};
 
     /// Writes the entries at places anew, the first one with the first value and so on, up to the end of the shorter list. A place is the

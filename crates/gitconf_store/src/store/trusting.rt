@@ -2,11 +2,11 @@
 ghost use Rattle.std.specs.Prelude.{◌≡◌, IfOk, IsOk, None, OnErr, OnOk};
 ghost use Rattle.gitconf_state.specs.Edits.{SetTrust, apply, numbered};
 
-use crate::section::trusted;
 use crate::store::Store;
 use gitconf_base::source::Trust;
 use gitconf_table::table::SectionId;
 use gitconf_text::NoMemory;
+use gitconf_views::section::trusted;
 
 impl Store {
     /// Says how far the section of a number is trusted. Its metadata is its own from then on; those of other sections and of the file stay,

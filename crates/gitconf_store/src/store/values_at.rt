@@ -1,43 +1,17 @@
 //! Entries at a place in the section of a number, on which an editor of values stands.
-use crate::lookup::existing;
-use crate::lookup::places::{all_value_places, last_value_place, put_in_order};
-use crate::section::SectionRef;
 use crate::store::Store;
-use crate::values::entry_meaning;
 use bstr::BString;
 use gitconf_base::meta::Metadata;
-use gitconf_body::editor::Editor;
 use gitconf_body::value_at;
 use gitconf_body::value_at::InPlaceOf;
-use gitconf_parse::items::Item;
+use gitconf_finding::existing;
+use gitconf_finding::places::{all_value_places, last_value_place, put_in_order};
+use gitconf_lines::editor::Editor;
 use gitconf_table::table::SectionId;
 use gitconf_text::NoMemory;
 use gitconf_text::parse::section::ValueNameError;
 use gitconf_text::parse::section::bytes::is_value_name;
 use gitconf_text::parse::span;
-
-impl SectionRef<'_> {
-    ghost use Rattle.bstr.specs.Owned.{bstring_bytes};
-    ghost use Rattle.gitconf_store.specs.Lookups.{IsFound};
-    ghost use Rattle.gitconf_store.specs.ValuePlaces.{meaning_at};
-    ghost use Rattle.gitconf_store.specs.Views.{shown};
-
-    /// What the entry means that stands at a place among the items of the body, counted in items from the first one, 0; without `=` it is
-    /// empty. `None` where no entry stands there.
-    ///
-    /// # Errors
-    ///
-    /// Want of memory for the answer, only where there is an entry.
-    pub fn meaning_at(&self, place: usize) -> Result<Option<BString>, NoMemory>
-        ensures { IsFound bstring_bytes result (meaning_at place (shown self.now).items) }
-    {
-        let Some(Item::Entry(entry)) = self.items.get(place) else {
-            return Ok(None);
-        };
-        let text = entry_meaning(self.alloc, self.buffer, entry)?;
-        Ok(Some(text))
-    }
-}
 
 impl Store {
     ghost use Rattle.std.specs.Fn.{ComputesKey};
@@ -51,8 +25,8 @@ impl Store {
     ghost use Rattle.gitconf_state.specs.Edits.{apply, items_of_numbered, numbered, told_of, DeleteAt, IsEditor, WriteAt};
     ghost use Rattle.gitconf_body.specs.ValuesAt.{keeps_line_end, rewritten_put, stands, written_put};
     ghost use Rattle.gitconf_store.specs.Editors.{given_editor, IsGiven, PutsIn};
-    ghost use Rattle.gitconf_store.specs.Lookups.{IsFound, key_at};
-    ghost use Rattle.gitconf_store.specs.ValuePlaces.{all_stand, editor_of_numbered, meaning_at, AreSomeValuePlaces, AreValuePlaces, IsSomeValuePlace, IsValuePlace};
+    ghost use Rattle.gitconf_finding.specs.Lookups.{IsFound, key_at};
+    ghost use Rattle.gitconf_finding.specs.ValuePlaces.{all_stand, editor_of_numbered, meaning_at, AreSomeValuePlaces, AreValuePlaces, IsSomeValuePlace, IsValuePlace};
 
     /// Where the last entry of a key stands, with `=` or without it, in the last section that has one, of those that have the name,
     /// without ASCII case, and exactly the subsection, and whose metadata passes the filter: the number of the section, and the entry's

@@ -1,55 +1,25 @@
 //! The sections of a store, walked over and looked up by name.
-ghost use Rattle.std.specs.Fn.{ComputesKey};
-ghost use Rattle.std.specs.List.{last_or};
-ghost use Rattle.std.specs.Option.{option_map};
-ghost use Rattle.std.specs.Prelude.{◌≡◌, Bool, List, None, true};
-ghost use Rattle.gitconf_base.specs.Metadata.{Meta};
-ghost use Rattle.gitconf_state.specs.State.{SectionState};
-ghost use Rattle.gitconf_store.specs.SomeSections.{AreSome};
-ghost use Rattle.gitconf_store.specs.Views.{shown};
-ghost use Rattle.gitconf_store.specs.Walks.{named_left, passing};
 
-use crate::lookup::existing::Error;
-use crate::lookup::passes;
-use crate::section::SectionRef;
 use crate::store::Store;
-use crate::walks::{
+use gitconf_base::meta::Metadata;
+use gitconf_finding::existing::Error;
+use gitconf_finding::filters::last_passing;
+use gitconf_finding::walks::{
     SectionIds, SectionsAndIds, SectionsAndIdsByName, SectionsAndPostmatter, SectionsByName,
     SectionsByNameAndFilter, SectionsNamed,
 };
-use gitconf_base::meta::Metadata;
-
-/// The last of the sections whose metadata passes the filter, which is asked from the last section on, up to that one.
-pub(crate) fn last_passing<'a, F: FnMut(&Metadata) -> bool>(
-    sections: SectionsNamed<'a, '_, '_>,
-    filter: F,
-) -> Option<SectionRef<'a>>
-    requires { F.IsAlwaysCallable filter }
-    ensures exact { (keeps : Meta → Bool) → ComputesKey F.FnMut keeps filter
-        → option_map shown result ≡ last_or None (passing keeps (named_left sections.entry)) }
-    // Whatever the filter answers.
-    ensures some { (some : List SectionState) × AreSome (named_left sections.entry) some
-        × (option_map shown result ≡ last_or None (passing (λ _. true) some)) }
-{
-    let mut filter = filter;
-    let mut left = sections;
-    while let Some(section) = left.next_back() {
-        if passes(&mut filter, section.meta()) {
-            return Some(section);
-        }
-    }
-    None
-}
+use gitconf_views::section::SectionRef;
 
 impl Store {
     ghost use Rattle.std.specs.Fn.{ComputesKey};
     ghost use Rattle.std.specs.Option.{option_copied};
-    ghost use Rattle.std.specs.Prelude.{◌≡◌, ◌↔◌, [], map, Bool, IfErr, IfOk, IfSome, IsNone, MatchResult};
+    ghost use Rattle.std.specs.Prelude.{◌≡◌, ◌↔◌, [], map, Bool, IfErr, IfOk, IfSome, IsNone, MatchResult, None};
+    ghost use Rattle.gitconf_views.specs.Views.{shown};
     ghost use Rattle.gitconf_base.specs.Metadata.{Meta};
-    ghost use Rattle.gitconf_store.specs.Lookups.{sections_named};
-    ghost use Rattle.gitconf_store.specs.Picks.{HasSection, IsMissing, IsPassingSection, IsSection};
-    ghost use Rattle.gitconf_store.specs.SomeSections.{IsSomeSection};
-    ghost use Rattle.gitconf_store.specs.Walks.{named_left, and_held_left, and_ids_by_name_left, and_ids_left, by_name_left, section_ids_left, with_held, with_id, with_name};
+    ghost use Rattle.gitconf_finding.specs.Lookups.{sections_named};
+    ghost use Rattle.gitconf_finding.specs.Picks.{HasSection, IsMissing, IsPassingSection, IsSection};
+    ghost use Rattle.gitconf_finding.specs.SomeSections.{IsSomeSection};
+    ghost use Rattle.gitconf_finding.specs.Walks.{named_left, and_held_left, and_ids_by_name_left, and_ids_left, by_name_left, section_ids_left, with_held, with_id, with_name};
 
     /// The sections that have the name, without ASCII case, and any subsection, in file order; `None` where there is none.
     /// The sections are found by an index: constant time but for the bytes of the names, and no memory.

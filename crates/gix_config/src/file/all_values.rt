@@ -4,8 +4,8 @@ ghost use Rattle.std.specs.Prelude.{◌≡◌, ℕ, List, IfOk, IfErr, IsSome, m
 ghost use Rattle.gitconf_base.specs.Key.{the_key};
 ghost use Rattle.gitconf_state.specs.Lookup.{Miss};
 ghost use Rattle.gitconf_state.specs.State.{SectionState};
-ghost use Rattle.gitconf_store.specs.Lookups.{key_at, shown_with, texts_of, unless_empty};
-ghost use Rattle.gitconf_store.specs.Misses.{IsExisting};
+ghost use Rattle.gitconf_finding.specs.Lookups.{key_at, shown_with, texts_of, unless_empty};
+ghost use Rattle.gitconf_finding.specs.Misses.{IsExisting};
 ghost use Rattle.gix_config.specs.Converted.{AreConverted, AreConvertedWith, AreGiven, AreValues, AreValuesWithSections, IsListed, IsListedWith};
 
 use crate::file::{File, SectionRef};
@@ -13,7 +13,7 @@ use crate::lookup;
 use crate::lookup::existing;
 use bstr::BString;
 use gitconf_base::key::AsKey;
-use gitconf_store::lists::{put, with_room};
+use gitconf_views::lists::{put, with_room};
 
 /// The values of texts, up to the first that the type refuses.
 fn values_of<T: TryFrom<BString> + Drop>(

@@ -3,7 +3,7 @@ ghost use Rattle.std.specs.Option.{option_copied};
 ghost use Rattle.std.specs.Prelude.{IsSome, map};
 ghost use Rattle.gitconf_base.specs.Key.{the_key};
 ghost use Rattle.gitconf_store.specs.Existing.{IsSetExisting};
-ghost use Rattle.gitconf_store.specs.Lookups.{key_at};
+ghost use Rattle.gitconf_finding.specs.Lookups.{key_at};
 ghost use Rattle.gitconf_store.specs.Several.{AreSetExisting};
 
 use crate::file::{File, set_raw_value};

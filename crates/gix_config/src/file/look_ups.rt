@@ -4,8 +4,8 @@ ghost use Rattle.std.specs.Option.{option_copied};
 ghost use Rattle.std.specs.Prelude.{◌≡◌, Bool, true, IsSome};
 ghost use Rattle.gitconf_base.specs.Key.{the_key};
 ghost use Rattle.gitconf_base.specs.Metadata.{Meta};
-ghost use Rattle.gitconf_store.specs.Lookups.{AreRawValues, AreRawValuesWithSections, AreStrings, IsRawValue, IsRawValueWithSection, IsString, key_at};
-ghost use Rattle.gitconf_store.specs.SomeSections.{AreSomeRawValues, AreSomeRawValuesWithSections, IsSomeRawValue, IsSomeRawValueWithSection, WithSome};
+ghost use Rattle.gitconf_finding.specs.Lookups.{AreRawValues, AreRawValuesWithSections, AreStrings, IsRawValue, IsRawValueWithSection, IsString, key_at};
+ghost use Rattle.gitconf_finding.specs.SomeSections.{AreSomeRawValues, AreSomeRawValuesWithSections, IsSomeRawValue, IsSomeRawValueWithSection, WithSome};
 ghost use Rattle.gix_config.specs.Keys.{OfKey};
 
 use crate::file::{File, Metadata, SectionRef};

@@ -4,9 +4,9 @@ ghost use Rattle.std.specs.Option.{option_copied};
 ghost use Rattle.std.specs.Prelude.{◌≡◌, Bool, OnErr, OnOk, true};
 ghost use Rattle.gitconf_base.specs.Metadata.{Meta};
 ghost use Rattle.gitconf_state.specs.Edits.{RemoveNumbered, RemoveSection, apply, numbered};
-ghost use Rattle.gitconf_store.specs.Picks.{picked};
+ghost use Rattle.gitconf_finding.specs.Picks.{picked};
 ghost use Rattle.gitconf_store.specs.Removals.{IsTakenOut};
-ghost use Rattle.gitconf_store.specs.SomeSections.{WithSome};
+ghost use Rattle.gitconf_finding.specs.SomeSections.{WithSome};
 
 use crate::file::{File, Metadata, Section, SectionId};
 use gitconf_text::NoMemory;

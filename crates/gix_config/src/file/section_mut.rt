@@ -10,14 +10,14 @@ use crate::file::section::value;
 use crate::file::{File, SectionId};
 use bstr::BString;
 use gitconf_base::source::Trust;
-use gitconf_body::blanks::Blanks;
-use gitconf_store::lists::bytes_of;
-use gitconf_store::popped::texts_of;
+use gitconf_lines::blanks::Blanks;
 use gitconf_text::NoMemory;
 use gitconf_text::line_end::LineEnd;
 use gitconf_text::parse::section::bytes::is_value_name;
 use gitconf_text::parse::section::{ValueNameError, header};
 use gitconf_text::parse::span;
+use gitconf_views::lists::bytes_of;
+use gitconf_views::popped::texts_of;
 pub use making::Error;
 
 /// An editor of one section of a file. What it writes beside names and values stays as it was when the editor was made, also while the

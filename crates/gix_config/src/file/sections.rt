@@ -1,7 +1,7 @@
 //! The sections of a file, walked over and looked up by name.
 use crate::file::{File, Metadata, SectionRef};
 use crate::lookup::existing::Error;
-pub use gitconf_store::walks::{
+pub use gitconf_finding::walks::{
     SectionIds, SectionsAndIds, SectionsAndIdsByName, SectionsAndPostmatter, SectionsByName,
     SectionsByNameAndFilter,
 };
@@ -13,9 +13,9 @@ impl File {
     ghost use Rattle.std.specs.Prelude.{◌≡◌, ◌↔◌, [], map, Bool, IfErr, IfSome, IsNone};
     ghost use Rattle.gitconf_text.specs.SectionKeys.{parsed_section_key};
     ghost use Rattle.gitconf_base.specs.Metadata.{Meta};
-    ghost use Rattle.gitconf_store.specs.Picks.{IsMissing, IsPassingSection, IsPassingSectionOfKey, IsSection, IsSectionOfKey};
-    ghost use Rattle.gitconf_store.specs.SomeSections.{IsSomeSection, IsSomeSectionOfKey};
-    ghost use Rattle.gitconf_store.specs.Walks.{and_held_left, and_ids_by_name_left, and_ids_left, by_name_left, section_ids_left, with_held, with_id, with_name};
+    ghost use Rattle.gitconf_finding.specs.Picks.{IsMissing, IsPassingSection, IsPassingSectionOfKey, IsSection, IsSectionOfKey};
+    ghost use Rattle.gitconf_finding.specs.SomeSections.{IsSomeSection, IsSomeSectionOfKey};
+    ghost use Rattle.gitconf_finding.specs.Walks.{and_held_left, and_ids_by_name_left, and_ids_left, by_name_left, section_ids_left, with_held, with_id, with_name};
 
     /// The sections that have the name, without ASCII case, and any subsection, in file order; `None` where there is none.
     /// They are found by an index: constant time but for the bytes of the names, and no memory.

@@ -9,8 +9,8 @@ ghost use Rattle.std.specs.Prelude.{◌⊎◌, ℕ, List, Option, Ok, Err, IfOk,
 ghost use Rattle.bstr.specs.Owned.{bstring_bytes};
 ghost use Rattle.gitconf_text.specs.ValueErrors.{wanting};
 ghost use Rattle.gitconf_values.specs.Integers.{integer_or_refusal};
-ghost use Rattle.gitconf_store.specs.Lookups.{IsFound, key_at, texts_of, unless_empty};
-ghost use Rattle.gitconf_store.specs.SomeSections.{WithSome};
+ghost use Rattle.gitconf_finding.specs.Lookups.{IsFound, key_at, texts_of, unless_empty};
+ghost use Rattle.gitconf_finding.specs.SomeSections.{WithSome};
 ghost use Rattle.gix_config.specs.Keys.{OfKey};
 ghost use Rattle.gix_config.specs.Typed.{AreIntegers, IsBoolean, IsInteger, IsPath, IsTyped, boolean_or_refusal, integers_or_refusal};
 
@@ -18,9 +18,9 @@ use crate::file::{File, Metadata};
 use crate::values::{Boolean, Path};
 use bstr::BString;
 use gitconf_base::key::AsKey;
-use gitconf_store::lists::{put, with_room};
 use gitconf_text::{NoMemory, value};
 use gitconf_values::integer;
+use gitconf_views::lists::{put, with_room};
 
 /// The path that was found.
 fn found_path(found: Result<Option<BString>, NoMemory>) -> Result<Option<Path>, NoMemory>

@@ -55,8 +55,8 @@ impl<'a> ValueMut<'a> {
     ghost use Rattle.bstr.specs.Owned.{bstring_bytes};
     ghost use Rattle.gitconf_state.specs.Edits.{numbered};
     ghost use Rattle.gitconf_state.specs.Lookup.{KeyMissing};
-    ghost use Rattle.gitconf_store.specs.Misses.{IsExisting};
-    ghost use Rattle.gitconf_store.specs.Views.{shown};
+    ghost use Rattle.gitconf_finding.specs.Misses.{IsExisting};
+    ghost use Rattle.gitconf_views.specs.Views.{shown};
     ghost use Rattle.gix_config.specs.Edited.{IsEdited};
     ghost use Rattle.gix_config.specs.SectionEditors as sections;
     ghost use Rattle.gix_config.specs.ValueEditors.{edited, editor, key_of, lent, meaning_of, place_of, stands_there, without_entry, writing};

@@ -5,8 +5,8 @@ ghost use Rattle.bstr.specs.Owned.{bstring_bytes};
 ghost use Rattle.gitconf_base.specs.Key.{the_key};
 ghost use Rattle.gitconf_state.specs.Lookup.{Miss};
 ghost use Rattle.gitconf_state.specs.State.{SectionState};
-ghost use Rattle.gitconf_store.specs.Lookups.{IsFound, key_at, shown_with};
-ghost use Rattle.gitconf_store.specs.Misses.{IsExisting};
+ghost use Rattle.gitconf_finding.specs.Lookups.{IsFound, key_at, shown_with};
+ghost use Rattle.gitconf_finding.specs.Misses.{IsExisting};
 ghost use Rattle.gix_config.specs.Converted.{IsConverted, IsConvertedWith, IsTried, IsTriedValue, IsValue, IsValueWithSection};
 
 use crate::file::{File, SectionRef};

@@ -1,7 +1,7 @@
 use Rattle.std.proofs.Common.{rules, ◌≡◌, true, Some}
 use Rattle.gitconf_text.specs.Names.{is_valid_or_none}
-use Rattle.gitconf_parse.specs.EventRef.{escaped_subsection}
-use Rattle.gitconf_parse.specs.ShownEvents.{decoded_or}
+use Rattle.gitconf_items.specs.EventRef.{escaped_subsection}
+use Rattle.gitconf_items.specs.ShownEvents.{decoded_or}
 use Rattle.gitconf_body.specs.Lines.{QuotedStands}
 use Rattle.gitconf_body.proofs.Headers.{quoted_shown}
 use Rattle.gitconf_body.proofs.section.append_header.Goals as goal

@@ -1,7 +1,7 @@
 use Rattle.std.proofs.Common.{ap, ◌∙◌}
 use Rattle.gitconf_state.specs.Edit.{set_value}
 use Rattle.gitconf_text.specs.LineEnds.{bytes_of_line_end}
-use Rattle.gitconf_body.proofs.Buffers.{extended_fit, extended_items}
+use Rattle.gitconf_lines.proofs.Buffers.{extended_fit, extended_items}
 use Rattle.gitconf_body.proofs.section.section_with.Goals as goal
 
 pub returns-clause-items : goal.returns-clause-items

@@ -1,9 +1,9 @@
 use Rattle.std.proofs.Common.{rules, arith, ◌≡◌, ap, sym, Some, ◌∙◌}
-use Rattle.gitconf_parse.specs.Items.{item_of, items_of}
+use Rattle.gitconf_items.specs.Items.{item_of, items_of}
 use Rattle.gitconf_state.specs.Edit.{is_entry_of, item_raw}
 use Rattle.gitconf_state.proofs.EditPlaces.{old_value_at}
-use Rattle.gitconf_body.proofs.Places.{found_at}
-use Rattle.gitconf_body.proofs.Entries.{last_shown}
+use Rattle.gitconf_lines.proofs.Places.{found_at}
+use Rattle.gitconf_lines.proofs.Entries.{last_shown}
 use Rattle.gitconf_body.proofs.Changing.{room_asked}
 use Rattle.gitconf_body.proofs.set.change_checked.Goals as goal
 

@@ -1,9 +1,9 @@
 use Rattle.std.proofs.Common.{rules, ◌≡◌, false, ◌∙◌}
 use Rattle.std.specs.List.{list_any}
-use Rattle.gitconf_parse.specs.Items.{item_of, items_of}
+use Rattle.gitconf_items.specs.Items.{item_of, items_of}
 use Rattle.gitconf_state.specs.Edit.{is_entry_of}
 use Rattle.gitconf_body.proofs.Changing.{set_put_new}
-use Rattle.gitconf_body.proofs.Places.{any_shown}
+use Rattle.gitconf_lines.proofs.Places.{any_shown}
 use Rattle.gitconf_body.proofs.set.check_set.Goals as goal
 
 pub returns-in-None-clause-too_large : goal.returns-in-None-clause-too_large

@@ -1,12 +1,12 @@
 use Rattle.std.proofs.Common.{rules, arith, ◌≡◌, false, sym, ◌∙◌}
 use Rattle.std.specs.List.{list_any}
-use Rattle.gitconf_parse.specs.Items.{item_of, items_of}
+use Rattle.gitconf_items.specs.Items.{item_of, items_of}
 use Rattle.gitconf_state.specs.Edit.{is_entry_of}
 use Rattle.gitconf_state.proofs.EditPlaces.{old_value_none}
-use Rattle.gitconf_body.specs.Editors.{editor_in}
-use Rattle.gitconf_body.proofs.Buffers.{grows_ok, grows_err}
+use Rattle.gitconf_lines.specs.Editors.{editor_in}
+use Rattle.gitconf_lines.proofs.Buffers.{grows_ok, grows_err}
 use Rattle.gitconf_body.proofs.Changing.{value_set_new, set_put_new}
-use Rattle.gitconf_body.proofs.Places.{any_shown}
+use Rattle.gitconf_lines.proofs.Places.{any_shown}
 use Rattle.gitconf_body.proofs.set.set.Goals as goal
 
 pub returns-in_err-push-clause-grows : goal.returns-in_err-push-clause-grows

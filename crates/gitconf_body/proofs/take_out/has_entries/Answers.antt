@@ -1,6 +1,6 @@
 use Rattle.std.proofs.Common.{sym, ◌∙◌}
-use Rattle.gitconf_body.specs.Spacings.{is_stored_entry}
-use Rattle.gitconf_body.proofs.Places.{none_found}
+use Rattle.gitconf_lines.specs.Spacings.{is_stored_entry}
+use Rattle.gitconf_lines.proofs.Places.{none_found}
 use Rattle.gitconf_body.proofs.Taken.{no_place, popped_none, popped_entry_none}
 use Rattle.gitconf_body.proofs.take_out.has_entries.Goals as goal
 

@@ -1,5 +1,5 @@
 use Rattle.std.proofs.Common.{sym, ◌∙◌}
-use Rattle.gitconf_parse.specs.Items.{items_of}
+use Rattle.gitconf_items.specs.Items.{items_of}
 use Rattle.gitconf_state.proofs.EditPlaces.{old_value_none}
 use Rattle.gitconf_body.proofs.Taken.{none_of, no_place_of, removed_none}
 use Rattle.gitconf_body.proofs.take_out.has_entry.Goals as goal

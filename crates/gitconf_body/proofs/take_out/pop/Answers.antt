@@ -1,11 +1,11 @@
 use Rattle.std.proofs.Common.{rules, ◌≡◌, false, get_or, ap, sym, subst, ◌∙◌}
 use Rattle.std.specs.List.{list_any}
-use Rattle.gitconf_parse.specs.Items.{item_of, items_of}
-use Rattle.gitconf_parse.specs.declared.items.Item.TheVariants as kinds
+use Rattle.gitconf_items.specs.Items.{item_of, items_of}
+use Rattle.gitconf_items.specs.declared.items.Item.TheVariants as kinds
 use Rattle.gitconf_state.specs.Editors.{entry_told, popped_entry}
-use Rattle.gitconf_body.specs.Places.{IsLastAt}
-use Rattle.gitconf_body.specs.Spacings.{is_stored_entry}
-use Rattle.gitconf_body.proofs.Places.{found_at}
+use Rattle.gitconf_lines.specs.Places.{IsLastAt}
+use Rattle.gitconf_lines.specs.Spacings.{is_stored_entry}
+use Rattle.gitconf_lines.proofs.Places.{found_at}
 use Rattle.gitconf_body.proofs.Taken.{popped_at, popped_entry_at, popped_none, popped_entry_none, popped_within}
 use Rattle.gitconf_body.proofs.take_out.pop.Goals as goal
 

@@ -1,11 +1,11 @@
 use Rattle.std.proofs.Common.{rules, ◌≡◌, false, Some, ap, sym, ◌∙◌}
 use Rattle.std.specs.List.{list_any}
-use Rattle.gitconf_parse.specs.Items.{item_of, items_of}
+use Rattle.gitconf_items.specs.Items.{item_of, items_of}
 use Rattle.gitconf_state.specs.Edit.{is_entry_of, item_raw}
 use Rattle.gitconf_state.proofs.EditPlaces.{old_value_at, old_value_none}
-use Rattle.gitconf_body.specs.Places.{IsLastAt}
-use Rattle.gitconf_body.proofs.Places.{any_shown, found_at}
-use Rattle.gitconf_body.proofs.Entries.{last_shown}
+use Rattle.gitconf_lines.specs.Places.{IsLastAt}
+use Rattle.gitconf_lines.proofs.Places.{any_shown, found_at}
+use Rattle.gitconf_lines.proofs.Entries.{last_shown}
 use Rattle.gitconf_body.proofs.Taken.{removed_at, removed_none, taken_within}
 use Rattle.gitconf_body.proofs.take_out.remove.Goals as goal
 

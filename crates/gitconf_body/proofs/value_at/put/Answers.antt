@@ -1,5 +1,5 @@
 use Rattle.std.proofs.Common.{rules, ◌≡◌, ◌+◌, ◌<◌, ◌∷◌, ◌++◌, drop, take, length, slice_set, Some, None, ap, subst, ◌∙◌}
-use Rattle.gitconf_parse.specs.declared.items.Item.TheVariants as kinds
+use Rattle.gitconf_items.specs.declared.items.Item.TheVariants as kinds
 use Rattle.gitconf_body.specs.declared.value_at.Way.TheVariants.{Over}
 use Rattle.gitconf_body.specs.ValuesAt.{IfReplaces}
 use Rattle.gitconf_body.proofs.ValuesAt.{set_before, set_over}

@@ -1,9 +1,9 @@
 use Rattle.std.proofs.Common.{◌+◌, ◌≤◌, ◌^◌, IsErrOf, length, ap, subst, sym, ◌∙◌}
 use Rattle.gitconf_text.specs.Value.{escaped}
-use Rattle.gitconf_parse.specs.ItemsFit.{AreItemsWithin}
-use Rattle.gitconf_parse.specs.Items.{items_of}
-use Rattle.gitconf_body.specs.Buffers.{Grows}
-use Rattle.gitconf_body.specs.Editors.{around_bytes}
+use Rattle.gitconf_items.specs.ItemsFit.{AreItemsWithin}
+use Rattle.gitconf_items.specs.Items.{items_of}
+use Rattle.gitconf_lines.specs.Buffers.{Grows}
+use Rattle.gitconf_lines.specs.Editors.{around_bytes}
 use Rattle.gitconf_body.proofs.value_at.rewrite_at.Goals as goal
 
 pub write_at-requires-clause-fits : goal.write_at-requires-clause-fits

@@ -1,6 +1,6 @@
 use Rattle.std.proofs.Common.{◌≡◌, ◌-◌, ◌≤◌, ◌++◌, length, take, drop}
 use Rattle.gitconf_parse.specs.Compact.{is_kept_header}
-use Rattle.gitconf_parse.specs.Sections.{front_of, sections_of}
+use Rattle.gitconf_items.specs.Sections.{front_of, sections_of}
 use Rattle.gitconf_parse.proofs.compact.front_len.Given as goal
 
 -- so many stand before the first header

@@ -1,4 +1,4 @@
-use Rattle.gitconf_parse.proofs.Subsections.{reads_back}
+use Rattle.gitconf_items.proofs.Subsections.{reads_back}
 use Rattle.gitconf_parse.proofs.laws.escaped_subsection_reads_back.Goals as goal
 
 pub returns : goal.returns

@@ -1,4 +1,4 @@
-use Rattle.gitconf_parse.proofs.GroupLaws.{parsed_items, selected_items, whole_items}
+use Rattle.gitconf_items.proofs.GroupLaws.{parsed_items, selected_items, whole_items}
 use Rattle.gitconf_parse.proofs.laws.kept_entries_make_items.Goals as goal
 
 pub returns-clause-whole : goal.returns-clause-whole

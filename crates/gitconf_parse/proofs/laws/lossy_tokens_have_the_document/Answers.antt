@@ -1,4 +1,4 @@
-use Rattle.gitconf_parse.proofs.Documents.{same_tokens, selected_say, lossy_say}
+use Rattle.gitconf_items.proofs.Documents.{same_tokens, selected_say, lossy_say}
 use Rattle.gitconf_parse.proofs.laws.lossy_tokens_have_the_document.Goals as goal
 
 pub returns-clause-one : goal.returns-clause-one

@@ -1,5 +1,5 @@
 use Rattle.std.proofs.Common.{◌∙◌, sym}
-use Rattle.gitconf_parse.proofs.TextLaws.{joined_parts}
+use Rattle.gitconf_items.proofs.TextLaws.{joined_parts}
 use Rattle.gitconf_parse.proofs.laws.tokens_join.Goals as goal
 
 pub returns : goal.returns

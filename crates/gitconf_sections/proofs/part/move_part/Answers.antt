@@ -1,5 +1,5 @@
 use Rattle.std.proofs.Common.{◌≡◌, ◌∙◌, ◌++◌, take, drop, subst, sym, ap, refl}
-use Rattle.gitconf_parse.specs.Moves.{AreItemsMoved}
+use Rattle.gitconf_items.specs.Moves.{AreItemsMoved}
 use Rattle.gitconf_sections.proofs.Parts.{but_part, part_is}
 use Rattle.gitconf_sections.proofs.part.move_part.Goals as goal
 

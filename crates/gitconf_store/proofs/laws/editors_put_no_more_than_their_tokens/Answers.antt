@@ -1,6 +1,6 @@
 use Rattle.std.proofs.Common.{[]}
 use Rattle.gitconf_state.specs.Edits.{items_of_numbered}
-use Rattle.gitconf_store.proofs.LineBytes.{line_within, rewritten_within, set_within, written_within}
+use Rattle.gitconf_views.proofs.LineBytes.{line_within, rewritten_within, set_within, written_within}
 use Rattle.gitconf_store.proofs.laws.editors_put_no_more_than_their_tokens.Goals as goal
 
 pub returns-clause-pushed : goal.returns-clause-pushed

@@ -1,6 +1,6 @@
 use Rattle.gitconf_state.specs.Edits.{renamed, with_trust}
-use Rattle.gitconf_store.specs.Alone.{with_items}
-use Rattle.gitconf_store.proofs.AloneLaws.{edited_behind}
+use Rattle.gitconf_views.specs.Alone.{with_items}
+use Rattle.gitconf_views.proofs.AloneLaws.{edited_behind}
 use Rattle.gitconf_store.proofs.laws.sections_are_edited_alone_as_in_a_file.Goals as goal
 
 pub returns-clause-items : goal.returns-clause-items

@@ -1,4 +1,4 @@
-use Rattle.gitconf_parse.specs.Items.{item_of}
+use Rattle.gitconf_items.specs.Items.{item_of}
 use Rattle.gitconf_text.specs.LineEnds.{bytes_of_line_end}
 use Rattle.gitconf_write.specs.Open.{open_of}
 use Rattle.gitconf_write.specs.Runs.{run_of}

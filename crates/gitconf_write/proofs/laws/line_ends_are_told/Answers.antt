@@ -1,4 +1,4 @@
-use Rattle.gitconf_parse.specs.Items.{tokens_in}
+use Rattle.gitconf_items.specs.Items.{tokens_in}
 use Rattle.gitconf_write.proofs.Newlines.{line_end_of-first, file_line_end-first}
 use Rattle.gitconf_write.proofs.laws.line_ends_are_told.Goals as goal
 

@@ -1,6 +1,6 @@
 use Rattle.std.proofs.Common.{rules, inl, inr, ◌≡◌, true, false, [], ◌∷◌, ◌++◌}
 use Rattle.gitconf_state.specs.LineEnds.{holds}
-use Rattle.gitconf_parse.specs.Events.{bytes_of}
+use Rattle.gitconf_items.specs.Events.{bytes_of}
 use Rattle.gitconf_text.specs.LineEnds.{bytes_of_line_end}
 use Rattle.gitconf_write.proofs.LastItems.{last_says, held_last, none_last}
 use Rattle.gitconf_write.proofs.line_end.ends_line.Goals as goal

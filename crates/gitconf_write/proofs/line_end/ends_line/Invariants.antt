@@ -1,6 +1,6 @@
 use Rattle.std.proofs.Common.{◌≡◌, length}
 use Rattle.gitconf_state.specs.LineEnds as spec
-use Rattle.gitconf_parse.specs.Items.{items_of}
+use Rattle.gitconf_items.specs.Items.{items_of}
 use Rattle.gitconf_text.specs.LineEnds.{bytes_of_line_end}
 use Rattle.gitconf_write.proofs.line_end.ends_line.Given as goal
 

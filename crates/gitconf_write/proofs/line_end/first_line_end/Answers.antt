@@ -1,6 +1,6 @@
 use Rattle.std.proofs.Common.{drop, ◌+◌, ap, sym, ◌∙◌}
 use Rattle.std.specs.Option.{option_or}
-use Rattle.gitconf_parse.specs.Items.{items_of, tokens_in}
+use Rattle.gitconf_items.specs.Items.{items_of, tokens_in}
 use Rattle.gitconf_write.specs.LineEnds.{first_newline}
 use Rattle.gitconf_write.proofs.Newlines.{next_newline}
 use Rattle.gitconf_write.proofs.line_end.first_line_end.Goals as goal

@@ -1,5 +1,5 @@
 use Rattle.std.proofs.Common.{◌≡◌, drop}
-use Rattle.gitconf_parse.specs.Items.{items_of, tokens_in}
+use Rattle.gitconf_items.specs.Items.{items_of, tokens_in}
 use Rattle.gitconf_write.specs.LineEnds.{first_newline}
 use Rattle.gitconf_write.proofs.line_end.first_line_end.Given as goal
 

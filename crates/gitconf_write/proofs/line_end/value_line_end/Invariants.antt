@@ -1,7 +1,7 @@
 use Rattle.std.proofs.Common.{◌≡◌, drop, map}
 use Rattle.gitconf_text.specs.Token.{value_tokens}
-use Rattle.gitconf_parse.specs.Events.{bytes_of}
-use Rattle.gitconf_parse.specs.Items.{piece_of, tokens_of_value}
+use Rattle.gitconf_items.specs.Events.{bytes_of}
+use Rattle.gitconf_items.specs.Items.{piece_of, tokens_of_value}
 use Rattle.gitconf_write.specs.LineEnds.{first_newline}
 use Rattle.gitconf_write.proofs.line_end.value_line_end.Given as goal
 

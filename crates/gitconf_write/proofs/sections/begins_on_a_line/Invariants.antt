@@ -1,6 +1,6 @@
 use Rattle.std.proofs.Common.{◌≡◌, ℕ, List, length}
 use Rattle.gitconf_state.specs.Printing as spec
-use Rattle.gitconf_parse.specs.Items.{items_of}
+use Rattle.gitconf_items.specs.Items.{items_of}
 use Rattle.gitconf_write.proofs.sections.begins_on_a_line.Given as goal
 
 -- blanks and comments stand before

@@ -1,5 +1,5 @@
-use Rattle.gitconf_parse.specs.Events.{header_of}
-use Rattle.gitconf_parse.proofs.SinkLaws.{Writes-fault}
+use Rattle.gitconf_items.specs.Events.{header_of}
+use Rattle.gitconf_items.proofs.SinkLaws.{Writes-fault}
 use Rattle.gitconf_text.specs.Header.{spelled_header}
 use Rattle.gitconf_text.specs.LineEnds.{bytes_of_line_end}
 use Rattle.gitconf_write.specs.Runs.{run_of}

@@ -17,10 +17,10 @@ impl File {
     ghost use Rattle.gitconf_state.specs.Edits.{apply, items_of_numbered, numbered};
     ghost use Rattle.gitconf_body.specs.ValuesAt.{rewritten_put};
     ghost use Rattle.gitconf_store.specs.Editors.{PutsIn};
-    ghost use Rattle.gitconf_store.specs.Lookups.{key_at, texts_of};
+    ghost use Rattle.gitconf_finding.specs.Lookups.{key_at, texts_of};
     ghost use Rattle.gitconf_store.specs.Several.{all_deleted, all_meanings, one_rewriting, AreRewritten};
-    ghost use Rattle.gitconf_store.specs.SomeSections.{WithSome};
-    ghost use Rattle.gitconf_store.specs.ValuePlaces.{key_places};
+    ghost use Rattle.gitconf_finding.specs.SomeSections.{WithSome};
+    ghost use Rattle.gitconf_finding.specs.ValuePlaces.{key_places};
     ghost use Rattle.gix_config.specs.MultiValueEditors.{AreFoundTargets};
 
     /// The entries of a key, by [`Store::value_places_filter_by`](gitconf_store::store::Store::value_places_filter_by).

@@ -11,7 +11,7 @@ impl File {
     ghost use Rattle.std.specs.Prelude.{◌≡◌, Bool, true, IfOk, IsSome};
     ghost use Rattle.gitconf_base.specs.Key.{the_key};
     ghost use Rattle.gitconf_base.specs.Metadata.{Meta};
-    ghost use Rattle.gitconf_store.specs.Lookups.{key_at};
+    ghost use Rattle.gitconf_finding.specs.Lookups.{key_at};
     ghost use Rattle.gix_config.specs.contracts.file.File.{the_row};
     ghost use Rattle.gix_config.specs.MultiValueEditors.{edited, lent, IsEditorOfSomeValues, IsEditorOfValues};
 

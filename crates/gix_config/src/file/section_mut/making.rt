@@ -3,12 +3,12 @@ use crate::file::section_mut::SectionMut;
 use crate::file::{File, Metadata, Section, SectionId};
 use crate::lookup::existing;
 use bstr::BString;
-use gitconf_body::blanks::Blanks;
-use gitconf_store::lists::bytes_of;
+use gitconf_lines::blanks::Blanks;
 use gitconf_text::NoMemory;
 use gitconf_text::parse::section::header;
 use gitconf_text::parse::section::unvalidated::KeyRef;
 use gitconf_text::parse::span;
+use gitconf_views::lists::bytes_of;
 use thiserror::Error;
 
 /// Why there is no editor.
@@ -36,7 +36,7 @@ impl From<existing::Error> for Error {
 
 impl From<NoMemory> for Error {
     ghost use Rattle.std.specs.Prelude.{◌≡◌};
-    ghost use Rattle.gitconf_store.specs.declared.lookup.existing.Error.TheVariants.{Memory};
+    ghost use Rattle.gitconf_finding.specs.declared.existing.Error.TheVariants.{Memory};
     ghost use Rattle.gix_config.specs.declared.file.section_mut.making.Error.TheVariants.{Lookup};
 
     ghost from_gives = { λ _ e. e ≡ Lookup Memory };
@@ -63,11 +63,11 @@ impl File {
     ghost use Rattle.gitconf_state.specs.Editors.{editor_of};
     ghost use Rattle.gitconf_table.specs.Sections.{no_number};
     ghost use Rattle.gitconf_state.specs.Lookup.{listed, miss_of};
-    ghost use Rattle.gitconf_store.specs.Misses.{IsExisting};
+    ghost use Rattle.gitconf_finding.specs.Misses.{IsExisting};
     ghost use Rattle.gitconf_store.specs.NewSections.{HasNoPlace};
-    ghost use Rattle.gitconf_store.specs.Picks.{picked};
+    ghost use Rattle.gitconf_finding.specs.Picks.{picked};
     ghost use Rattle.gitconf_store.specs.Renamings.{header_numbers};
-    ghost use Rattle.gitconf_store.specs.SomeSections.{WithSome};
+    ghost use Rattle.gitconf_finding.specs.SomeSections.{WithSome};
     ghost use Rattle.gix_config.specs.contracts.file.File.{the_row};
     ghost use Rattle.gix_config.specs.Edited.{has_number};
     ghost use Rattle.gix_config.specs.Puts.{put_bytes};

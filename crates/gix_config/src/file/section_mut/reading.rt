@@ -3,8 +3,8 @@ use crate::file::section::{BodyRef, HeaderRef, ValueNames};
 use crate::file::section_mut::SectionMut;
 use crate::file::{Metadata, SectionId, SectionRef};
 use bstr::BString;
-use gitconf_store::lists::unless_empty;
 use gitconf_text::NoMemory;
+use gitconf_views::lists::unless_empty;
 
 impl<'a> SectionMut<'a> {
     ghost use Rattle.std.specs.List.{list_all};
@@ -14,10 +14,10 @@ impl<'a> SectionMut<'a> {
     ghost use Rattle.gitconf_state.specs.Edits.{items_of_numbered, numbered};
     ghost use Rattle.gitconf_state.specs.Printing.{printed_section};
     ghost use Rattle.gitconf_state.specs.State.{entries_of};
-    ghost use Rattle.gitconf_store.specs.Bodies.{has_key, implicit_value_in, value_in, values_in, AreFound, IsFoundImplicit};
-    ghost use Rattle.gitconf_store.specs.Counts.{is_empty_body};
-    ghost use Rattle.gitconf_store.specs.Lookups.{unless_empty, IsFound};
-    ghost use Rattle.gitconf_store.specs.Views.{names_left, shown, shown_body, shown_header};
+    ghost use Rattle.gitconf_views.specs.Bodies.{has_key, implicit_value_in, value_in, values_in, AreFound, IsFoundImplicit};
+    ghost use Rattle.gitconf_views.specs.Counts.{is_empty_body};
+    ghost use Rattle.gitconf_finding.specs.Lookups.{unless_empty, IsFound};
+    ghost use Rattle.gitconf_views.specs.Views.{names_left, shown, shown_body, shown_header};
     ghost use Rattle.gix_config.specs.SectionEditors.{edited, editor, number_of};
 
     /// The number of the section.

@@ -3,8 +3,8 @@ use crate::file::value_mut::spelling::Spelling;
 use crate::file::{File, Metadata, SectionId};
 use crate::lookup::existing;
 use bstr::BString;
-use gitconf_body::editor::Editor;
 use gitconf_body::value_at::InPlaceOf;
+use gitconf_lines::editor::Editor;
 use gitconf_text::NoMemory;
 use gitconf_text::parse::span;
 
@@ -17,11 +17,11 @@ impl File {
     ghost use Rattle.gitconf_base.specs.Metadata.{Meta};
     ghost use Rattle.gitconf_state.specs.Edit.{spacing_of};
     ghost use Rattle.gitconf_state.specs.Edits.{apply, items_of_numbered, told_of, DeleteAt, IsEditor, WriteAt};
-    ghost use Rattle.gitconf_body.specs.Blanks.{PutsAround};
+    ghost use Rattle.gitconf_lines.specs.Blanks.{PutsAround};
     ghost use Rattle.gitconf_body.specs.ValuesAt.{keeps_line_end, stands};
     ghost use Rattle.gitconf_store.specs.Editors.{given_editor, IsGiven};
-    ghost use Rattle.gitconf_store.specs.Lookups.{IsFound, key_at};
-    ghost use Rattle.gitconf_store.specs.ValuePlaces.{meaning_at, IsSomeValuePlace, IsValuePlace};
+    ghost use Rattle.gitconf_finding.specs.Lookups.{IsFound, key_at};
+    ghost use Rattle.gitconf_finding.specs.ValuePlaces.{meaning_at, IsSomeValuePlace, IsValuePlace};
     ghost use Rattle.gix_config.specs.Edited.{has_number, IsEdited};
 
     /// [`Store::value_place_filter_by`](gitconf_store::store::Store::value_place_filter_by).

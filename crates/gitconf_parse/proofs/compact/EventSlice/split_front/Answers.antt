@@ -1,6 +1,6 @@
 use Rattle.std.proofs.Common.{◌∙◌, ap}
 use Rattle.std.proofs.lemmas.List.{take-append-drop}
-use Rattle.gitconf_parse.specs.Sections.{is_header_event, sections_of, is_cut}
+use Rattle.gitconf_items.specs.Sections.{is_header_event, sections_of, is_cut}
 use Rattle.gitconf_parse.proofs.Compacts.{front_taken, rest_dropped, cut_dropped}
 use Rattle.gitconf_parse.proofs.compact.EventSlice.split_front.Goals as goal
 

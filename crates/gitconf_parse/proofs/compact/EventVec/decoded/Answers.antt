@@ -1,6 +1,6 @@
 use Rattle.std.proofs.Common.{map, length, sym, subst, ◌∙◌, ap}
 use Rattle.std.specs.List.{AllByRecursion}
-use Rattle.gitconf_parse.specs.Events.{token_of, EventFits}
+use Rattle.gitconf_items.specs.Events.{token_of, EventFits}
 use Rattle.gitconf_parse.proofs.Compacts.{compact_same, events_shown, named_fits, tokens_same}
 use Rattle.gitconf_parse.proofs.compact.EventVec.decoded.Goals as goal
 

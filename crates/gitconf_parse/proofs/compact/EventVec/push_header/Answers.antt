@@ -1,7 +1,7 @@
 use Rattle.std.proofs.Common.{◌∙◌, ap, ◌≡◌, ◌++◌, ◌∷◌, [], length, arith}
 use Rattle.std.proofs.lemmas.Grind.{common_steps}
 use Rattle.gitconf_parse.specs.declared.compact.Compact.TheVariants as kept
-use Rattle.gitconf_parse.specs.declared.event.Event.TheVariants as kinds
+use Rattle.gitconf_items.specs.declared.event.Event.TheVariants as kinds
 use Rattle.gitconf_parse.proofs.Compacts.{compact_header, header_pushed}
 use Rattle.gitconf_parse.proofs.compact.EventVec.push_header.Goals as goal
 

@@ -1,5 +1,5 @@
 use Rattle.std.proofs.Common.{rules, refl}
-use Rattle.gitconf_parse.proofs.Selections.{some_selected}
+use Rattle.gitconf_items.proofs.Selections.{some_selected}
 use Rattle.gitconf_parse.proofs.events.Events.filtered.Goals as goal
 
 pub invariant_of-result : goal.invariant_of-result

@@ -1,5 +1,5 @@
 use Rattle.gitconf_parse.proofs.Filtering.{filtered_parsed}
-use Rattle.gitconf_parse.proofs.Selections.{whole_selected}
+use Rattle.gitconf_items.proofs.Selections.{whole_selected}
 use Rattle.gitconf_parse.proofs.events.Events.from_bytes.Goals as goal
 
 pub returns-in_ok-filtered-in-Some-clause-parsed : goal.returns-in_ok-filtered-in-Some-clause-parsed

@@ -1,5 +1,5 @@
 use Rattle.std.proofs.Common.{length, subst}
-use Rattle.gitconf_parse.specs.ItemsFit.{AreItemsWithin}
+use Rattle.gitconf_items.specs.ItemsFit.{AreItemsWithin}
 use Rattle.gitconf_parse.proofs.events.Events.into_sections.Goals as goal
 
 pub grouped-requires-clause-keeps : goal.grouped-requires-clause-keeps

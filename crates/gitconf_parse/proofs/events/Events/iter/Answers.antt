@@ -1,7 +1,7 @@
 use Rattle.std.proofs.Common.{◌∙◌, ap, map}
-use Rattle.gitconf_parse.specs.EventList.{EventList}
-use Rattle.gitconf_parse.specs.ShownEvents.{shown_token}
-use Rattle.gitconf_parse.proofs.Shown.{shown_list}
+use Rattle.gitconf_items.specs.EventList.{EventList}
+use Rattle.gitconf_items.specs.ShownEvents.{shown_token}
+use Rattle.gitconf_items.proofs.Shown.{shown_list}
 use Rattle.gitconf_parse.proofs.events.Events.iter.Goals as goal
 
 pub returns : goal.returns

@@ -1,8 +1,8 @@
 use Rattle.std.proofs.Common.{◌∙◌, ap, map}
-use Rattle.gitconf_parse.specs.EventList.{EventList}
-use Rattle.gitconf_parse.specs.ShownEvents.{shown_token, shown_event}
-use Rattle.gitconf_parse.specs.Sections.{is_header_event, is_shown_header, sections_of}
-use Rattle.gitconf_parse.proofs.Shown.{shown_list, sections_of-map, header_told}
+use Rattle.gitconf_items.specs.EventList.{EventList}
+use Rattle.gitconf_items.specs.ShownEvents.{shown_token, shown_event}
+use Rattle.gitconf_items.specs.Sections.{is_header_event, is_shown_header, sections_of}
+use Rattle.gitconf_items.proofs.Shown.{shown_list, sections_of-map, header_told}
 use Rattle.gitconf_parse.proofs.events.Events.sections.Goals as goal
 
 pub returns : goal.returns

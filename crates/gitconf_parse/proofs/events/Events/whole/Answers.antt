@@ -1,4 +1,4 @@
-use Rattle.gitconf_parse.proofs.Selections.{read_fits}
+use Rattle.gitconf_parse.proofs.ReadSelections.{read_fits}
 use Rattle.gitconf_parse.proofs.events.Events.whole.Goals as goal
 
 pub invariant_of-result : goal.invariant_of-result

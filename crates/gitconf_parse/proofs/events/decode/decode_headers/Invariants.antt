@@ -1,6 +1,6 @@
 use Rattle.std.proofs.Common.{ℕ, ◌<◌, length, get_or}
 use Rattle.gitconf_parse.specs.Compact.{no_header, AreDecoded}
-use Rattle.gitconf_parse.specs.Events.{HeaderFits}
+use Rattle.gitconf_items.specs.Events.{HeaderFits}
 use Rattle.gitconf_parse.proofs.events.decode.decode_headers.Given as goal
 
 abbrev pub invariant-loop-place : goal.invariant-loop-place

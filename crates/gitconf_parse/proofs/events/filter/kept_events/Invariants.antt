@@ -1,11 +1,11 @@
 use Rattle.std.proofs.Common.{◌≡◌, ◌++◌, Bool, List, length, map}
 use Rattle.std.specs.List.{AllByRecursion}
-use Rattle.gitconf_parse.specs.declared.event.Event.{Event}
+use Rattle.gitconf_items.specs.declared.event.Event.{Event}
 use Rattle.gitconf_parse.specs.Compact.{events_of}
-use Rattle.gitconf_parse.specs.EventRef.{Shown, shown}
-use Rattle.gitconf_parse.specs.Events.{token_of}
-use Rattle.gitconf_parse.specs.ShownEvents.{IsShown}
-use Rattle.gitconf_parse.specs.EventList.{IsKept, IsSelection}
+use Rattle.gitconf_items.specs.EventRef.{Shown, shown}
+use Rattle.gitconf_items.specs.Events.{token_of}
+use Rattle.gitconf_items.specs.ShownEvents.{IsShown}
+use Rattle.gitconf_items.specs.EventList.{IsKept, IsSelection}
 use Rattle.gitconf_parse.proofs.events.filter.kept_events.Given as goal
 
 -- some events were looked at, and those that are kept are held

@@ -1,7 +1,7 @@
 use Rattle.std.proofs.Common.{◌∙◌, ◌∷◌, [], append-nil, arith, length, refl, sym}
 use Rattle.std.proofs.lemmas.Result.{err_from_is_err_and}
-use Rattle.gitconf_parse.specs.declared.items.Item.TheVariants as items
-use Rattle.gitconf_parse.proofs.Strips.{gap_read, whole_read}
+use Rattle.gitconf_items.specs.declared.items.Item.TheVariants as items
+use Rattle.gitconf_parse.proofs.KeptItems.{gap_read, whole_read}
 use Rattle.gitconf_parse.proofs.ItemReading.{blanks_read, comment_read, entry_part, line_ends_read, no_item_read}
 use Rattle.gitconf_parse.proofs.Pieces.{span_is}
 use Rattle.gitconf_parse.proofs.reading.item.push_item.Goals as goal

@@ -1,6 +1,6 @@
 use Rattle.std.proofs.Common.{◌-◌, ◌≤◌, length}
-use Rattle.gitconf_parse.specs.Items.{tokens_of_items}
-use Rattle.gitconf_parse.specs.ItemsFit.{AreItemsWithin}
+use Rattle.gitconf_items.specs.Items.{tokens_of_items}
+use Rattle.gitconf_items.specs.ItemsFit.{AreItemsWithin}
 use Rattle.gitconf_parse.specs.Stretches.{IsKeptStretch}
 use Rattle.gitconf_parse.proofs.reading.item.push_items.Given as goal
 

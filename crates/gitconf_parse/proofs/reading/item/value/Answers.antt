@@ -1,5 +1,5 @@
 use Rattle.std.proofs.Common.{◌∙◌, sym, arith, length}
-use Rattle.gitconf_parse.specs.ItemsFit.{PieceFits}
+use Rattle.gitconf_items.specs.ItemsFit.{PieceFits}
 use Rattle.gitconf_parse.proofs.ItemReading.{all_put, piece_more, value_ended, value_refused, value_unended}
 use Rattle.gitconf_parse.proofs.Pieces.{span_is}
 use Rattle.gitconf_parse.proofs.reading.item.value.Goals as goal

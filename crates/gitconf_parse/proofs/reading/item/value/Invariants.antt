@@ -1,6 +1,6 @@
 use Rattle.std.proofs.Common.{◌-◌, ◌≤◌, length}
 use Rattle.std.specs.List.{AllByRecursion}
-use Rattle.gitconf_parse.specs.ItemsFit.{PieceFits}
+use Rattle.gitconf_items.specs.ItemsFit.{PieceFits}
 use Rattle.gitconf_parse.proofs.ItemReading.{IsBegun}
 use Rattle.gitconf_parse.proofs.reading.item.value.Given as goal
 

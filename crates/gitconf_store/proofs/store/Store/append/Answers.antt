@@ -2,16 +2,16 @@ use Rattle.std.proofs.Common.{rules, ◌≡◌, ◌+◌, ◌-◌, ◌<◌, ◌�
 use Rattle.std.proofs.lemmas.List.{length-map}
 use Rattle.gitconf_table.specs.Sections.{no_number}
 use Rattle.gitconf_state.specs.State.{State}
-use Rattle.gitconf_store.specs.Store.{section_state}
-use Rattle.gitconf_parse.specs.Moves.{AreItemsMoved}
+use Rattle.gitconf_views.specs.Store.{section_state}
+use Rattle.gitconf_items.specs.Moves.{AreItemsMoved}
 use Rattle.gitconf_state.specs.Edit.{with_used}
 use Rattle.gitconf_state.specs.Edits.{appended}
 use Rattle.gitconf_store.specs.Appends.{appended_bytes, line_between}
-use Rattle.gitconf_store.specs.Moves.{AreSectionsMoved}
+use Rattle.gitconf_joining.specs.Moves.{AreSectionsMoved}
 use Rattle.gitconf_store.proofs.AppendedFiles.{appended_fits, appended_state, by_result, moved_count, movable, neither, same_fits, same_state, two_err}
 use Rattle.gitconf_store.proofs.Appending.{items_up, two_ok}
 use Rattle.gitconf_store.proofs.Making.{longer_fits, longer_state}
-use Rattle.gitconf_store.proofs.Setting.{if_err_at_all}
+use Rattle.gitconf_views.proofs.Outcomes.{if_err_at_all}
 use Rattle.gitconf_store.proofs.store.Store.append.Goals as goal
 
 pub invariant_of-self : goal.invariant_of-self

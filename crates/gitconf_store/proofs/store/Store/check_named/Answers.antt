@@ -4,9 +4,9 @@ use Rattle.std.specs.Option.{option_copied}
 use Rattle.gitconf_table.specs.Sections.{has_name}
 use Rattle.gitconf_state.specs.Lookup as state
 use Rattle.gitconf_state.specs.State.{SectionState}
-use Rattle.gitconf_store.specs.Views.{shown}
-use Rattle.gitconf_store.specs.Walks.{named_left}
-use Rattle.gitconf_store.proofs.SectionsKept.{any_kept, any_listed, any_of_none, any_of_some, name_so, section_missing, subsection_missing}
+use Rattle.gitconf_views.specs.Views.{shown}
+use Rattle.gitconf_finding.specs.Walks.{named_left}
+use Rattle.gitconf_finding.proofs.SectionsKept.{any_kept, any_listed, any_of_none, any_of_some, name_so, section_missing, subsection_missing}
 use Rattle.gitconf_store.proofs.store.Store.check_named.Goals as goal
 
 pub returns-in-Some : goal.returns-in-Some

@@ -1,12 +1,12 @@
 use Rattle.std.proofs.Common.{rules, ◌≡◌, ◌<◌, Some, None, refl, ap, sym, subst, inl, ◌∙◌, length}
 use Rattle.gitconf_table.specs.Sections.{place_of}
 use Rattle.gitconf_table.proofs.SectionLemmas.{number_at-place}
-use Rattle.gitconf_body.proofs.Buffers.{same_extended}
+use Rattle.gitconf_lines.proofs.Buffers.{same_extended}
 use Rattle.gitconf_table.proofs.SectionLemmas.{section_edited}
 use Rattle.gitconf_sections.specs.Section.{Section, with_items}
 use Rattle.gitconf_sections.proofs.Edits.{there_is}
 use Rattle.gitconf_sections.specs.LeavingOut.{without_all}
-use Rattle.gitconf_store.specs.Store.{state_of, StoreFits}
+use Rattle.gitconf_views.specs.Store.{state_of, StoreFits}
 use Rattle.gitconf_store.proofs.Editing.{items_within_at, missing_stays, numbered_kept, numbered_view}
 use Rattle.gitconf_store.proofs.LeavingOut.{left_shown, left_within, run_deleted, run_keeps}
 use Rattle.gitconf_store.proofs.Setting.{HasOthers}

@@ -5,10 +5,10 @@ use Rattle.std.specs.Prelude.{None}
 use Rattle.std.proofs.lemmas.Bool.Decides.{nat_tests}
 use Rattle.gitconf_state.specs.Lookup.{is_named, listing}
 use Rattle.gitconf_state.specs.State.{SectionState, State}
-use Rattle.gitconf_store.specs.SomeSections.{AreSome}
-use Rattle.gitconf_store.specs.Store.{section_state}
-use Rattle.gitconf_store.specs.Views.{shown}
-use Rattle.gitconf_store.specs.Walks.{named_left, passing}
+use Rattle.gitconf_finding.specs.SomeSections.{AreSome}
+use Rattle.gitconf_views.specs.Store.{section_state}
+use Rattle.gitconf_views.specs.Views.{shown}
+use Rattle.gitconf_finding.specs.Walks.{named_left, passing}
 use Rattle.gitconf_store.proofs.Targets.{target_below, target_missing, target_named, target_placed}
 use Rattle.gitconf_store.proofs.store.Store.last_target.Goals as goal
 

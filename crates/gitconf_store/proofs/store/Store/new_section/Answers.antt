@@ -3,7 +3,7 @@ use Rattle.std.specs.List.{list_all}
 use Rattle.std.specs.Option.{option_copied}
 use Rattle.gitconf_text.specs.Names.{is_made_name, is_valid_or_none}
 use Rattle.gitconf_table.specs.Sections.{with_last}
-use Rattle.gitconf_parse.specs.Events.{header_of}
+use Rattle.gitconf_items.specs.Events.{header_of}
 use Rattle.gitconf_text.specs.Part.{LineEndsItem}
 use Rattle.gitconf_state.specs.Edit.{made_header, with_used}
 use Rattle.gitconf_state.specs.Edits as states
@@ -12,8 +12,8 @@ use Rattle.gitconf_state.proofs.EditItems.{new_section_is}
 use Rattle.gitconf_state.specs.LineEnds.{file_line_end}
 use Rattle.gitconf_text.specs.LineEnds.{bytes_of_line_end}
 use Rattle.gitconf_sections.specs.Section.{Section, made}
-use Rattle.gitconf_store.specs.Store.{state_of}
-use Rattle.gitconf_store.proofs.Setting.{if_err_at_all}
+use Rattle.gitconf_views.specs.Store.{state_of}
+use Rattle.gitconf_views.proofs.Outcomes.{if_err_at_all}
 use Rattle.gitconf_store.proofs.Making.{IsMadeWith, longer_state, longer_fits, made_section, made_state, made_fits}
 use Rattle.gitconf_store.proofs.store.Store.new_section.Goals as goal
 

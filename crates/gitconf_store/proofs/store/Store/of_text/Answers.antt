@@ -1,6 +1,6 @@
 use Rattle.std.proofs.Common.{◌∙◌, length, refl, subst, sym}
-use Rattle.gitconf_parse.specs.ItemsFit.{AreItemsWithin}
-use Rattle.gitconf_store.specs.Loading.{IsLoading}
+use Rattle.gitconf_items.specs.ItemsFit.{AreItemsWithin}
+use Rattle.gitconf_joining.specs.Loading.{IsLoading}
 use Rattle.gitconf_store.proofs.Parsed.{read_state}
 use Rattle.gitconf_store.proofs.store.Store.of_text.Goals as goal
 

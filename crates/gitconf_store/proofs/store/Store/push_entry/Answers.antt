@@ -7,14 +7,16 @@ use Rattle.gitconf_state.specs.Edit.{with_used}
 use Rattle.gitconf_state.specs.Editors.{pushed}
 use Rattle.gitconf_state.specs.Edits.{Push}
 use Rattle.gitconf_state.proofs.EditsKeep.{apply_items}
-use Rattle.gitconf_parse.specs.Items.{items_of}
-use Rattle.gitconf_body.specs.Editors.{line_put}
+use Rattle.gitconf_items.specs.Items.{items_of}
+use Rattle.gitconf_lines.specs.Editors.{line_put}
 use Rattle.gitconf_sections.specs.Section.{Section, with_items}
 use Rattle.gitconf_sections.proofs.Edits.{is_taken, taken_within}
 use Rattle.gitconf_store.specs.Editors.{given_editor, PutsIn}
-use Rattle.gitconf_store.specs.Store.{state_of, StoreFits}
-use Rattle.gitconf_store.proofs.Editing.{given_fits, given_same, items_within_at, missing_stays, numbered_kept, numbered_view, puts_at, puts_none, puts_same, used_memory, used_refused}
-use Rattle.gitconf_store.proofs.Setting.{HasOthers, kept_view, on_ok, on_err, either_way}
+use Rattle.gitconf_views.specs.Store.{state_of, StoreFits}
+use Rattle.gitconf_views.proofs.GivenEditors.{given_fits, given_same}
+use Rattle.gitconf_store.proofs.Editing.{items_within_at, missing_stays, numbered_kept, numbered_view, puts_at, puts_none, puts_same, used_memory, used_refused}
+use Rattle.gitconf_views.proofs.Outcomes.{on_ok, on_err, either_way}
+use Rattle.gitconf_store.proofs.Setting.{HasOthers, kept_view}
 use Rattle.gitconf_store.proofs.store.Store.push_entry.Goals as goal
 
 pub push-pushed-requires-clause-fits : goal.push-pushed-requires-clause-fits

@@ -3,12 +3,13 @@ use Rattle.gitconf_state.specs.Edit.{with_used}
 use Rattle.gitconf_state.specs.Edits.{with_last}
 use Rattle.gitconf_sections.specs.Moves.{IsSectionMoved}
 use Rattle.gitconf_sections.specs.Section.{made}
-use Rattle.gitconf_store.specs.Alone.{whole}
-use Rattle.gitconf_store.specs.Store.{state_of}
+use Rattle.gitconf_views.specs.Alone.{whole}
+use Rattle.gitconf_views.specs.Store.{state_of}
 use Rattle.gitconf_store.proofs.Appending.{items_up, nothing_moved, ok_or_err, pushed_fits, pushed_state, shown_there, two_ok, within_there}
-use Rattle.gitconf_store.proofs.Loading.{sections_fit_more}
+use Rattle.gitconf_joining.proofs.Loading.{sections_fit_more}
 use Rattle.gitconf_store.proofs.Making.{longer_fits, longer_state}
-use Rattle.gitconf_store.proofs.Setting.{if_err_at_all, on_err, sections_fit_in}
+use Rattle.gitconf_views.proofs.Outcomes.{if_err_at_all, on_err}
+use Rattle.gitconf_store.proofs.Setting.{sections_fit_in}
 use Rattle.gitconf_store.proofs.store.Store.push_section.Goals as goal
 
 pub invariant_of-self : goal.invariant_of-self

@@ -1,10 +1,10 @@
 use Rattle.std.proofs.Common.{true, subst, sym}
 use Rattle.std.specs.Option.{option_copied}
 use Rattle.std.specs.Prelude.{map}
-use Rattle.gitconf_store.specs.Lookups.{key_at, miss_at, shown_with, unless_empty, values_in}
+use Rattle.gitconf_finding.specs.Lookups.{key_at, miss_at, shown_with, unless_empty, values_in}
 use Rattle.gitconf_state.specs.Edits.{with_sections}
-use Rattle.gitconf_store.specs.Misses.{IsExisting}
-use Rattle.gitconf_store.proofs.Answering.{existing_told, texts_with_sections_told}
+use Rattle.gitconf_finding.specs.Misses.{IsExisting}
+use Rattle.gitconf_finding.proofs.Answering.{existing_told, texts_with_sections_told}
 use Rattle.gitconf_store.proofs.store.Store.raw_values_with_sections_filter_by.Goals as goal
 
 pub returns-clause-exact : goal.returns-clause-exact

@@ -6,13 +6,14 @@ use Rattle.gitconf_state.specs.Edit.{old_value}
 use Rattle.gitconf_state.specs.Editors.{removed}
 use Rattle.gitconf_state.specs.Edits.{Raw, Remove}
 use Rattle.gitconf_state.proofs.EditsKeep.{apply_items}
-use Rattle.gitconf_parse.specs.Items.{items_of}
-use Rattle.gitconf_body.proofs.Buffers.{same_extended}
+use Rattle.gitconf_items.specs.Items.{items_of}
+use Rattle.gitconf_lines.proofs.Buffers.{same_extended}
 use Rattle.gitconf_sections.specs.Section.{Section, with_items, viewed}
 use Rattle.gitconf_sections.proofs.Edits.{is_taken, taken_within}
-use Rattle.gitconf_store.specs.Store.{state_of, StoreFits}
+use Rattle.gitconf_views.specs.Store.{state_of, StoreFits}
 use Rattle.gitconf_store.proofs.Editing.{unchanged_view, items_within_at, missing_stays, missing_told, numbered_kept, numbered_told, numbered_view, raw_inside}
-use Rattle.gitconf_store.proofs.Setting.{HasOthers, kept_view, on_ok, on_err, either_way, if_ok}
+use Rattle.gitconf_views.proofs.Outcomes.{on_ok, on_err, either_way, if_ok}
+use Rattle.gitconf_store.proofs.Setting.{HasOthers, kept_view}
 use Rattle.gitconf_store.proofs.store.Store.remove_entry.Goals as goal
 
 pub returns-in_default-clause-ok : goal.returns-in_default-clause-ok

@@ -1,6 +1,6 @@
 use Rattle.std.proofs.Common.{ap, sym, ◌∙◌}
 use Rattle.gitconf_state.specs.Edits.{without_numbered}
-use Rattle.gitconf_store.specs.Views.{shown}
+use Rattle.gitconf_views.specs.Views.{shown}
 use Rattle.gitconf_store.proofs.Numbering.{numbered_has, taken_some, without_none}
 use Rattle.gitconf_store.proofs.store.Store.remove_section_by_id.Goals as goal
 

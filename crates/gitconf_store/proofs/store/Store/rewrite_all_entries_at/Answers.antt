@@ -1,6 +1,6 @@
 use Rattle.std.proofs.Common.{rules, ◌≡◌, ◌∷◌, length, map, inl, ap}
 use Rattle.gitconf_store.proofs.Several.{begun, ended, one_more, puts_refused, puts_within, refused}
-use Rattle.gitconf_store.proofs.ValuePlaces.{none_long}
+use Rattle.gitconf_finding.proofs.ValuePlaces.{none_long}
 use Rattle.gitconf_store.proofs.store.Store.rewrite_all_entries_at.Goals as goal
 
 pub loop-place-init : goal.loop-place-init

@@ -1,7 +1,7 @@
 use Rattle.std.proofs.Common.{rules, ◌≡◌, ◌<◌, ◌≤◌, ◌∷◌, length, map, inl, inr, ap, arith}
 use Rattle.std.proofs.lemmas.List.{drop_all, drop_more}
 use Rattle.gitconf_store.proofs.Several.{begun, ended, one_more, puts_refused, puts_within, refused}
-use Rattle.gitconf_store.proofs.ValuePlaces.{none_long}
+use Rattle.gitconf_finding.proofs.ValuePlaces.{none_long}
 use Rattle.gitconf_store.proofs.store.Store.rewrite_entries_at.Goals as goal
 
 pub loop-value-init : goal.loop-value-init

@@ -8,16 +8,17 @@ use Rattle.gitconf_state.specs.Editors.{written_at}
 use Rattle.gitconf_state.specs.Edits.{items_of_numbered, WriteAt, apply}
 use Rattle.gitconf_state.specs.State.{State}
 use Rattle.gitconf_state.specs.LineEnds.{file_line_end}
-use Rattle.gitconf_parse.specs.Items.{items_of}
+use Rattle.gitconf_items.specs.Items.{items_of}
 use Rattle.gitconf_body.specs.ValuesAt.{keeps_line_end, rewritten_put, stands}
 use Rattle.gitconf_sections.specs.Section.{Section, with_items, viewed}
 use Rattle.gitconf_sections.proofs.Edits.{is_taken, taken_within}
 use Rattle.gitconf_store.specs.Edits.{UsedGrows}
-use Rattle.gitconf_store.specs.Store.{state_of, StoreFits}
-use Rattle.gitconf_store.specs.ValuePlaces.{editor_of_numbered}
+use Rattle.gitconf_views.specs.Store.{state_of, StoreFits}
+use Rattle.gitconf_finding.specs.ValuePlaces.{editor_of_numbered}
 use Rattle.gitconf_store.proofs.Editing.{items_within_at, missing_stays, never_missing, numbered_items_at, numbered_kept, numbered_view, puts_at, puts_none, puts_same, used_memory, used_refused}
-use Rattle.gitconf_store.proofs.Setting.{HasOthers, kept_view, on_ok, on_err, either_way}
-use Rattle.gitconf_store.proofs.ValuePlaces.{rewritten_items}
+use Rattle.gitconf_views.proofs.Outcomes.{on_ok, on_err, either_way}
+use Rattle.gitconf_store.proofs.Setting.{HasOthers, kept_view}
+use Rattle.gitconf_finding.proofs.ValuePlaces.{rewritten_items}
 use Rattle.gitconf_store.specs.Editors.{PutsIn}
 use Rattle.gitconf_store.proofs.store.Store.rewrite_entry_at.Goals as goal
 

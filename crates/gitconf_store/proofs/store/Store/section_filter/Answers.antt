@@ -1,10 +1,10 @@
 use Rattle.std.proofs.Common.{◌≡◌, true, None, subst}
 use Rattle.std.specs.List.{last_or}
 use Rattle.std.specs.Option.{option_copied, option_map}
-use Rattle.gitconf_store.specs.SomeSections.{AreSome}
-use Rattle.gitconf_store.specs.Views.{shown}
-use Rattle.gitconf_store.specs.Walks.{passing}
-use Rattle.gitconf_store.proofs.SomeSections.{with_some_named}
+use Rattle.gitconf_finding.specs.SomeSections.{AreSome}
+use Rattle.gitconf_views.specs.Views.{shown}
+use Rattle.gitconf_finding.specs.Walks.{passing}
+use Rattle.gitconf_finding.proofs.SomeSections.{with_some_named}
 use Rattle.gitconf_store.proofs.store.Store.section_filter.Goals as goal
 
 pub returns-clause-some : goal.returns-clause-some

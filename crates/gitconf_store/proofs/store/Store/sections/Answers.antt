@@ -1,5 +1,5 @@
 use Rattle.gitconf_sections.specs.Walks.{sections_left}
-use Rattle.gitconf_store.proofs.Viewing.{is_state, lent_viewed}
+use Rattle.gitconf_views.proofs.Viewing.{is_state, lent_viewed}
 use Rattle.gitconf_store.proofs.store.Store.sections.Goals as goal
 
 pub returns-clause-state : goal.returns-clause-state

@@ -4,8 +4,8 @@ use Rattle.gitconf_table.specs.Sections.{is_named}
 use Rattle.gitconf_state.specs.Lookup as state
 use Rattle.gitconf_state.specs.State.{SectionState}
 use Rattle.gitconf_store.proofs.Named.{named_so}
-use Rattle.gitconf_store.proofs.SectionsKept.{found_kept}
-use Rattle.gitconf_store.proofs.Viewing.{lent_kept}
+use Rattle.gitconf_finding.proofs.SectionsKept.{found_kept}
+use Rattle.gitconf_views.proofs.Viewing.{lent_kept}
 use Rattle.gitconf_store.proofs.store.Store.sections_named.Goals as goal
 
 pub returns : goal.returns

@@ -4,13 +4,14 @@ use Rattle.gitconf_state.specs.Edit.{old_value, set_bytes, set_value}
 use Rattle.std.proofs.lemmas.List.{length-map}
 use Rattle.gitconf_state.specs.State.{State}
 use Rattle.gitconf_state.specs.LineEnds.{file_line_end}
-use Rattle.gitconf_parse.specs.Items.{items_of}
+use Rattle.gitconf_items.specs.Items.{items_of}
 use Rattle.gitconf_text.specs.LineEnds.{bytes_of_line_end}
 use Rattle.gitconf_sections.specs.Section.{Section, with_items, viewed}
 use Rattle.gitconf_sections.proofs.Edits.{is_taken, taken_within}
 use Rattle.gitconf_store.specs.Edits.{UsedGrows}
-use Rattle.gitconf_store.specs.Store.{section_state, state_of, StoreFits}
-use Rattle.gitconf_store.proofs.Setting.{HasOthers, set_view, kept_view, set_keeps, asked_at, on_ok, on_err, either_way, if_ok}
+use Rattle.gitconf_views.specs.Store.{section_state, state_of, StoreFits}
+use Rattle.gitconf_views.proofs.Outcomes.{on_ok, on_err, either_way, if_ok}
+use Rattle.gitconf_store.proofs.Setting.{HasOthers, set_view, kept_view, set_keeps, asked_at}
 use Rattle.gitconf_store.proofs.Editing.{items_within_at, used_memory, used_refused}
 use Rattle.gitconf_store.proofs.store.Store.set_at.Goals as goal
 

@@ -1,7 +1,7 @@
 use Rattle.std.proofs.Common.{rules, true, map}
 use Rattle.std.specs.Option.{option_copied}
 use Rattle.std.proofs.lemmas.Fn.{always_returns_same}
-use Rattle.gitconf_store.specs.Lookups.{key_at}
+use Rattle.gitconf_finding.specs.Lookups.{key_at}
 use Rattle.gitconf_store.specs.Several.{AreRewritten}
 use Rattle.gitconf_store.proofs.Several.{set_err, set_ok, unset}
 use Rattle.gitconf_store.proofs.store.Store.set_existing_raw_multi_value_by.Goals as goal

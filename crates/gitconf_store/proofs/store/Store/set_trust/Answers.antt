@@ -6,7 +6,7 @@ use Rattle.gitconf_state.specs.Edits.{with_trust}
 use Rattle.gitconf_table.specs.Sections.{with_section}
 use Rattle.gitconf_table.proofs.SectionLemmas.{section_edited}
 use Rattle.gitconf_sections.specs.Section.{Section, viewed}
-use Rattle.gitconf_store.specs.Store.{state_of, StoreFits}
+use Rattle.gitconf_views.specs.Store.{state_of, StoreFits}
 use Rattle.gitconf_store.proofs.Renaming.{is_numbered, unnumbered_stays}
 use Rattle.gitconf_store.proofs.Trusting.{IsTrusted, trusted_fits, trusted_state}
 use Rattle.gitconf_store.proofs.store.Store.set_trust.Goals as goal

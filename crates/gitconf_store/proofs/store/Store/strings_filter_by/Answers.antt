@@ -1,8 +1,8 @@
 use Rattle.std.proofs.Common.{true}
 use Rattle.std.specs.Option.{option_copied}
 use Rattle.gitconf_state.specs.Edits.{with_sections}
-use Rattle.gitconf_store.specs.Lookups.{key_at}
-use Rattle.gitconf_store.proofs.Answering.{texts_told}
+use Rattle.gitconf_finding.specs.Lookups.{key_at}
+use Rattle.gitconf_finding.proofs.Answering.{texts_told}
 use Rattle.gitconf_store.proofs.store.Store.strings_filter_by.Goals as goal
 
 pub returns-clause-exact : goal.returns-clause-exact

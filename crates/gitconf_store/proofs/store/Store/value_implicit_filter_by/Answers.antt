@@ -1,9 +1,9 @@
 use Rattle.std.proofs.Common.{true}
 use Rattle.std.specs.Option.{option_copied, option_map}
 use Rattle.gitconf_state.specs.Edits.{with_sections}
-use Rattle.gitconf_store.specs.Finding.{place_of}
-use Rattle.gitconf_store.specs.Lookups.{key_at}
-use Rattle.gitconf_store.proofs.Answering.{implicit_told}
+use Rattle.gitconf_finding.specs.Finding.{place_of}
+use Rattle.gitconf_finding.specs.Lookups.{key_at}
+use Rattle.gitconf_finding.proofs.Answering.{implicit_told}
 use Rattle.gitconf_store.proofs.store.Store.value_implicit_filter_by.Goals as goal
 
 pub returns-clause-exact : goal.returns-clause-exact

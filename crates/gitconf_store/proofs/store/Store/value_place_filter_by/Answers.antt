@@ -3,14 +3,14 @@ use Rattle.std.specs.Option.{option_copied}
 use Rattle.std.specs.Prelude.{IfErr}
 use Rattle.gitconf_text.specs.Names.{is_value_name}
 use Rattle.gitconf_state.specs.Edits.{with_sections}
-use Rattle.gitconf_store.specs.declared.lookup.existing.Error.TheVariants.{KeyMissing}
-use Rattle.gitconf_store.specs.Lookups.{key_at}
-use Rattle.gitconf_store.specs.Picks.{IsMissing}
-use Rattle.gitconf_store.specs.SomeSections.{AreSome}
-use Rattle.gitconf_store.specs.ValuePlaces.{IsPlace, last_value_place, value_place}
-use Rattle.gitconf_store.specs.Walks.{named_left}
-use Rattle.gitconf_store.proofs.SomeSections.{none_of, with_some_named}
-use Rattle.gitconf_store.proofs.ValuePlaces.{absent_placed, invalid_placed, place_stands, refused_anyway, refused_placed}
+use Rattle.gitconf_finding.specs.declared.existing.Error.TheVariants.{KeyMissing}
+use Rattle.gitconf_finding.specs.Lookups.{key_at}
+use Rattle.gitconf_finding.specs.Picks.{IsMissing}
+use Rattle.gitconf_finding.specs.SomeSections.{AreSome}
+use Rattle.gitconf_finding.specs.ValuePlaces.{IsPlace, last_value_place, value_place}
+use Rattle.gitconf_finding.specs.Walks.{named_left}
+use Rattle.gitconf_finding.proofs.SomeSections.{none_of, with_some_named}
+use Rattle.gitconf_finding.proofs.ValuePlaces.{absent_placed, invalid_placed, place_stands, refused_anyway, refused_placed}
 use Rattle.gitconf_store.proofs.store.Store.value_place_filter_by.Goals as goal
 
 pub returns-in_err-check_named-clause-exact : goal.returns-in_err-check_named-clause-exact

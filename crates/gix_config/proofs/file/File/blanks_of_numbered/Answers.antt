@@ -1,6 +1,6 @@
 use Rattle.std.proofs.Common.{ap, sym, ◌∙◌, Some}
 use Rattle.std.specs.Option.{option_map}
-use Rattle.gitconf_store.specs.Views.{shown}
+use Rattle.gitconf_views.specs.Views.{shown}
 use Rattle.gitconf_store.proofs.Numbering.{numbered_has}
 use Rattle.gix_config.specs.SectionEditors.{blanks_at}
 use Rattle.gix_config.proofs.Standing.{number_found}

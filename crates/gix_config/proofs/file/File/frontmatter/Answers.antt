@@ -1,7 +1,7 @@
 use Rattle.std.proofs.Common.{rules, ◌≡◌, List, [], ◌∷◌, refl}
 use Rattle.std.specs.Prelude.{map}
-use Rattle.gitconf_parse.specs.ShownEvents.{shown_token}
-use Rattle.gitconf_parse.specs.Items.{tokens_in}
+use Rattle.gitconf_items.specs.ShownEvents.{shown_token}
+use Rattle.gitconf_items.specs.Items.{tokens_in}
 use Rattle.gix_config.proofs.file.File.frontmatter.Goals as goal
 
 of_none : {A B : Type 0} (f : A → B) (xs : List A) → map f xs ≡ [] → xs ≡ []

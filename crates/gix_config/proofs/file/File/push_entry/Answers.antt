@@ -2,7 +2,7 @@ use Rattle.std.proofs.Common.{ap, ◌∙◌}
 use Rattle.std.specs.Option.{option_copied}
 use Rattle.gitconf_state.specs.Edits.{Push}
 use Rattle.gitconf_state.specs.Editors.{pushed}
-use Rattle.gitconf_body.specs.Editors.{line_put}
+use Rattle.gitconf_lines.specs.Editors.{line_put}
 use Rattle.gitconf_store.specs.Editors.{given_editor}
 use Rattle.gix_config.specs.Edited.{has_number}
 use Rattle.gix_config.proofs.Puts.{line_is}

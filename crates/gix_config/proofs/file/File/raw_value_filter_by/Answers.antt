@@ -1,7 +1,7 @@
 use Rattle.std.proofs.Common.{subst}
 use Rattle.std.specs.Option.{option_copied}
-use Rattle.gitconf_store.specs.Lookups.{IsRawValue, key_at}
-use Rattle.gitconf_store.specs.SomeSections.{IsSomeRawValue}
+use Rattle.gitconf_finding.specs.Lookups.{IsRawValue, key_at}
+use Rattle.gitconf_finding.specs.SomeSections.{IsSomeRawValue}
 use Rattle.gix_config.proofs.file.File.raw_value_filter_by.Goals as goal
 
 pub returns-clause-exact : goal.returns-clause-exact

@@ -1,7 +1,7 @@
 use Rattle.std.proofs.Common.{subst}
 use Rattle.std.specs.Option.{option_copied}
-use Rattle.gitconf_store.specs.Lookups.{AreRawValuesWithSections, key_at}
-use Rattle.gitconf_store.specs.SomeSections.{AreSomeRawValuesWithSections}
+use Rattle.gitconf_finding.specs.Lookups.{AreRawValuesWithSections, key_at}
+use Rattle.gitconf_finding.specs.SomeSections.{AreSomeRawValuesWithSections}
 use Rattle.gix_config.proofs.file.File.raw_values_with_sections_filter_by.Goals as goal
 
 pub returns-clause-exact : goal.returns-clause-exact

@@ -1,6 +1,6 @@
 use Rattle.std.proofs.Common.{rules, sym, ap, ◌∙◌}
 use Rattle.std.specs.Prelude.{None, option_map}
-use Rattle.gitconf_store.specs.Views.{shown}
+use Rattle.gitconf_views.specs.Views.{shown}
 use Rattle.gix_config.specs.Edited.{has_number}
 use Rattle.gix_config.proofs.Numbers.{number_missing}
 use Rattle.gix_config.proofs.file.File.section_of.Goals as goal

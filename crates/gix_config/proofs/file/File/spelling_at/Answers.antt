@@ -1,7 +1,7 @@
 use Rattle.std.proofs.Common.{◌≡◌, subst}
 use Rattle.std.specs.Prelude.{IfOk}
 use Rattle.gitconf_state.specs.Edit.{Spacing}
-use Rattle.gitconf_store.specs.Views.{shown}
+use Rattle.gitconf_views.specs.Views.{shown}
 use Rattle.gix_config.proofs.ValueEditors.{blanks_numbered}
 use Rattle.gix_config.proofs.file.File.spelling_at.Goals as goal
 

@@ -1,7 +1,7 @@
 use Rattle.std.proofs.Common.{subst}
 use Rattle.std.specs.Option.{option_copied}
-use Rattle.gitconf_store.specs.Lookups.{key_at}
-use Rattle.gitconf_store.specs.ValuePlaces.{IsValuePlace}
+use Rattle.gitconf_finding.specs.Lookups.{key_at}
+use Rattle.gitconf_finding.specs.ValuePlaces.{IsValuePlace}
 use Rattle.gix_config.proofs.file.File.value_place.Goals as goal
 
 pub returns-clause-exact : goal.returns-clause-exact

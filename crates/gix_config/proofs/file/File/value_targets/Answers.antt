@@ -1,9 +1,9 @@
 use Rattle.std.proofs.Common.{rules, true, subst}
 use Rattle.std.specs.Option.{option_copied}
 use Rattle.gitconf_state.specs.Edits.{with_sections}
-use Rattle.gitconf_store.specs.Lookups.{key_at}
-use Rattle.gitconf_store.specs.SomeSections.{WithSome}
-use Rattle.gitconf_store.specs.ValuePlaces.{key_places}
+use Rattle.gitconf_finding.specs.Lookups.{key_at}
+use Rattle.gitconf_finding.specs.SomeSections.{WithSome}
+use Rattle.gitconf_finding.specs.ValuePlaces.{key_places}
 use Rattle.gix_config.specs.MultiValueEditors.{AreFoundTargets, AreTargets}
 use Rattle.gix_config.proofs.MultiValueEditors.{found_targets, missed_targets, unspelled_targets}
 use Rattle.gix_config.proofs.file.File.value_targets.Goals as goal

@@ -1,0 +1,16 @@
+use Rattle.std.proofs.Common.{length}
+use Rattle.gitconf_items.specs.Items.{item_of}
+use Rattle.gitconf_items.specs.ItemsFit.{ItemFits}
+use Rattle.gitconf_copying.specs.Copies.{IsLonger}
+use Rattle.gitconf_copying.proofs.Copies.{AreCopying}
+use Rattle.gitconf_copying.proofs.copying.copied_items.Given as goal
+
+-- these are copied, and the others are left
+abbrev pub invariant-loop-item : goal.invariant-loop-item
+invariant-loop-item l = record {
+  longer : IsLonger l.fn.to.items l.to.items;
+  copying : AreCopying item_of ItemFits l.from l.to.items l.copies.items l.rest l.fn.items;
+}
+
+abbrev pub decreases-loop-item : goal.decreases-loop-item
+decreases-loop-item l = length l.rest

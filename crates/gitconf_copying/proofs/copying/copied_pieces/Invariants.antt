@@ -1,0 +1,16 @@
+use Rattle.std.proofs.Common.{length}
+use Rattle.gitconf_items.specs.Items.{piece_of}
+use Rattle.gitconf_items.specs.ItemsFit.{PieceFits}
+use Rattle.gitconf_copying.specs.Copies.{IsLonger}
+use Rattle.gitconf_copying.proofs.Copies.{AreCopying}
+use Rattle.gitconf_copying.proofs.copying.copied_pieces.Given as goal
+
+-- these are copied, and the others are left
+abbrev pub invariant-loop-piece : goal.invariant-loop-piece
+invariant-loop-piece l = record {
+  longer : IsLonger l.fn.to.items l.to.items;
+  copying : AreCopying piece_of PieceFits l.from l.to.items l.copies.items l.rest l.fn.pieces;
+}
+
+abbrev pub decreases-loop-piece : goal.decreases-loop-piece
+decreases-loop-piece l = length l.rest

@@ -1,0 +1,4 @@
+//! Items and headers copied to another buffer.
+#![tactic(auto)]
+
+pub mod copying;

@@ -1,0 +1,11 @@
+pub mod Meanings
+pub mod SameStates
+pub mod Placing
+pub mod Telling
+pub mod Walking
+pub mod Answering
+pub mod ValuePlaces
+pub mod SectionsKept
+pub mod SomeSections
+pub mod Asking
+pub mod SomeTexts

@@ -1,0 +1,13 @@
+use Rattle.std.proofs.Common.{◌≡◌, ◌+◌, ◌<◌, ◌^◌, length}
+use Rattle.gitconf_views.specs.Counts.{section_entries}
+use Rattle.gitconf_views.specs.Views.{sections_left}
+use Rattle.gitconf_finding.proofs.tokens.value_count.Given as goal
+
+-- what holds of the sections that are left
+abbrev pub invariant-loop-section : goal.invariant-loop-section
+invariant-loop-section l = record {
+  can_next : (goal.iterator-loop-section).can_next l.section-iterator;
+  is_finite : (goal.iterator-loop-section).is_finite l.section-iterator;
+  counted : length (section_entries (sections_left l.fn.sections)) < 2 ^ 64
+      → l.count + length (section_entries (sections_left l.section-iterator)) ≡ length (section_entries (sections_left l.fn.sections));
+}

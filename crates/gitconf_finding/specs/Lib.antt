@@ -1,0 +1,10 @@
+pub mod Same
+pub mod SameLaws
+pub mod RawBytes
+pub mod Finding
+pub mod ValuePlaces
+pub mod Walks
+pub mod Picks
+pub mod SomeSections
+pub mod Misses
+pub mod Lookups

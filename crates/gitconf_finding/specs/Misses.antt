@@ -1,0 +1,33 @@
+-- How look-ups refuse what is missing.
+use Rattle.std.specs.Prelude.{◌≡◌, ◌≢◌, ℕ, Option, Some, None, Result, Ok, Err}
+use Rattle.gitconf_state.specs.Lookup as state
+use Rattle.gitconf_state.specs.Lookup.{Miss}
+use Rattle.gitconf_finding.specs.declared.existing.Error.{Error}
+use Rattle.gitconf_finding.specs.declared.existing.Error.TheVariants.{SectionMissing, SubSectionMissing, KeyMissing, ValueName, Memory}
+
+-- the number of each refusal
+abbrev pub existing_number : Error → ℕ
+existing_number SectionMissing = 7
+existing_number SubSectionMissing = 8
+existing_number KeyMissing = 9
+existing_number (ValueName number) = number
+existing_number Memory = 27
+
+-- the refusal of what a look-up misses
+abbrev pub missing : Miss → Error
+missing state.SectionMissing = SectionMissing
+missing state.SubSectionMissing = SubSectionMissing
+missing state.KeyMissing = KeyMissing
+
+-- What was found is shown, if there is something. A refusal tells what is missing where there is nothing; want of memory comes only where
+-- there is something.
+abbrev pub IsExisting : {T A : Type 0} → (shown : T → A) → Result T Error → Option A → Miss → Type 0
+IsExisting shown (Ok found) value miss = value ≡ Some (shown found)
+IsExisting shown (Err Memory) value miss = value ≢ None
+IsExisting shown (Err refusal) value miss = (value ≡ None) × (refusal ≡ missing miss)
+
+-- what was found; the refusal where nothing was
+abbrev pub existing_or : {T E : Type 0} → (miss : Error) → Result (Option T) E → Result T Error
+existing_or miss (Ok (Some found)) = Ok found
+existing_or miss (Ok None) = Err miss
+existing_or miss (Err refusal) = Err Memory

@@ -1,0 +1,36 @@
+//! Why that is missing which a look-up asks for.
+
+use gitconf_text::NoMemory;
+use gitconf_text::parse::section::ValueNameError;
+use thiserror::Error;
+
+/// Why that is missing which a look-up asks for, or an edit.
+#[derive(Debug, Drop, Error)]
+pub enum Error {
+    /// No section has the name: refusal 7.
+    #[error("The requested section does not exist")]
+    SectionMissing,
+    /// No section of the name has the subsection: refusal 8.
+    #[error("The requested subsection does not exist")]
+    SubSectionMissing,
+    /// No section of the name and subsection has such a value: refusal 9.
+    #[error("The key does not exist in the requested section")]
+    KeyMissing,
+    /// The name of a value that is to be written is none: refusal 6. Look-ups don't answer it.
+    #[error(transparent)]
+    ValueName(ValueNameError),
+    /// A growth was refused: refusal 27.
+    #[error("out of memory")]
+    Memory,
+}
+
+impl From<NoMemory> for Error {
+    ghost use Rattle.std.specs.Prelude.{◌≡◌};
+    ghost use Rattle.gitconf_finding.specs.declared.existing.Error.TheVariants.{Memory};
+
+    ghost from_gives = { λ _ e. e ≡ Memory };
+
+    fn from(_e: NoMemory) -> Error {
+        Error::Memory
+    }
+}

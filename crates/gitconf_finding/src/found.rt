@@ -1,0 +1,71 @@
+//! A place that a look-up found, and what stands there.
+ghost use Rattle.std.specs.Prelude.{◌≡◌, IfOk};
+
+use bstr::BString;
+use gitconf_items::entry::Entry;
+use gitconf_text::NoMemory;
+use gitconf_views::section::SectionRef;
+use gitconf_views::values::{entry_meaning, entry_value};
+use std::alloc::Global;
+
+/// Which entries decide in their section, where they are the last one of the key.
+#[derive(Clone, Copy)]
+pub enum Deciding {
+    /// Each.
+    Entry,
+    /// One with a value. Behind one without, a look-up goes on to an earlier section.
+    Value,
+}
+
+/// The same view again.
+pub fn same_view<'a>(section: &SectionRef<'a>) -> SectionRef<'a>
+    ensures { result ≡ section.now }
+{
+    SectionRef {
+        alloc: section.alloc,
+        buffer: section.buffer,
+        copies: section.copies,
+        id: section.id,
+        header: section.header,
+        meta: section.meta,
+        items: section.items,
+        held: section.held,
+    }
+}
+
+/// An entry that a look-up found, and the section in which it stands.
+#[derive(Clone, Copy)]
+pub struct Found<'a> {
+    pub section: SectionRef<'a>,
+    pub entry: &'a Entry,
+}
+
+impl<'a> Found<'a> {
+    ghost use Rattle.std.specs.Option.{option_map};
+    ghost use Rattle.bstr.specs.Owned.{bstring_bytes};
+    ghost use Rattle.gitconf_text.specs.Value.{plain};
+    ghost use Rattle.gitconf_state.specs.Lookup.{meaning as meant};
+    ghost use Rattle.gitconf_finding.specs.Finding.{place_of};
+    ghost use Rattle.gitconf_views.specs.Views.{shown};
+
+    /// The section in which the entry stands.
+    pub fn section(&self) -> SectionRef<'a>
+        ensures { shown result ≡ (place_of self.now).0 }
+    {
+        same_view(&self.section)
+    }
+
+    /// What the entry means; without a value it is empty. Memory is taken for the answer, where there is a value.
+    pub fn meaning(&self, alloc: Global) -> Result<BString, NoMemory>
+        ensures { IfOk result (λ text. bstring_bytes text ≡ meant (place_of self.now).1) }
+    {
+        entry_meaning(alloc, self.section.buffer, self.entry)
+    }
+
+    /// What the entry's value means, if it has one.
+    pub fn value(&self, alloc: Global) -> Result<Option<BString>, NoMemory>
+        ensures { IfOk result (λ value. option_map bstring_bytes value ≡ option_map plain (place_of self.now).1.raw) }
+    {
+        entry_value(alloc, self.section.buffer, self.entry)
+    }
+}

@@ -1,0 +1,56 @@
+//! What the tokens of a file tell: its line end, whether there are any, and how many entries.
+ghost use Rattle.std.specs.Prelude.{◌≡◌, ◌+◌, ◌<◌, ◌^◌, ◌++◌, length, flat_map, true};
+ghost use Rattle.std.specs.List.{count_by};
+ghost use Rattle.gitconf_text.specs.Token.{item_tokens};
+ghost use Rattle.gitconf_state.specs.State.{entries_of};
+ghost use Rattle.gitconf_state.specs.LineEnds.{line_end_of};
+ghost use Rattle.gitconf_items.specs.Items.{items_of};
+ghost use Rattle.gitconf_text.specs.LineEnds.{bytes_of_line_end};
+ghost use Rattle.gitconf_views.specs.Views.{sections_left};
+ghost use Rattle.gitconf_lines.specs.Spacings.{is_stored_entry};
+ghost use Rattle.gitconf_views.specs.Counts.{are_void, section_entries};
+
+use gitconf_items::items::Item;
+use gitconf_text::line_end::LineEnd;
+use gitconf_views::section::Sections;
+use gitconf_views::views::entry_count;
+use gitconf_write::line_end::first_line_end;
+
+/// The line end of the first newline of a front and of the sections' bodies; LF where there is none.
+#[tactic(auto, using(gitconf_views::proofs::Counting::among))]
+pub fn file_line_end(buffer: &[u8], front: &[Item], sections: Sections<'_>) -> LineEnd
+    ensures { bytes_of_line_end result ≡ line_end_of (flat_map item_tokens (items_of buffer.now front.now ++ flat_map (λ s. s.items) (sections_left sections.entry))) }
+{
+    if let Some(found) = first_line_end(buffer, front) {
+        return found;
+    }
+    for section in sections {
+        if let Some(found) = first_line_end(section.buffer, section.items) {
+            return found;
+        }
+    }
+    LineEnd::Lf
+}
+
+/// Whether no section has anything in its body.
+pub fn are_void(sections: Sections<'_>) -> bool
+    ensures { result ≡ are_void (sections_left sections.entry) }
+{
+    for section in sections {
+        if !section.items.is_empty() {
+            return false;
+        }
+    }
+    true
+}
+
+/// How many entries the sections have; the greatest number where they are more.
+pub fn value_count(sections: Sections<'_>) -> usize
+    ensures { let n = length (section_entries (sections_left sections.entry)) in n < 2 ^ 64 → result ≡ n }
+{
+    let mut count: usize = 0;
+    for section in sections {
+        count = count.saturating_add(entry_count(section.items));
+    }
+    count
+}

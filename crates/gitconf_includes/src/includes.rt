@@ -1,0 +1,194 @@
+//! Files that include others: how far that goes, and how it is refused.
+ghost use Rattle.std.specs.Prelude.{◌≡◌};
+ghost use Rattle.gitconf_includes.specs.Options.{no_conditions, no_follow, follow, strict};
+
+pub mod conditional;
+
+use gitconf_host::FileFault;
+use gitconf_parse::error as parse;
+use gitconf_text::NoMemory;
+use gitconf_text::parse::span;
+use gitconf_values::Homes;
+use gitconf_values::path::interpolate;
+use thiserror::Error;
+
+/// How includes are refused.
+#[derive(Debug, Drop, Error)]
+pub enum Error {
+    /// Reading an included file failed: refusal 20.
+    #[error("Failed to copy configuration file into buffer")]
+    CopyBuffer(FileFault),
+    /// Opening the included file at that path failed: refusal 19.
+    #[error("Could not read included configuration file at '{path}'")]
+    Io { path: String, source: FileFault },
+    /// The parser refused an included file: refusal 1 or 2.
+    #[error(transparent)]
+    Parse(parse::Error),
+    /// The place of a part would be past 4294967295, or no section number is left: refusal 3.
+    #[error(transparent)]
+    Span(span::Error),
+    /// The path of an include could not be interpolated: refusal 12 to 14.
+    #[error(transparent)]
+    Interpolate(interpolate::Error),
+    /// More files include each other than the options allow, or than a level can count: refusal 15.
+    #[error("The maximum allowed length {max_depth} of the file include chain built by following nested resolve_includes is exceeded")]
+    IncludeDepthExceeded { max_depth: u8 },
+    /// A path is told by the folder of a file that has none: refusal 16.
+    #[error("Include paths from environment variables must not be relative as no config file paths exists as root")]
+    MissingConfigPath,
+    /// A condition asks for the git folder, and there is none: refusal 17.
+    #[error("The git directory must be provided to support `gitdir:` conditional includes")]
+    MissingGitDir,
+    /// The git folder could not be resolved: refusal 18.
+    #[error("Could not resolve the git directory")]
+    Realpath(FileFault),
+    /// A growth was refused: refusal 27.
+    #[error("out of memory")]
+    Memory,
+}
+
+impl From<parse::Error> for Error {
+    ghost use Rattle.gitconf_includes.specs.Errors.{include_of_parse};
+
+    ghost from_gives = { λ parse e. e ≡ include_of_parse parse };
+
+    fn from(parse: parse::Error) -> Error {
+        if parse.is_memory() {
+            Error::Memory
+        } else {
+            Error::Parse(parse)
+        }
+    }
+}
+
+impl From<span::Error> for Error {
+    ghost use Rattle.gitconf_includes.specs.Errors.{include_of_span};
+
+    ghost from_gives = { λ span e. e ≡ include_of_span span };
+
+    fn from(span: span::Error) -> Error {
+        if span.is_memory() {
+            Error::Memory
+        } else {
+            Error::Span(span)
+        }
+    }
+}
+
+impl From<interpolate::Error> for Error {
+    ghost use Rattle.gitconf_includes.specs.Errors.{include_of_interpolate};
+
+    ghost from_gives = { λ interpolate e. e ≡ include_of_interpolate interpolate };
+
+    fn from(interpolate: interpolate::Error) -> Error {
+        match interpolate {
+            interpolate::Error::Memory => Error::Memory,
+            interpolate => Error::Interpolate(interpolate),
+        }
+    }
+}
+
+impl From<NoMemory> for Error {
+    ghost use Rattle.gitconf_includes.specs.declared.includes.Error.TheVariants.{Memory};
+
+    ghost from_gives = { λ _ e. e ≡ Memory };
+
+    fn from(_e: NoMemory) -> Error {
+        Error::Memory
+    }
+}
+
+/// Which includes are followed, and what refuses.
+#[derive(Clone, Copy)]
+pub struct Options<'a> {
+    /// How many files deep includes are followed: 0 for none.
+    pub max_depth: u8,
+    /// Whether it is refused where files go deeper than that; else they are left out.
+    pub err_on_max_depth_exceeded: bool,
+    /// Whether it is refused where a path has a shorthand that stands for nothing, or where a condition on the git
+    /// folder has none; else the include is left out.
+    pub err_on_interpolation_failure: bool,
+    /// Whether it is refused where a path that doesn't begin with `/` is included by a file without a path; else the
+    /// include is left out.
+    pub err_on_missing_config_path: bool,
+    /// What the shorthands of paths stand for.
+    pub interpolate: interpolate::Context<'a>,
+    /// What the conditions of `includeIf` are about.
+    pub conditional: conditional::Context<'a>,
+}
+
+impl<'a> Options<'a> {
+    /// Follows no include, and refuses nothing.
+    pub fn no_follow() -> Options<'a>
+        ensures { result ≡ no_follow }
+    {
+        Options {
+            max_depth: 0,
+            err_on_max_depth_exceeded: false,
+            err_on_interpolation_failure: false,
+            err_on_missing_config_path: false,
+            interpolate: interpolate::Context::default(),
+            conditional: conditional::Context::default(),
+        }
+    }
+
+    /// Follows includes ten files deep, and refuses what goes deeper and a path told by the folder of a file that has
+    /// none. A shorthand that stands for nothing leaves its include out.
+    pub fn follow(
+        interpolate: interpolate::Context<'a>,
+        conditional: conditional::Context<'a>,
+    ) -> Options<'a>
+        ensures { result ≡ follow interpolate.entry conditional.entry }
+    {
+        Options {
+            max_depth: 10,
+            err_on_max_depth_exceeded: true,
+            err_on_interpolation_failure: false,
+            err_on_missing_config_path: true,
+            interpolate,
+            conditional,
+        }
+    }
+
+    /// [`Options::follow`] with these home folders, and with nothing that a condition could be about.
+    pub fn follow_without_conditional(
+        home_dir: Option<&'a str>,
+        homes: Option<&'a Homes>,
+    ) -> Options<'a>
+        ensures { result ≡ follow (record { git_install_dir = None; home_dir = home_dir.entry; home_for_user = homes.entry }) no_conditions }
+    {
+        let interpolate = interpolate::Context {
+            git_install_dir: None,
+            home_dir,
+            home_for_user: homes,
+        };
+        Options::follow(interpolate, conditional::Context::default())
+    }
+
+    /// The same, but refusing wherever the options may ask for it.
+    pub fn strict(mut self) -> Options<'a>
+        ensures { result ≡ strict self.entry }
+    {
+        self.err_on_interpolation_failure = true;
+        self.err_on_max_depth_exceeded = true;
+        self.err_on_missing_config_path = true;
+        self
+    }
+
+    /// The same, with these folders for the shorthands of paths.
+    pub fn interpolate_with(mut self, context: interpolate::Context<'a>) -> Options<'a>
+        ensures { result ≡ record self.entry { interpolate = context.entry } }
+    {
+        self.interpolate = context;
+        self
+    }
+}
+
+impl Default for Options<'_> {
+    ghost is_default = { λ o. o ≡ no_follow };
+
+    /// Is [`Options::no_follow`].
+    fn default() -> Self {
+        Options::no_follow()
+    }
+}

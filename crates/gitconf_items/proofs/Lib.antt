@@ -1,0 +1,17 @@
+pub mod TokenDocument
+pub mod TextLaws
+pub mod SinkLaws
+pub mod Subsections
+pub mod Shown
+pub mod Kept
+pub mod Selections
+pub mod EscapedRuns
+pub mod GroupLaws
+pub mod EntryClones
+pub mod Clones
+pub mod Documents
+pub mod Moves
+pub mod Strips
+pub mod ToldParts
+pub mod Copies
+pub mod ItemEvents

@@ -1,0 +1,16 @@
+pub mod Events
+pub mod Sink
+pub mod EventRef
+pub mod ShownEvents
+pub mod EventList
+pub mod EventProps
+pub mod Sections
+pub mod TokenDocument
+pub mod Items
+pub mod ItemsFit
+pub mod Grouping
+pub mod Moves
+pub mod Forms
+pub mod Alike
+pub mod Stripped
+pub mod ItemEvents

@@ -1,0 +1,64 @@
+//! Items: what a body is made of.
+ghost use Rattle.std.specs.Prelude.{◌≡◌, [], IfOk, OnOk};
+
+use crate::entry::Entry;
+use crate::event::{Header, Span};
+use gitconf_text::NoMemory;
+use std::mem::{replace, size_of};
+
+/// What a body is made of. It takes 24 bytes.
+#[derive(Clone, Debug, Drop)]
+pub enum Item {
+    Blanks(Span),
+    LineEnds(Span),
+    Comment { tag: u8, text: Span },
+    Entry(Entry),
+}
+
+const _: () = prove!(size_of::<Item>() == 24);
+
+/// No blanks; it stands in the places of a short list that aren't used.
+impl Default for Item {
+    fn default() -> Item {
+        Item::Blanks(NOTHING)
+    }
+}
+
+/// What a load keeps of a text.
+#[derive(Clone, Copy)]
+pub enum Keep {
+    /// All of it.
+    All,
+    /// Headers and entries, without blanks, line ends and comments: the document is the same.
+    Meaning,
+}
+
+/// A header and what stands behind it.
+#[derive(Debug, Drop)]
+pub struct Section {
+    pub header: Header,
+    pub items: Vec<Item>,
+}
+
+const NOTHING: Span = Span { start: 0, len: 0 };
+
+/// So many items are copied to a list of their own; a longer list is handed over as it is.
+const MANY: usize = 64;
+
+/// The items in a list of just their length, or in the list itself where they are many. None are left where they stood.
+///
+/// # Errors
+///
+/// Want of memory.
+pub fn moved_out(items: &mut Vec<Item>) -> Result<Vec<Item>, NoMemory>
+    ensures moved { IfOk result (λ moved. moved.items ≡ items.old.items) }
+    ensures empty { OnOk result (items.new.items ≡ []) }
+{
+    let alloc = *items.allocator();
+    if items.len() > MANY {
+        return Ok(replace(items, Vec::new(alloc)));
+    }
+    let mut moved = Vec::with_capacity(alloc, items.len())?;
+    moved.append(items)?;
+    Ok(moved)
+}

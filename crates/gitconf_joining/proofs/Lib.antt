@@ -1,0 +1,4 @@
+pub mod Loading
+pub mod MovedTables
+pub mod Joined
+pub mod Outcomes

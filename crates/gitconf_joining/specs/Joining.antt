@@ -1,0 +1,36 @@
+-- Sections and items of another file, behind those of a table.
+use Rattle.std.specs.Prelude.{◌≡◌, ℕ, ◌+◌, List, [], ◌∷◌, ◌++◌, length, map}
+use Rattle.gitconf_text.specs.Part as parts
+use Rattle.gitconf_items.specs.declared.items.Item.{Item}
+use Rattle.gitconf_items.specs.ItemsFit.{AreItemsWithin}
+use Rattle.gitconf_table.specs.Sections.{Sections}
+use Rattle.gitconf_state.specs.Edits.{numbered_from}
+use Rattle.gitconf_state.specs.State.{SectionState}
+use Rattle.gitconf_items.specs.Items.{items_of}
+use Rattle.gitconf_sections.specs.Section.{Section}
+use Rattle.gitconf_views.specs.Store.{section_state, AllSectionsFit}
+
+-- the last section holds more behind it
+abbrev pub held_last : (more : List parts.Item) → List SectionState → List SectionState
+held_last more [] = []
+held_last more (s ∷ []) = record { number = s.number; header = s.header; meta = s.meta; items = s.items; held = s.held ++ more } ∷ []
+held_last more (s ∷ t ∷ sections) = s ∷ held_last more (t ∷ sections)
+
+-- The last section holds more items, and the sections of another table stand behind it, under the next numbers: in every buffer in which all
+-- that stands within it.
+pub record AreBehind (more : List Item) (other old new : Sections Section) : Type 0 where
+  pub next : new.next ≡ old.next + length other.entries
+  pub states : (buffer : List ℕ) → map (section_state buffer) new.entries
+      ≡ held_last (items_of buffer more) (map (section_state buffer) old.entries) ++ numbered_from old.next (map (section_state buffer) other.entries)
+  pub fit : (buffer copies : List ℕ) → AllSectionsFit buffer copies old → AllSectionsFit buffer copies other → AreItemsWithin (length buffer) more → AllSectionsFit buffer copies new
+
+-- the same sections, with other room in their lists
+pub record AreSame (old new : Sections Section) : Type 0 where
+  pub next : new.next ≡ old.next
+  pub states : (buffer : List ℕ) → map (section_state buffer) new.entries ≡ map (section_state buffer) old.entries
+  pub fit : (buffer copies : List ℕ) → AllSectionsFit buffer copies old → AllSectionsFit buffer copies new
+
+-- the front takes the items where there is no section
+abbrev pub front_then : {A : Type 0} → List A → (front more : List Item) → List Item
+front_then [] front more = front ++ more
+front_then (x ∷ xs) front more = front

@@ -1,0 +1,4 @@
+pub mod Loading
+pub mod Made
+pub mod Moves
+pub mod Joining

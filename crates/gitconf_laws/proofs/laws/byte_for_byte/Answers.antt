@@ -1,0 +1,5 @@
+use Rattle.gitconf_state.proofs.ExactPrinting as exact
+use Rattle.gitconf_laws.proofs.laws.byte_for_byte.Goals as goal
+
+pub returns : goal.returns
+returns c = exact.byte_for_byte

@@ -1,0 +1,5 @@
+use Rattle.gitconf_state.proofs.ReadsBack.{sections_read_back}
+use Rattle.gitconf_laws.proofs.laws.printed_section_reads_back.Goals as goal
+
+pub returns : goal.returns
+returns c = sections_read_back

@@ -1,0 +1,9 @@
+pub mod Append
+pub mod Buffers
+pub mod Places
+pub mod NamedSpans
+pub mod Raw
+pub mod Spacings
+pub mod Entries
+pub mod Editors
+pub mod Standing

@@ -1,0 +1,6 @@
+pub mod Buffers
+pub mod Places
+pub mod Spacings
+pub mod Editors
+pub mod Standing
+pub mod Blanks

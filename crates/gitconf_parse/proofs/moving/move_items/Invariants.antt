@@ -1,9 +1,0 @@
-use Rattle.gitconf_parse.specs.Items.{item_of}
-use Rattle.gitconf_parse.specs.ItemsFit.{ItemFits}
-use Rattle.gitconf_parse.specs.Moves.{IsMoved}
-use Rattle.gitconf_parse.proofs.Moves.{AreChanged}
-use Rattle.gitconf_parse.proofs.moving.move_items.Given as goal
-
--- those before the place are moved
-abbrev pub invariant-loop-at : goal.invariant-loop-at
-invariant-loop-at l = AreChanged (IsMoved item_of ItemFits l.by) l.at l.initial.items l.items

@@ -1,5 +1,0 @@
-use Rattle.gitconf_parse.proofs.Strips.{entry_told}
-use Rattle.gitconf_parse.proofs.stripping.kept_entry.Goals as goal
-
-pub returns-in-Meaning-clause-told : goal.returns-in-Meaning-clause-told
-returns-in-Meaning-clause-told c = λ buffer. rw c.in-Meaning.is (entry_told buffer c.args.entry c.stripped_entry.result c.stripped_entry.ensures)

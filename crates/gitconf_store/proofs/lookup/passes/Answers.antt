@@ -1,5 +1,0 @@
-use Rattle.gitconf_store.proofs.Filters.{ComputesKey-call}
-use Rattle.gitconf_store.proofs.lookup.passes.Goals as goal
-
-pub returns-clause-exact : goal.returns-clause-exact
-returns-clause-exact g c = λ keeps h. ComputesKey-call keeps h c.filter.ensures

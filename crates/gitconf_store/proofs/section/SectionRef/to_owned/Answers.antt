@@ -1,4 +1,0 @@
-use Rattle.gitconf_store.proofs.section.SectionRef.to_owned.Goals as goal
-
-pub returns : goal.returns
-returns c = c.in_ok-section.ensures.same c.args.self.now.id

@@ -1,0 +1,14 @@
+pub mod Viewing
+pub mod BodyLaws
+pub mod Counting
+pub mod Texts
+pub mod Append
+pub mod Entries
+pub mod PoppedKeys
+pub mod SectionReads
+pub mod Outcomes
+pub mod Detaching
+pub mod AloneEdits
+pub mod AloneLaws
+pub mod LineBytes
+pub mod GivenEditors

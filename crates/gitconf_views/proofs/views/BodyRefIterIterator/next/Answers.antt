@@ -1,0 +1,8 @@
+use Rattle.std.proofs.Common.{refl}
+use Rattle.gitconf_views.proofs.views.BodyRefIterIterator.next.Goals as goal
+
+pub returns-in_default-clause-steps : goal.returns-in_default-clause-steps
+returns-in_default-clause-steps c = (c.in_default.ensures.entry c.args.self.now.buffer.now, refl)
+
+pub invariant_of-self-2 : goal.invariant_of-self-2
+invariant_of-self-2 c = record { viewed = (c.in-Some.ensures.fits c.args.self.now.buffer.now c.args.self.now.viewed).1 }

@@ -1,0 +1,65 @@
+-- A section that stands alone, in a buffer of its own.
+use Rattle.std.specs.Prelude.{◌≡◌, ℕ, ◌<◌, ◌≤◌, ◌+◌, ◌^◌, ◌==◌, Bool, true, List, [], ◌∷◌, length, Option, Result, IfErr, OnErr, OnOk}
+use Rattle.std.specs.List.{list_all, list_any}
+use Rattle.gitconf_text.specs.HeaderErrors.{header_number}
+use Rattle.gitconf_text.specs.Part as parts
+use Rattle.gitconf_text.specs.declared.parse.section.header.Error.{Error}
+use Rattle.gitconf_base.specs.Metadata.{Meta}
+use Rattle.gitconf_table.specs.Sections.{no_number}
+use Rattle.gitconf_items.specs.declared.event.Event.TheVariants as kinds
+use Rattle.gitconf_items.specs.Events.{header_of}
+use Rattle.gitconf_items.specs.ItemsFit.{AreItemsWithin}
+use Rattle.gitconf_items.specs.ShownEvents.{IsShown}
+use Rattle.gitconf_state.specs.Edit.{header_bytes, made_header}
+use Rattle.gitconf_state.specs.Edits.{Detached}
+use Rattle.gitconf_state.specs.State.{SectionState, is_header, is_item}
+use Rattle.gitconf_items.specs.Items.{items_of}
+use Rattle.gitconf_sections.specs.Section.{Section}
+use Rattle.gitconf_views.specs.declared.section.Section.{Section as Own}
+use Rattle.gitconf_views.specs.ValueErrors.{edit_numbers}
+use Rattle.gitconf_views.specs.Store.{section_under}
+
+-- a section without what is held behind it
+abbrev pub alone : SectionState → SectionState
+alone s = record { number = s.number; header = s.header; meta = s.meta; items = s.items; held = [] }
+
+-- a section with a change of its items
+abbrev pub with_items : (List parts.Item → List parts.Item) → SectionState → SectionState
+with_items change s = record { number = s.number; header = s.header; meta = s.meta; items = change s.items; held = s.held }
+
+-- a section that is made: its body has nothing, and its number is the one that no file gives
+abbrev pub made_alone : (name : List ℕ) → (subsection : Option (List ℕ)) → Meta → Detached
+made_alone name subsection meta = record {
+  section = record { number = no_number; header = made_header name subsection; meta = meta; items = []; held = [] };
+  used = header_bytes name subsection;
+}
+
+-- the refusals that it has
+abbrev pub is_refusal_of_header : Error → Bool
+is_refusal_of_header e = list_any (λ number. number == header_number e) (3 ∷ 4 ∷ 5 ∷ 27 ∷ [])
+
+-- a section with a list of its own, as a section of a file that holds nothing
+abbrev pub whole : Own → Section
+whole s = record { header = s.header; meta = s.meta; items = record { items = s.items.items }; held = record { items = [] } }
+
+-- a section under a number, in a buffer that has nothing else
+abbrev pub detached_of : (buffer : List ℕ) → ℕ → Own → Detached
+detached_of buffer number s = record { section = section_under buffer number (whole s); used = length buffer }
+
+-- What such a section keeps: its spans stand within the buffer, its header is shown as its token is, and header and items are such as a text
+-- may have.
+pub record StandsAlone (buffer copies : List ℕ) (s : Own) : Type 0 where
+  pub room : length buffer < 2 ^ 32
+  pub header : IsShown buffer copies (kinds.SectionHeader s.header)
+  pub within : AreItemsWithin (length buffer) s.items.items
+  pub spelled : is_header (header_of buffer s.header) ≡ true
+  pub items : list_all is_item (items_of buffer s.items.items) ≡ true
+
+-- An editor's edit was done, or refused, and the section is then as it was. No more bytes are put into its buffer than the edit's tokens have;
+-- refusal 3 comes only where these would pass the limit, and 6 and 27 are the only others.
+pub record IsEditedAlone {T E : Type 0} (change : List parts.Item → List parts.Item) (bytes : ℕ) (number : E → ℕ) (result : Result T E) (old new : Detached) : Type 0 where
+  pub ok : OnOk result (new.section ≡ with_items change old.section)
+  pub err : OnErr result (new.section ≡ old.section)
+  pub grown : new.used ≤ old.used + bytes
+  pub too_large : IfErr result (λ e. number e ≡ 3 → 2 ^ 32 ≤ old.used + bytes)
+  pub known : IfErr result (λ e. list_any (λ refusal. refusal == number e) edit_numbers ≡ true)

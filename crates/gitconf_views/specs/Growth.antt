@@ -1,0 +1,9 @@
+-- How many bytes more a buffer has behind an edit.
+use Rattle.std.specs.Prelude.{◌≡◌, ◌⊎◌, ℕ, ◌+◌, ◌≤◌, ◌^◌, Result, IsErrOf, IfErr}
+
+-- At most so many bytes more are used. A refusal is that they are too many, exactly where they would pass the limit, or want of memory.
+pub record UsedGrows {T : Type 0} (result : Result T ℕ) (count old new : ℕ) : Type 0 where
+  pub grown : new ≤ old + count
+  pub too_large : IsErrOf result 3 → 2 ^ 32 ≤ old + count
+  pub refused : 2 ^ 32 ≤ old + count → IsErrOf result 3
+  pub known : IfErr result (λ e. (e ≡ 3) ⊎ (e ≡ 27))

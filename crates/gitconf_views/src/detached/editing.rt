@@ -1,0 +1,198 @@
+//! Edits of a section that stands in no file, on which its editor stands.
+ghost use Rattle.std.specs.Prelude.{◌≡◌, IfOk};
+
+use crate::detached::Section;
+use crate::section::trusted;
+use gitconf_base::source::Trust;
+use gitconf_body::heading::put_header;
+use gitconf_body::{set, take_out};
+use gitconf_lines::editor::Editor;
+use gitconf_lines::push;
+use gitconf_text::NoMemory;
+use gitconf_text::line_end::LineEnd;
+use gitconf_text::parse::section::header;
+use gitconf_text::parse::span;
+use gitconf_write::line_end::body_line_end;
+
+impl Section {
+    ghost use Rattle.std.specs.Option.{option_copied};
+    ghost use Rattle.std.specs.Prelude.{◌≡◌, ◌≤◌, ◌+◌, ◌^◌, ◌↔◌, true, false, IfErr, IfOk, IfSome, IsErrOf, IsOk, None, OnOk, OnErr, length, option_map};
+    ghost use Rattle.gitconf_text.specs.Names.{is_made_name, is_valid_or_none, is_value_name};
+    ghost use Rattle.gitconf_text.specs.declared.parse.section.header.Error.TheVariants.{InvalidName, InvalidSubSection, Span};
+    ghost use Rattle.gitconf_state.specs.Edit.{header_bytes, old_value};
+    ghost use Rattle.gitconf_state.specs.Editors.{line_end_pushed, popped, popped_entry, pushed, removed, value_set};
+    ghost use Rattle.gitconf_state.specs.Edits.{renamed, with_trust, IsEditor};
+    ghost use Rattle.gitconf_state.specs.LineEnds.{section_line_end};
+    ghost use Rattle.gitconf_text.specs.LineEnds.{bytes_of_line_end};
+    ghost use Rattle.gitconf_lines.specs.Editors.{line_put, set_put};
+    ghost use Rattle.gitconf_views.specs.Alone.{is_refusal_of_header, with_items};
+    ghost use Rattle.gitconf_views.specs.Growth.{UsedGrows};
+    ghost use Rattle.gitconf_lines.specs.Blanks.{given_editor, IsGiven};
+
+    /// The line end that its editor writes: that of its body's first newline, or LF. It stops at the first one.
+    pub fn line_end(&self) -> LineEnd
+        ensures { bytes_of_line_end result ≡ section_line_end self.now.section }
+    {
+        body_line_end(&self.buffer, &self.section.items)
+    }
+
+    /// Pushes a line behind the items: the editor's blanks, the key, and where a value is given `=` with the editor's blanks around it and
+    /// the value as a file spells it; then the comment, if one is given, behind a space and `#`, with a space before a first byte that is
+    /// no white space, and each LF turned to a space; then the editor's line end, unless it is switched off. All else stays as it is.
+    ///
+    /// It looks at no item. Takes memory for what is put into the buffer, and for the new items.
+    ///
+    /// # Errors
+    ///
+    /// A [`span::Error`]: number 3 exactly where the buffer would be longer than 4294967295 bytes, before any growth, and else 27 for want
+    /// of memory. The section is then as it was, but that its buffer may have grown.
+    pub fn push_entry(
+        &mut self,
+        editor: &Editor<'_>,
+        key: &[u8],
+        value: Option<&[u8]>,
+        comment: Option<&[u8]>,
+    ) -> Result<(), span::Error>
+        requires given { IsGiven editor.now }
+        requires editor { IsEditor (given_editor editor.now) }
+        requires key { is_value_name key.now ≡ true }
+        ensures ok { OnOk result (self.new.section ≡ with_items
+            (pushed (given_editor editor.now) key.now (option_copied value.entry) (option_copied comment.entry)) self.old.section) }
+        ensures err { OnErr result (self.new.section ≡ self.old.section) }
+        ensures used { UsedGrows result (line_put editor.now key.now (option_copied value.entry) (option_copied comment.entry)) self.old.used self.new.used }
+    {
+        push::push(
+            &mut self.buffer,
+            &mut self.section.items,
+            editor,
+            key,
+            value,
+            comment,
+        )
+    }
+
+    /// Pushes the editor's line end behind the items, also where it is switched off behind lines. All else stays as it is.
+    ///
+    /// It looks at no item. Takes memory for the line end in the buffer, and for the new item.
+    ///
+    /// # Errors
+    ///
+    /// Those of [`Section::push_entry`].
+    pub fn push_newline(&mut self, editor: &Editor<'_>) -> Result<(), span::Error>
+        requires editor { IsEditor (given_editor editor.now) }
+        ensures ok { OnOk result (self.new.section ≡ with_items (line_end_pushed (given_editor editor.now)) self.old.section) }
+        ensures err { OnErr result (self.new.section ≡ self.old.section) }
+        ensures used { UsedGrows result (length (bytes_of_line_end editor.now.line_end)) self.old.used self.new.used }
+    {
+        push::push_newline(&mut self.buffer, &mut self.section.items, editor)
+    }
+
+    /// Gives the last entry of a key another value: what stands behind `=` is replaced, and `=` is put in where there is none, with the
+    /// editor's blanks around it. Where no entry has the key, a line with it is pushed, as [`Section::push_entry`] does. All else stays as
+    /// it is. Answers the raw text of the old value: its pieces joined, not decoded; nothing for an entry without `=`; `None` where there
+    /// was no entry.
+    ///
+    /// One walk over the items. Takes memory for the old value, for what is put into the buffer, and for new items.
+    ///
+    /// # Errors
+    ///
+    /// Those of [`Section::push_entry`].
+    pub fn set_entry(
+        &mut self,
+        editor: &Editor<'_>,
+        key: &[u8],
+        value: &[u8],
+    ) -> Result<Option<Vec<u8>>, span::Error>
+        requires given { IsGiven editor.now }
+        requires editor { IsEditor (given_editor editor.now) }
+        requires key { is_value_name key.now ≡ true }
+        ensures ok { OnOk result (self.new.section ≡ with_items (value_set (given_editor editor.now) key.now value.now) self.old.section) }
+        ensures answer { IfOk result (λ o. option_map (λ v. v.items) o ≡ old_value key.now self.old.section.items) }
+        ensures err { OnErr result (self.new.section ≡ self.old.section) }
+        ensures used { UsedGrows result (set_put editor.now key.now value.now self.old.section.items) self.old.used self.new.used }
+    {
+        set::set(
+            &mut self.buffer,
+            &mut self.section.items,
+            editor,
+            key,
+            value,
+        )
+    }
+
+    /// Takes out the last entry of a key, with the blanks directly before it and the line ends directly behind it. All else stays as it
+    /// is. Answers the raw text of its value: its pieces joined, not decoded; nothing for an entry without `=`. Where no entry has the key,
+    /// nothing is changed, and the answer is `None`.
+    ///
+    /// One walk over the items. Takes memory for the answer alone; no byte is put into the buffer.
+    ///
+    /// # Errors
+    ///
+    /// Want of memory, only where there is an entry. The section is then as it was.
+    pub fn remove_entry(&mut self, key: &[u8]) -> Result<Option<Vec<u8>>, NoMemory>
+        ensures ok { OnOk result (self.new ≡ record { section = with_items (removed key.now) self.old.section; used = self.old.used }) }
+        ensures answer { IfOk result (λ o. option_map (λ v. v.items) o ≡ old_value key.now self.old.section.items) }
+        ensures none { old_value key.now self.old.section.items ≡ None → IsOk result }
+        ensures err { OnErr result (self.new ≡ self.old) }
+    {
+        take_out::remove(&self.buffer, &mut self.section.items, key)
+    }
+
+    /// Takes out the last entry, whatever its key, with the blanks directly before it and all that stands behind it; all that the body
+    /// has, where it has no entry. Answers the key as it is spelled and what its value means; no bytes for an entry without `=`; `None`
+    /// where there is no entry.
+    ///
+    /// One walk over the items. Takes memory for the answer and the raw text of the value; no byte is put into the buffer.
+    ///
+    /// # Errors
+    ///
+    /// Want of memory, only where there is an entry. The section is then as it was.
+    pub fn pop_entry(&mut self) -> Result<Option<(Vec<u8>, Vec<u8>)>, NoMemory>
+        ensures ok { OnOk result (self.new ≡ record { section = with_items popped self.old.section; used = self.old.used }) }
+        ensures answer { IfOk result (λ o. option_map (λ t. (t.0.items, t.1.items)) o ≡ popped_entry self.old.section.items) }
+        ensures none { popped_entry self.old.section.items ≡ None → IsOk result }
+        ensures name { IfOk result (λ o. IfSome o (λ t. is_value_name t.0.items ≡ true)) }
+        ensures err { OnErr result (self.new ≡ self.old) }
+    {
+        take_out::pop(&self.buffer, &mut self.section.items)
+    }
+
+    /// Gives it a header that is made of a name and a subsection, as [`Section::new`] makes it. All else stays as it is. One pass over
+    /// both, which takes memory for their text and for a copy of a subsection that is spelled otherwise.
+    ///
+    /// # Errors
+    ///
+    /// `InvalidName` where a byte of the name is no letter, digit or dash, and else `InvalidSubSection` where the subsection holds LF or
+    /// NUL; else `Span`, number 3, exactly where the buffer would be longer than 4294967295 bytes, before any growth, and `Memory` for want
+    /// of memory. The section is then as it was, but that its buffer may have grown.
+    pub fn rename(&mut self, name: &str, subsection: Option<&[u8]>) -> Result<(), header::Error>
+        ensures ok { OnOk result (self.new.section ≡ renamed name.now (option_copied subsection.entry) self.old.section) }
+        ensures invalid_name { IsErrOf result InvalidName ↔ (is_made_name name.now ≡ false) }
+        ensures invalid_subsection { IsErrOf result InvalidSubSection
+            ↔ ((is_made_name name.now ≡ true) × (is_valid_or_none (option_copied subsection.entry) ≡ false)) }
+        ensures too_large { IsErrOf result (Span 3) ↔ ((is_made_name name.now ≡ true) × (is_valid_or_none (option_copied subsection.entry) ≡ true)
+            × (2 ^ 32 ≤ self.old.used + header_bytes name.now (option_copied subsection.entry))) }
+        ensures known { IfErr result (λ e. is_refusal_of_header e ≡ true) }
+        ensures err { OnErr result (self.new.section ≡ self.old.section) }
+        ensures grown { self.new.used ≤ self.old.used + header_bytes name.now (option_copied subsection.entry) }
+    {
+        let name = name.as_bytes();
+        header::validate(name, subsection)?;
+        self.section.header = put_header(&mut self.buffer, &mut self.copies, name, subsection)?;
+        Ok(())
+    }
+
+    /// Gives it another trust. All else stays as it is, and so does what shared its metadata. Takes memory for metadata of its own.
+    ///
+    /// # Errors
+    ///
+    /// Want of memory. The section is then as it was.
+    pub fn set_trust(&mut self, trust: Trust) -> Result<(), NoMemory>
+        ensures ok { OnOk result (self.new ≡ record { section = with_trust trust self.old.section; used = self.old.used }) }
+        ensures err { OnErr result (self.new ≡ self.old) }
+    {
+        let alloc = *self.buffer.allocator();
+        self.section.meta = trusted(alloc, &self.section.meta, trust)?;
+        Ok(())
+    }
+}

@@ -1,0 +1,269 @@
+//! The editor of a section that stands in no file.
+use crate::detached::Section;
+use crate::detached::writing::text_of;
+use crate::lists::bytes_of;
+use crate::popped::texts_of;
+use crate::section::value;
+use bstr::BString;
+use gitconf_base::source::Trust;
+use gitconf_lines::blanks::Blanks;
+use gitconf_text::NoMemory;
+use gitconf_text::line_end::LineEnd;
+use gitconf_text::parse::section::header;
+use gitconf_text::parse::span;
+
+/// An editor of a section that stands in no file. What it writes beside names and values stays as it was when the editor was made, also
+/// while the section changes: the blanks before a name, those around `=`, and the line end, that of the section's first newline, or LF.
+pub struct DetachedSectionMut<'a, B: Drop = Blanks> {
+    pub section: &'a mut Section,
+    pub blanks: B,
+    pub line_end: LineEnd,
+    /// Whether a line end is put behind what is pushed.
+    ends: bool,
+}
+
+impl<B: Drop> Drop for DetachedSectionMut<'_, B> {
+    ghost use Rattle.std.specs.Prelude.{◌≡◌};
+    ghost use Rattle.gitconf_views.specs.AloneEditors.{edited};
+
+    // By hand, so that callers know what the section is when the editor is gone.
+    fn drop(self)
+        ensures { self.exit.0.now ≡ edited self.entry }
+    {
+        let DetachedSectionMut {
+            section,
+            blanks,
+            line_end: _,
+            ends: _,
+        } = self;
+        drop(blanks);
+        let _ = section;
+    }
+}
+
+impl Section {
+    ghost use Rattle.std.specs.Borrow.{sem, RestsIfErr};
+    ghost use Rattle.std.specs.Prelude.{◌≡◌, IfOk};
+    ghost use Rattle.gitconf_state.specs.Editors.{editor_alone};
+    ghost use Rattle.gitconf_views.specs.contracts.detached.Section.{the_row};
+    ghost use Rattle.gitconf_views.specs.AloneEditors.{edited, editor, lent};
+
+    /// An editor of it. One walk over its items, which takes memory for the blanks that it has.
+    ///
+    /// # Errors
+    ///
+    /// Want of memory. The section is then as it was.
+    pub fn to_mut(&mut self) -> Result<DetachedSectionMut<'_>, NoMemory>
+        ensures same_section { IfOk result (λ e. lent e ≡ self.entry.ghost_name) }
+        ensures same_state { IfOk result (λ e. edited e ≡ self.old) }
+        ensures editor { IfOk result (λ e. editor e ≡ editor_alone self.old.section) }
+        ensures* refused { sem 𝓛 (RestsIfErr the_row self.entry lent result (λ n. n ≡ self.old)) }
+    {
+        let blanks = self.to_ref().blanks()?;
+        let line_end = self.line_end();
+        Ok(DetachedSectionMut {
+            section: self,
+            blanks,
+            line_end,
+            ends: true,
+        })
+    }
+}
+
+impl<'a> DetachedSectionMut<'a> {
+    ghost use Rattle.std.specs.Option.{option_copied};
+    ghost use Rattle.std.specs.Prelude.{◌≡◌, ◌↔◌, ◌+◌, ◌≤◌, ◌^◌, true, false, flat_map, length, IfErr, IfOk, IfSome, IsErrAnd, IsErrOf, IsOk, None, OnErr, OnOk, Some, option_map, string_bytes};
+    ghost use Rattle.gitconf_text.specs.Token.{item_tokens};
+    ghost use Rattle.bstr.specs.Owned.{bstring_bytes};
+    ghost use Rattle.std.specs.List.{list_all};
+    ghost use Rattle.gitconf_text.specs.Bytes.{is_whitespace};
+    ghost use Rattle.gitconf_text.specs.Names.{is_made_name, is_valid_or_none, is_value_name};
+    ghost use Rattle.gitconf_text.specs.declared.parse.section.header.Error.TheVariants.{InvalidName, InvalidSubSection, Span};
+    ghost use Rattle.gitconf_state.specs.Edit.{header_bytes, old_value, token_bytes};
+    ghost use Rattle.gitconf_state.specs.Editors.{line_end_pushed, line_made, popped, popped_entry, pushed, removed, value_set};
+    ghost use Rattle.gitconf_state.specs.Edits.{renamed, value_set_tokens, with_trust};
+    ghost use Rattle.gitconf_views.specs.Alone.{is_refusal_of_header, with_items, IsEditedAlone};
+    ghost use Rattle.gitconf_views.specs.AloneEditors.{edited, editor, lent};
+    ghost use Rattle.gitconf_views.specs.ValueErrors.{value_number};
+
+    /// Pushes a line behind the section's others: the blanks before a name, the name, and where a value is given `=` with the blanks around it
+    /// and the value, spelled as a file has it; then the line end, unless it is switched off. It looks at no item. Takes memory for what is
+    /// put into the section's buffer, and for the new items.
+    ///
+    /// # Errors
+    ///
+    /// Refusal 6 for a name that is none; else 3 where the section would take more than 4294967295 bytes, and 27 for want of memory. The
+    /// section is then as it was.
+    pub fn push(&mut self, value_name: &str, value: Option<&[u8]>) -> Result<(), value::Error>
+        ensures same_section { lent self.new ≡ lent self.old }
+        ensures same_editor { editor self.new ≡ editor self.old }
+        ensures invalid { IsErrAnd result (λ e. value_number e ≡ 6) ↔ (is_value_name value_name.now ≡ false) }
+        ensures done { IsEditedAlone (pushed (editor self.old) value_name.now (option_copied value.entry) None)
+            (token_bytes (flat_map item_tokens (line_made (editor self.old) value_name.now (option_copied value.entry) None))) value_number result (edited self.old) (edited self.new) }
+    {
+        let editor = self.blanks.editor(self.line_end, self.ends);
+        self.section.push_line(&editor, value_name, value, None)
+    }
+
+    /// As [`DetachedSectionMut::push`], with a comment behind the value: a space, `#` and the comment, with a space in front where it doesn't
+    /// begin with white space, and each LF turned to a space.
+    ///
+    /// # Errors
+    ///
+    /// Those of [`DetachedSectionMut::push`].
+    pub fn push_with_comment(
+        &mut self,
+        value_name: &str,
+        value: Option<&[u8]>,
+        comment: &[u8],
+    ) -> Result<(), value::Error>
+        ensures same_section { lent self.new ≡ lent self.old }
+        ensures same_editor { editor self.new ≡ editor self.old }
+        ensures invalid { IsErrAnd result (λ e. value_number e ≡ 6) ↔ (is_value_name value_name.now ≡ false) }
+        ensures done { IsEditedAlone (pushed (editor self.old) value_name.now (option_copied value.entry) (Some comment.now))
+            (token_bytes (flat_map item_tokens (line_made (editor self.old) value_name.now (option_copied value.entry) (Some comment.now))))
+            value_number result (edited self.old) (edited self.new) }
+    {
+        let editor = self.blanks.editor(self.line_end, self.ends);
+        self.section
+            .push_line(&editor, value_name, value, Some(comment))
+    }
+
+    /// Pushes the line end, also where it is switched off behind lines.
+    ///
+    /// # Errors
+    ///
+    /// Number 3 where the section would take more than 4294967295 bytes, and 27 for want of memory. The section is then as it was.
+    pub fn push_newline(&mut self) -> Result<(), span::Error>
+        ensures same_section { lent self.new ≡ lent self.old }
+        ensures same_editor { editor self.new ≡ editor self.old }
+        ensures done { IsEditedAlone (line_end_pushed (editor self.old)) (length (editor self.old).line_end) (λ e. e) result (edited self.old) (edited self.new) }
+    {
+        let editor = self.blanks.editor(self.line_end, self.ends);
+        self.section.push_line_end(&editor)
+    }
+
+    /// Gives the last entry of the name another value: what stands behind `=` is replaced, and `=` is put in where there is none, with the
+    /// editor's blanks around it. Where no entry has the name, a line with it is pushed, as [`DetachedSectionMut::push`] does. Answers the
+    /// raw text of the old value: its pieces joined, not decoded; nothing for an entry without `=`; `None` where there was no entry. One
+    /// walk over the items. Takes memory for the old value, for what is put into the section's buffer, and for new items.
+    ///
+    /// # Errors
+    ///
+    /// Those of [`DetachedSectionMut::push`].
+    pub fn set(&mut self, value_name: &str, value: &[u8]) -> Result<Option<BString>, value::Error>
+        ensures same_section { lent self.new ≡ lent self.old }
+        ensures same_editor { editor self.new ≡ editor self.old }
+        ensures invalid { IsErrAnd result (λ e. value_number e ≡ 6) ↔ (is_value_name value_name.now ≡ false) }
+        ensures done { IsEditedAlone (value_set (editor self.old) value_name.now value.now)
+            (token_bytes (value_set_tokens (editor self.old) value_name.now value.now (edited self.old).section.items)) value_number result (edited self.old) (edited self.new) }
+        ensures answer { IfOk result (λ o. option_map bstring_bytes o ≡ old_value value_name.now (edited self.old).section.items) }
+    {
+        let editor = self.blanks.editor(self.line_end, self.ends);
+        self.section.set_line(&editor, value_name, value)
+    }
+
+    /// Takes out the last entry of the name, with the blanks directly before it and the line ends directly behind it. Answers the raw text of
+    /// its value, as [`DetachedSectionMut::set`] does; `None` where there is no such entry. One walk over the items. Takes memory for the
+    /// answer alone.
+    ///
+    /// # Errors
+    ///
+    /// Want of memory, only where there is an entry. The section is then as it was.
+    pub fn remove(&mut self, value_name: &str) -> Result<Option<BString>, NoMemory>
+        ensures same_section { lent self.new ≡ lent self.old }
+        ensures same_editor { editor self.new ≡ editor self.old }
+        ensures ok { OnOk result (edited self.new ≡ record { section = with_items (removed value_name.now) (edited self.old).section; used = (edited self.old).used }) }
+        ensures answer { IfOk result (λ o. option_map bstring_bytes o ≡ old_value value_name.now (edited self.old).section.items) }
+        ensures none { old_value value_name.now (edited self.old).section.items ≡ None → IsOk result }
+        ensures err { OnErr result (edited self.new ≡ edited self.old) }
+    {
+        let old = self.section.remove_entry(value_name.as_bytes())?;
+        Ok(text_of(old))
+    }
+
+    /// Takes out the last entry, whatever its name, with the blanks directly before it and all that stands behind it; all that the body has,
+    /// where it has no entry. Answers the name as it is spelled and what the value means; an empty text for an entry without `=`; `None`
+    /// where there is no entry. One walk over the items. Takes memory for the answer and the raw text of the value.
+    ///
+    /// # Errors
+    ///
+    /// Want of memory, only where there is an entry. The section is then as it was.
+    pub fn pop(&mut self) -> Result<Option<(String, BString)>, NoMemory>
+        ensures same_section { lent self.new ≡ lent self.old }
+        ensures same_editor { editor self.new ≡ editor self.old }
+        ensures ok { OnOk result (edited self.new ≡ record { section = with_items popped (edited self.old).section; used = (edited self.old).used }) }
+        ensures answer { IfOk result (λ o. option_map (λ t. (string_bytes t.0, bstring_bytes t.1)) o ≡ popped_entry (edited self.old).section.items) }
+        ensures none { popped_entry (edited self.old).section.items ≡ None → IsOk result }
+        ensures err { OnErr result (edited self.new ≡ edited self.old) }
+    {
+        let popped = self.section.pop_entry()?;
+        Ok(texts_of(popped))
+    }
+
+    /// Whether a line end is put behind what is pushed from now on; it is, unless this says otherwise.
+    pub fn set_implicit_newline(&mut self, on: bool) -> &mut Self
+        ensures same { result.ghost_name ≡ self.entry.ghost_name }
+        ensures same_section { lent result.now ≡ lent self.old }
+        ensures same_state { edited result.now ≡ edited self.old }
+        ensures editor { editor result.now ≡ record (editor self.old) { ends = on } }
+    {
+        self.ends = on;
+        self
+    }
+
+    /// Gives the section a header that is made of a name and a subsection, as [`Section::new`] makes it. All else stays as it is.
+    ///
+    /// # Errors
+    ///
+    /// Those of [`Section::new`], number 3 exactly where the section's buffer would be longer than 4294967295 bytes. The section is then as
+    /// it was.
+    pub fn rename(
+        &mut self,
+        name: &str,
+        subsection_name: Option<BString>,
+    ) -> Result<(), header::Error>
+        ensures same_section { lent self.new ≡ lent self.old }
+        ensures same_editor { editor self.new ≡ editor self.old }
+        ensures ok { OnOk result ((edited self.new).section ≡ renamed name.now (option_map bstring_bytes subsection_name) (edited self.old).section) }
+        ensures invalid_name { IsErrOf result InvalidName ↔ (is_made_name name.now ≡ false) }
+        ensures invalid_subsection { IsErrOf result InvalidSubSection
+            ↔ ((is_made_name name.now ≡ true) × (is_valid_or_none (option_map bstring_bytes subsection_name) ≡ false)) }
+        ensures too_large { IsErrOf result (Span 3) ↔ ((is_made_name name.now ≡ true) × (is_valid_or_none (option_map bstring_bytes subsection_name) ≡ true)
+            × (2 ^ 32 ≤ (edited self.old).used + header_bytes name.now (option_map bstring_bytes subsection_name))) }
+        ensures known { IfErr result (λ e. is_refusal_of_header e ≡ true) }
+        ensures err { OnErr result ((edited self.new).section ≡ (edited self.old).section) }
+        ensures grown { (edited self.new).used ≤ (edited self.old).used + header_bytes name.now (option_map bstring_bytes subsection_name) }
+    {
+        self.section.rename(name, bytes_of(&subsection_name))
+    }
+
+    /// Gives the section another trust. All else stays as it is, and so does what shared its metadata. Takes memory for metadata of its own.
+    ///
+    /// # Errors
+    ///
+    /// Want of memory. The section is then as it was.
+    pub fn set_trust(&mut self, trust: Trust) -> Result<(), NoMemory>
+        ensures same_section { lent self.new ≡ lent self.old }
+        ensures same_editor { editor self.new ≡ editor self.old }
+        ensures ok { OnOk result (edited self.new ≡ record { section = with_trust trust (edited self.old).section; used = (edited self.old).used }) }
+        ensures err { OnErr result (edited self.new ≡ edited self.old) }
+    {
+        self.section.set_trust(trust)
+    }
+
+    /// Puts other blanks before names from now on, or none. They have to be ASCII white space. Takes memory for a copy of them.
+    ///
+    /// # Errors
+    ///
+    /// Want of memory. The blanks are then as they were.
+    pub fn set_leading_whitespace(&mut self, whitespace: Option<BString>) -> Result<(), NoMemory>
+        requires white { IfSome whitespace (λ blanks. list_all is_whitespace (bstring_bytes blanks) ≡ true) }
+        ensures same_section { lent self.new ≡ lent self.old }
+        ensures same_state { edited self.new ≡ edited self.old }
+        ensures ok { OnOk result (editor self.new ≡ record (editor self.old) { spacing = record (editor self.old).spacing { leading = option_map bstring_bytes whitespace } }) }
+        ensures err { OnErr result (editor self.new ≡ editor self.old) }
+    {
+        self.blanks.set_leading(bytes_of(&whitespace))
+    }
+}

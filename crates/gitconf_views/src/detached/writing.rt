@@ -1,0 +1,91 @@
+//! What the editor of a section that stands in no file writes, by the blanks and the line end that it has.
+ghost use Rattle.std.specs.Prelude.{◌≡◌, option_map};
+ghost use Rattle.bstr.specs.Owned.{bstring_bytes};
+
+use crate::detached::Section;
+use crate::section::value;
+use bstr::BString;
+use gitconf_lines::editor::Editor;
+use gitconf_text::parse::section::ValueNameError;
+use gitconf_text::parse::section::bytes::is_value_name;
+use gitconf_text::parse::span;
+
+/// Bytes as a text, if there are any.
+pub fn text_of(bytes: Option<Vec<u8>>) -> Option<BString>
+    ensures { option_map bstring_bytes result ≡ option_map (λ v. v.items) bytes }
+{
+    match bytes {
+        Some(bytes) => Some(BString::new(bytes)),
+        None => None,
+    }
+}
+
+impl Section {
+    ghost use Rattle.std.specs.Option.{option_copied};
+    ghost use Rattle.std.specs.Prelude.{◌≡◌, ◌↔◌, false, flat_map, length, option_map, IfOk, IsErrAnd};
+    ghost use Rattle.bstr.specs.Owned.{bstring_bytes};
+    ghost use Rattle.gitconf_text.specs.Names.{is_value_name};
+    ghost use Rattle.gitconf_text.specs.Token.{item_tokens};
+    ghost use Rattle.gitconf_state.specs.Edit.{old_value, token_bytes};
+    ghost use Rattle.gitconf_state.specs.Editors.{line_end_pushed, line_made, pushed, value_set};
+    ghost use Rattle.gitconf_state.specs.Edits.{value_set_tokens, IsEditor};
+    ghost use Rattle.gitconf_views.specs.Alone.{IsEditedAlone};
+    ghost use Rattle.gitconf_lines.specs.Blanks.{given_editor, IsGiven};
+    ghost use Rattle.gitconf_views.specs.ValueErrors.{value_number};
+
+    /// [`Section::push_entry`], where the name may be none.
+    #[tactic(auto, using(crate::proofs::AloneEdits::done_alone, crate::proofs::LineBytes::line_within))]
+    pub fn push_line(
+        &mut self,
+        editor: &Editor<'_>,
+        value_name: &str,
+        value: Option<&[u8]>,
+        comment: Option<&[u8]>,
+    ) -> Result<(), value::Error>
+        requires given { IsGiven editor.now }
+        requires editor { IsEditor (given_editor editor.now) }
+        ensures invalid { IsErrAnd result (λ e. value_number e ≡ 6) ↔ (is_value_name value_name.now ≡ false) }
+        ensures done { IsEditedAlone (pushed (given_editor editor.now) value_name.now (option_copied value.entry) (option_copied comment.entry))
+            (token_bytes (flat_map item_tokens (line_made (given_editor editor.now) value_name.now (option_copied value.entry) (option_copied comment.entry))))
+            value_number result self.old self.new }
+    {
+        let key = value_name.as_bytes();
+        if !is_value_name(key) {
+            return Err(value::Error::ValueName(ValueNameError::invalid()));
+        }
+        self.push_entry(editor, key, value, comment)?;
+        Ok(())
+    }
+
+    /// [`Section::push_newline`].
+    #[tactic(auto, using(crate::proofs::AloneEdits::done_alone))]
+    pub fn push_line_end(&mut self, editor: &Editor<'_>) -> Result<(), span::Error>
+        requires editor { IsEditor (given_editor editor.now) }
+        ensures done { IsEditedAlone (line_end_pushed (given_editor editor.now)) (length (given_editor editor.now).line_end) (λ e. e) result self.old self.new }
+    {
+        self.push_newline(editor)
+    }
+
+    /// [`Section::set_entry`], where the name may be none.
+    #[tactic(auto, using(crate::proofs::AloneEdits::done_alone, crate::proofs::LineBytes::set_within))]
+    pub fn set_line(
+        &mut self,
+        editor: &Editor<'_>,
+        value_name: &str,
+        value: &[u8],
+    ) -> Result<Option<BString>, value::Error>
+        requires given { IsGiven editor.now }
+        requires editor { IsEditor (given_editor editor.now) }
+        ensures invalid { IsErrAnd result (λ e. value_number e ≡ 6) ↔ (is_value_name value_name.now ≡ false) }
+        ensures done { IsEditedAlone (value_set (given_editor editor.now) value_name.now value.now)
+            (token_bytes (value_set_tokens (given_editor editor.now) value_name.now value.now self.old.section.items)) value_number result self.old self.new }
+        ensures answer { IfOk result (λ o. option_map bstring_bytes o ≡ old_value value_name.now self.old.section.items) }
+    {
+        let key = value_name.as_bytes();
+        if !is_value_name(key) {
+            return Err(value::Error::ValueName(ValueNameError::invalid()));
+        }
+        let old = self.set_entry(editor, key, value)?;
+        Ok(text_of(old))
+    }
+}

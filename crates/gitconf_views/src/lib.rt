@@ -1,0 +1,9 @@
+//! Views of sections, of their headers and of their bodies; and sections that stand in no file, with their editor.
+#![tactic(auto)]
+
+pub mod detached;
+pub mod lists;
+pub mod popped;
+pub mod section;
+pub mod values;
+pub mod views;

@@ -1,0 +1,39 @@
+//! What words stand for that commands and the lines of blocks take alike.
+
+use crate::refusal::Refusal;
+use crate::rendering::put_id;
+use bstr::BString;
+use gitconf_script::words::Word;
+use gix_config::File;
+use gix_config::file::SectionId;
+use std::alloc::Global;
+
+/// BYTES..: each of them.
+pub fn bytes_of_all<'a>(alloc: Global, words: &'a [Word<'_>]) -> Result<Vec<&'a [u8]>, Refusal> {
+    let mut all = Vec::with_capacity(alloc, words.len())?;
+    for word in words {
+        all.push(word.bytes()?)?;
+    }
+    Ok(all)
+}
+
+/// A subsection, or blanks, with memory of their own.
+pub fn owned(alloc: Global, bytes: Option<&[u8]>) -> Result<Option<BString>, Refusal> {
+    match bytes {
+        Some(bytes) => Ok(Some(BString::from_slice(alloc, bytes)?)),
+        None => Ok(None),
+    }
+}
+
+/// The section's number that reads so; that of no section where none does.
+pub fn id_of(alloc: Global, file: &File, number: usize) -> Result<SectionId, Refusal> {
+    let wanted = format!(in alloc; "{number}")?;
+    for id in file.section_ids() {
+        let mut shown = String::new(alloc);
+        put_id(alloc, &mut shown, id)?;
+        if shown == wanted {
+            return Ok(id);
+        }
+    }
+    Ok(SectionId::default())
+}

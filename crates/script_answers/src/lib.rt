@@ -1,0 +1,10 @@
+//! What commands of a script work on, and their answers as lines.
+#![tactic(auto)]
+
+pub mod answer;
+pub mod arguments;
+pub mod kinds;
+pub mod refusal;
+pub mod rendering;
+pub mod session;
+pub mod writers;

@@ -1,0 +1,146 @@
+//! What commands work on: four files, one of which is the current one, and two sections that stand alone.
+
+ghost use Rattle.std.specs.Prelude.{◌≡◌, OnErr, OnOk};
+ghost use Rattle.script_answers.specs.Session.{ChangesFile};
+
+use gitconf_script::words::{Place, Slot};
+use gix_config::File;
+use gix_config::file::{Metadata, Section};
+use std::alloc::{AllocError, Global};
+use std::mem::replace;
+use std::rc::Rc;
+
+/// The state of a script.
+#[derive(Drop)]
+pub struct Session {
+    f: File,
+    g: File,
+    h: File,
+    i: File,
+    s: Option<Section>,
+    t: Option<Section>,
+    current: Slot,
+    /// Of what is loaded or made.
+    meta: Rc<Metadata>,
+    tells_refusals: bool,
+}
+
+impl Session {
+    /// Four empty files, the first of them the current one, and no section.
+    pub fn new(alloc: Global) -> Result<Session, AllocError> {
+        let meta = Rc::new(alloc, Metadata::api())?;
+        // All shares are taken before a file is made, so that no file stands where one is refused.
+        let (f, g, h, i) = (meta.clone()?, meta.clone()?, meta.clone()?, meta.clone()?);
+        Ok(Session {
+            f: File::new(alloc, f),
+            g: File::new(alloc, g),
+            h: File::new(alloc, h),
+            i: File::new(alloc, i),
+            s: None,
+            t: None,
+            current: Slot::F,
+            meta,
+            tells_refusals: false,
+        })
+    }
+
+    /// The current file.
+    pub fn file(&self) -> &File {
+        self.file_at(self.current)
+    }
+
+    /// The file at that place.
+    pub fn file_at(&self, slot: Slot) -> &File {
+        match slot {
+            Slot::F => &self.f,
+            Slot::G => &self.g,
+            Slot::H => &self.h,
+            Slot::I => &self.i,
+        }
+    }
+
+    /// The current file, to be changed.
+    pub fn file_mut(&mut self) -> &mut File {
+        match self.current {
+            Slot::F => &mut self.f,
+            Slot::G => &mut self.g,
+            Slot::H => &mut self.h,
+            Slot::I => &mut self.i,
+        }
+    }
+
+    /// Makes that file the current one.
+    pub fn select(&mut self, slot: Slot)
+        ensures { self.new ≡ record self.old { current = slot } }
+    {
+        self.current = slot;
+    }
+
+    /// Puts a file in the place of the current one.
+    pub fn put(&mut self, file: File)
+        ensures { ChangesFile self.old.current self.old self.new }
+    {
+        self.put_at(self.current, file);
+    }
+
+    /// Puts a file into that place.
+    pub fn put_at(&mut self, slot: Slot, file: File)
+        ensures { ChangesFile slot self.old self.new }
+    {
+        drop(match slot {
+            Slot::F => replace(&mut self.f, file),
+            Slot::G => replace(&mut self.g, file),
+            Slot::H => replace(&mut self.h, file),
+            Slot::I => replace(&mut self.i, file),
+        });
+    }
+
+    /// Takes the file out of that place, and leaves an empty one there.
+    pub fn take(&mut self, alloc: Global, slot: Slot) -> Result<File, AllocError>
+        ensures ok { OnOk result (ChangesFile slot self.old self.new) }
+        ensures err { OnErr result (self.new ≡ self.old) }
+    {
+        let empty = File::new(alloc, self.meta.clone()?);
+        Ok(match slot {
+            Slot::F => replace(&mut self.f, empty),
+            Slot::G => replace(&mut self.g, empty),
+            Slot::H => replace(&mut self.h, empty),
+            Slot::I => replace(&mut self.i, empty),
+        })
+    }
+
+    /// The section at that place, if there is one.
+    pub fn section_at(&self, place: Place) -> Option<&Section> {
+        match place {
+            Place::S => self.s.as_ref(),
+            Place::T => self.t.as_ref(),
+        }
+    }
+
+    /// Puts a section into that place, or empties it; and answers what stood there.
+    pub fn replace_section(&mut self, place: Place, section: Option<Section>) -> Option<Section> {
+        match place {
+            Place::S => replace(&mut self.s, section),
+            Place::T => replace(&mut self.t, section),
+        }
+    }
+
+    /// The metadata of what is loaded or made.
+    pub fn meta(&self) -> Result<Rc<Metadata>, AllocError> {
+        self.meta.clone()
+    }
+
+    /// Whether each answer is to say if a growth was refused.
+    pub fn tells_refusals(&self) -> bool
+        ensures { result ≡ self.now.tells_refusals }
+    {
+        self.tells_refusals
+    }
+
+    /// Whether answers say so from now on.
+    pub fn tell_refusals(&mut self, on: bool)
+        ensures { self.new ≡ record self.old { tells_refusals = on } }
+    {
+        self.tells_refusals = on;
+    }
+}

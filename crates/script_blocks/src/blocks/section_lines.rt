@@ -1,0 +1,233 @@
+//! The lines of the editor of a section.
+ghost use Rattle.std.specs.Prelude.{◌≡◌};
+
+use super::section_editor::SectionEditor;
+use super::tell;
+use bstr::BString;
+use gitconf_script::answers::{put_bytes, put_optional};
+use gitconf_script::arguments::{no_words, section_names, text};
+use gitconf_script::blocks::next_asked;
+use gitconf_script::bracket::Bracket;
+use gitconf_script::editor_arguments::{
+    PushedLine, commented_line, flag, optional, pushed_line, text_and_bytes,
+};
+use gitconf_script::editors::{
+    SectionChange, SectionLine, SectionStyle, SectionView, section_line_of,
+};
+use gitconf_script::play::{Fault, Streams};
+use gitconf_script::words::{Word, words_of};
+use gix_config::file::is_whitespace;
+use script_answers::answer::{Answer, Outcome};
+use script_answers::arguments::owned;
+use script_answers::refusal::Refusal;
+use script_answers::rendering::line_of;
+use std::alloc::{AllocError, Global};
+use std::io::{Read, Write};
+
+/// Tells that the editor stands, and answers its lines.
+pub fn play<R: Read + Drop, W: Write + Drop, E: SectionEditor>(
+    alloc: Global,
+    bracket: Bracket,
+    editor: &mut E,
+    streams: &mut Streams<R, W>,
+    tells: &mut bool,
+) -> Result<(), Fault>
+    ensures { E.held editor.new ≡ E.held editor.old }
+{
+    tell(alloc, bracket, &Ok(Answer::Done), streams)?;
+    for _ in 0..u64::MAX {
+        let Some(line) = next_asked(alloc, streams, tells)? else {
+            break;
+        };
+        let answer = answer_to(alloc, editor, &line, *tells)?;
+        streams.tell(&answer)?;
+    }
+    Ok(())
+}
+
+/// The answer to a line, as a line. Only what the editor does stands in the bracket.
+fn answer_to<E: SectionEditor>(
+    alloc: Global,
+    editor: &mut E,
+    line: &[u8],
+    tells: bool,
+) -> Result<String, AllocError>
+    ensures { E.held editor.new ≡ E.held editor.old }
+{
+    let words = words_of(alloc, line)?;
+    let (line, words) = section_line_of(&words);
+    let bracket = Bracket::open(alloc, tells)?;
+    let outcome = outcome_of(alloc, editor, line, words);
+    let refused = bracket.close(alloc);
+    let answer = line_of(alloc, refused, &outcome);
+    drop(outcome);
+    answer
+}
+
+fn outcome_of<'a, E: SectionEditor>(
+    alloc: Global,
+    editor: &mut E,
+    line: Option<SectionLine>,
+    words: &[Word<'_>],
+) -> Outcome<'a>
+    ensures { E.held editor.new ≡ E.held editor.old }
+{
+    match line {
+        None => Ok(Answer::Unknown),
+        Some(SectionLine::Change(change)) => change_outcome(alloc, editor, change, words),
+        Some(SectionLine::Style(style)) => style_outcome(alloc, editor, style, words),
+        Some(SectionLine::View(view)) => view_outcome(alloc, editor, view, words),
+        // It has words behind it, which it must not have.
+        Some(SectionLine::End) => Err(Refusal::Line),
+    }
+}
+
+fn change_outcome<'a, E: SectionEditor>(
+    alloc: Global,
+    editor: &mut E,
+    change: SectionChange,
+    words: &[Word<'_>],
+) -> Outcome<'a>
+    ensures { E.held editor.new ≡ E.held editor.old }
+{
+    match change {
+        SectionChange::Push => push(editor, pushed_line(words)?),
+        SectionChange::PushWithComment => push(editor, commented_line(words)?),
+        SectionChange::Set => set(editor, words),
+        SectionChange::Remove => remove(editor, words),
+        SectionChange::LineEnd => nl(editor, words),
+        SectionChange::Pop => pop(editor, words),
+        SectionChange::Header => header(alloc, editor, words),
+    }
+}
+
+fn style_outcome<'a, E: SectionEditor>(
+    alloc: Global,
+    editor: &mut E,
+    style: SectionStyle,
+    words: &[Word<'_>],
+) -> Outcome<'a>
+    ensures { E.held editor.new ≡ E.held editor.old }
+{
+    match style {
+        SectionStyle::ImplicitLineEnd => implicit(editor, words),
+        SectionStyle::LeadingBlanks => leading(alloc, editor, words),
+    }
+}
+
+fn view_outcome<'a, E: SectionEditor>(
+    alloc: Global,
+    editor: &E,
+    view: SectionView,
+    words: &[Word<'_>],
+) -> Outcome<'a> {
+    match view {
+        SectionView::Blanks => blanks(alloc, editor, words),
+        SectionView::Value => Ok(Answer::found(editor.value(text(words)?)?)),
+        SectionView::ImplicitValue => implicitvalue(editor, words),
+        SectionView::Values => Ok(Answer::Texts(editor.values(text(words)?)?)),
+        SectionView::Text => {
+            no_words(words)?;
+            Ok(Answer::text(editor.text()?))
+        }
+    }
+}
+
+/// `push BYTES OPT`, `pushc BYTES OPT BYTES`: a line behind the others, with a comment or without one.
+fn push<'a, E: SectionEditor>(editor: &mut E, line: PushedLine<'_>) -> Outcome<'a>
+    ensures { E.held editor.new ≡ E.held editor.old }
+{
+    editor.push_line(line)?;
+    Ok(Answer::Done)
+}
+
+/// `set BYTES BYTES`: gives the last entry of the name a value, or pushes one; the old raw value.
+fn set<'a, E: SectionEditor>(editor: &mut E, words: &[Word<'_>]) -> Outcome<'a>
+    ensures { E.held editor.new ≡ E.held editor.old }
+{
+    let (name, value) = text_and_bytes(words)?;
+    Ok(Answer::found(editor.set(name, value)?))
+}
+
+/// `remove BYTES`: takes the last entry of the name out; its raw value.
+fn remove<'a, E: SectionEditor>(editor: &mut E, words: &[Word<'_>]) -> Outcome<'a>
+    ensures { E.held editor.new ≡ E.held editor.old }
+{
+    let name = text(words)?;
+    Ok(Answer::found(editor.remove(name)?))
+}
+
+/// `pop`: takes the last entry out with all behind it; its name and what it means.
+fn pop<'a, E: SectionEditor>(editor: &mut E, words: &[Word<'_>]) -> Outcome<'a>
+    ensures { E.held editor.new ≡ E.held editor.old }
+{
+    no_words(words)?;
+    match editor.pop()? {
+        Some((name, meaning)) => Ok(Answer::Entry(name, meaning)),
+        None => Ok(Answer::Absent),
+    }
+}
+
+/// `header SEC2`: gives the section another name and subsection.
+fn header<'a, E: SectionEditor>(alloc: Global, editor: &mut E, words: &[Word<'_>]) -> Outcome<'a>
+    ensures { E.held editor.new ≡ E.held editor.old }
+{
+    let names = section_names(words)?;
+    let subsection = owned(alloc, names.subsection)?;
+    editor.rename(names.name, subsection)?;
+    Ok(Answer::Done)
+}
+
+/// `nl`: a line end behind all.
+fn nl<'a, E: SectionEditor>(editor: &mut E, words: &[Word<'_>]) -> Outcome<'a>
+    ensures { E.held editor.new ≡ E.held editor.old }
+{
+    no_words(words)?;
+    editor.push_newline()?;
+    Ok(Answer::Done)
+}
+
+/// `implicit B`: whether a line end is put behind what is pushed.
+fn implicit<'a, E: SectionEditor>(editor: &mut E, words: &[Word<'_>]) -> Outcome<'a>
+    ensures { E.held editor.new ≡ E.held editor.old }
+{
+    editor.end_lines(flag(words)?);
+    Ok(Answer::Done)
+}
+
+/// `leading OPT`: the blanks before names, of white space alone.
+fn leading<'a, E: SectionEditor>(alloc: Global, editor: &mut E, words: &[Word<'_>]) -> Outcome<'a>
+    ensures { E.held editor.new ≡ E.held editor.old }
+{
+    match optional(words)? {
+        None => editor.set_leading(None)?,
+        Some(run) => {
+            if !is_whitespace(run) {
+                return Err(Refusal::Line);
+            }
+            let run = BString::from_slice(alloc, run)?;
+            editor.set_leading(Some(run))?;
+        }
+    }
+    Ok(Answer::Done)
+}
+
+/// `blanks`: what the editor writes before a name, before and behind `=`, and as a line end.
+fn blanks<'a, E: SectionEditor>(alloc: Global, editor: &E, words: &[Word<'_>]) -> Outcome<'a> {
+    no_words(words)?;
+    let (before, behind) = editor.around();
+    let mut told = String::new(alloc);
+    put_optional(alloc, &mut told, editor.leading())?;
+    put_optional(alloc, &mut told, before)?;
+    put_optional(alloc, &mut told, behind)?;
+    put_bytes(alloc, &mut told, editor.line_end())?;
+    Ok(Answer::Words(told))
+}
+
+/// `implicitvalue BYTES`: the meaning of the last entry of the name, and an entry without `=` told.
+fn implicitvalue<'a, E: SectionEditor>(editor: &E, words: &[Word<'_>]) -> Outcome<'a> {
+    match editor.value_implicit(text(words)?)? {
+        Some(value) => Ok(Answer::Optional(value)),
+        None => Ok(Answer::Absent),
+    }
+}

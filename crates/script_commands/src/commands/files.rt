@@ -1,0 +1,104 @@
+//! Commands on whole files, and on the state of the script.
+//!
+//! A command that is refused leaves that state as it was, but that `append` takes a file; and one that loads changes no other file.
+ghost use Rattle.std.specs.Prelude.{◌≡◌, OnErr};
+ghost use Rattle.script_answers.specs.Session.{ChangesFile};
+
+use super::parsing::kept_events;
+use gitconf_script::arguments::{bytes, no_words, slot, switch};
+use gitconf_script::words::Word;
+use gix_config::File;
+use gix_config::file::init;
+use script_answers::answer::{Answer, Outcome};
+use script_answers::refusal::Refusal;
+use script_answers::session::Session;
+use std::alloc::Global;
+use std::mem::replace;
+
+/// `use SLOT`: makes a file the current one.
+pub fn select<'a>(session: &mut Session, words: &[Word<'_>]) -> Outcome<'a>
+    ensures { OnErr result (session.new ≡ session.old) }
+{
+    session.select(slot(words)?);
+    Ok(Answer::Done)
+}
+
+/// `load BYTES`, `lossy BYTES`: the current file is that text, all of it, or without blanks, line ends and comments.
+pub fn load<'a>(
+    alloc: Global,
+    session: &mut Session,
+    words: &[Word<'_>],
+    lossy: bool,
+) -> Outcome<'a>
+    ensures others { ChangesFile session.old.current session.old session.new }
+    ensures err { OnErr result (session.new ≡ session.old) }
+{
+    let options = init::Options {
+        lossy,
+        ..init::Options::default()
+    };
+    let file = File::from_bytes_no_includes(alloc, bytes(words)?, session.meta()?, options)?;
+    session.put(file);
+    Ok(Answer::Done)
+}
+
+/// `loadkept BYTES LETTERS`: the current file is made of the events of a text without some kinds, where they keep all
+/// entries.
+pub fn loadkept<'a>(alloc: Global, session: &mut Session, words: &[Word<'_>]) -> Outcome<'a>
+    ensures others { ChangesFile session.old.current session.old session.new }
+    ensures err { OnErr result (session.new ≡ session.old) }
+{
+    let events = kept_events(alloc, words)?;
+    if !events.keeps_entries() {
+        return Err(Refusal::Line);
+    }
+    let file = File::from_parse_events_no_includes(alloc, events, session.meta()?)?;
+    session.put(file);
+    Ok(Answer::Done)
+}
+
+/// `new`: the current file is an empty one.
+pub fn new<'a>(alloc: Global, session: &mut Session, words: &[Word<'_>]) -> Outcome<'a>
+    ensures others { ChangesFile session.old.current session.old session.new }
+    ensures err { OnErr result (session.new ≡ session.old) }
+{
+    no_words(words)?;
+    let file = File::new(alloc, session.meta()?);
+    session.put(file);
+    Ok(Answer::Done)
+}
+
+/// `clone SLOT`: that file is a copy of the current one.
+pub fn clone<'a>(session: &mut Session, words: &[Word<'_>]) -> Outcome<'a>
+    ensures { OnErr result (session.new ≡ session.old) }
+{
+    let slot = slot(words)?;
+    let copy = session.file().try_clone()?;
+    session.put_at(slot, copy);
+    Ok(Answer::Done)
+}
+
+/// `append SLOT`: puts that file behind the current one, and leaves an empty one there, also where the current one refuses it.
+pub fn append<'a>(alloc: Global, session: &mut Session, words: &[Word<'_>]) -> Outcome<'a> {
+    let slot = slot(words)?;
+    let other = session.take(alloc, slot)?;
+    session.file_mut().append(other)?;
+    Ok(Answer::Done)
+}
+
+/// `reset`: all is as at the start.
+pub fn reset<'a>(alloc: Global, session: &mut Session, words: &[Word<'_>]) -> Outcome<'a>
+    ensures { OnErr result (session.new ≡ session.old) }
+{
+    no_words(words)?;
+    drop(replace(session, Session::new(alloc)?));
+    Ok(Answer::Done)
+}
+
+/// `refusals on`, `refusals off`: whether answers tell of refused growths.
+pub fn refusals<'a>(session: &mut Session, words: &[Word<'_>]) -> Outcome<'a>
+    ensures { OnErr result (session.new ≡ session.old) }
+{
+    session.tell_refusals(switch(words)?);
+    Ok(Answer::Done)
+}

@@ -1,0 +1,51 @@
+//! Commands on texts and names, which ask no file.
+
+use gitconf_script::arguments::{bytes, text_and_letters};
+use gitconf_script::words::Word;
+use gix_config::parse::Events;
+use gix_config::parse::section::{Name, ValueName};
+use script_answers::answer::{Answer, Outcome};
+use script_answers::kinds::events_without;
+use script_answers::refusal::Refusal;
+use std::alloc::Global;
+
+/// `events BYTES`: the events of a text.
+pub fn events<'a>(alloc: Global, words: &[Word<'_>]) -> Outcome<'a> {
+    Ok(Answer::Events(Events::from_bytes(alloc, bytes(words)?, None)?))
+}
+
+/// `errtext BYTES`: the text of the refusal of a text.
+pub fn errtext<'a>(alloc: Global, words: &[Word<'_>]) -> Outcome<'a> {
+    match Events::from_bytes(alloc, bytes(words)?, None) {
+        Ok(_) => Ok(Answer::Absent),
+        Err(refusal) => match Refusal::from(refusal) {
+            Refusal::Unread(refusal) => Ok(Answer::Message(refusal)),
+            other => Err(other),
+        },
+    }
+}
+
+/// `keeps BYTES LETTERS`: the events of a text without some kinds, and whether they keep all entries.
+pub fn keeps<'a>(alloc: Global, words: &[Word<'_>]) -> Outcome<'a> {
+    Ok(Answer::Kept(kept_events(alloc, words)?))
+}
+
+/// The events of a text without some kinds.
+pub fn kept_events(alloc: Global, words: &[Word<'_>]) -> Result<Events, Refusal> {
+    match text_and_letters(words)? {
+        (text, None) => Ok(Events::from_bytes(alloc, text, None)?),
+        (text, Some(letters)) => events_without(alloc, text, letters),
+    }
+}
+
+/// `name BYTES`: whether bytes are the name of a section.
+pub fn name<'a>(alloc: Global, words: &[Word<'_>]) -> Outcome<'a> {
+    let _ = Name::try_from_bytes(alloc, bytes(words)?)?;
+    Ok(Answer::Done)
+}
+
+/// `valuename BYTES`: whether bytes are the name of a value.
+pub fn valuename<'a>(alloc: Global, words: &[Word<'_>]) -> Outcome<'a> {
+    let _ = ValueName::try_from_bytes(alloc, bytes(words)?)?;
+    Ok(Answer::Done)
+}

@@ -1,0 +1,72 @@
+//! Commands that show a file's parts.
+
+use gitconf_script::arguments::{no_words, number};
+use gitconf_script::words::Word;
+use gix_config::File;
+use gix_config::file::SectionRef;
+use script_answers::answer::{Answer, Outcome};
+use script_answers::refusal::Refusal;
+use std::borrow::CowSlice;
+
+/// `dump`: the sections, with their entries.
+pub fn dump<'a>(file: &'a File, words: &[Word<'_>]) -> Outcome<'a> {
+    no_words(words)?;
+    Ok(Answer::Dump(file))
+}
+
+/// The section at the place that the words tell.
+pub(super) fn section_at<'a>(
+    file: &'a File,
+    words: &[Word<'_>],
+) -> Result<Option<SectionRef<'a>>, Refusal> {
+    let place = number(words)?;
+    Ok(file.sections().nth(place))
+}
+
+/// `printsec N`: the text of a section alone.
+pub fn printsec<'a>(file: &'a File, words: &[Word<'_>]) -> Outcome<'a> {
+    match section_at(file, words)? {
+        Some(section) => Ok(Answer::text(section.to_bstring()?)),
+        None => Ok(Answer::Absent),
+    }
+}
+
+/// `front`: the events before the first section.
+pub fn front<'a>(file: &'a File, words: &[Word<'_>]) -> Outcome<'a> {
+    no_words(words)?;
+    Ok(Answer::Front(file))
+}
+
+/// `body N`: the events of a section's body.
+pub fn body<'a>(file: &'a File, words: &[Word<'_>]) -> Outcome<'a> {
+    match section_at(file, words)? {
+        Some(section) => Ok(Answer::Body(section)),
+        None => Ok(Answer::Absent),
+    }
+}
+
+/// `post N`: the events of what is held behind a section.
+pub fn post<'a>(file: &'a File, words: &[Word<'_>]) -> Outcome<'a> {
+    match section_at(file, words)? {
+        Some(section) => Ok(Answer::Held(section)),
+        None => Ok(Answer::Absent),
+    }
+}
+
+/// `count`: how many entries the sections have.
+pub fn count<'a>(file: &File, words: &[Word<'_>]) -> Outcome<'a> {
+    no_words(words)?;
+    Ok(Answer::Number(file.num_values()))
+}
+
+/// `void`: whether no section has anything in its body.
+pub fn void<'a>(file: &File, words: &[Word<'_>]) -> Outcome<'a> {
+    no_words(words)?;
+    Ok(Answer::Flag(file.is_void()))
+}
+
+/// `newline`: the line end that the file uses.
+pub fn newline<'a>(file: &'a File, words: &[Word<'_>]) -> Outcome<'a> {
+    no_words(words)?;
+    Ok(Answer::Bytes(CowSlice::Borrowed(file.detect_newline_style())))
+}

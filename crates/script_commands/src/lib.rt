@@ -1,0 +1,4 @@
+//! What each command of a script calls, and what it answers.
+#![tactic(auto)]
+
+pub mod commands;
