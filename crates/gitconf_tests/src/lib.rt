@@ -1,9 +1,11 @@
-//! Tests of what stands below the parser: sources, metadata, home folders, keys, names, tables of sections, and the texts of
-//! their refusals. Beside them stands what tests say to the shim that refuses growths.
+//! Tests of what stands below the parser: sources, metadata, home folders, hosts in memory, keys, names, tables of
+//! sections, and the texts of their refusals. Beside them stands what tests say to the shim that refuses growths.
 #![tactic(auto)]
 
 #[cfg(test)]
 mod base;
+#[cfg(test)]
+mod hosts;
 #[cfg(test)]
 mod messages;
 #[cfg(test)]

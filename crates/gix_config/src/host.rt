@@ -1,2 +1,4 @@
-//! What lies outside: the faults of files.
-pub use gitconf_host::{FileFault, Stage};
+//! What lies outside: files, variables of the environment, and the places where configuration stands.
+pub use gitconf_host::{
+    Env, EnvVar, FileFault, Files, Host, MemEnv, MemFile, MemFiles, Places, Stage,
+};

@@ -1,0 +1,65 @@
+//! Where files come from.
+
+use crate::fault::FileFault;
+use gitconf_base::source::Trust;
+
+/// A source of files, by their paths. It is asked in place of the disk, which the Rust crate reads itself.
+///
+/// A source tells in `table` what stands at each path, or `None`; where it tells a table, each call answers by it, and
+/// no call changes it, whatever its outcome. It tells in `failures` how many faults it has answered, or `None` where it
+/// keeps no count or the count is past its end: a call that answers a fault counts one, and each other call none. So a
+/// fault of a source that counts comes from that source alone.
+pub trait Files: Drop {
+    ghost use Rattle.std.specs.Prelude.{◌≡◌, ℕ, List, Option, IfSome};
+    ghost use Rattle.gitconf_host.specs.Told.{FileTold, is_there, IsReadOf, IsTrustOf, IsCounted};
+
+    ghost table: { Self → Option (List ℕ → FileTold) };
+
+    ghost failures: { Self → Option ℕ };
+
+    /// Whether a file stands at the path, also one that can't be opened or read. What is no file, as a folder, isn't
+    /// there. It answers no fault.
+    fn is_file(&mut self, path: &str) -> bool
+        ensures told { IfSome (table self.old) (λ files. result ≡ is_there (files path.now)) }
+        ensures stays { table self.new ≡ table self.old }
+        ensures counted { failures self.new ≡ failures self.old };
+
+    /// The bytes of the file at the path.
+    ///
+    /// # Errors
+    ///
+    /// The file can't be opened, as where there is none, or can't be read, or memory is wanting.
+    fn read(&mut self, path: &str) -> Result<Vec<u8>, FileFault>
+        ensures told { IfSome (table self.old) (λ files. IsReadOf result (files path.now)) }
+        ensures stays { table self.new ≡ table self.old }
+        ensures counted { IsCounted result (failures self.old) (failures self.new) };
+
+    /// How far the file at the path is trusted.
+    ///
+    /// # Errors
+    ///
+    /// Those of [`Files::read`].
+    fn trust(&mut self, path: &str) -> Result<Trust, FileFault>
+        ensures told { IfSome (table self.old) (λ files. IsTrustOf result (files path.now)) }
+        ensures stays { table self.new ≡ table self.old }
+        ensures counted { IsCounted result (failures self.old) (failures self.new) };
+}
+
+/// A boxed source is the source in the box.
+impl Files for Box<dyn Files> {
+    ghost table = { λ b. (Files-box b).table b.value };
+
+    ghost failures = { λ b. (Files-box b).failures b.value };
+
+    fn is_file(&mut self, path: &str) -> bool {
+        (**self).is_file(path)
+    }
+
+    fn read(&mut self, path: &str) -> Result<Vec<u8>, FileFault> {
+        (**self).read(path)
+    }
+
+    fn trust(&mut self, path: &str) -> Result<Trust, FileFault> {
+        (**self).trust(path)
+    }
+}
