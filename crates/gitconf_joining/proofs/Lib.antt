@@ -1,4 +1,3 @@
 pub mod Loading
 pub mod MovedTables
 pub mod Joined
-pub mod Outcomes

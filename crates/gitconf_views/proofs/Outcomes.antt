@@ -21,3 +21,7 @@ if_ok (Err e) f p = p
 pub if_err_at_all : {T E : Type 0} {P : Type 0} (r : Result T E) → P → OnErr r P
 if_err_at_all (Ok t) p = tt
 if_err_at_all (Err e) p = p
+
+pub ok_three : {T E : Type 0} {P Q R S : Type 0} (r : Result T E) → (P → Q → R → S) → OnOk r P → OnOk r Q → OnOk r R → OnOk r S
+ok_three (Ok t) f p q s = f p q s
+ok_three (Err e) f p q s = p

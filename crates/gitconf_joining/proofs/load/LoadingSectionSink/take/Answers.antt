@@ -1,6 +1,5 @@
 use Rattle.std.proofs.Common.{rules, ◌≡◌}
-use Rattle.gitconf_joining.proofs.Outcomes.{ok_three}
-use Rattle.gitconf_views.proofs.Outcomes.{on_ok}
+use Rattle.gitconf_views.proofs.Outcomes.{ok_three, on_ok}
 use Rattle.gitconf_joining.proofs.Loading.{loading_more, tokens_more}
 use Rattle.gitconf_joining.proofs.load.LoadingSectionSink.take.Goals as goal
 
