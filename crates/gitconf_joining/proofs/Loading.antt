@@ -24,7 +24,7 @@ use Rattle.gitconf_sections.specs.Section.{Section}
 use Rattle.gitconf_state.specs.State.{SectionState}
 use Rattle.gitconf_joining.specs.Loading.{AreLoaded, IsLoading}
 use Rattle.gitconf_views.specs.Store.{SectionFits, AllSectionsFit, loaded_section, section_state, state_of}
-use Rattle.gitconf_joining.specs.Made.{IsMade}
+use Rattle.gitconf_state.specs.Made.{IsMade}
 
 -- the tokens of items, told by what they stand for
 items_tokens : (buffer : List ℕ) (items : List Item) → flat_map item_tokens (items_of buffer items) ≡ tokens_of_items buffer items

@@ -1,4 +1,3 @@
 pub mod Loading
-pub mod Made
 pub mod Moves
 pub mod Joining

@@ -11,3 +11,6 @@ pub mod Inserted
 pub mod Edit
 pub mod Editors
 pub mod Edits
+pub mod Made
+pub mod Appending
+pub mod Including

@@ -26,7 +26,7 @@ use Rattle.gitconf_table.specs.Sections.{Sections}
 use Rattle.gitconf_state.specs.Loads.{section_tokens}
 use Rattle.gitconf_sections.specs.Section.{Section}
 use Rattle.gitconf_joining.specs.Loading.{IsLoading}
-use Rattle.gitconf_joining.specs.Made.{IsMade}
+use Rattle.gitconf_state.specs.Made.{IsMade}
 use Rattle.gitconf_views.specs.Store.{section_state, state_of}
 use Rattle.gitconf_joining.proofs.Loading.{loading_is_made}
 

@@ -8,24 +8,11 @@ use Rattle.gitconf_items.specs.declared.items.Item.{Item}
 use Rattle.gitconf_items.specs.ItemsFit.{AreItemsWithin}
 use Rattle.gitconf_state.specs.Edits.{between}
 use Rattle.gitconf_state.specs.LineEnds.{file_line_end}
-use Rattle.gitconf_state.specs.State.{SectionState, State}
+use Rattle.gitconf_state.specs.State.{State}
+pub use Rattle.gitconf_state.specs.Appending.{held_or, items_before, line_bytes}
 use Rattle.gitconf_items.specs.Items.{items_of}
 use Rattle.gitconf_sections.specs.Section.{Section}
 use Rattle.gitconf_sections.specs.Held.{line_end_item}
-
--- what is held behind a section, or the front where there is none
-abbrev pub held_or : (front : List parts.Item) → Option SectionState → List parts.Item
-held_or front None = front
-held_or front (Some s) = s.held
-
--- the items that another's front is put behind
-abbrev pub items_before : State → List parts.Item
-items_before state = held_or state.front (last_or None state.sections)
-
--- the bytes of a line end that is an item, or none
-abbrev pub line_bytes : (line_end : List ℕ) → List parts.Item → List ℕ
-line_bytes line_end [] = []
-line_bytes line_end (i ∷ items) = line_end
 
 -- the bytes of the line end that goes between these items and the other's front; none where none does
 abbrev pub line_between : (other state : State) → List ℕ

@@ -97,7 +97,7 @@ impl Store {
     ghost use Rattle.gitconf_store.specs.Edits as edits;
     ghost use Rattle.gitconf_store.specs.Edits.{EditGrows, IsRefusal, IsSet, IsSetSomewhere, UsedGrows, set_numbers};
     ghost use Rattle.gitconf_items.specs.ItemEvents.{events_left};
-    ghost use Rattle.gitconf_joining.specs.Made.{IsMade};
+    ghost use Rattle.gitconf_state.specs.Made.{IsMade};
     ghost use Rattle.gitconf_joining.specs.Loading.{IsLoading};
     ghost use Rattle.gitconf_views.specs.Store.{state_of};
     ghost use Rattle.gitconf_views.specs.Texts.{IsTextOfSomeSections};

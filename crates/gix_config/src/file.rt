@@ -88,7 +88,7 @@ impl File {
     ghost use Rattle.gitconf_views.specs.Counts.{are_void, section_entries};
     ghost use Rattle.gitconf_store.specs.Edits.{IsRefusal, IsSet, IsSetSomewhere};
     ghost use Rattle.gitconf_items.specs.ItemEvents.{events_left};
-    ghost use Rattle.gitconf_joining.specs.Made.{IsMade};
+    ghost use Rattle.gitconf_state.specs.Made.{IsMade};
     ghost use Rattle.gitconf_views.specs.Texts.{IsTextOfSomeSections};
     ghost use Rattle.gitconf_views.specs.Views.{shown, sections_left};
     ghost use Rattle.gitconf_items.specs.Items.{tokens_in};

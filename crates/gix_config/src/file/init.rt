@@ -16,7 +16,7 @@ impl File {
     ghost use Rattle.gitconf_state.specs.Inserted.{Inserted, IsByteForByte};
     ghost use Rattle.gitconf_state.specs.Printing.{printed};
     ghost use Rattle.gitconf_state.specs.State.{document_of, entries_of};
-    ghost use Rattle.gitconf_joining.specs.Made.{IsMade};
+    ghost use Rattle.gitconf_state.specs.Made.{IsMade};
     ghost use Rattle.gix_config.specs.Made.{loaded_tokens, IsParseRefusal};
 
     /// The file that a text is, with the metadata that it and each of its sections get. No include is followed,
