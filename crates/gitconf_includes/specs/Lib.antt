@@ -1,2 +1,5 @@
 pub mod Errors
 pub mod Options
+pub mod Rules
+pub mod Paths
+pub mod Conditions

@@ -1,5 +1,8 @@
-//! Files that include others, and how files are made: the options of both, and how they are refused.
+//! Files that include others, and how files are made: the options of both, how they are refused, which file a path names,
+//! and whether a condition holds.
 #![tactic(auto)]
 
+pub mod conditions;
 pub mod includes;
 pub mod init;
+pub mod paths;
