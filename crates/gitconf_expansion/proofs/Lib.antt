@@ -1,0 +1,4 @@
+pub mod Fetching
+pub mod OnePath
+pub mod Says
+pub mod Steps

@@ -1,0 +1,4 @@
+pub mod Inclusion
+pub mod Expansion
+pub mod Visits
+pub mod Outcomes

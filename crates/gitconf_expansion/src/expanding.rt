@@ -1,0 +1,165 @@
+//! Files that are expanded.
+ghost use Rattle.std.specs.Option.{option_copied, option_map};
+ghost use Rattle.std.specs.Prelude.{◌≡◌, ◌-◌, ◌<◌, [], if◌then◌else◌, length, map, Err, Ok, OnOk};
+ghost use Rattle.bstr.specs.Owned.{bstring_bytes};
+ghost use Rattle.gitconf_includes.specs.Errors.{includes_number};
+ghost use Rattle.gitconf_state.specs.Including.{whole};
+ghost use Rattle.gitconf_expansion.specs.Expansion.{Expands, Follows, FollowsAll, Gives, Leaves, Reached};
+ghost use Rattle.gitconf_expansion.specs.Inclusion.{Includes};
+ghost use Rattle.gitconf_expansion.specs.Outcomes.{asks_of, told, CountsFaults, LeavesDone};
+ghost use Rattle.gitconf_expansion.specs.Visits.{condition_of, paths_of};
+
+use crate::conditions::is_followed;
+use crate::config_file::{ConfigFile, Directive, Visited};
+use crate::following::fetch;
+use bstr::BString;
+use gitconf_base::meta::Metadata;
+use gitconf_host::Files;
+use gitconf_includes::includes::Error;
+use gitconf_includes::init::Options;
+use gitconf_includes::paths::file_named;
+use std::alloc::Global;
+
+/// A file at the last level: it is refused where the options ask for that.
+fn at_the_limit(options: &Options<'_>) -> Result<(), Error>
+    ensures { told (λ done. done) result ≡ (if options.now.includes.err_on_max_depth_exceeded then Err 15 else Ok (tt {0})) }
+{
+    if options.includes.err_on_max_depth_exceeded {
+        return Err(Error::IncludeDepthExceeded {
+            max_depth: options.includes.max_depth,
+        });
+    }
+    Ok(())
+}
+
+/// Puts the file that a path of a section from there names behind all that is done, itself expanded one level deeper.
+///
+/// # Errors
+///
+/// Those of [`expand`].
+#[cycle(expanding)]
+fn follow<F: Files, S: ConfigFile>(
+    alloc: Global,
+    files: &mut F,
+    options: &Options<'_>,
+    from: &Metadata,
+    path: BString,
+    file: &mut S,
+    left: u8,
+) -> Result<(), Error>
+    requires deep { 0 < left }
+    requires some { 0 < length (S.done file.old).sections }
+    ensures followed { (r : Reached) × Follows (Expands (left - 1) (asks_of options.now (F.table files.old))) (asks_of options.now (F.table files.old))
+        from.now (bstring_bytes path) (S.rest file.old) (S.done file.old) r × LeavesDone result (S.rest file.new) (S.done file.new) r }
+    ensures rest { S.rest file.new ≡ S.rest file.old }
+    ensures some { OnOk result (0 < length (S.done file.new).sections) }
+    ensures table { F.table files.new ≡ F.table files.old }
+    ensures counted { CountsFaults result (F.failures files.old) (F.failures files.new) }
+{
+    let Some(path) = file_named(alloc, &options.includes, from, path)? else {
+        return Ok(());
+    };
+    if !files.is_file(&path) {
+        return Ok(());
+    }
+    let mut other: S = fetch(alloc, files, options, from, path)?;
+    expand(alloc, files, options, Some(&*file), &mut other, left - 1)?;
+    Ok(file.include(other)?)
+}
+
+/// Follows all paths of a section from there, in order.
+///
+/// # Errors
+///
+/// Those of [`expand`].
+#[cycle(expanding)]
+fn follow_all<F: Files, S: ConfigFile>(
+    alloc: Global,
+    files: &mut F,
+    options: &Options<'_>,
+    from: &Metadata,
+    paths: Vec<BString>,
+    file: &mut S,
+    left: u8,
+) -> Result<(), Error>
+    requires deep { 0 < left }
+    requires some { 0 < length (S.done file.old).sections }
+    ensures followed { (r : Reached) × FollowsAll (Expands (left - 1) (asks_of options.now (F.table files.old))) (asks_of options.now (F.table files.old))
+        from.now (map bstring_bytes paths.items) (S.rest file.old) (S.done file.old) r × LeavesDone result (S.rest file.new) (S.done file.new) r }
+    ensures rest { S.rest file.new ≡ S.rest file.old }
+    ensures table { F.table files.new ≡ F.table files.old }
+    ensures counted { CountsFaults result (F.failures files.old) (F.failures files.new) }
+{
+    for path in paths {
+        follow(alloc, files, options, from, path, file, left)?;
+    }
+    Ok(())
+}
+
+/// Follows what a section that was visited includes, where its condition holds.
+///
+/// # Errors
+///
+/// Those of [`expand`].
+#[cycle(expanding)]
+fn obey<'a, 'b, F: Files, S: ConfigFile>(
+    alloc: Global,
+    files: &mut F,
+    options: &Options<'_>,
+    parent: Option<&'a S>,
+    directive: Directive,
+    file: &'b mut S,
+    left: u8,
+) -> Result<(), Error>
+    requires deep { 0 < left }
+    requires some { 0 < length (S.done file.old).sections }
+    ensures given { (r : Reached) × Gives (Expands (left - 1) (asks_of options.now (F.table files.old))) (asks_of options.now (F.table files.old))
+        (option_map (λ s. whole (S.done s) (S.rest s)) (option_copied parent.entry)) directive.meta.value (Includes (condition_of directive) (paths_of directive))
+        (S.rest file.old) (S.done file.old) r × LeavesDone result (S.rest file.new) (S.done file.new) r }
+    ensures rest { S.rest file.new ≡ S.rest file.old }
+    ensures table { F.table files.new ≡ F.table files.old }
+    ensures counted { CountsFaults result (F.failures files.old) (F.failures files.new) }
+{
+    if !is_followed(alloc, options, parent, &*file, &directive)? {
+        return Ok(());
+    }
+    let Directive {
+        condition: _,
+        paths,
+        meta,
+    } = directive;
+    follow_all(alloc, files, options, &meta, paths, file, left)
+}
+
+/// Expands a file, so many levels deep: each section that stands in it at the beginning is visited, in order, and what its paths give is put
+/// behind it.
+///
+/// # Errors
+///
+/// An [`Error`], with the file as it then stands: all files that were put in before stay, and one that was under way is left out.
+#[cycle(expanding)]
+pub fn expand<'a, F: Files, S: ConfigFile>(
+    alloc: Global,
+    files: &mut F,
+    options: &Options<'_>,
+    parent: Option<&'a S>,
+    file: &'a mut S,
+    left: u8,
+) -> Result<(), Error>
+    requires fresh { (S.done file.old).sections ≡ [] }
+    ensures expanded { (r : Reached) × Expands left (asks_of options.now (F.table files.old))
+        (option_map (λ s. whole (S.done s) (S.rest s)) (option_copied parent.entry)) (whole (S.done file.old) (S.rest file.old)) r
+        × Leaves includes_number result (whole (S.done file.new) (S.rest file.new)) r }
+    ensures table { F.table files.new ≡ F.table files.old }
+    ensures counted { CountsFaults result (F.failures files.old) (F.failures files.new) }
+{
+    if left == 0 {
+        return at_the_limit(options);
+    }
+    while let Some(section) = file.visit()? {
+        if let Visited::Includes(directive) = section {
+            obey(alloc, files, options, parent, directive, file, left)?;
+        }
+    }
+    Ok(())
+}

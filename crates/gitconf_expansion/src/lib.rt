@@ -1,0 +1,7 @@
+//! Files that include others: each is read in the place of its include, behind the section that names it.
+#![tactic(auto)]
+
+mod conditions;
+pub mod config_file;
+mod expanding;
+mod following;
