@@ -1,0 +1,3 @@
+pub mod RowRules
+pub mod PathRows
+pub mod ConditionRows
