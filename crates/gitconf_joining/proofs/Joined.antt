@@ -1,5 +1,5 @@
 -- Sections of another table behind those of a table, and items held behind the last one.
-use Rattle.std.proofs.Common.{◌≡◌, ℕ, zero, suc, ◌+◌, ◌<◌, List, [], ◌∷◌, ◌++◌, length, map, take, drop, Some, refl, ap, sym, subst, ◌∙◌, arith, append-nil, length-append, ◌-◌}
+use Rattle.std.proofs.Common.{◌≡◌, ℕ, zero, suc, ◌+◌, ◌<◌, List, [], ◌∷◌, ◌++◌, length, map, take, drop, Some, refl, ap, sym, subst, ◌∙◌, arith, append-nil, length-append}
 use Rattle.std.specs.List.{AllByRecursion, slice_get}
 use Rattle.std.specs.Option.{option_map}
 use Rattle.gitconf_items.specs.declared.items.Item.{Item}
@@ -14,10 +14,10 @@ use Rattle.gitconf_table.specs.Sections as table
 use Rattle.gitconf_state.specs.Edits.{numbered_from}
 use Rattle.gitconf_items.specs.Items.{items_of}
 use Rattle.gitconf_table.proofs.SectionLemmas.{section_edited}
-use Rattle.gitconf_sections.specs.Section.{Section, holding, last_holding}
+use Rattle.gitconf_sections.specs.Section.{Section, holding}
 use Rattle.gitconf_sections.proofs.Adding.{edited_before, stays_before}
 use Rattle.gitconf_sections.proofs.Edits.{put_again, there_is}
-use Rattle.gitconf_joining.specs.Joining.{held_last, AreBehind, AreSame}
+use Rattle.gitconf_joining.specs.Joining.{held_at, AreBehind, AreSame}
 use Rattle.gitconf_views.specs.Store.{section_state, SectionFits}
 
 -- the same section, with so many items more held behind it
@@ -104,23 +104,21 @@ room_at [] others at s t u here there = absurd (cc)
 room_at (e ∷ es) others (suc at) s t u here there = room_at es others at s t u here there
 room_at (e ∷ es) others zero s t u here there = let is : t ≡ u = cc in sym is
 
--- the last one holds more
-pub last_states : (b : List ℕ) (more : List Item) (es others : List (SectionEntry Section)) (at : ℕ) (s t v : Section) → suc at ≡ length es → is_at es at s → HoldsMore more s v
-    → map (section_state b) (changed_at (set_section v) (changed_at (set_section t) es at ++ others) at) ≡ held_last (items_of b more) (map (section_state b) es) ++ map (section_state b) others
-last_states b more [] others at s t v last here holds = absurd (omega (arith, last))
-last_states b more (e ∷ []) others zero s t v last here holds =
-    let is : e.section ≡ s = cc in ap (λ x. x ∷ map (section_state b) others) (held_state b more e s v is holds)
-last_states b more (e ∷ []) others (suc at) s t v last here holds = absurd (omega (arith, last))
-last_states b more (e ∷ f ∷ es) others zero s t v last here holds = absurd (omega (arith, last))
-last_states b more (e ∷ f ∷ es) others (suc at) s t v last here holds =
-    ap (λ ss. section_state b e ∷ ss) (last_states b more (f ∷ es) others at s t v (omega (arith, last)) here holds)
+-- the one at the place holds more
+pub held_states : (b : List ℕ) (more : List Item) (es others : List (SectionEntry Section)) (at : ℕ) (s t v : Section) → is_at es at s → HoldsMore more s v
+    → map (section_state b) (changed_at (set_section v) (changed_at (set_section t) es at ++ others) at) ≡ held_at (items_of b more) at (map (section_state b) es) ++ map (section_state b) others
+held_states b more [] others at s t v here holds = absurd (cc)
+held_states b more (e ∷ es) others zero s t v here holds =
+    let is : e.section ≡ s = cc in (λ i. held_state b more e s v is holds i ∷ map_both (section_state b) es others i)
+held_states b more (e ∷ es) others (suc at) s t v here holds =
+    ap (λ ss. section_state b e ∷ ss) (held_states b more es others at s t v here holds)
 
-pub last_fit : (b copies : List ℕ) (more : List Item) (es others : List (SectionEntry Section)) (at : ℕ) (s t v : Section) → is_at es at s → HoldsMore more s v → AllByRecursion (SectionFits b copies) es
+pub held_fit : (b copies : List ℕ) (more : List Item) (es others : List (SectionEntry Section)) (at : ℕ) (s t v : Section) → is_at es at s → HoldsMore more s v → AllByRecursion (SectionFits b copies) es
     → AllByRecursion (SectionFits b copies) others → AreItemsWithin (length b) more → AllByRecursion (SectionFits b copies) (changed_at (set_section v) (changed_at (set_section t) es at ++ others) at)
-last_fit b copies more [] others at s t v here holds fits theirs within = absurd (cc)
-last_fit b copies more (e ∷ es) others zero s t v here holds fits theirs within =
+held_fit b copies more [] others at s t v here holds fits theirs within = absurd (cc)
+held_fit b copies more (e ∷ es) others zero s t v here holds fits theirs within =
     let is : e.section ≡ s = cc in (held_fits b copies more e s v is holds fits.0 within, all_both (SectionFits b copies) es others fits.1 theirs)
-last_fit b copies more (e ∷ es) others (suc at) s t v here holds fits theirs within = (fits.0, last_fit b copies more es others at s t v here holds fits.1 theirs within)
+held_fit b copies more (e ∷ es) others (suc at) s t v here holds fits theirs within = (fits.0, held_fit b copies more es others at s t v here holds fits.1 theirs within)
 
 -- all put behind all
 pub put_behind_all : {A : Type 0} (n : ℕ) (xs ys : List A) → n ≡ length xs → take n xs ++ ys ++ drop n xs ≡ xs ++ ys
@@ -155,21 +153,20 @@ module _ (old other new : Sections Section) (at count : ℕ) (s t : Section) (he
     pub same_there : (u : Section) → is_at new.entries at u → u ≡ t
     same_there u there = room_at old.entries (table.numbered_from old.next other.entries) at s t u here (subst (λ es. is_at es at u) put_entries there)
 
-    pub put_behind : (more : List Item) (v : Section) → suc at ≡ length old.entries → HoldsMore more s v → AreBehind more other old (table.with_section new at v)
-    put_behind more v last more_held = record {
+    pub put_behind : (more : List Item) (v : Section) → HoldsMore more s v → AreBehind at more other old (table.with_section new at v)
+    put_behind more v more_held = record {
       next = ap (λ (n : Sections Section). n.next) put;
       states = λ b. ap (λ es. map (section_state b) (changed_at (set_section v) es at)) put_entries
-          ∙ last_states b more old.entries (table.numbered_from old.next other.entries) at s t v last here more_held
-          ∙ ap (λ ss. held_last (items_of b more) (map (section_state b) old.entries) ++ ss) (numbered_states b old.next other.entries);
+          ∙ held_states b more old.entries (table.numbered_from old.next other.entries) at s t v here more_held
+          ∙ ap (λ ss. held_at (items_of b more) at (map (section_state b) old.entries) ++ ss) (numbered_states b old.next other.entries);
       fit = λ b copies fits theirs within. subst (λ es. AllByRecursion (SectionFits b copies) (changed_at (set_section v) es at)) (sym put_entries)
-          (last_fit b copies more old.entries (table.numbered_from old.next other.entries) at s t v here more_held fits (numbered_fit b copies old.next other.entries theirs) within);
+          (held_fit b copies more old.entries (table.numbered_from old.next other.entries) at s t v here more_held fits (numbered_fit b copies old.next other.entries theirs) within);
     }
 
--- The last section holds more, and the other's sections stand behind all.
-pub put_behind_held : (old other new : Sections Section) (more : List Item) → 0 < length old.entries → new ≡ table.with_all (length old.entries) other (last_holding more old) → AreBehind more other old new
-put_behind_held old other new more some put =
-    let at = length old.entries - 1 in
-    let within : at < length old.entries = omega (arith, some) in
+-- The section at a place holds more, and the other's sections stand behind all.
+pub put_behind_held : (old other new : Sections Section) (at : ℕ) (more : List Item) → at < length old.entries → new ≡ table.with_all (length old.entries) other (table.edited_at (holding more) at old)
+    → AreBehind at more other old new
+put_behind_held old other new at more within put =
     let found = there_is old at within in
     let s = found.0 in
     let here = found.1 in
@@ -179,19 +176,18 @@ put_behind_held old other new more some put =
     let now : new ≡ table.with_section mid at (holding more s) =
     put ∙ sym (edited_before (holding more) old other at within) ∙ sym (section_edited (holding more) mid at s (holding more s) (stays_before old other at s here) refl) in
     let again : mid ≡ table.with_all (length old.entries) other (table.with_section old at s) = ap (table.with_all (length old.entries) other) (sym (put_again old at s here)) in
-    let last : suc at ≡ length old.entries = omega (arith, some) in
-    subst (AreBehind more other old) (sym now) (put_behind old other mid at (length old.entries) s s here none (sym (changed_count old.entries at s)) again more (holding more s) last held)
+    subst (AreBehind at more other old) (sym now) (put_behind old other mid at (length old.entries) s s here none (sym (changed_count old.entries at s)) again more (holding more s) held)
 
 -- behind no section
-pub put_behind_none : (old other new : Sections Section) (more : List Item) → old.entries ≡ [] → new ≡ table.with_all 0 other old → AreBehind more other old new
-put_behind_none old other new more none put =
+pub put_behind_none : (old other new : Sections Section) (at : ℕ) (more : List Item) → old.entries ≡ [] → new ≡ table.with_all 0 other old → AreBehind at more other old new
+put_behind_none old other new at more none put =
     let entries : new.entries ≡ table.numbered_from old.next other.entries =
     ap (λ (n : Sections Section). n.entries) put ∙ ap (λ es. table.numbered_from old.next other.entries ++ drop 0 es) none ∙ append-nil (table.numbered_from old.next other.entries) in
     record {
       next = ap (λ (n : Sections Section). n.next) put;
       states = λ b. ap (map (section_state b)) entries
           ∙ numbered_states b old.next other.entries
-          ∙ ap (λ es. held_last (items_of b more) (map (section_state b) es) ++ numbered_from old.next (map (section_state b) other.entries)) (sym none);
+          ∙ ap (λ es. held_at (items_of b more) at (map (section_state b) es) ++ numbered_from old.next (map (section_state b) other.entries)) (sym none);
       fit = λ b copies fits theirs within. subst (AllByRecursion (SectionFits b copies)) (sym entries) (numbered_fit b copies old.next other.entries theirs);
     }
 

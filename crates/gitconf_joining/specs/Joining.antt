@@ -1,5 +1,5 @@
 -- Sections and items of another file, behind those of a table.
-use Rattle.std.specs.Prelude.{◌≡◌, ℕ, ◌+◌, List, [], ◌∷◌, ◌++◌, length, map}
+use Rattle.std.specs.Prelude.{◌≡◌, ℕ, zero, suc, ◌+◌, List, [], ◌∷◌, ◌++◌, length, map}
 use Rattle.gitconf_text.specs.Part as parts
 use Rattle.gitconf_items.specs.declared.items.Item.{Item}
 use Rattle.gitconf_items.specs.ItemsFit.{AreItemsWithin}
@@ -10,18 +10,18 @@ use Rattle.gitconf_items.specs.Items.{items_of}
 use Rattle.gitconf_sections.specs.Section.{Section}
 use Rattle.gitconf_views.specs.Store.{section_state, AllSectionsFit}
 
--- the last section holds more behind it
-abbrev pub held_last : (more : List parts.Item) → List SectionState → List SectionState
-held_last more [] = []
-held_last more (s ∷ []) = record { number = s.number; header = s.header; meta = s.meta; items = s.items; held = s.held ++ more } ∷ []
-held_last more (s ∷ t ∷ sections) = s ∷ held_last more (t ∷ sections)
+-- the section at a place holds more behind it
+abbrev pub held_at : (more : List parts.Item) → (at : ℕ) → List SectionState → List SectionState
+held_at more at [] = []
+held_at more zero (s ∷ sections) = record { number = s.number; header = s.header; meta = s.meta; items = s.items; held = s.held ++ more } ∷ sections
+held_at more (suc at) (s ∷ sections) = s ∷ held_at more at sections
 
--- The last section holds more items, and the sections of another table stand behind it, under the next numbers: in every buffer in which all
--- that stands within it.
-pub record AreBehind (more : List Item) (other old new : Sections Section) : Type 0 where
+-- The section at a place holds more items, and the sections of another table stand behind all, under the next numbers: in every buffer in
+-- which all that stands within it.
+pub record AreBehind (at : ℕ) (more : List Item) (other old new : Sections Section) : Type 0 where
   pub next : new.next ≡ old.next + length other.entries
   pub states : (buffer : List ℕ) → map (section_state buffer) new.entries
-      ≡ held_last (items_of buffer more) (map (section_state buffer) old.entries) ++ numbered_from old.next (map (section_state buffer) other.entries)
+      ≡ held_at (items_of buffer more) at (map (section_state buffer) old.entries) ++ numbered_from old.next (map (section_state buffer) other.entries)
   pub fit : (buffer copies : List ℕ) → AllSectionsFit buffer copies old → AllSectionsFit buffer copies other → AreItemsWithin (length buffer) more → AllSectionsFit buffer copies new
 
 -- the same sections, with other room in their lists

@@ -1,5 +1,5 @@
 //! Items of another file, behind the items of this one.
-ghost use Rattle.std.specs.Prelude.{◌≡◌, ◌+◌, ◌<◌, ◌≤◌, ◌↔◌, ◌++◌, [], ◌∷◌, if◌then◌else◌, length, IfErr, IsErrOf, OnErr, OnOk};
+ghost use Rattle.std.specs.Prelude.{◌≡◌, ℕ, ◌+◌, ◌-◌, ◌<◌, ◌≤◌, ◌↔◌, ◌++◌, [], ◌∷◌, if◌then◌else◌, length, IfErr, IsErrOf, OnErr, OnOk};
 ghost use Rattle.gitconf_text.specs.Part as parts;
 ghost use Rattle.gitconf_state.specs.Edits as edits;
 ghost use Rattle.gitconf_items.specs.Items.{items_of};
@@ -51,11 +51,11 @@ pub fn parts_lines(
         && !begins_with(other_buffer, others, line_end)
 }
 
-/// [`put_behind_last`] where there is no section: the items go behind those of the front.
+/// [`put_behind_section`] where there is no section: the items go behind those of the front.
 ///
 /// # Errors
 ///
-/// Those of [`put_behind_last`]. The front is then as it was, too.
+/// Those of [`put_behind_section`]. The front is then as it was, too.
 fn put_behind_front(
     front: &mut FewItems,
     sections: &mut SectionList,
@@ -65,7 +65,7 @@ fn put_behind_front(
 ) -> Result<(), span::Error>
     requires none { sections.old.entries ≡ [] }
     ensures front { OnOk result (front.new.items ≡ front.old.items ++ (line_end_item line_end ++ others.items)) }
-    ensures ok { OnOk result (AreBehind (line_end_item line_end ++ others.items) other sections.old sections.new) }
+    ensures ok { OnOk result ((at : ℕ) → AreBehind at (line_end_item line_end ++ others.items) other sections.old sections.new) }
     ensures err_front { OnErr result (front.new.items ≡ front.old.items) }
     ensures err { OnErr result (AreSame sections.old sections.new) }
     ensures numbers { IsErrOf result 3 → no_number < sections.old.next + length other.entries }
@@ -78,44 +78,47 @@ fn put_behind_front(
     Ok(())
 }
 
-/// Puts a line end, if one is given, and others behind what is held behind the last section, and the sections of another table behind that.
-/// Takes memory for the items, the places and the indexes.
+/// Puts a line end, if one is given, and others behind what is held behind the section at a place, and the sections of another table behind
+/// all others. Takes memory for the items, the places and the indexes.
 ///
 /// # Errors
 ///
 /// A [`span::Error`]: number 3 where fewer numbers are left than the other table has sections, and else 27 for want of memory. All sections
 /// are then as they were.
-pub fn put_behind_last(
+fn put_behind_section(
     sections: &mut SectionList,
+    at: usize,
     line_end: Option<Span>,
     others: FewItems,
     other: SectionList,
 ) -> Result<(), span::Error>
-    requires some { 0 < length sections.old.entries }
-    ensures ok { OnOk result (AreBehind (line_end_item line_end ++ others.items) other sections.old sections.new) }
+    requires { at < length sections.old.entries }
+    ensures ok { OnOk result (AreBehind at (line_end_item line_end ++ others.items) other sections.old sections.new) }
     ensures err { OnErr result (AreSame sections.old sections.new) }
     ensures numbers { IsErrOf result 3 → no_number < sections.old.next + length other.entries }
     ensures memory { IfErr result (λ e. sections.old.next + length other.entries ≤ no_number → e ≡ 27) }
 {
     let mut others = others;
-    sections.append_behind(line_end, &mut others, other)
+    sections.append_held(at, line_end, &mut others, other)
 }
 
-/// Puts a line end, if one is given, and others behind what is held behind the last section, or behind the front where there is none; and
-/// the sections of another table behind all others. Takes memory for the items, the places and the indexes.
+/// Puts a line end, if one is given, and others behind what is held behind the section at a place, or behind the front where there is no
+/// section; and the sections of another table behind all others. Takes memory for the items, the places and the indexes.
 ///
 /// # Errors
 ///
-/// Those of [`put_behind_last`]. The front is then as it was, too.
+/// Those of [`put_behind_section`]. The front is then as it was, too.
 pub fn put_behind(
     front: &mut FewItems,
     sections: &mut SectionList,
+    at: usize,
     line_end: Option<Span>,
     others: FewItems,
     other: SectionList,
 ) -> Result<(), span::Error>
+    requires { at ≤ length sections.old.entries - 1 }
     ensures front { OnOk result (front.new.items ≡ front_then sections.old.entries front.old.items (line_end_item line_end ++ others.items)) }
-    ensures ok { OnOk result (AreBehind (line_end_item line_end ++ others.items) other sections.old sections.new) }
+    ensures ok { OnOk result (AreBehind at (line_end_item line_end ++ others.items) other sections.old sections.new) }
     ensures err_front { OnErr result (front.new.items ≡ front.old.items) }
     ensures err { OnErr result (AreSame sections.old sections.new) }
     ensures numbers { IsErrOf result 3 → no_number < sections.old.next + length other.entries }
@@ -124,6 +127,6 @@ pub fn put_behind(
     if sections.is_empty() {
         put_behind_front(front, sections, line_end, others, other)
     } else {
-        put_behind_last(sections, line_end, others, other)
+        put_behind_section(sections, at, line_end, others, other)
     }
 }

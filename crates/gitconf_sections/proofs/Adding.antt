@@ -1,24 +1,25 @@
 -- Sections that are put behind the others, and other names of some.
-use Rattle.std.proofs.Common.{◌≡◌, ℕ, zero, suc, ◌+◌, ◌≤◌, ◌<◌, List, [], ◌∷◌, ◌++◌, length, take, drop, map, Option, Some, refl, ap, sym, subst, ◌∙◌, arith, append-nil}
-use Rattle.std.specs.List.{slice_get}
+use Rattle.std.proofs.Common.{◌≡◌, ℕ, zero, suc, ◌+◌, ◌≤◌, ◌<◌, List, [], ◌∷◌, ◌++◌, length, take, drop, map, Option, Some, inl, inr, refl, ap, sym, subst, ◌∙◌, arith, append-nil}
+use Rattle.std.specs.List.{slice_get, AllByRecursion}
 use Rattle.std.specs.Option.{option_map}
 use Rattle.std.proofs.lemmas.List.{drop_all, length-append, length-map, map-append, take_all}
 use Rattle.std.proofs.Math.Seq.{drop-append-add, drop-append_seam}
 use Rattle.gitconf_text.specs.Bytes.{fold}
 use Rattle.gitconf_items.specs.declared.items.Item.{Item}
+use Rattle.gitconf_table.specs.Pairs.{EachTwo}
 use Rattle.gitconf_table.specs.Renames.{with_names_at}
 use Rattle.gitconf_table.specs.Sections.{SectionEntry, Sections, changed_at, edited_at, entry_of, numbered_from, section_at, with_all, with_last, with_names, with_section}
 use Rattle.gitconf_table.proofs.SectionLemmas.{tables}
 use Rattle.gitconf_sections.specs.declared.body.Body.{Body}
 use Rattle.gitconf_sections.specs.declared.body.Body.TheVariants.{Listed, Nothing, Own}
 use Rattle.gitconf_sections.specs.declared.row.Row.{Row}
-use Rattle.gitconf_sections.specs.Section.{AreListed, Section, StandsBehind, all_rebased, body_items, end_behind, read, read_all, read_entry, rebased, rebased_entry}
-use Rattle.gitconf_sections.proofs.Listing.{is_at, listed_both, listed_renumbered, read_more}
+use Rattle.gitconf_sections.specs.Section.{AreDisjoint, AreListed, Section, StandsWithin, all_rebased, bodies_of, body_items, read, read_all, read_entry, rebased, rebased_entry}
+use Rattle.gitconf_sections.proofs.Listing.{is_at, listed_both, listed_renumbered, read_more, same_listed}
 use Rattle.gitconf_sections.proofs.Mapped.{last_mapped, renumbered_mapped}
 
 -- one more
-pub listed_last : (from to n : ℕ) (es : List (SectionEntry Row)) (e : SectionEntry Row) → AreListed from to es → StandsBehind to e.section.body → end_behind to e.section.body ≤ n → AreListed from n (es ++ e ∷ [])
-listed_last from to n es e are stands ends = listed_both from to n es (e ∷ []) are (stands, ends)
+pub listed_last : (from to n : ℕ) (es : List (SectionEntry Row)) (e : SectionEntry Row) → from ≤ to → to ≤ n → AreListed from to es → StandsWithin to n e.section.body → AreListed from n (es ++ e ∷ [])
+listed_last from to n es e less more are stands = listed_both from to n es (e ∷ []) less more are ((stands, tt), (tt, tt))
 
 -- its items stand behind those of the list
 pub loaded_last : (list items new : List Item) (table : Sections Row) (row : Row) (s : Section) (from len : ℕ) (name : List ℕ) (subsection : Option (List ℕ)) → new ≡ list ++ items → AreListed 0 (length list) table.entries
@@ -32,15 +33,15 @@ loaded_last list items new table row s from len name subsection is are first cou
     ∙ (λ i. record { entries = same i ++ entry_of table.next name subsection (made (ap (body_items new) body ∙ there) i) ∷ []; next = table.next + 1 })
 
 -- other names
-listed_named : (from to : ℕ) (es : List (SectionEntry Row)) (at : ℕ) (name : List ℕ) (subsection : Option (List ℕ)) → AreListed from to es → AreListed from to (changed_at (λ e. record e { name = name; subsection = subsection }) es at)
-listed_named from to [] at name subsection are = are
-listed_named from to (e ∷ es) zero name subsection are = are
-listed_named from to (e ∷ es) (suc at) name subsection are = (are.0, listed_named (end_behind from e.section.body) to es at name subsection are.1)
+bodies_named : (es : List (SectionEntry Row)) (at : ℕ) (name : List ℕ) (subsection : Option (List ℕ)) → bodies_of (changed_at (λ e. record e { name = name; subsection = subsection }) es at) ≡ bodies_of es
+bodies_named [] at name subsection = refl
+bodies_named (e ∷ es) zero name subsection = refl
+bodies_named (e ∷ es) (suc at) name subsection = ap (λ bs. e.section.body ∷ bs) (bodies_named es at name subsection)
 
 pub listed_names : (from to : ℕ) (all : Sections Row) (places name : List ℕ) (subsection : Option (List ℕ)) → AreListed from to all.entries → AreListed from to (with_names_at all places name subsection).entries
 listed_names from to all [] name subsection are = are
 listed_names from to all (at ∷ places) name subsection are =
-    listed_names from to (with_names all at name subsection) places name subsection (listed_named from to all.entries at (fold name) subsection are)
+    listed_names from to (with_names all at name subsection) places name subsection (same_listed from to all.entries (with_names all at name subsection).entries (bodies_named all.entries at (fold name) subsection) are)
 
 -- Bodies of a list that is put behind another.
 abbrev pub until_rebased : ℕ → (by : ℕ) → List (SectionEntry Row) → List (SectionEntry Row)
@@ -71,22 +72,32 @@ pub until_all : (by : ℕ) (es : List (SectionEntry Row)) → until_rebased (len
 until_all by [] = refl
 until_all by (e ∷ es) = ap (λ ds. rebased_entry by e ∷ ds) (until_all by es)
 
-stands_rebased : (by from : ℕ) (body : Body) → StandsBehind from body → StandsBehind (by + from) (rebased by body)
-stands_rebased by from (Listed start len) stands = omega (arith, stands)
-stands_rebased by from (Own own) stands = tt
-stands_rebased by from Nothing stands = tt
+within_rebased : (by from to : ℕ) (body : Body) → StandsWithin from to body → StandsWithin (by + from) (by + to) (rebased by body)
+within_rebased by from to (Listed start len) stands = (omega (arith, stands.0), omega (arith, stands.1))
+within_rebased by from to (Own own) stands = tt
+within_rebased by from to Nothing stands = tt
 
-end_rebased : (by from : ℕ) (body : Body) → end_behind (by + from) (rebased by body) ≡ by + end_behind from body
-end_rebased by from (Listed start len) = omega arith
-end_rebased by from (Own own) = refl
-end_rebased by from Nothing = refl
+disjoint_rebased : (by : ℕ) (a b : Body) → AreDisjoint a b → AreDisjoint (rebased by a) (rebased by b)
+disjoint_rebased by (Listed start len) (Listed from count) apart = elim apart [ inl before ↦ inl (omega (arith, before)) | inr behind ↦ inr (omega (arith, behind)) ]
+disjoint_rebased by (Listed start len) (Own own) apart = tt
+disjoint_rebased by (Listed start len) Nothing apart = tt
+disjoint_rebased by (Own own) b apart = tt
+disjoint_rebased by Nothing b apart = tt
+
+all_within : (by from to : ℕ) (es : List (SectionEntry Row)) → AllByRecursion (StandsWithin from to) (bodies_of es) → AllByRecursion (StandsWithin (by + from) (by + to)) (bodies_of (map (rebased_entry by) es))
+all_within by from to [] all = tt
+all_within by from to (e ∷ es) all = (within_rebased by from to e.section.body all.0, all_within by from to es all.1)
+
+all_disjoint : (by : ℕ) (b : Body) (es : List (SectionEntry Row)) → AllByRecursion (AreDisjoint b) (bodies_of es) → AllByRecursion (AreDisjoint (rebased by b)) (bodies_of (map (rebased_entry by) es))
+all_disjoint by b [] all = tt
+all_disjoint by b (e ∷ es) all = (disjoint_rebased by b e.section.body all.0, all_disjoint by b es all.1)
+
+all_apart : (by : ℕ) (es : List (SectionEntry Row)) → EachTwo AreDisjoint (bodies_of es) → EachTwo AreDisjoint (bodies_of (map (rebased_entry by) es))
+all_apart by [] apart = tt
+all_apart by (e ∷ es) apart = (all_disjoint by e.section.body es apart.0, all_apart by es apart.1)
 
 listed_rebased : (by from to : ℕ) (es : List (SectionEntry Row)) → AreListed from to es → AreListed (by + from) (by + to) (map (rebased_entry by) es)
-listed_rebased by from to [] are = omega (arith, are)
-listed_rebased by from to (e ∷ es) are = (
-  stands_rebased by from e.section.body are.0,
-  subst (λ n. AreListed n (by + to) (map (rebased_entry by) es)) (sym (end_rebased by from e.section.body)) (listed_rebased by (end_behind from e.section.body) to es are.1),
-)
+listed_rebased by from to es are = (all_within by from to es are.0, all_apart by es are.1)
 
 body_rebased : (list others : List Item) (body : Body) → body_items (list ++ others) (rebased (length list) body) ≡ body_items others body
 body_rebased list others (Listed start len) = ap (take len) (drop-append-add list others start)
@@ -114,7 +125,7 @@ joined_listed list others table other are theirs =
     let moved : AreListed (by + 0) (by + length others) (map (rebased_entry by) other.entries) = listed_rebased by 0 (length others) other.entries theirs in
     let none : by + 0 ≡ by = omega arith in
     let behind = listed_renumbered table.next by (by + length others) (map (rebased_entry by) other.entries) (subst (λ n. AreListed n (by + length others) (map (rebased_entry by) other.entries)) none moved) in
-    let all = listed_both 0 by (by + length others) table.entries (numbered_from table.next (map (rebased_entry by) other.entries)) are behind in
+    let all = listed_both 0 by (by + length others) table.entries (numbered_from table.next (map (rebased_entry by) other.entries)) (omega arith) (omega arith) are behind in
     subst (λ es. AreListed 0 (length (list ++ others)) es) (sym (behind_all table.entries (numbered_from table.next (map (rebased_entry by) other.entries))))
     (subst (λ n. AreListed 0 n (table.entries ++ numbered_from table.next (map (rebased_entry by) other.entries))) (sym (length-append list others)) all)
 

@@ -9,7 +9,7 @@ use Rattle.gitconf_sections.specs.declared.row.Row.{Row}
 use Rattle.gitconf_sections.specs.Section.{AreListed, IsSameButIn, NeedsNoMore, Section, end_behind, read, read_all}
 use Rattle.gitconf_sections.proofs.Edits.{put_again}
 use Rattle.gitconf_sections.proofs.Mapped.{section_at_mapped, section_mapped}
-use Rattle.gitconf_sections.proofs.Listing.{body_changed, ends_within, less_listed, listed_changed}
+use Rattle.gitconf_sections.proofs.Listing.{body_changed, ends_within, listed_changed}
 
 -- what is read there
 pub read_there : (list : List Item) (table : Sections Row) (at : ℕ) (r : Row) → section_at at table ≡ Some r → section_at at (read_all list table) ≡ Some (read list r)
@@ -31,7 +31,7 @@ changed_row old new table at r t f are here same is =
 pub still_listed : (old new : List Item) (table : Sections Row) (at : ℕ) (r t : Row) → AreListed 0 (length old) table.entries → section_at at table ≡ Some r → NeedsNoMore r.body t.body
     → length new ≡ length old → AreListed 0 (length new) (changed_at (λ e. record e { section = t }) table.entries at)
 still_listed old new table at r t are here less long =
-    subst (λ n. AreListed 0 n (changed_at (λ e. record e { section = t }) table.entries at)) (sym long) (listed_changed 0 (length old) table.entries at r t are here (less_listed r.body t.body less))
+    subst (λ n. AreListed 0 n (changed_at (λ e. record e { section = t }) table.entries at)) (sym long) (listed_changed 0 (length old) table.entries at r t are here less)
 
 pub body_within : (list : List Item) (table : Sections Row) (at : ℕ) (r : Row) → AreListed 0 (length list) table.entries → section_at at table ≡ Some r → end_behind 0 r.body ≤ length list
 body_within list table at r are here = ends_within 0 (length list) table.entries at r are here

@@ -1,5 +1,5 @@
 -- Clones of a list and of the rows whose bodies stand in it.
-use Rattle.std.proofs.Common.{◌≡◌, ℕ, zero, suc, List, [], ◌∷◌, length, take, drop, map, refl, ap, sym, subst}
+use Rattle.std.proofs.Common.{◌≡◌, ℕ, zero, suc, List, [], ◌∷◌, length, take, drop, map, refl, ap, arith}
 use Rattle.std.specs.List.{AllZip}
 use Rattle.gitconf_items.specs.declared.items.Item.{Item}
 use Rattle.gitconf_items.specs.contracts.items.ItemClone.TheImpl as item
@@ -9,7 +9,8 @@ use Rattle.gitconf_sections.specs.declared.body.Body.TheVariants.{Listed, Nothin
 use Rattle.gitconf_sections.specs.declared.row.Row.{Row}
 use Rattle.gitconf_sections.specs.contracts.body.BodyClone.TheImpl as body
 use Rattle.gitconf_sections.specs.contracts.row.RowClone.TheImpl as row
-use Rattle.gitconf_sections.specs.Section.{AreListed, IsSectionClone, StandsBehind, body_items, end_behind, read_all, read_entry}
+use Rattle.gitconf_sections.specs.Section.{AreListed, IsSectionClone, NeedsNoMore, bodies_of, body_items, read_all, read_entry}
+use Rattle.gitconf_sections.proofs.Listing.{listed_less}
 
 abbrev AreClones : List Item → List Item → Type 0
 AreClones = AllZip (item.ghosts).is_clone
@@ -48,25 +49,22 @@ body_cloned list copy Nothing Nothing is all = tt
 body_cloned list copy Nothing (Listed start count) is all = elim is [ ]
 body_cloned list copy Nothing (Own own) is all = elim is [ ]
 
-place_cloned : (b c : Body) → (body.ghosts).is_clone b c → (f : ℕ) → StandsBehind f b → StandsBehind f c × (end_behind f c ≡ end_behind f b)
-place_cloned (Listed from len) (Listed start count) is f stands = rw (is.0, is.1) (stands, refl)
-place_cloned (Listed from len) (Own own) is f stands = elim is [ ]
-place_cloned (Listed from len) Nothing is f stands = elim is [ ]
-place_cloned (Own own) (Own other) is f stands = (tt, refl)
-place_cloned (Own own) (Listed start count) is f stands = elim is [ ]
-place_cloned (Own own) Nothing is f stands = elim is [ ]
-place_cloned Nothing Nothing is f stands = (tt, refl)
-place_cloned Nothing (Listed start count) is f stands = elim is [ ]
-place_cloned Nothing (Own own) is f stands = elim is [ ]
+less_cloned : (b c : Body) → (body.ghosts).is_clone b c → NeedsNoMore b c
+less_cloned (Listed from len) (Listed start count) is = rw (is.0, is.1) (refl, omega arith)
+less_cloned (Own own) (Listed start count) is = elim is [ ]
+less_cloned Nothing (Listed start count) is = elim is [ ]
+less_cloned b (Own own) is = tt
+less_cloned b Nothing is = tt
+
+all_cloned : (es ds : List (SectionEntry Row)) → AllZip (IsEntryClone IsRowClone) es ds → AllZip NeedsNoMore (bodies_of es) (bodies_of ds)
+all_cloned [] [] all = tt
+all_cloned [] (d ∷ ds) all = elim all [ ]
+all_cloned (e ∷ es) [] all = elim all [ ]
+all_cloned (e ∷ es) (d ∷ ds) all = (less_cloned e.section.body d.section.body all.0.section.1.1.0, all_cloned es ds all.1)
 
 -- bodies stand where their clones do
 pub listed_cloned : (from to : ℕ) (es ds : List (SectionEntry Row)) → AllZip (IsEntryClone IsRowClone) es ds → AreListed from to es → AreListed from to ds
-listed_cloned from to [] [] all are = are
-listed_cloned from to [] (d ∷ ds) all are = elim all [ ]
-listed_cloned from to (e ∷ es) [] all are = elim all [ ]
-listed_cloned from to (e ∷ es) (d ∷ ds) all are =
-    let place = place_cloned e.section.body d.section.body all.0.section.1.1.0 from are.0 in
-    (place.0, subst (λ n. AreListed n to ds) (sym place.1) (listed_cloned (end_behind from e.section.body) to es ds all.1 are.1))
+listed_cloned from to es ds all are = listed_less from to es ds (all_cloned es ds all) are
 
 entries_cloned : (list copy : List Item) (es ds : List (SectionEntry Row)) → AreClones list copy → AllZip (IsEntryClone IsRowClone) es ds
     → AllZip (IsEntryClone IsSectionClone) (map (read_entry list) es) (map (read_entry copy) ds)

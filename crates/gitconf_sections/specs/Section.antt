@@ -1,12 +1,13 @@
 -- Sections with their bodies. Those that were loaded stand in one list of items, which the sections share.
-use Rattle.std.specs.Prelude.{◌≡◌, ℕ, ◌+◌, ◌-◌, ◌≤◌, List, [], ◌∷◌, ◌++◌, length, map, take, drop}
-use Rattle.std.specs.List.{AllZip}
+use Rattle.std.specs.Prelude.{◌≡◌, ◌⊎◌, ℕ, ◌+◌, ◌-◌, ◌≤◌, List, [], ◌++◌, length, map, take, drop}
+use Rattle.std.specs.List.{AllByRecursion, AllZip}
 use Rattle.std.specs.declared.rc.Rc.{Rc}
 use Rattle.std.specs.declared.alloc.Global.{Global}
 use Rattle.gitconf_base.specs.Metadata.{Meta}
 use Rattle.gitconf_items.specs.declared.event.Header.{Header}
 use Rattle.gitconf_items.specs.declared.items.Item.{Item}
 use Rattle.gitconf_items.specs.contracts.items.ItemClone.TheImpl as item
+use Rattle.gitconf_table.specs.Pairs.{EachTwo}
 use Rattle.gitconf_table.specs.Sections.{SectionEntry, Sections, edited_at}
 use Rattle.gitconf_sections.specs.declared.body.Body.{Body}
 use Rattle.gitconf_sections.specs.declared.body.Body.TheVariants.{Listed, Nothing, Own}
@@ -49,21 +50,37 @@ seen_as header meta items held = record { header = header; meta = meta; items = 
 abbrev pub viewed : views.Section → Section
 viewed v = seen_as v.header.now v.meta.now v.items.now v.held.now
 
--- a body stands in the list behind so many items, if it stands there, and how many items then stand before the next one
-abbrev pub StandsBehind : (from : ℕ) → Body → Type 0
-StandsBehind from (Listed start len) = from ≤ start
-StandsBehind from (Own own) = Unit {0}
-StandsBehind from Nothing = Unit {0}
-
+-- how many items of the list stand before what is behind a body, if it stands there
 abbrev pub end_behind : (from : ℕ) → Body → ℕ
 end_behind from (Listed start len) = start + len
 end_behind from (Own own) = from
 end_behind from Nothing = from
 
--- the bodies that stand in the list do so one behind the other, from one place to another
+-- a body stands in the list between two places, if it stands there
+abbrev pub StandsWithin : (from to : ℕ) → Body → Type 0
+StandsWithin from to (Listed start len) = (from ≤ start) × (start + len ≤ to)
+StandsWithin from to (Own own) = Unit {0}
+StandsWithin from to Nothing = Unit {0}
+
+-- a body has none of so many items of the list from a place on
+abbrev pub IsBeside : (start len : ℕ) → Body → Type 0
+IsBeside start len (Listed from count) = (start + len ≤ from) ⊎ (from + count ≤ start)
+IsBeside start len (Own own) = Unit {0}
+IsBeside start len Nothing = Unit {0}
+
+-- two bodies share no item of the list
+abbrev pub AreDisjoint : Body → Body → Type 0
+AreDisjoint (Listed start len) other = IsBeside start len other
+AreDisjoint (Own own) other = Unit {0}
+AreDisjoint Nothing other = Unit {0}
+
+-- the bodies of sections
+abbrev pub bodies_of : List (SectionEntry Row) → List Body
+bodies_of es = map (λ e. e.section.body) es
+
+-- the bodies that stand in the list do so between two places, in whatever order, and no two share an item of it
 abbrev pub AreListed : (from to : ℕ) → List (SectionEntry Row) → Type 0
-AreListed from to [] = from ≤ to
-AreListed from to (e ∷ es) = StandsBehind from e.section.body × AreListed (end_behind from e.section.body) to es
+AreListed from to es = AllByRecursion (StandsWithin from to) (bodies_of es) × EachTwo AreDisjoint (bodies_of es)
 
 -- a new section, with nothing held behind it
 abbrev pub made : Header → Rc Meta Global → (items : List Item) → Section

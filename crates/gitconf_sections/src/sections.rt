@@ -9,6 +9,7 @@ ghost use Rattle.gitconf_sections.specs.Section.{viewed, IsSectionClone};
 mod adding;
 mod editing;
 pub mod walks;
+mod weaving;
 
 use crate::row::{Row, Section, read};
 use gitconf_items::items::Item;

@@ -1,18 +1,19 @@
 -- What an append of another file puts into the buffer of a file.
-use Rattle.std.specs.Prelude.{◌≡◌, ℕ, ◌+◌, List, [], ◌∷◌, length, Option, Some, None}
+use Rattle.std.specs.Prelude.{◌≡◌, ℕ, ◌+◌, List, [], ◌∷◌, ◌++◌, length, Option, Some, None, slice_get}
 use Rattle.std.specs.List.{last_or}
 use Rattle.gitconf_text.specs.Part as parts
 use Rattle.gitconf_table.specs.Sections.{SectionEntry}
 use Rattle.gitconf_items.specs.declared.event.Span.{Span}
 use Rattle.gitconf_items.specs.declared.items.Item.{Item}
 use Rattle.gitconf_items.specs.ItemsFit.{AreItemsWithin}
-use Rattle.gitconf_state.specs.Edits.{between}
+use Rattle.gitconf_state.specs.Edits.{between, joined, numbered_from}
 use Rattle.gitconf_state.specs.LineEnds.{file_line_end}
-use Rattle.gitconf_state.specs.State.{State}
+use Rattle.gitconf_state.specs.State.{SectionState, State}
 pub use Rattle.gitconf_state.specs.Appending.{held_or, items_before, line_bytes}
 use Rattle.gitconf_items.specs.Items.{items_of}
 use Rattle.gitconf_sections.specs.Section.{Section}
 use Rattle.gitconf_sections.specs.Held.{line_end_item}
+use Rattle.gitconf_store.specs.Edits.{update_at}
 
 -- the bytes of the line end that goes between these items and the other's front; none where none does
 abbrev pub line_between : (other state : State) → List ℕ
@@ -22,13 +23,46 @@ line_between other state = line_bytes (file_line_end state) (between (file_line_
 abbrev pub appended_bytes : (other state : State) → ℕ
 appended_bytes other state = length (line_between other state) + other.used
 
+-- the items that others are put behind at a place: those held behind the section there, or the front where there is none
+abbrev pub items_at : (at : ℕ) → State → List parts.Item
+items_at at state = held_or state.front (slice_get state.sections at)
+
 -- the same items as a store keeps them
 abbrev pub kept_or : (front : List Item) → Option (SectionEntry Section) → List Item
 kept_or front None = front
 kept_or front (Some e) = e.section.held.items
 
-abbrev pub last_items : (front : List Item) → List (SectionEntry Section) → List Item
-last_items front entries = kept_or front (last_or None entries)
+abbrev pub kept_at : (at : ℕ) → (front : List Item) → List (SectionEntry Section) → List Item
+kept_at at front entries = kept_or front (slice_get entries at)
+
+-- the bytes of the line end that goes between the items at a place and the other's front; none where none does
+abbrev pub line_at : (at : ℕ) → (line_end : List ℕ) → (other state : State) → List ℕ
+line_at at line_end other state = line_bytes line_end (between line_end (items_at at state) other.front)
+
+-- how many bytes are then put behind those of the buffer: the other's, and that line end's
+abbrev pub bytes_at : (at : ℕ) → (line_end : List ℕ) → (other state : State) → ℕ
+bytes_at at line_end other state = length (line_at at line_end other state) + other.used
+
+-- a section that holds others, too
+abbrev pub holding : (line_end : List ℕ) → (others : List parts.Item) → SectionState → SectionState
+holding line_end others s =
+    record { number = s.number; header = s.header; meta = s.meta; items = s.items; held = joined line_end s.held others }
+
+-- The other's sections stand last, under the next numbers. Its front is held behind the section at a place.
+abbrev pub included : (at : ℕ) → (line_end : List ℕ) → (other state : State) → State
+included at line_end other state = record {
+  front = state.front;
+  meta = state.meta;
+  next = state.next + length other.sections;
+  used = state.used + bytes_at at line_end other state;
+  sections = update_at at (holding line_end other.front) state.sections ++ numbered_from state.next other.sections;
+}
+
+-- the same, and where there is no section the other's front joins the file's
+abbrev pub put_at : (at : ℕ) → (line_end : List ℕ) → (other state : State) → State
+put_at at line_end other state = record (included at line_end other state) {
+  front = elim state.sections [ [] ↦ joined line_end state.front other.front | s ∷ sections ↦ state.front ];
+}
 
 -- the item of a line end's bytes, if there are any
 abbrev pub line_items : (bytes : List ℕ) → List parts.Item

@@ -2,6 +2,7 @@
 mod appending;
 mod editing;
 mod existing;
+mod including;
 mod joined;
 mod leaving_out;
 mod look_ups;

@@ -8,3 +8,5 @@ pub mod TableLemmas
 pub mod RowLemmas
 pub mod RenamingLemmas
 pub mod IndexRows
+pub mod Woven
+pub mod WovenTables

@@ -11,3 +11,5 @@ pub mod WordIndexes
 pub mod Word
 pub mod Tables
 pub mod Renames
+pub mod Runs
+pub mod Pairs

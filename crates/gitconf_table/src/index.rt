@@ -1,13 +1,15 @@
 //! An index over a list of words: the places of a word without a walk over the others.
-ghost use Rattle.std.specs.Prelude.{◌≡◌, ◌+◌, ◌<◌, ◌≤◌, [], ◌∷◌, ◌++◌, drop, insert, length, remove, slice_set, take, true, vec_capacity, vec_len, IfOk, OnOk};
+ghost use Rattle.std.specs.Prelude.{◌≡◌, ◌+◌, ◌-◌, ◌<◌, ◌≤◌, [], ◌∷◌, ◌++◌, drop, insert, length, remove, slice_set, take, true, vec_capacity, vec_len, IfOk, OnOk};
 ghost use Rattle.std.specs.Iterator.{item_count, YieldsFirst, YieldsLast};
 ghost use Rattle.std.specs.List.{AllByRecursion};
 ghost use Rattle.gitconf_table.specs.Links.{bucket_of, no_place, words_of, AreEmpty, AreLinked, IsLed};
 ghost use Rattle.gitconf_table.specs.Renames.{set_each};
+ghost use Rattle.gitconf_table.specs.Runs.{woven, AreRuns};
 ghost use Rattle.gitconf_table.specs.Words.{places_of};
 
 use crate::index::moving::move_each;
-use crate::lists::put_at;
+use crate::lists::{put_at, weave};
+use crate::runs::Run;
 use std::alloc::{AllocError, Global};
 use std::marker::Model;
 use std::mem::size_of;
@@ -291,6 +293,21 @@ impl WordIndex {
         } else {
             relink_all(&mut self.links, &mut self.buckets);
         }
+    }
+
+    /// Weaves the words from `first` on among those before them. Takes no memory, and time for all words: those between them
+    /// are moved once for each time that the runs can be halved, and all are linked once.
+    pub fn weave(&mut self, first: usize, runs: &[Run])
+        requires within { first ≤ length self.old.words }
+        requires runs { AreRuns runs.now first (length self.old.words - first) }
+        ensures woven { self.new ≡ record self.old { words = woven runs.now first self.old.words } }
+        ensures fits { length self.old.words ≤ no_place }
+    {
+        if self.links.is_empty() {
+            return;
+        }
+        weave(&mut self.links, first, runs);
+        relink_all(&mut self.links, &mut self.buckets);
     }
 
     /// The same words again. Takes memory for the places and buckets at once.

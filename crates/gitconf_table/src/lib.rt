@@ -4,5 +4,6 @@
 mod index;
 mod letters;
 mod lists;
+pub mod runs;
 pub mod table;
 mod word;

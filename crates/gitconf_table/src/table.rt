@@ -28,6 +28,7 @@ use std::mem::size_of;
 
 mod by_name;
 mod renaming;
+mod weaving;
 
 pub use by_name::{Named, WithName};
 

@@ -1,9 +1,9 @@
 //! Sections that are put behind the others.
 ghost use Rattle.std.specs.Option.{option_copied};
 ghost use Rattle.std.specs.Prelude.{◌≡◌, [], ◌+◌, ◌<◌, ◌≤◌, ◌↔◌, ◌++◌, length, IfErr, IfOk, IsErrOf, OnErr, OnOk};
-ghost use Rattle.gitconf_table.specs.Sections.{no_number, with_all, with_last};
+ghost use Rattle.gitconf_table.specs.Sections.{edited_at, no_number, with_all, with_last};
 ghost use Rattle.gitconf_sections.specs.Held.{line_end_item};
-ghost use Rattle.gitconf_sections.specs.Section.{all_rebased, last_holding, made, AreListed};
+ghost use Rattle.gitconf_sections.specs.Section.{all_rebased, holding, last_holding, made, AreListed};
 
 use crate::body::Body;
 use crate::held::Held;
@@ -162,8 +162,39 @@ impl SectionList {
         append_parts(&mut self.table, &mut self.list, table, list)
     }
 
-    /// Puts a line end, if one is given, and others behind what is held behind the last section, and then the sections of another list
-    /// behind that, as [`SectionList::append`] does.
+    /// Puts a line end, if one is given, and others behind what is held behind the section at a place, and then the sections of another
+    /// list behind all others, as [`SectionList::append`] does.
+    ///
+    /// # Errors
+    ///
+    /// Those of [`SectionList::append`].
+    pub fn append_held(
+        &mut self,
+        position: usize,
+        line_end: Option<Span>,
+        others: &mut FewItems,
+        other: SectionList,
+    ) -> Result<(), span::Error>
+        requires { position < length self.old.entries }
+        ensures ok { OnOk result (self.new ≡ with_all (length self.old.entries) other (edited_at (holding (line_end_item line_end ++ others.old.items)) position self.old)) }
+        ensures used_up { IsErrOf result 3 ↔ (no_number < self.old.next + length other.entries) }
+        ensures memory { IfErr result (λ e. self.old.next + length other.entries ≤ no_number → e ≡ 27) }
+        ensures err { OnErr result (self.new ≡ self.old) }
+    {
+        let SectionList { table, list } = other;
+        if self.table.numbers_left() < table.len() {
+            return Err(span::Error::too_large());
+        }
+        let alloc = *self.list.allocator();
+        let row = self.table.at_mut(position);
+        row.held.reserve(alloc, others.as_slice().len() + 1)?;
+        append_parts(&mut self.table, &mut self.list, table, list)?;
+        let row = self.table.at_mut(position);
+        row.held.join(line_end, others);
+        Ok(())
+    }
+
+    /// [`SectionList::append_held`] at the last section.
     ///
     /// # Errors
     ///
@@ -180,17 +211,7 @@ impl SectionList {
         ensures memory { IfErr result (λ e. self.old.next + length other.entries ≤ no_number → e ≡ 27) }
         ensures err { OnErr result (self.new ≡ self.old) }
     {
-        let SectionList { table, list } = other;
-        if self.table.numbers_left() < table.len() {
-            return Err(span::Error::too_large());
-        }
-        let last = self.table.len() - 1;
-        let alloc = *self.list.allocator();
-        let row = self.table.at_mut(last);
-        row.held.reserve(alloc, others.as_slice().len() + 1)?;
-        append_parts(&mut self.table, &mut self.list, table, list)?;
-        let row = self.table.at_mut(last);
-        row.held.join(line_end, others);
-        Ok(())
+        let last = self.len() - 1;
+        self.append_held(last, line_end, others, other)
     }
 }

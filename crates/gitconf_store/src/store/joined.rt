@@ -1,10 +1,11 @@
 //! Another store's sections and items put behind those of a store.
-ghost use Rattle.std.specs.Prelude.{◌≡◌, ◌⊎◌, ◌↔◌, ◌+◌, ◌<◌, ◌≤◌, ◌^◌, ◌++◌, length, IfErr, IfOk, IsErrOf, OnErr, OnOk};
+ghost use Rattle.std.specs.Prelude.{◌≡◌, ◌⊎◌, ◌↔◌, ◌+◌, ◌-◌, ◌<◌, ◌≤◌, ◌^◌, ◌++◌, length, IfErr, IfOk, IsErrOf, OnErr, OnOk};
+ghost use Rattle.gitconf_text.specs.LineEnds.{bytes_of_line_end};
 ghost use Rattle.gitconf_lines.specs.Buffers.{Grows};
 ghost use Rattle.gitconf_table.specs.Sections.{no_number};
 ghost use Rattle.gitconf_state.specs.Edit.{with_used};
 ghost use Rattle.gitconf_state.specs.Edits.{Append, apply};
-ghost use Rattle.gitconf_store.specs.Appends.{appended_bytes, last_items, line_between, IsLineAt};
+ghost use Rattle.gitconf_store.specs.Appends.{appended_bytes, bytes_at, kept_at, line_at, put_at, IsLineAt};
 
 use crate::store::Store;
 use gitconf_items::event::Span;
@@ -13,16 +14,18 @@ use gitconf_joining::joining::{parts_lines, put_behind};
 use gitconf_joining::moving::{copies_before, move_front, move_sections};
 use gitconf_lines::buffer::{append, check_room};
 use gitconf_sections::sections::SectionList;
+use gitconf_text::line_end::LineEnd;
 use gitconf_text::parse::span;
 
-/// The items that others are put behind: what is held behind the last section, or the front where there is none.
-fn last_items<'a>(front: &'a [Item], sections: &'a SectionList) -> &'a [Item]
-    ensures { result.now ≡ last_items front.now sections.now.entries }
+/// The items that others are put behind at a place: what is held behind the section there, or the front where there is no section.
+fn items_at<'a>(front: &'a [Item], sections: &'a SectionList, at: usize) -> &'a [Item]
+    requires { at ≤ length sections.now.entries - 1 }
+    ensures { result.now ≡ kept_at at front.now sections.now.entries }
 {
     if sections.is_empty() {
         front
     } else {
-        sections.at(sections.len() - 1).held
+        sections.at(at).held
     }
 }
 
@@ -72,18 +75,77 @@ fn put_bytes(
 }
 
 impl Store {
-    /// The line end that goes between the items that another's front is put behind and that front; no bytes where none goes there.
-    fn line_between(&self, other: &Store) -> &'static [u8]
-        ensures bytes { result.now ≡ line_between other.now self.now }
+    /// The line end that goes between the items at a place and another's front; no bytes where none goes there.
+    fn line_at(&self, at: usize, line_end: LineEnd, other: &Store) -> &'static [u8]
+        requires { at ≤ length self.now.sections - 1 }
+        ensures bytes { result.now ≡ line_at at (bytes_of_line_end line_end) other.now self.now }
         ensures short { length result.now ≤ 2 }
     {
-        let line_end = self.line_end();
-        let items = last_items(&self.front, &self.sections);
+        let items = items_at(&self.front, &self.sections, at);
         if parts_lines(&self.buffer, items, &other.buffer, &other.front, line_end) {
             line_end.as_bytes()
         } else {
             b""
         }
+    }
+
+    /// Puts the sections of another file behind all others, in their order and under the next numbers. The other's front is held behind the
+    /// section at a place, or joins our front where we have no section; the line end goes between where there are items that don't end with
+    /// one, and the other's don't begin with one.
+    ///
+    /// The other's bytes go behind the buffer's, and its spans are moved in one pass: the time is linear in the other file. Takes memory for
+    /// the bytes, the names and the places.
+    ///
+    /// # Errors
+    ///
+    /// A [`span::Error`]: number 3 exactly where the buffer would be longer than 4294967295 bytes or fewer numbers are left than the other
+    /// has sections, before any growth, and else 27 for want of memory. The other is then dropped, and the file as it was, but that its
+    /// buffer may have grown.
+    pub(crate) fn put_at(
+        &mut self,
+        at: usize,
+        line_end: LineEnd,
+        other: Store,
+    ) -> Result<(), span::Error>
+        requires { at ≤ length self.old.sections - 1 }
+        ensures ok { OnOk result (self.new ≡ put_at at (bytes_of_line_end line_end) other self.old) }
+        ensures err { OnErr result (self.new ≡ with_used self.new.used self.old) }
+        ensures too_large { IsErrOf result 3
+            ↔ ((2 ^ 32 ≤ self.old.used + bytes_at at (bytes_of_line_end line_end) other self.old) ⊎ (no_number < self.old.next + length other.sections)) }
+        ensures grown { self.new.used ≤ self.old.used + bytes_at at (bytes_of_line_end line_end) other self.old }
+        ensures known { IfErr result (λ e. (e ≡ 3) ⊎ (e ≡ 27)) }
+    {
+        if self.sections.numbers_left() < other.sections.len() {
+            return Err(span::Error::too_large());
+        }
+        let line_end = self.line_at(at, line_end, &other);
+        check_room(&self.buffer, line_end.len() + other.buffer.len())?;
+        let by = (self.buffer.len() + line_end.len()) as u32;
+        let copies_by = copies_before(&self.copies, &other.copies)?;
+        let Store {
+            buffer,
+            copies,
+            mut front,
+            meta: _,
+            mut sections,
+        } = other;
+        let line = put_bytes(
+            &mut self.buffer,
+            &mut self.copies,
+            line_end,
+            &buffer,
+            &copies,
+        )?;
+        move_front(&mut front, by);
+        move_sections(&mut sections, by, copies_by);
+        put_behind(
+            &mut self.front,
+            &mut self.sections,
+            at,
+            line,
+            front,
+            sections,
+        )
     }
 
     /// Puts the sections of another file behind all others, in their order and under the next numbers. The other's front is held behind our
@@ -106,29 +168,8 @@ impl Store {
         ensures grown { self.new.used ≤ self.old.used + appended_bytes other self.old }
         ensures known { IfErr result (λ e. (e ≡ 3) ⊎ (e ≡ 27)) }
     {
-        if self.sections.numbers_left() < other.sections.len() {
-            return Err(span::Error::too_large());
-        }
-        let line_end = self.line_between(&other);
-        check_room(&self.buffer, line_end.len() + other.buffer.len())?;
-        let by = (self.buffer.len() + line_end.len()) as u32;
-        let copies_by = copies_before(&self.copies, &other.copies)?;
-        let Store {
-            buffer,
-            copies,
-            mut front,
-            meta: _,
-            mut sections,
-        } = other;
-        let line = put_bytes(
-            &mut self.buffer,
-            &mut self.copies,
-            line_end,
-            &buffer,
-            &copies,
-        )?;
-        move_front(&mut front, by);
-        move_sections(&mut sections, by, copies_by);
-        put_behind(&mut self.front, &mut self.sections, line, front, sections)
+        let line_end = self.line_end();
+        let last = self.sections.len().saturating_sub(1);
+        self.put_at(last, line_end, other)
     }
 }

@@ -13,5 +13,5 @@ returns-in_err-append-clause-err c = if_err_at_all c.from_residual-in_err-append
 
 pub returns-clause-ok : goal.returns-clause-ok
 returns-clause-ok c =
-    put_behind_none c.args.sections.now c.args.other c.append.new.self (line_end_item c.args.line_end ++ c.args.others.items) c.requires.none
+    λ at. put_behind_none c.args.sections.now c.args.other c.append.new.self at (line_end_item c.args.line_end ++ c.args.others.items) c.requires.none
     (c.in_ok-append.ensures.ok ∙ ap (λ es. with_all (length es) c.args.other c.args.sections.now) c.requires.none)

@@ -15,5 +15,5 @@ invariant_of-self c =
     let row : Row = record { header = c.args.header; meta = c.args.meta; body = Own c.in_ok-own.own; held = c.none.result } in
     either c.push.result
     (λ is. subst (λ (t : Sections Row). AreListed 0 n t.entries) (sym is)
-    (listed_last 0 n n table.entries (entry_of table.next c.args.name.now (option_copied c.args.subsection) row) c.self.invariant tt (omega arith)))
+    (listed_last 0 n n table.entries (entry_of table.next c.args.name.now (option_copied c.args.subsection) row) (omega arith) (omega arith) c.self.invariant tt))
     (λ is. subst (λ (t : Sections Row). AreListed 0 n t.entries) (sym is) c.self.invariant) c.push.ensures.ok c.push.ensures.err

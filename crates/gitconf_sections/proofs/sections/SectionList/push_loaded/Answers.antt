@@ -20,8 +20,8 @@ invariant_of-self-2 c =
     let len : c.len-len.result ≡ length items = search rules in
     let count = ap length new ∙ length-append list items in
     subst (λ (t : Sections Row). AreListed 0 (length c.append.new.self.items) t.entries) (sym put)
-    (listed_last 0 (length list) (length c.append.new.self.items) table.entries (entry_of table.next c.args.name.now (option_copied c.args.subsection) row) c.self.invariant
-    (omega (arith, from)) (omega (arith, from, len, count)))
+    (listed_last 0 (length list) (length c.append.new.self.items) table.entries (entry_of table.next c.args.name.now (option_copied c.args.subsection) row) (omega arith) (omega (arith, count)) c.self.invariant
+    (omega (arith, from), omega (arith, from, len, count)))
 
 pub returns-clause-ok : goal.returns-clause-ok
 returns-clause-ok c =

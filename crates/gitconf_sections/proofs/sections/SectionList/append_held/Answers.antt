@@ -1,4 +1,4 @@
-use Rattle.std.proofs.Common.{rules, ◌≡◌, ◌++◌, ◌∙◌, ◌+◌, ◌-◌, ◌<◌, ◌≤◌, Some, length, refl, sym, subst, ap, arith}
+use Rattle.std.proofs.Common.{rules, ◌≡◌, ◌++◌, ◌∙◌, ◌+◌, ◌<◌, ◌≤◌, Some, length, refl, sym, subst, ap, arith}
 use Rattle.smallvec.specs.SmallVec.{small_vec_len}
 use Rattle.std.proofs.lemmas.List.{length-map}
 use Rattle.gitconf_table.specs.Sections.{Sections, edited_at, section_at, with_all, with_section}
@@ -8,13 +8,13 @@ use Rattle.gitconf_sections.specs.Section.{AreListed, Section, all_rebased, body
 use Rattle.gitconf_sections.proofs.Adding.{edited_before, joined_listed, joined_read, length-changed, no_fewer, put_there, there_before}
 use Rattle.gitconf_sections.proofs.Changing.{at_all, held_row, kept_row}
 use Rattle.gitconf_sections.proofs.Listing.{listed_kept}
-use Rattle.gitconf_sections.proofs.sections.SectionList.append_behind.Goals as goal
+use Rattle.gitconf_sections.proofs.sections.SectionList.append_held.Goals as goal
 
 pub invariant_of-self : goal.invariant_of-self
 invariant_of-self c =
     let list = c.self.inside.list.items in
     let table = c.self.inside.table in
-    let at = c.len-last.result - 1 in
+    let at = c.args.position in
     let r = c.at_mut-row.result.now in
     let t : Row = record r { held = c.reserve.new.self } in
     let first : Sections Row = with_section table at t in
@@ -24,7 +24,7 @@ pub returns-in_err-reserve-clause-err : goal.returns-in_err-reserve-clause-err
 returns-in_err-reserve-clause-err c =
     let list = c.self.inside.list.items in
     let table = c.self.inside.table in
-    let at = c.len-last.result - 1 in
+    let at = c.args.position in
     let r = c.at_mut-row.result.now in
     let t : Row = record r { held = c.reserve.new.self } in
     let first : Sections Row = with_section table at t in
@@ -36,7 +36,7 @@ pub invariant_of-self-in_err-append_parts : goal.invariant_of-self-in_err-append
 invariant_of-self-in_err-append_parts c =
     let list = c.self.inside.list.items in
     let table = c.self.inside.table in
-    let at = c.len-last.result - 1 in
+    let at = c.args.position in
     let r = c.at_mut-row.result.now in
     let t : Row = record r { held = c.reserve.new.self } in
     let first : Sections Row = with_section table at t in
@@ -49,7 +49,7 @@ pub returns-in_err-append_parts-clause-err : goal.returns-in_err-append_parts-cl
 returns-in_err-append_parts-clause-err c =
     let list = c.self.inside.list.items in
     let table = c.self.inside.table in
-    let at = c.len-last.result - 1 in
+    let at = c.args.position in
     let r = c.at_mut-row.result.now in
     let t : Row = record r { held = c.reserve.new.self } in
     let first : Sections Row = with_section table at t in
@@ -63,7 +63,7 @@ pub at_mut-row-requires-2 : goal.at_mut-row-requires-2
 at_mut-row-requires-2 c =
     let list = c.self.inside.list.items in
     let table = c.self.inside.table in
-    let at = c.len-last.result - 1 in
+    let at = c.args.position in
     let r = c.at_mut-row.result.now in
     let t : Row = record r { held = c.reserve.new.self } in
     let first : Sections Row = with_section table at t in
@@ -71,18 +71,18 @@ at_mut-row-requires-2 c =
     let other = c.other.inside.table in
     let put : c.append_parts.new.table ≡ with_all (length first.entries) (all_rebased (length list) other) first = search rules in
     let joined : c.append_parts.new.list.items ≡ list ++ others = search rules in
-    let some = subst (λ (all : Sections Section). 0 < length all.entries) (sym c.self.view_is) c.requires in
+    let some = subst (λ (all : Sections Section). at < length all.entries) (sym c.self.view_is) c.requires in
     let count = length-map table.entries (read_entry list) in
     let long = ap (λ (all : Sections Row). length all.entries) put in
     let more = no_fewer first (all_rebased (length list) other) in
     let all = length-changed (λ e. record e { section = t }) table.entries at in
-    omega (arith, some, count, long, more, all, c.len-last.ensures)
+    omega (arith, some, count, long, more, all)
 
 pub join-requires : goal.join-requires
 join-requires c =
     let list = c.self.inside.list.items in
     let table = c.self.inside.table in
-    let at = c.len-last.result - 1 in
+    let at = c.args.position in
     let r = c.at_mut-row.result.now in
     let t : Row = record r { held = c.reserve.new.self } in
     let first : Sections Row = with_section table at t in
@@ -100,7 +100,7 @@ pub invariant_of-self-2 : goal.invariant_of-self-2
 invariant_of-self-2 c =
     let list = c.self.inside.list.items in
     let table = c.self.inside.table in
-    let at = c.len-last.result - 1 in
+    let at = c.args.position in
     let r = c.at_mut-row.result.now in
     let t : Row = record r { held = c.reserve.new.self } in
     let first : Sections Row = with_section table at t in
@@ -120,7 +120,7 @@ pub returns-clause-ok : goal.returns-clause-ok
 returns-clause-ok c =
     let list = c.self.inside.list.items in
     let table = c.self.inside.table in
-    let at = c.len-last.result - 1 in
+    let at = c.args.position in
     let r = c.at_mut-row.result.now in
     let t : Row = record r { held = c.reserve.new.self } in
     let first : Sections Row = with_section table at t in
@@ -136,14 +136,10 @@ returns-clause-ok c =
     let new = c.append_parts.new.list.items in
     let all : Sections Section = read_all list table in
     let more = line_end_item c.args.line_end ++ c.args.others.now.items in
-    let some = subst (λ (all : Sections Section). 0 < length all.entries) (sym c.self.view_is) c.requires in
-    let count = length-map table.entries (read_entry list) in
-    let within : at < length all.entries = omega (arith, some, count, c.len-last.ensures) in
-    let last : at ≡ length all.entries - 1 = omega (arith, count, c.len-last.ensures) in
+    let within = subst (λ (all : Sections Section). at < length all.entries) (sym c.self.view_is) c.requires in
     let held = kept_row new c.append_parts.new.table at s (record s { held = c.join.new.self }) (holding more) c.at_mut-row-2.ensures.value
     (λ i. record { header = s.header; meta = s.meta; items = record { items = body_items new s.body }; held = record { items = c.join.ensures i } }) in
     let whole = (λ i. read_all (joined i) (put i)) ∙ joined_read list others first other (listed_kept 0 (length list) table.entries at r t c.self.invariant c.at_mut-row.ensures.value refl)
     ∙ ap (λ (now : Sections Section). with_all (length now.entries) (read_all others other) now) same in
     rw (← c.self.view_is, ← c.other.view_is)
-    (held ∙ ap (edited_at (holding more) at) whole ∙ edited_before (holding more) all (read_all others other) at within
-    ∙ ap (λ n. with_all (length all.entries) (read_all others other) (edited_at (holding more) n all)) last)
+    (held ∙ ap (edited_at (holding more) at) whole ∙ edited_before (holding more) all (read_all others other) at within)

@@ -1,0 +1,50 @@
+use Rattle.std.proofs.Common.{◌≡◌, ap, arith, length, ◌∙◌}
+use Rattle.std.proofs.lemmas.List.{length-map}
+use Rattle.gitconf_table.specs.Rows.{entries_of, entry_of_row}
+use Rattle.gitconf_table.specs.Tables.{word_of_name}
+use Rattle.gitconf_table.proofs.RowLemmas.{rows_apart, rows_placed, rows_within}
+use Rattle.gitconf_table.proofs.SectionLemmas.{tables}
+use Rattle.gitconf_table.proofs.Woven.{all_woven}
+use Rattle.gitconf_table.proofs.WovenTables.{rows_numbered, rows_woven, table_woven}
+use Rattle.gitconf_table.proofs.table.SectionTable.weave.Goals as goal
+
+pub relocate-requires-clause-long : goal.relocate-requires-clause-long
+relocate-requires-clause-long g c =
+    let old = c.self.inside in
+    let words : length old.names.words ≡ length old.rows.items =
+    ap length c.self.invariant.table.names ∙ length-map (entries_of old.letters.items old.rows.items) word_of_name ∙ length-map old.rows.items (entry_of_row old.letters.items) in
+    omega (arith, words, c.weave-2.ensures.fits, c.weave.ensures.room.0, old.rows.ok)
+
+pub relocate-requires-clause-within : goal.relocate-requires-clause-within
+relocate-requires-clause-within g c =
+    let old = c.self.inside in
+    let letters = old.letters.items in
+    rows_within letters old.next c.weave.new.list.items old.places.items
+    (rows_numbered c.args.runs.now c.args.first old.next letters old.rows.items c.weave.new.list.items c.weave.ensures.woven c.self.invariant.table.numbered.once)
+    c.self.invariant.table.counted
+
+pub relocate-requires-clause-once : goal.relocate-requires-clause-once
+relocate-requires-clause-once g c =
+    let old = c.self.inside in
+    let letters = old.letters.items in
+    rows_apart letters old.next c.weave.new.list.items
+    (rows_numbered c.args.runs.now c.args.first old.next letters old.rows.items c.weave.new.list.items c.weave.ensures.woven c.self.invariant.table.numbered.once)
+
+pub invariant_of-self : goal.invariant_of-self
+invariant_of-self g c =
+    let old = c.self.inside in
+    let letters = old.letters.items in
+    let runs = c.args.runs.now in
+    let first = c.args.first in
+    record {
+      table = table_woven runs first old.next (entries_of letters old.rows.items) _ old.places.items c.relocate.new.places.items old.names.words _ old.full.words _
+          (rows_woven runs first letters old.rows.items c.weave.new.list.items c.weave.ensures.woven)
+          (ap (λ w. w.words) c.weave-2.ensures.woven) (ap (λ w. w.words) c.weave-3.ensures.woven)
+          c.self.invariant.table (c.relocate.ensures.len ∙ c.self.invariant.table.counted) (rows_placed letters _ _ c.relocate.ensures.placed);
+      fit = rw c.weave.ensures.woven (all_woven _ runs first old.rows.items c.self.invariant.fit);
+    }
+
+pub returns : goal.returns
+returns g c =
+    let old = c.self.inside in
+    rw (← c.self.view_is) (ap (tables old.next) (rows_woven c.args.runs.now c.args.first old.letters.items old.rows.items c.weave.new.list.items c.weave.ensures.woven))

@@ -1,0 +1,26 @@
+//! Sections that were put behind all others go where they belong.
+ghost use Rattle.std.specs.Prelude.{◌≡◌, ◌-◌, ◌≤◌, length};
+ghost use Rattle.gitconf_table.specs.Runs.{woven, AreRuns};
+
+use crate::lists::weave;
+use crate::runs::Run;
+use crate::table::{SectionTable, relocate};
+
+impl<T> SectionTable<T> {
+    /// Weaves the sections from `first` on among those before them; their numbers, their names and what they hold stay. Takes
+    /// no memory, and time for all sections: those between the runs are moved once for each time that the runs can be halved,
+    /// and all are linked once. Without runs it takes constant time.
+    pub fn weave(&mut self, first: usize, runs: &[Run])
+        requires within { first ≤ length self.old.entries }
+        requires runs { AreRuns runs.now first (length self.old.entries - first) }
+        ensures { self.new ≡ record self.old { entries = woven runs.now first self.old.entries } }
+    {
+        if runs.is_empty() {
+            return;
+        }
+        weave(&mut self.rows, first, runs);
+        self.names.weave(first, runs);
+        self.full.weave(first, runs);
+        relocate(&self.rows, &mut self.places, 0);
+    }
+}
