@@ -1,4 +1,6 @@
 pub mod Fetching
+pub mod Keeping
 pub mod OnePath
+pub mod OwnSections
 pub mod Says
 pub mod Steps

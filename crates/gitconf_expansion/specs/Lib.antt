@@ -2,3 +2,4 @@ pub mod Inclusion
 pub mod Expansion
 pub mod Visits
 pub mod Outcomes
+pub mod Laws

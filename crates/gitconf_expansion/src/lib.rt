@@ -5,3 +5,4 @@ mod conditions;
 pub mod config_file;
 mod expanding;
 mod following;
+pub mod laws;

@@ -1,0 +1,37 @@
+-- What an expansion keeps of a file.
+use Rattle.std.specs.Prelude.{◌≡◌, ◌⊎◌, ℕ, ltb, List, [], ◌∷◌, map, filter, Option, Some, None, Ok, Result}
+use Rattle.std.specs.List.{AllByRecursion}
+use Rattle.gitconf_text.specs.Document.{IsText, gathered}
+use Rattle.gitconf_text.specs.Part.{Part}
+use Rattle.gitconf_host.specs.Told.{FileTold, read_of}
+use Rattle.gitconf_host.specs.declared.fault.FileFault.{FileFault}
+use Rattle.gitconf_state.specs.State.{SectionState, State}
+use Rattle.gitconf_expansion.specs.Expansion.{Reached, On, Ended}
+use Rattle.gitconf_expansion.specs.Inclusion.{inclusion, NoInclude}
+
+-- the file that stands behind an outcome
+abbrev pub file_of : Reached → State
+file_of (On done) = done
+file_of (Ended number file) = file
+
+-- a section without what is held behind it
+abbrev pub unheld : SectionState → SectionState
+unheld s = record { number = s.number; header = s.header; meta = s.meta; items = s.items; held = [] }
+
+-- the sections with numbers below that, in order, without what is held behind them
+abbrev pub own_sections : (below : ℕ) → List SectionState → List SectionState
+own_sections below sections = map unheld (filter (λ s. ltb s.number below) sections)
+
+-- a file's own sections stay, in order, but for what is held behind them; and so do its front and where it comes from
+pub record IsKept (old new : State) : Type 0 where
+  pub front : new.front ≡ old.front
+  pub meta : new.meta ≡ old.meta
+  pub sections : own_sections old.next new.sections ≡ map unheld old.sections
+
+-- no section includes anything
+abbrev pub IncludesNothing : State → Type 0
+IncludesNothing state = AllByRecursion (λ s. inclusion s ≡ NoInclude) state.sections
+
+-- no text that stands at a path has an entry before its first section
+abbrev pub AreHeaded : (files : List ℕ → FileTold) → Type 0
+AreHeaded files = (path text : List ℕ) (parts : List Part) → ◌≡◌ {A = Result (List ℕ) FileFault} (read_of (files path)) (Ok text) → IsText text parts → (gathered parts).front ≡ []
