@@ -12,7 +12,6 @@ use Rattle.gitconf_expansion.specs.Laws.{file_of}
 use Rattle.gitconf_expansion.proofs.Steps.{all_done, whole_visited}
 
 module _ (P Q : State → Type 0) (asks : Asks) (deeper : Deeper) where
-
   -- what holds of a file holds of it with another one put in, of which Q holds
   abbrev pub Keeps : Type 0
   Keeps = (other : State) (rest : List SectionState) (done : State) → P (whole done rest) → Q other → P (whole (spliced other rest done) rest)
@@ -27,7 +26,6 @@ module _ (P Q : State → Type 0) (asks : Asks) (deeper : Deeper) where
   Kept rest (Ended number file) = P file
 
   module _ (keeps : Keeps) (holds : Holds) where
-
     ended : (rest : List SectionState) (done : State) (number : ℕ) (r : Reached) → P (whole done rest) → r ≡ Ended number (whole done rest) → Kept rest r
     ended rest done number r kept is = subst (Kept rest) (sym is) kept
 
@@ -101,15 +99,30 @@ at_end : (P Q : State → Type 0) (asks : Asks) (deeper : Deeper) (r : Reached) 
 at_end P Q asks deeper (On now) kept = subst P (all_done now) kept
 at_end P Q asks deeper (Ended number file) kept = kept
 
--- a whole expansion keeps it
-pub expansion : (P Q : State → Type 0) (asks : Asks) → ((deeper : Deeper) → Keeps P Q asks deeper) → ((n : ℕ) → Holds P Q asks (Expands n asks))
-    → (left : ℕ) (parent : Option State) (old : State) (r : Reached) → P old → Expands left asks parent old r → P (file_of r)
-unfolding Expands
-expansion P Q asks keeps holds zero parent old r kept is = go asks.rules.refuses_depth is
+limit : (P : State → Type 0) (asks : Asks) (old : State) (r : Reached) → P old → r ≡ (if asks.rules.refuses_depth then Ended 15 old else On old) → P (file_of r)
+limit P asks old r kept is = go asks.rules.refuses_depth is
   where
     go : (refuses : Bool) → r ≡ (if refuses then Ended 15 old else On old) → P (file_of r)
     go true ends = subst (λ x. P (file_of x)) (sym ends) kept
     go false on = subst (λ x. P (file_of x)) (sym on) kept
-expansion P Q asks keeps holds (suc left) parent old r kept (inl wanting) = subst (λ x. P (file_of x)) (sym wanting) kept
-expansion P Q asks keeps holds (suc left) parent old r kept (inr is) =
-    at_end P Q asks (Expands left asks) r (visits P Q asks (Expands left asks) (keeps (Expands left asks)) (holds left) parent old.sections (with_sections [] old) r kept is)
+
+one_level : (P Q : State → Type 0) (asks : Asks) (deeper : Deeper) → Keeps P Q asks deeper → Holds P Q asks deeper → (parent : Option State) (old : State) (r : Reached) → P old
+    → Wanting old r ⊎ Visits deeper asks parent old.sections (with_sections [] old) r → P (file_of r)
+one_level P Q asks deeper keeps holds parent old r kept (inl wanting) = subst (λ x. P (file_of x)) (sym wanting) kept
+one_level P Q asks deeper keeps holds parent old r kept (inr is) = at_end P Q asks deeper r (visits P Q asks deeper keeps holds parent old.sections (with_sections [] old) r kept is)
+
+-- an expansion keeps what each file that is put in keeps
+pub expansion : (P Q : State → Type 0) (asks : Asks) → ((deeper : Deeper) → Keeps P Q asks deeper) → ((n : ℕ) → Holds P Q asks (Expands n asks))
+    → (left : ℕ) (parent : Option State) (old : State) (r : Reached) → P old → Expands left asks parent old r → P (file_of r)
+unfolding Expands
+expansion P Q asks keeps holds zero parent old r kept is = limit P asks old r kept is
+expansion P Q asks keeps holds (suc left) parent old r kept is = one_level P Q asks (Expands left asks) (keeps (Expands left asks)) (holds left) parent old r kept is
+
+-- and what each file that is loaded has, each file has that is put in
+pub whole_expansion : (P : State → Type 0) (asks : Asks) → ((deeper : Deeper) → Keeps P P asks deeper) → ((from : Meta) (path : List ℕ) (other : State) → IsFetched asks from path (Ok other) → P other)
+    → (left : ℕ) (parent : Option State) (old : State) (r : Reached) → P old → Expands left asks parent old r → P (file_of r)
+unfolding Expands
+whole_expansion P asks keeps loaded zero parent old r kept is = limit P asks old r kept is
+whole_expansion P asks keeps loaded (suc left) parent old r kept is =
+    one_level P P asks (Expands left asks) (keeps (Expands left asks))
+    (λ from path other above full fetched deeper. whole_expansion P asks keeps loaded left (Some above) other (On full) (loaded from path other fetched) deeper) parent old r kept is

@@ -3,4 +3,5 @@ pub mod Keeping
 pub mod OnePath
 pub mod OwnSections
 pub mod Says
+pub mod States
 pub mod Steps

@@ -1,11 +1,25 @@
 //! What holds of expansions, for all files and sources of files: each law is a function that does nothing.
-ghost use Rattle.std.specs.Prelude.{◌≡◌, ◌⊎◌, ℕ, Option};
-ghost use Rattle.gitconf_state.specs.State.{AreNumbered, State};
+ghost use Rattle.std.specs.Prelude.{◌≡◌, ◌⊎◌, ℕ, List, Option, Some};
+ghost use Rattle.gitconf_host.specs.Told.{FileTold};
+ghost use Rattle.gitconf_state.specs.Clean.{IsClean};
+ghost use Rattle.gitconf_state.specs.State.{AreNumbered, HasItems, State};
 ghost use Rattle.gitconf_expansion.specs.Expansion.{Asks, Ended, Expands, On, Reached};
-ghost use Rattle.gitconf_expansion.specs.Laws.{file_of, IncludesNothing, IsKept};
+ghost use Rattle.gitconf_expansion.specs.Laws.{file_of, AreHeaded, IncludesNothing, IsKept};
 
 /// Whatever the outcome, a file's own sections stay in their order, under their numbers and from where they came, and so do its front and
 /// where it comes from itself; only items held behind sections may be more.
 pub fn own_sections_stay()
     ensures { (left : ℕ) (asks : Asks) (parent : Option State) (old : State) (r : Reached) → AreNumbered old.next old.sections → Expands left asks parent old r → IsKept old (file_of r) }
+{}
+
+/// An expansion of a file whose items are such as a text may have has such items, whatever the outcome.
+pub fn expansions_keep_items()
+    ensures { (left : ℕ) (asks : Asks) (parent : Option State) (old : State) (r : Reached) → HasItems old → Expands left asks parent old r → HasItems (file_of r) }
+{}
+
+/// A clean file stays clean, whatever the outcome, where no text that may be included has an entry before its first section: so what is
+/// written of it reads back.
+pub fn expansions_stay_clean()
+    ensures { (files : List ℕ → FileTold) (left : ℕ) (asks : Asks) (parent : Option State) (old : State) (r : Reached) → asks.table ≡ Some files → AreHeaded files → IsClean old
+        → Expands left asks parent old r → IsClean (file_of r) }
 {}

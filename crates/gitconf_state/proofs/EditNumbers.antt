@@ -83,7 +83,7 @@ apart_behind_last number line_end others [] all = all
 apart_behind_last number line_end others (s ∷ []) all = all
 apart_behind_last number line_end others (s ∷ t ∷ sections) all = (all.0, apart_behind_last number line_end others (t ∷ sections) all.1)
 
-behind_last : (next : ℕ) (line_end : List ℕ) (others : List Item) (sections : List SectionState) → AreNumbered next sections → AreNumbered next (held_behind_last line_end others sections)
+pub behind_last : (next : ℕ) (line_end : List ℕ) (others : List Item) (sections : List SectionState) → AreNumbered next sections → AreNumbered next (held_behind_last line_end others sections)
 behind_last next line_end others [] all = all
 behind_last next line_end others (s ∷ []) all = all
 behind_last next line_end others (s ∷ t ∷ sections) all = (all.0, apart_behind_last s.number line_end others (t ∷ sections) all.1, behind_last next line_end others (t ∷ sections) all.2)

@@ -34,7 +34,7 @@ holds_filtered P test (x ∷ xs) all = go (test x) refl (holds_filtered P test x
     go true e later = rw (e, filter) (all.0, later)
     go false e later = rw (e, filter) later
 
-holds_appended : {A : Type 0} (P : A → Type 0) (xs ys : List A) → AllByRecursion P xs → AllByRecursion P ys → AllByRecursion P (xs ++ ys)
+pub holds_appended : {A : Type 0} (P : A → Type 0) (xs ys : List A) → AllByRecursion P xs → AllByRecursion P ys → AllByRecursion P (xs ++ ys)
 holds_appended P [] ys first second = second
 holds_appended P (x ∷ xs) ys first second = (first.0, holds_appended P xs ys first.1 second)
 
@@ -83,13 +83,13 @@ between_passes p line_end (i ∷ items) others closes = go (ends_line line_end (
     go true = refl
     go false = rw closes refl
 
-joined_passes : (p : Item → Bool) (line_end : List ℕ) (items others : List Item) → p (LineEndsItem line_end) ≡ true → list_all p items ≡ true → list_all p others ≡ true
+pub joined_passes : (p : Item → Bool) (line_end : List ℕ) (items others : List Item) → p (LineEndsItem line_end) ≡ true → list_all p items ≡ true → list_all p others ≡ true
     → list_all p (joined line_end items others) ≡ true
 joined_passes p line_end items others closes first second =
     all_append p items (between line_end items others ++ others) first (all_append p (between line_end items others) others (between_passes p line_end items others closes) second)
 
 -- the last section has what is held behind it
-behind_last_holds : (P : SectionState → Type 0) (line_end : List ℕ) (others : List Item)
+pub behind_last_holds : (P : SectionState → Type 0) (line_end : List ℕ) (others : List Item)
     → ((s : SectionState) → P s → P (record { number = s.number; header = s.header; meta = s.meta; items = s.items; held = joined line_end s.held others }))
     → (sections : List SectionState) → AllByRecursion P sections → AllByRecursion P (held_behind_last line_end others sections)
 behind_last_holds P line_end others holds [] all = all
@@ -97,17 +97,17 @@ behind_last_holds P line_end others holds (s ∷ []) all = (holds s all.0, tt)
 behind_last_holds P line_end others holds (s ∷ t ∷ sections) all = (all.0, behind_last_holds P line_end others holds (t ∷ sections) all.1)
 
 -- numbers change nothing else
-numbered_from_items : (first : ℕ) (sections : List SectionState) → AllByRecursion HasSectionItems sections → AllByRecursion HasSectionItems (numbered_from first sections)
+pub numbered_from_items : (first : ℕ) (sections : List SectionState) → AllByRecursion HasSectionItems sections → AllByRecursion HasSectionItems (numbered_from first sections)
 numbered_from_items first [] all = all
 numbered_from_items first (s ∷ sections) all = (record { header = all.0.header; items = all.0.items; held = all.0.held }, numbered_from_items (first + 1) sections all.1)
 
-numbered_from_clean : (first : ℕ) (sections : List SectionState) → AllByRecursion IsCleanSection sections → AllByRecursion IsCleanSection (numbered_from first sections)
+pub numbered_from_clean : (first : ℕ) (sections : List SectionState) → AllByRecursion IsCleanSection sections → AllByRecursion IsCleanSection (numbered_from first sections)
 numbered_from_clean first [] all = all
 numbered_from_clean first (s ∷ sections) all =
     (record { named = all.0.named; blanks = all.0.blanks; held_blanks = all.0.held_blanks; held = all.0.held }, numbered_from_clean (first + 1) sections all.1)
 
 -- items without an entry
-without_entries : (items : List Item) → entries_of items ≡ [] → list_all (λ i. not (is_entry i)) items ≡ true
+pub without_entries : (items : List Item) → entries_of items ≡ [] → list_all (λ i. not (is_entry i)) items ≡ true
 without_entries [] none = refl
 without_entries (BlanksItem run ∷ items) none = without_entries items none
 without_entries (LineEndsItem run ∷ items) none = without_entries items none
