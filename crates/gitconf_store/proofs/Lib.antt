@@ -20,3 +20,4 @@ pub mod AppendedFiles
 pub mod Trusting
 pub mod HeaderBytes
 pub mod LeavingOut
+pub mod Woven
