@@ -1,6 +1,6 @@
 //! Files that are expanded.
 ghost use Rattle.std.specs.Option.{option_copied, option_map};
-ghost use Rattle.std.specs.Prelude.{◌≡◌, ◌-◌, ◌<◌, [], if◌then◌else◌, length, map, Err, Ok, OnOk};
+ghost use Rattle.std.specs.Prelude.{◌≡◌, ◌-◌, ◌<◌, [], if◌then◌else◌, length, map, Err, None, Ok, OnOk};
 ghost use Rattle.bstr.specs.Owned.{bstring_bytes};
 ghost use Rattle.gitconf_includes.specs.Errors.{includes_number};
 ghost use Rattle.gitconf_state.specs.Including.{whole};
@@ -36,7 +36,7 @@ fn at_the_limit(options: &Options<'_>) -> Result<(), Error>
 ///
 /// # Errors
 ///
-/// Those of [`expand`].
+/// Those of [`expand_file`].
 #[cycle(expanding)]
 fn follow<F: Files, S: ConfigFile>(
     alloc: Global,
@@ -71,7 +71,7 @@ fn follow<F: Files, S: ConfigFile>(
 ///
 /// # Errors
 ///
-/// Those of [`expand`].
+/// Those of [`expand_file`].
 #[cycle(expanding)]
 fn follow_all<F: Files, S: ConfigFile>(
     alloc: Global,
@@ -100,7 +100,7 @@ fn follow_all<F: Files, S: ConfigFile>(
 ///
 /// # Errors
 ///
-/// Those of [`expand`].
+/// Those of [`expand_file`].
 #[cycle(expanding)]
 fn obey<'a, 'b, F: Files, S: ConfigFile>(
     alloc: Global,
@@ -132,13 +132,13 @@ fn obey<'a, 'b, F: Files, S: ConfigFile>(
 }
 
 /// Expands a file, so many levels deep: each section that stands in it at the beginning is visited, in order, and what its paths give is put
-/// behind it.
+/// behind it. `parent` is the file that includes it, if one does.
 ///
 /// # Errors
 ///
-/// An [`Error`], with the file as it then stands: all files that were put in before stay, and one that was under way is left out.
+/// Those of [`expand_file`].
 #[cycle(expanding)]
-pub fn expand<'a, F: Files, S: ConfigFile>(
+fn expand<'a, F: Files, S: ConfigFile>(
     alloc: Global,
     files: &mut F,
     options: &Options<'_>,
@@ -162,4 +162,25 @@ pub fn expand<'a, F: Files, S: ConfigFile>(
         }
     }
     Ok(())
+}
+
+/// Expands a file that no other one includes, as many levels deep as the options say.
+///
+/// # Errors
+///
+/// An [`Error`], with the file as it then stands: all files that were put in before stay, and one that was under way is left out.
+pub fn expand_file<F: Files, S: ConfigFile>(
+    alloc: Global,
+    files: &mut F,
+    options: &Options<'_>,
+    file: &mut S,
+) -> Result<(), Error>
+    requires fresh { (S.done file.old).sections ≡ [] }
+    ensures expanded { (r : Reached) × Expands options.now.includes.max_depth (asks_of options.now (F.table files.old)) None (whole (S.done file.old) (S.rest file.old)) r
+        × Leaves includes_number result (whole (S.done file.new) (S.rest file.new)) r }
+    ensures table { F.table files.new ≡ F.table files.old }
+    ensures counted { CountsFaults result (F.failures files.old) (F.failures files.new) }
+{
+    let depth = options.includes.max_depth;
+    expand(alloc, files, options, None, file, depth)
 }

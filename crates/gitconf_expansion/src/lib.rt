@@ -3,6 +3,6 @@
 
 mod conditions;
 pub mod config_file;
-mod expanding;
+pub mod expanding;
 mod following;
 pub mod laws;

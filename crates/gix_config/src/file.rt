@@ -11,6 +11,7 @@ mod look_ups;
 pub mod multi_value_mut;
 mod removing;
 mod renaming;
+mod resolving;
 pub mod section;
 pub mod section_mut;
 pub mod sections;

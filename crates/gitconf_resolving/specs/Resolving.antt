@@ -1,0 +1,22 @@
+-- A file that is made of bytes, and then expanded.
+use Rattle.std.specs.Prelude.{◌≡◌, ℕ, List, Option, None, Result, Ok, Err}
+use Rattle.gitconf_base.specs.Metadata.{Meta}
+use Rattle.gitconf_state.specs.State.{State}
+use Rattle.gitconf_expansion.specs.Expansion.{Asks, Ended, Expands, IsLoadOf, On, Reached}
+
+-- a call makes the expanded file, or refuses by that number
+abbrev pub Makes : {E : Type 0} → (number : E → ℕ) → Result State E → Reached → Type 0
+Makes number (Ok made) (On done) = made ≡ done
+Makes number (Err e) (Ended n file) = n ≡ number e
+Makes number (Ok made) (Ended n file) = ⊥
+Makes number (Err e) (On done) = ⊥
+
+-- what was loaded is expanded, as many levels deep as the rules say
+abbrev pub MakesOf : {E : Type 0} → (number : E → ℕ) → Asks → Result State E → (loaded : Result State ℕ) → Type 0
+MakesOf number asks result (Ok state) = (r : Reached) × Expands asks.rules.max_depth asks None state r × Makes number result r
+MakesOf number asks (Ok made) (Err n) = ⊥
+MakesOf number asks (Err e) (Err n) = n ≡ number e
+
+-- the text is loaded, and then expanded
+abbrev pub IsMadeOf : {E : Type 0} → (number : E → ℕ) → Asks → (text : List ℕ) → Meta → Result State E → Type 0
+IsMadeOf number asks text place result = (loaded : Result State ℕ) × IsLoadOf asks.rules.lossy text place loaded × MakesOf number asks result loaded

@@ -1,0 +1,5 @@
+//! The includes of a file that a store keeps.
+#![tactic(auto)]
+
+mod expansion;
+pub mod resolving;

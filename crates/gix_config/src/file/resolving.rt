@@ -1,0 +1,57 @@
+//! Files that include others.
+
+use crate::file::File;
+use gitconf_base::meta::Metadata;
+use gitconf_host::{Files, Host};
+use gitconf_includes::includes;
+use gitconf_includes::init::{Error, Options};
+use gitconf_resolving::resolving::{Resolved, resolve, resolved_text};
+use gitconf_store::store::Store;
+use std::alloc::Global;
+use std::mem::replace;
+use std::rc::Rc;
+
+impl File {
+    ghost use Rattle.std.specs.Prelude.{◌≡◌};
+    ghost use Rattle.gitconf_expansion.specs.Expansion.{Resolves};
+    ghost use Rattle.gitconf_expansion.specs.Outcomes.{asks_of, CountsFaults};
+    ghost use Rattle.gitconf_includes.specs.Errors.{includes_number, init_number};
+    ghost use Rattle.gitconf_resolving.specs.Resolving.{IsMadeOf};
+
+    /// Reads the files that the file's sections include, and puts each, with what it includes itself, behind the section that includes it: its
+    /// sections in their order under the next numbers, and what stands before its first section held behind the section before. Of an
+    /// `include` without a subsection each `path` is followed, in order; of an `includeIf` where its condition holds. A path that names no
+    /// file is passed over. Sections that are put in are visited as those of the file that they are of, once, and so not again.
+    ///
+    /// A condition `hasconfig` is judged by the file as it then stands; below the first level by the file that includes.
+    ///
+    /// Each included file is read and parsed once for each time that it is included. Beside that the time is linear in the file and in what is
+    /// put in, but for the order of the sections, which is made once, at the end.
+    ///
+    /// # Errors
+    ///
+    /// 12 to 18 as the options and [`includes::Error`] tell; 19 and 20 where a file can't be opened or read; 1 and 2 where one is refused by the
+    /// parser; 3 where there is no room for one; 27 for want of memory. The file then has all that was put in before the refusal; a file that
+    /// was refused, or in which one was, is left out whole. At `max_depth` 0 nothing is followed, and nothing refused.
+    pub fn resolve_includes(
+        &mut self,
+        options: Options<'_>,
+        host: &mut Host,
+    ) -> Result<(), includes::Error>
+        ensures expanded { Resolves includes_number (asks_of options.entry (⟦<Box<dyn Files> as Files>⟧.table host.old.files)) self.old result self.new }
+        ensures table { ⟦<Box<dyn Files> as Files>⟧.table host.new.files ≡ ⟦<Box<dyn Files> as Files>⟧.table host.old.files }
+        ensures counted { CountsFaults result (⟦<Box<dyn Files> as Files>⟧.failures host.old.files) (⟦<Box<dyn Files> as Files>⟧.failures host.new.files) }
+        ensures env { host.new.env ≡ host.old.env }
+        ensures places { host.new.places ≡ host.old.places }
+    {
+        if options.includes.max_depth == 0 {
+            return Ok(());
+        }
+        let alloc = self.store.allocator();
+        let empty = Store::new(alloc, self.store.meta_owned()?);
+        let store = replace(&mut self.store, empty);
+        let Resolved { store, result } = resolve(alloc, &mut host.files, &options, store);
+        drop(replace(&mut self.store, store));
+        result
+    }
+}
