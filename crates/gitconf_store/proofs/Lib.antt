@@ -21,3 +21,4 @@ pub mod Gathered
 pub mod Trusting
 pub mod HeaderBytes
 pub mod LeavingOut
+pub mod Woven

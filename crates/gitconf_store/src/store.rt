@@ -13,6 +13,7 @@ mod several;
 mod trusting;
 mod values_at;
 mod views;
+mod weaving;
 
 use crate::set_raw_value;
 use bstr::BString;
