@@ -9,3 +9,4 @@ pub mod SectionsKept
 pub mod SomeSections
 pub mod Asking
 pub mod SomeTexts
+pub mod LineEndsTold

@@ -1,11 +1,12 @@
 //! What the tokens of a file tell: its line end, whether there are any, and how many entries.
-ghost use Rattle.std.specs.Prelude.{◌≡◌, ◌+◌, ◌<◌, ◌^◌, ◌++◌, length, flat_map, true};
+ghost use Rattle.std.specs.Prelude.{◌≡◌, ◌+◌, ◌<◌, ◌^◌, ◌++◌, length, flat_map, option_map, true};
 ghost use Rattle.std.specs.List.{count_by};
 ghost use Rattle.gitconf_text.specs.Token.{item_tokens};
 ghost use Rattle.gitconf_state.specs.State.{entries_of};
 ghost use Rattle.gitconf_state.specs.LineEnds.{line_end_of};
 ghost use Rattle.gitconf_items.specs.Items.{items_of};
 ghost use Rattle.gitconf_text.specs.LineEnds.{bytes_of_line_end};
+ghost use Rattle.gitconf_write.specs.LineEnds.{first_newline_of_bodies};
 ghost use Rattle.gitconf_views.specs.Views.{sections_left};
 ghost use Rattle.gitconf_lines.specs.Spacings.{is_stored_entry};
 ghost use Rattle.gitconf_views.specs.Counts.{are_void, section_entries};
@@ -16,20 +17,26 @@ use gitconf_views::section::Sections;
 use gitconf_views::views::entry_count;
 use gitconf_write::line_end::first_line_end;
 
+/// The line end of the first newline of the sections' bodies, if there is one.
+pub fn bodies_line_end(sections: Sections<'_>) -> Option<LineEnd>
+    ensures { option_map bytes_of_line_end result ≡ first_newline_of_bodies (sections_left sections.entry) }
+{
+    for section in sections {
+        if let Some(found) = first_line_end(section.buffer, section.items) {
+            return Some(found);
+        }
+    }
+    None
+}
+
 /// The line end of the first newline of a front and of the sections' bodies; LF where there is none.
-#[tactic(auto, using(gitconf_views::proofs::Counting::among))]
 pub fn file_line_end(buffer: &[u8], front: &[Item], sections: Sections<'_>) -> LineEnd
     ensures { bytes_of_line_end result ≡ line_end_of (flat_map item_tokens (items_of buffer.now front.now ++ flat_map (λ s. s.items) (sections_left sections.entry))) }
 {
     if let Some(found) = first_line_end(buffer, front) {
         return found;
     }
-    for section in sections {
-        if let Some(found) = first_line_end(section.buffer, section.items) {
-            return found;
-        }
-    }
-    LineEnd::Lf
+    bodies_line_end(sections).unwrap_or(LineEnd::Lf)
 }
 
 /// Whether no section has anything in its body.

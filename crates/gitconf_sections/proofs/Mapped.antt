@@ -46,6 +46,14 @@ module _ {A B : Type 0} (r : A → B) where
   pub section_at_mapped : (at : ℕ) (all : Sections A) → section_at at (all_mapped all) ≡ option_map r (section_at at all)
   section_at_mapped at all = at_mapped all.entries at
 
+  ids_mapped : (es : List (SectionEntry A)) (at : ℕ) → option_map (λ (e : SectionEntry B). e.number) (slice_get (map mapped es) at) ≡ option_map (λ (e : SectionEntry A). e.number) (slice_get es at)
+  ids_mapped [] at = refl
+  ids_mapped (e ∷ es) zero = refl
+  ids_mapped (e ∷ es) (suc at) = ids_mapped es at
+
+  pub number_at_mapped : (at : ℕ) (all : Sections A) → number_at at (all_mapped all) ≡ number_at at all
+  number_at_mapped at all = ids_mapped all.entries at
+
   found_mapped : (id : ℕ) (es : List (SectionEntry A)) → option_map (λ (e : SectionEntry B). e.section) (find (has_number id) (map mapped es)) ≡ option_map r (option_map (λ (e : SectionEntry A). e.section) (find (has_number id) es))
   found_mapped id [] = refl
   found_mapped id (e ∷ es) = go (e.number == id) refl (found_mapped id es)

@@ -2,7 +2,7 @@
 ghost use Rattle.std.specs.Prelude.{◌≡◌, ◌+◌, ◌<◌, ◌==◌, [], length, Some, IfOk, IfSome, OnErr, OnOk};
 ghost use Rattle.std.specs.List.{list_any, AllByRecursion};
 ghost use Rattle.std.specs.Option.{option_copied, option_map};
-ghost use Rattle.gitconf_table.specs.Sections.{has_name, no_number, place_of, section_at, section_of, without, IsNumbered, IsTableClone};
+ghost use Rattle.gitconf_table.specs.Sections.{has_name, no_number, number_at, place_of, section_at, section_of, without, IsNumbered, IsTableClone};
 ghost use Rattle.gitconf_table.specs.Renames.{with_names_at};
 ghost use Rattle.gitconf_sections.specs.Section.{viewed, IsSectionClone};
 
@@ -99,6 +99,14 @@ impl SectionList {
         ensures within { IfSome result (λ at. at < length self.now.entries) }
     {
         self.table.position(id)
+    }
+
+    /// The number of the section at a place.
+    pub fn id_at(&self, position: usize) -> SectionId
+        requires { position < length self.now.entries }
+        ensures { number_at position self.now ≡ Some result }
+    {
+        self.table.id_at(position)
     }
 
     /// The section of that number, or `None` where none has it. Takes constant time.

@@ -1,7 +1,7 @@
 -- The sections and items of another store, behind those of a store.
 use Rattle.std.proofs.Common.{◌≡◌, ℕ, zero, suc, ◌+◌, ◌-◌, ◌<◌, ◌≤◌, ◌^◌, Bool, true, false, List, [], ◌∷◌, ◌++◌, length, map, Option, Some, None, Result, Ok, Err, inl, inr, IsErrOf, refl, ap, sym, subst, ◌∙◌, arith, append_assoc, length-append}
 use Rattle.std.proofs.lemmas.List.{length-map}
-use Rattle.std.specs.Prelude.{if◌then◌else◌, ◌||◌, ◌⊎◌, OnErr, OnOk}
+use Rattle.std.specs.Prelude.{if◌then◌else◌, ◌||◌, ◌⊎◌, IfErr, OnErr, OnOk}
 use Rattle.std.specs.List.{last_or, list_all, slice_get, AllByRecursion, AllZip}
 use Rattle.gitconf_text.specs.Bytes.{fold}
 use Rattle.gitconf_text.specs.Header.{name_of, subsection_of, PlainHeader}
@@ -334,3 +334,12 @@ two_err (Err e) f p q = f p q
 -- where neither cause is there, the refusal isn't that one
 pub neither : {T : Type 0} {P Q : Type 0} (r : Result T ℕ) → (IsErrOf r 3 → ⊥) → (P → ⊥) → (Q → ⊥) → (IsErrOf r 3 → P ⊎ Q) × (P ⊎ Q → IsErrOf r 3)
 neither r other first second = (λ is. absurd (other is), λ either. absurd (elim either [ inl p ↦ first p | inr q ↦ second q ]))
+
+-- what went well was not refused
+pub not_refused : {T : Type 0} (r : Result T ℕ) (t : T) → r ≡ Ok t → IsErrOf r 3 → ⊥
+not_refused r t ok err = absurd (cc)
+
+-- want of memory is another refusal
+pub not_memory : {T : Type 0} (r : Result T ℕ) → IfErr r (λ e. e ≡ 27) → IsErrOf r 3 → ⊥
+not_memory (Ok t) memory err = absurd (cc)
+not_memory (Err e) memory err = let is : e ≡ 3 = cc in omega (arith, memory, is)

@@ -1,6 +1,6 @@
 -- Sections found by their numbers, and taken out.
-use Rattle.std.proofs.Common.{◌≡◌, ◌==◌, ℕ, Bool, true, false, List, [], ◌∷◌, map, Option, Some, None, Result, Ok, Err, refl, ap, sym, subst, ◌∙◌, inl, inr}
-use Rattle.std.specs.Prelude.{not, ◌&&◌, ◌⊎◌, filter, find, IsErr}
+use Rattle.std.proofs.Common.{◌≡◌, ◌==◌, ℕ, zero, suc, Bool, true, false, List, [], ◌∷◌, map, Option, Some, None, Result, Ok, Err, refl, ap, sym, subst, ◌∙◌, inl, inr}
+use Rattle.std.specs.Prelude.{not, ◌&&◌, ◌⊎◌, filter, find, slice_get, IsErr}
 use Rattle.std.specs.List.{AllByRecursion, last_or}
 use Rattle.std.specs.Option.{option_map}
 use Rattle.std.proofs.lemmas.Bool.{eqb-true}
@@ -72,6 +72,24 @@ pub numbered_viewed : (id : ℕ) (buffer copies lent others : List ℕ) (front :
     → StoreFits buffer copies front meta sections → section_of id sections ≡ Some s → IsViewed lent others s
 numbered_viewed id buffer copies lent others front meta sections s same alike fits found =
     rw (same, alike) (found_viewed id buffer copies sections.entries s fits.sections_within fits.items.sections found)
+
+-- the section at a place, in the table and in the state
+pub place_shown : (buffer : List ℕ) (es : List (SectionEntry Section)) (at id : ℕ) (s : Section) → option_map (λ e. e.section) (slice_get es at) ≡ Some s → option_map (λ e. e.number) (slice_get es at) ≡ Some id
+    → slice_get (map (section_state buffer) es) at ≡ Some (section_under buffer id s)
+place_shown buffer [] at id s here number = absurd (cc)
+place_shown buffer (e ∷ es) zero id s here number =
+    let same : e.section ≡ s = cc in
+    let under : e.number ≡ id = cc in
+    λ i. Some (section_under buffer (under i) (same i))
+place_shown buffer (e ∷ es) (suc at) id s here number = place_shown buffer es at id s here number
+
+pub place_viewed : (buffer copies lent others : List ℕ) (es : List (SectionEntry Section)) (at : ℕ) (s : Section) → lent ≡ buffer → others ≡ copies → AllByRecursion (SectionFits buffer copies) es
+    → AllByRecursion HasSectionItems (map (section_state buffer) es) → option_map (λ e. e.section) (slice_get es at) ≡ Some s → IsViewed lent others s
+place_viewed buffer copies lent others [] at s same alike fits has here = absurd (cc)
+place_viewed buffer copies lent others (e ∷ es) zero s same alike fits has here =
+    let is : e.section ≡ s = cc in
+    rw (same, alike) (subst (IsViewed buffer copies) is (viewed buffer copies e fits.0 has.0))
+place_viewed buffer copies lent others (e ∷ es) (suc at) s same alike fits has here = place_viewed buffer copies lent others es at s same alike fits.1 has.1 here
 
 -- without it
 pub without_shown : (id : ℕ) (buffer : List ℕ) (es : List (SectionEntry Section))

@@ -8,4 +8,5 @@ pub mod RenameErrors
 pub mod Renamings
 pub mod NewSections
 pub mod Appends
+pub mod Gathering
 pub mod LeavingOut

@@ -2,6 +2,7 @@
 #![tactic(auto)]
 
 mod equality;
+pub mod gathering;
 mod headings;
 pub mod laws;
 pub mod rename_section;

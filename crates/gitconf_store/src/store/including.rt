@@ -1,15 +1,68 @@
 //! Another file put into a file that includes it.
-ghost use Rattle.std.specs.Prelude.{◌≡◌, ◌⊎◌, ◌↔◌, ◌+◌, ◌<◌, ◌≤◌, ◌^◌, length, IfErr, IsErrOf, OnErr, OnOk};
+ghost use Rattle.std.specs.Prelude.{◌≡◌, ◌⊎◌, ◌↔◌, ◌+◌, ◌<◌, ◌≤◌, ◌^◌, [], is_some, length, option_map, slice_get, Some, IfErr, IsErrOf, OnErr, OnOk};
 ghost use Rattle.gitconf_text.specs.LineEnds.{bytes_of_line_end};
+ghost use Rattle.gitconf_items.specs.Items.{tokens_in};
+ghost use Rattle.gitconf_write.specs.LineEnds.{first_newline, first_newline_of_bodies};
+ghost use Rattle.gitconf_views.specs.Views.{shown};
 ghost use Rattle.gitconf_table.specs.Sections.{no_number};
 ghost use Rattle.gitconf_state.specs.Edit.{with_used};
 ghost use Rattle.gitconf_store.specs.Appends.{bytes_at, included};
 
 use crate::store::Store;
+use gitconf_finding::tokens;
+use gitconf_table::runs::Run;
 use gitconf_text::line_end::LineEnd;
 use gitconf_text::parse::span;
+use gitconf_views::section::SectionRef;
+use gitconf_write::line_end::first_line_end;
 
 impl Store {
+    /// How many sections there are.
+    pub(crate) fn section_count(&self) -> usize
+        ensures { result ≡ length self.now.sections }
+    {
+        self.sections.len()
+    }
+
+    /// No runs yet. Takes no memory.
+    pub(crate) fn no_runs(&self) -> Vec<Run>
+        ensures { result.items ≡ [] }
+    {
+        Vec::new(*self.buffer.allocator())
+    }
+
+    /// The section at a place.
+    pub(crate) fn section_at(&self, position: usize) -> SectionRef<'_>
+        requires { position < length self.now.sections }
+        ensures { slice_get self.now.sections position ≡ Some (shown result) }
+    {
+        let section = self.sections.at(position);
+        SectionRef {
+            alloc: section.alloc,
+            buffer: &self.buffer,
+            copies: &self.copies,
+            id: self.sections.id_at(position),
+            header: section.header,
+            meta: section.meta,
+            items: section.items,
+            held: section.held,
+        }
+    }
+
+    /// Whether the front has a newline.
+    pub(crate) fn front_tells(&self) -> bool
+        ensures { result ≡ is_some (first_newline (tokens_in self.now.front)) }
+    {
+        first_line_end(&self.buffer, &self.front).is_some()
+    }
+
+    /// The line end of the first newline of the sections' bodies, if there is one.
+    pub(crate) fn bodies_line_end(&self) -> Option<LineEnd>
+        ensures { option_map bytes_of_line_end result ≡ first_newline_of_bodies self.now.sections }
+    {
+        tokens::bodies_line_end(self.sections())
+    }
+
     /// Puts the sections of another file behind all others, in their order and under the next numbers, and holds its front behind the
     /// section at a place; the line end goes between where items are held there that don't end with one, and the other's don't begin with
     /// one. The time is linear in the other file.

@@ -89,6 +89,33 @@ impl Store {
         }
     }
 
+    /// Asks whether [`Store::put_at`] may put another file behind ours, and answers the line end that then goes between; no bytes where none
+    /// goes there. Takes no memory.
+    ///
+    /// # Errors
+    ///
+    /// A [`span::Error`], number 3, exactly where [`Store::put_at`] has it.
+    pub(crate) fn check_put(
+        &self,
+        at: usize,
+        line_end: LineEnd,
+        other: &Store,
+    ) -> Result<&'static [u8], span::Error>
+        requires { at ≤ length self.now.sections - 1 }
+        ensures bytes { IfOk result (λ line. line.now ≡ line_at at (bytes_of_line_end line_end) other.now self.now) }
+        ensures short { IfOk result (λ line. length line.now ≤ 2) }
+        ensures too_large { IsErrOf result 3
+            ↔ ((2 ^ 32 ≤ self.now.used + bytes_at at (bytes_of_line_end line_end) other.now self.now) ⊎ (no_number < self.now.next + length other.now.sections)) }
+        ensures known { IfErr result (λ e. e ≡ 3) }
+    {
+        if self.sections.numbers_left() < other.sections.len() {
+            return Err(span::Error::too_large());
+        }
+        let line_end = self.line_at(at, line_end, other);
+        check_room(&self.buffer, line_end.len() + other.buffer.len())?;
+        Ok(line_end)
+    }
+
     /// Puts the sections of another file behind all others, in their order and under the next numbers. The other's front is held behind the
     /// section at a place, or joins our front where we have no section; the line end goes between where there are items that don't end with
     /// one, and the other's don't begin with one.
@@ -115,11 +142,7 @@ impl Store {
         ensures grown { self.new.used ≤ self.old.used + bytes_at at (bytes_of_line_end line_end) other self.old }
         ensures known { IfErr result (λ e. (e ≡ 3) ⊎ (e ≡ 27)) }
     {
-        if self.sections.numbers_left() < other.sections.len() {
-            return Err(span::Error::too_large());
-        }
-        let line_end = self.line_at(at, line_end, &other);
-        check_room(&self.buffer, line_end.len() + other.buffer.len())?;
+        let line_end = self.check_put(at, line_end, &other)?;
         let by = (self.buffer.len() + line_end.len()) as u32;
         let copies_by = copies_before(&self.copies, &other.copies)?;
         let Store {

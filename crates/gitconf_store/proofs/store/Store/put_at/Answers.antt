@@ -1,4 +1,4 @@
-use Rattle.std.proofs.Common.{rules, ◌≡◌, ◌+◌, ◌-◌, ◌<◌, ◌≤◌, ◌^◌, [], ◌++◌, length, ap, sym, subst, ◌∙◌, arith, append-nil, length-append, IsErrOf}
+use Rattle.std.proofs.Common.{rules, ◌≡◌, ◌+◌, ◌-◌, ◌<◌, ◌≤◌, ◌^◌, [], ◌++◌, length, ap, sym, subst, ◌∙◌, arith, append-nil, length-append, inl, inr, IsErrOf}
 use Rattle.std.proofs.lemmas.List.{length-map}
 use Rattle.gitconf_table.specs.Sections.{no_number}
 use Rattle.gitconf_state.specs.State.{State}
@@ -7,7 +7,7 @@ use Rattle.gitconf_items.specs.Moves.{AreItemsMoved}
 use Rattle.gitconf_text.specs.LineEnds.{bytes_of_line_end}
 use Rattle.gitconf_store.specs.Appends.{bytes_at, line_at, put_at}
 use Rattle.gitconf_joining.specs.Moves.{AreSectionsMoved}
-use Rattle.gitconf_store.proofs.AppendedFiles.{by_result, moved_count, movable, neither, put_fits, put_state, same_fits, same_state, two_err}
+use Rattle.gitconf_store.proofs.AppendedFiles.{by_result, moved_count, movable, neither, not_refused, put_fits, put_state, same_fits, same_state, two_err}
 use Rattle.gitconf_store.proofs.Appending.{items_up, two_ok}
 use Rattle.gitconf_store.proofs.Making.{longer_fits, longer_state}
 use Rattle.gitconf_views.proofs.Outcomes.{if_err_at_all}
@@ -30,23 +30,23 @@ pub move_front-requires : goal.move_front-requires
 move_front-requires c =
     let b = c.self.inside.buffer.items in
     let theirs = c.other.inside.buffer.items in
-    let bytes = c.line_at-line_end.result.now in
+    let bytes = c.in_ok-line_end.line_end.now in
     let is : c.put_bytes.new.buffer.items ≡ (b ++ bytes) ++ theirs = search rules in
-    let by : c.len-3.result ≡ length b = search rules in
+    let by : c.len.result ≡ length b = search rules in
     let room = c.put_bytes.ensures.grows.room in
-    items_up (length theirs) (4294967295 - (c.len-3.result + length bytes)) (let l = ap length is in let k = length-append (b ++ bytes) theirs in let m = length-append b bytes in omega (arith, l, k, m, by, room))
+    items_up (length theirs) (4294967295 - (c.len.result + length bytes)) (let l = ap length is in let k = length-append (b ++ bytes) theirs in let m = length-append b bytes in omega (arith, l, k, m, by, room))
     c.other.inside.front.items c.other.invariant.front_within
 
 pub move_sections-requires : goal.move_sections-requires
 move_sections-requires c =
     let b = c.self.inside.buffer.items in
     let theirs = c.other.inside.buffer.items in
-    let bytes = c.line_at-line_end.result.now in
+    let bytes = c.in_ok-line_end.line_end.now in
     let is : c.put_bytes.new.buffer.items ≡ (b ++ bytes) ++ theirs = search rules in
-    let by : c.len-3.result ≡ length b = search rules in
+    let by : c.len.result ≡ length b = search rules in
     let room = c.put_bytes.ensures.grows.room in
     let copied : length c.other.inside.copies.items ≤ 4294967295 - c.in_ok-copies_by.copies_by = search rules in
-    movable theirs c.other.inside.copies.items (c.len-3.result + length bytes) c.in_ok-copies_by.copies_by
+    movable theirs c.other.inside.copies.items (c.len.result + length bytes) c.in_ok-copies_by.copies_by
     (let l = ap length is in let k = length-append (b ++ bytes) theirs in let m = length-append b bytes in omega (arith, l, k, m, by, room)) copied
     c.other.inside.sections.entries c.other.invariant.sections_within
 
@@ -57,17 +57,17 @@ invariant_of-self-2 c =
     let b = here.buffer.items in
     let copies = here.copies.items in
     let theirs = there.buffer.items in
-    let bytes = c.line_at-line_end.result.now in
+    let bytes = c.in_ok-line_end.line_end.now in
     let new = c.put_bytes.new.buffer.items in
     let more = c.put_bytes.new.copies.items in
     let is : new ≡ (b ++ bytes) ++ theirs = search rules in
     let are : more ≡ copies ++ there.copies.items = search rules in
-    let by : c.len-3.result + length bytes ≡ length (b ++ bytes) = (let l : c.len-3.result ≡ length b = search rules in let m = length-append b bytes in omega (arith, l, m)) in
+    let by : c.len.result + length bytes ≡ length (b ++ bytes) = (let l : c.len.result ≡ length b = search rules in let m = length-append b bytes in omega (arith, l, m)) in
     let copies_by : c.in_ok-copies_by.copies_by ≡ length copies = search rules in
-    let told = c.line_at-line_end.ensures.bytes ∙ (λ i. line_at c.args.at (bytes_of_line_end c.args.line_end) (sym c.other.view_is i) (sym c.self.view_is i)) in
+    let told = c.in_ok-line_end.ensures.bytes ∙ (λ i. line_at c.args.at (bytes_of_line_end c.args.line_end) (sym c.other.view_is i) (sym c.self.view_is i)) in
     let front_moved = subst (λ n. AreItemsMoved n there.front.items c.move_front.new.front.items) by c.move_front.ensures in
     let moved : AreSectionsMoved (length (b ++ bytes)) (length copies) there.sections c.move_sections.new.sections = subst (λ n. AreSectionsMoved n (length copies) there.sections c.move_sections.new.sections) by
-    (subst (λ m. AreSectionsMoved (c.len-3.result + length bytes) m there.sections c.move_sections.new.sections) copies_by c.move_sections.ensures) in
+    (subst (λ m. AreSectionsMoved (c.len.result + length bytes) m there.sections c.move_sections.new.sections) copies_by c.move_sections.ensures) in
     let stands = c.in_ok-line.ensures.line in
     by_result c.put_behind.result
     (λ front put. put_fits c.args.at c.args.line_end b bytes theirs copies there.copies.items new more here.front.items there.front.items c.move_front.new.front.items here.meta.value there.meta.value
@@ -82,17 +82,17 @@ returns-clause-ok c =
     let b = here.buffer.items in
     let copies = here.copies.items in
     let theirs = there.buffer.items in
-    let bytes = c.line_at-line_end.result.now in
+    let bytes = c.in_ok-line_end.line_end.now in
     let new = c.put_bytes.new.buffer.items in
     let more = c.put_bytes.new.copies.items in
     let is : new ≡ (b ++ bytes) ++ theirs = search rules in
     let are : more ≡ copies ++ there.copies.items = search rules in
-    let by : c.len-3.result + length bytes ≡ length (b ++ bytes) = (let l : c.len-3.result ≡ length b = search rules in let m = length-append b bytes in omega (arith, l, m)) in
+    let by : c.len.result + length bytes ≡ length (b ++ bytes) = (let l : c.len.result ≡ length b = search rules in let m = length-append b bytes in omega (arith, l, m)) in
     let copies_by : c.in_ok-copies_by.copies_by ≡ length copies = search rules in
-    let told = c.line_at-line_end.ensures.bytes ∙ (λ i. line_at c.args.at (bytes_of_line_end c.args.line_end) (sym c.other.view_is i) (sym c.self.view_is i)) in
+    let told = c.in_ok-line_end.ensures.bytes ∙ (λ i. line_at c.args.at (bytes_of_line_end c.args.line_end) (sym c.other.view_is i) (sym c.self.view_is i)) in
     let front_moved = subst (λ n. AreItemsMoved n there.front.items c.move_front.new.front.items) by c.move_front.ensures in
     let moved : AreSectionsMoved (length (b ++ bytes)) (length copies) there.sections c.move_sections.new.sections = subst (λ n. AreSectionsMoved n (length copies) there.sections c.move_sections.new.sections) by
-    (subst (λ m. AreSectionsMoved (c.len-3.result + length bytes) m there.sections c.move_sections.new.sections) copies_by c.move_sections.ensures) in
+    (subst (λ m. AreSectionsMoved (c.len.result + length bytes) m there.sections c.move_sections.new.sections) copies_by c.move_sections.ensures) in
     two_ok c.put_behind.result
     (λ front put. put_state c.args.at c.args.line_end b bytes theirs copies there.copies.items new more here.front.items there.front.items c.move_front.new.front.items here.meta.value there.meta.value
     here.sections there.sections c.move_sections.new.sections c.put_behind.new.sections c.in_ok-line.line is are c.self.invariant c.other.invariant told c.in_ok-line.ensures.line front_moved moved c.put_behind.new.front.items front put
@@ -111,29 +111,22 @@ pub returns-in_err-line-clause-too_large : goal.returns-in_err-line-clause-too_l
 returns-in_err-line-clause-too_large c =
     let used = ap (λ (s : State). s.used) c.self.view_is in
     let theirs = ap (λ (s : State). s.used) c.other.view_is in
-    let next = ap (λ (s : State). s.next) c.self.view_is in
-    let count : length c.other.inside.sections.entries ≡ length c.args.other.sections = sym (length-map c.other.inside.sections.entries (section_state c.other.inside.buffer.items)) ∙ ap (λ (s : State). length s.sections) c.other.view_is in
-    let bytes = ap length c.line_at-line_end.ensures.bytes in
-    let lent = ap length c.deref.ensures.value in
+    let bytes = ap length c.in_ok-line_end.ensures.bytes in
     let no_room : (2 ^ 32 ≤ c.args.self.now.used + bytes_at c.args.at (bytes_of_line_end c.args.line_end) c.args.other c.args.self.now) → ⊥ =
-    λ passed. absurd (let fault = c.in_ok-check_room.ensures.too_large.1 (omega (arith, passed, used, theirs, bytes, lent, c.len-2.ensures)) in cc) in
+    λ passed. not_refused c.check_put.result c.in_ok-line_end.line_end c.in_ok-line_end.was (c.check_put.ensures.too_large.1 (inl passed)) in
     let no_numbers : (no_number < c.args.self.now.next + length c.args.other.sections) → ⊥ =
-    λ passed. absurd (omega (arith, passed, next, count, c.if-numbers_left-len.false, c.numbers_left.ensures, c.len.ensures)) in
+    λ passed. not_refused c.check_put.result c.in_ok-line_end.line_end c.in_ok-line_end.was (c.check_put.ensures.too_large.1 (inr passed)) in
     let same : IsErrOf c.from_residual-in_err-line.result 3 → IsErrOf c.put_bytes.result 3 = search rules in
     let other = ap length c.deref-2.ensures.value in
     neither c.from_residual-in_err-line.result (λ fault. no_room (let passed = c.put_bytes.ensures.grows.too_large (same fault) in omega (arith, passed, used, theirs, bytes, other))) no_room no_numbers
 
 pub returns-clause-too_large : goal.returns-clause-too_large
 returns-clause-too_large c =
-    let used = ap (λ (s : State). s.used) c.self.view_is in
-    let theirs = ap (λ (s : State). s.used) c.other.view_is in
     let next = ap (λ (s : State). s.next) c.self.view_is in
     let count : length c.other.inside.sections.entries ≡ length c.args.other.sections = sym (length-map c.other.inside.sections.entries (section_state c.other.inside.buffer.items)) ∙ ap (λ (s : State). length s.sections) c.other.view_is in
-    let bytes = ap length c.line_at-line_end.ensures.bytes in
-    let lent = ap length c.deref.ensures.value in
     let no_room : (2 ^ 32 ≤ c.args.self.now.used + bytes_at c.args.at (bytes_of_line_end c.args.line_end) c.args.other c.args.self.now) → ⊥ =
-    λ passed. absurd (let fault = c.in_ok-check_room.ensures.too_large.1 (omega (arith, passed, used, theirs, bytes, lent, c.len-2.ensures)) in cc) in
+    λ passed. not_refused c.check_put.result c.in_ok-line_end.line_end c.in_ok-line_end.was (c.check_put.ensures.too_large.1 (inl passed)) in
     let no_numbers : (no_number < c.args.self.now.next + length c.args.other.sections) → ⊥ =
-    λ passed. absurd (omega (arith, passed, next, count, c.if-numbers_left-len.false, c.numbers_left.ensures, c.len.ensures)) in
-    let moved = moved_count (c.len-3.result + length c.line_at-line_end.result.now) c.in_ok-copies_by.copies_by c.other.inside.sections.entries c.move_sections.new.sections.entries c.move_sections.ensures.entries in
+    λ passed. not_refused c.check_put.result c.in_ok-line_end.line_end c.in_ok-line_end.was (c.check_put.ensures.too_large.1 (inr passed)) in
+    let moved = moved_count (c.len.result + length c.in_ok-line_end.line_end.now) c.in_ok-copies_by.copies_by c.other.inside.sections.entries c.move_sections.new.sections.entries c.move_sections.ensures.entries in
     neither c.put_behind.result (λ fault. no_numbers (let passed = c.put_behind.ensures.numbers fault in omega (arith, passed, next, count, moved))) no_room no_numbers

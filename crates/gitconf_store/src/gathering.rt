@@ -1,0 +1,177 @@
+//! A file while what it includes is put in.
+ghost use Rattle.std.specs.Prelude.{◌≡◌, ◌==◌, ◌-◌, ◌≤◌, ◌||◌, if◌then◌else◌, is_some, None, option_map};
+ghost use Rattle.gitconf_text.specs.LineEnds.{bytes_of_line_end};
+ghost use Rattle.gitconf_write.specs.LineEnds.{first_newline_of_bodies};
+
+use crate::store::Store;
+use gitconf_finding::walks::SectionsByName;
+use gitconf_table::runs::Run;
+use gitconf_text::line_end::LineEnd;
+use gitconf_text::parse::span;
+use gitconf_views::section::SectionRef;
+use gitconf_write::line_end::first_line_end;
+use std::marker::Model;
+
+/// A file whose sections are visited one by one, with what others put in behind each; so what is put in goes behind all that is done, and
+/// the sections that were put in are not visited. Nothing goes into the middle before the end: the sections of the beginning stand in a
+/// store, and behind them all that were put in, and runs tell their order.
+#[derive(Drop)]
+pub struct Gathering {
+    store: Store,
+    /// How many sections the file had at the beginning.
+    count: usize,
+    /// How many of these were visited.
+    at: usize,
+    /// The order of all that is done: of each run so many of the beginning, and then so many that were put in.
+    runs: Vec<Run>,
+    /// How many were visited behind the last run.
+    ahead: usize,
+    /// The place of the section that stands last of all that are done.
+    last: usize,
+    /// The line end that the file uses.
+    line_end: LineEnd,
+    /// Whether what is done tells it.
+    told: bool,
+}
+
+impl Model for Gathering {
+    ghost use Rattle.gitconf_store.specs.Gathering.{gathered, Gathered, GatheringFits};
+
+    ghost Value = { Gathered };
+
+    ghost view = { λ g. gathered g.count g.at g.runs.items g.store };
+
+    ghost invariant = { λ g. GatheringFits g.count g.at g.ahead g.last g.runs.items g.line_end g.told g.store };
+}
+
+/// The line end that another file's sections tell, where what is done tells none.
+fn newly_told(told: bool, other: &Store) -> Option<LineEnd>
+    ensures { option_map bytes_of_line_end result ≡ (if told then None else first_newline_of_bodies other.now.sections) }
+{
+    if told { None } else { other.bodies_line_end() }
+}
+
+/// Whether a line end is told, where it was, or is found.
+fn is_told(told: bool, found: Option<LineEnd>) -> bool
+    ensures { result ≡ (told || is_some found) }
+{
+    told || found.is_some()
+}
+
+/// The place of the section that stands last, where so many were put in behind all others.
+fn last_place(last: usize, long: usize, count: usize) -> usize
+    requires { count ≤ long }
+    ensures { result ≡ (if count == 0 then last else long - 1) }
+{
+    if count == 0 { last } else { long - 1 }
+}
+
+impl Gathering {
+    ghost use Rattle.std.specs.Prelude.{◌≡◌, ◌⊎◌, ◌↔◌, ◌<◌, [], ◌∷◌, Bool, false, length, option_map, slice_get, IfErr, IfSome, IsErrOf, IsNone, OnErr, OnOk};
+    ghost use Rattle.std.specs.List.{list_any};
+    ghost use Rattle.gitconf_finding.specs.Walks.{by_name_left, with_name};
+    ghost use Rattle.gitconf_state.specs.Edit.{with_used};
+    ghost use Rattle.gitconf_state.specs.Including.{has_room, spliced, visited, whole, with_sections};
+    ghost use Rattle.gitconf_state.specs.State.{SectionState};
+    ghost use Rattle.gitconf_views.specs.Views.{shown};
+
+    /// A file of which nothing is done. Takes no memory, and a walk up to the first newline.
+    pub fn of(store: Store) -> Gathering
+        ensures { result ≡ record { done = with_sections [] store; rest = store.sections } }
+    {
+        Gathering {
+            count: store.section_count(),
+            at: 0,
+            runs: store.no_runs(),
+            ahead: 0,
+            last: 0,
+            line_end: store.line_end(),
+            told: store.front_tells(),
+            store,
+        }
+    }
+
+    /// The first of the sections that are still to be visited; `None` where all are done. Takes constant time, and no memory.
+    pub fn next_section(&self) -> Option<SectionRef<'_>>
+        ensures { option_map shown result ≡ slice_get self.now.rest 0 }
+    {
+        if self.at < self.count {
+            Some(self.store.section_at(self.at))
+        } else {
+            None
+        }
+    }
+
+    /// Takes the next section to what is done. Takes no memory, and a walk over the section up to its first newline.
+    pub fn advance(&mut self)
+        requires { 0 < length self.old.rest }
+        ensures { (s : SectionState) × (self.old.rest ≡ s ∷ self.new.rest) × (self.new.done ≡ visited self.old.done s) }
+    {
+        let section = self.store.section_at(self.at);
+        let told = is_told(self.told, first_line_end(section.buffer, section.items));
+        self.told = told;
+        self.last = self.at;
+        self.at += 1;
+        self.ahead += 1;
+    }
+
+    /// Puts another file behind all that is done, and holds its front behind the last section that is done, with a line end between where
+    /// one is needed. The time is linear in the other file.
+    ///
+    /// # Errors
+    ///
+    /// A [`span::Error`]: number 3 exactly where the buffer would be longer than 4294967295 bytes or fewer numbers are left than the other
+    /// has sections, before any growth, and else 27 for want of memory. The other is then dropped, and the file as it was, but that its
+    /// buffer may have grown.
+    pub fn include(&mut self, other: Gathering) -> Result<(), span::Error>
+        requires { 0 < length self.old.done.sections }
+        ensures ok { OnOk result (self.new ≡ record { done = spliced (whole other.done other.rest) self.old.rest self.old.done; rest = self.old.rest }) }
+        ensures err { OnErr result (self.new ≡ record { done = with_used self.new.done.used self.old.done; rest = self.old.rest }) }
+        ensures too_large { IsErrOf result 3 ↔ (has_room (whole other.done other.rest) self.old.rest self.old.done ≡ false) }
+        ensures known { IfErr result (λ e. (e ≡ 3) ⊎ (e ≡ 27)) }
+    {
+        let other = other.into_store();
+        self.store.check_put(self.last, self.line_end, &other)?;
+        self.runs.reserve(1)?;
+        let count = other.section_count();
+        let found = newly_told(self.told, &other);
+        self.store.include(self.last, self.line_end, other)?;
+        let run = Run {
+            ahead: self.ahead,
+            count,
+        };
+        self.runs.push_reserved(run);
+        self.ahead = 0;
+        self.last = last_place(self.last, self.store.section_count(), count);
+        self.line_end = found.unwrap_or(self.line_end);
+        self.told = is_told(self.told, found);
+        Ok(())
+    }
+
+    /// The sections of the whole file, as it stands, that have the name, without ASCII case, and any subsection, in some order; `None` where
+    /// there is none. They are found by an index: constant time but for the bytes of the names, and no memory.
+    pub fn sections_by_name<'a, 'n>(&'a self, name: &'n str) -> Option<SectionsByName<'a, 'n>>
+        ensures none { IsNone result → (p : SectionState → Bool) → list_any p (with_name name.now (whole self.now.done self.now.rest).sections) ≡ false }
+        ensures some { IfSome result (λ it. (p : SectionState → Bool) → list_any p (by_name_left it) ≡ list_any p (with_name name.now (whole self.now.done self.now.rest).sections)) }
+    {
+        self.store.sections_by_name(name)
+    }
+
+    /// The whole file. Takes no memory, and time for all sections as [`Store::weave`] does.
+    pub fn into_store(self) -> Store
+        ensures { result ≡ whole self.done self.rest }
+    {
+        let Gathering {
+            mut store,
+            count,
+            at: _,
+            runs,
+            ahead: _,
+            last: _,
+            line_end: _,
+            told: _,
+        } = self;
+        store.weave(count, &runs);
+        store
+    }
+}
