@@ -17,6 +17,7 @@ pub mod PassingPlaces
 pub mod RenamingAll
 pub mod Appending
 pub mod AppendedFiles
+pub mod GatheredLists
 pub mod Gathered
 pub mod Trusting
 pub mod HeaderBytes

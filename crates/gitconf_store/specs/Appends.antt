@@ -1,6 +1,5 @@
 -- What an append of another file puts into the buffer of a file.
 use Rattle.std.specs.Prelude.{◌≡◌, ℕ, ◌+◌, List, [], ◌∷◌, ◌++◌, length, Option, Some, None, slice_get}
-use Rattle.std.specs.List.{last_or}
 use Rattle.gitconf_text.specs.Part as parts
 use Rattle.gitconf_table.specs.Sections.{SectionEntry}
 use Rattle.gitconf_items.specs.declared.event.Span.{Span}

@@ -1,6 +1,6 @@
 -- A file under expansion, as it is kept: the sections of the beginning in order, and behind them all that were put in, in the order in
 -- which they came. Runs tell the order that they have in the file.
-use Rattle.std.specs.Prelude.{◌≡◌, ℕ, ◌+◌, ◌-◌, ◌<◌, ◌≤◌, Bool, List, [], ◌∷◌, ◌++◌, length, take, drop, is_some}
+use Rattle.std.specs.Prelude.{◌≡◌, ℕ, ◌+◌, ◌-◌, ◌<◌, ◌≤◌, Bool, List, [], ◌∷◌, length, take, drop, is_some}
 use Rattle.std.specs.Option.{option_or}
 use Rattle.gitconf_table.specs.declared.runs.Run.{Run}
 use Rattle.gitconf_table.specs.Runs.{total, weave, AreRuns}

@@ -1,5 +1,5 @@
 //! Another file put into a file that includes it.
-ghost use Rattle.std.specs.Prelude.{◌≡◌, ◌⊎◌, ◌↔◌, ◌+◌, ◌<◌, ◌≤◌, ◌^◌, [], is_some, length, option_map, slice_get, Some, IfErr, IsErrOf, OnErr, OnOk};
+ghost use Rattle.std.specs.Prelude.{◌≡◌, ◌⊎◌, ◌↔◌, ◌+◌, ◌<◌, ◌≤◌, ◌^◌, is_some, length, option_map, slice_get, Some, IfErr, IsErrOf, OnErr, OnOk};
 ghost use Rattle.gitconf_text.specs.LineEnds.{bytes_of_line_end};
 ghost use Rattle.gitconf_items.specs.Items.{tokens_in};
 ghost use Rattle.gitconf_write.specs.LineEnds.{first_newline, first_newline_of_bodies};
@@ -10,11 +10,11 @@ ghost use Rattle.gitconf_store.specs.Appends.{bytes_at, included};
 
 use crate::store::Store;
 use gitconf_finding::tokens;
-use gitconf_table::runs::Run;
 use gitconf_text::line_end::LineEnd;
 use gitconf_text::parse::span;
 use gitconf_views::section::SectionRef;
 use gitconf_write::line_end::first_line_end;
+use std::alloc::Global;
 
 impl Store {
     /// How many sections there are.
@@ -24,11 +24,9 @@ impl Store {
         self.sections.len()
     }
 
-    /// No runs yet. Takes no memory.
-    pub(crate) fn no_runs(&self) -> Vec<Run>
-        ensures { result.items ≡ [] }
-    {
-        Vec::new(*self.buffer.allocator())
+    /// Where its memory comes from.
+    pub(crate) fn alloc(&self) -> Global {
+        *self.buffer.allocator()
     }
 
     /// The section at a place.

@@ -1,4 +1,4 @@
-use Rattle.std.proofs.Common.{◌≡◌, ◌<◌, length, ap, sym, subst, ◌∙◌}
+use Rattle.std.proofs.Common.{◌<◌, length, ap, sym, subst, ◌∙◌}
 use Rattle.std.specs.Prelude.{◌||◌, is_some}
 use Rattle.gitconf_text.specs.LineEnds.{bytes_of_line_end}
 use Rattle.gitconf_state.specs.Including.{visited}

@@ -1,13 +1,13 @@
-use Rattle.std.proofs.Common.{rules, ◌≡◌, ◌==◌, ◌+◌, ◌-◌, ◌<◌, ◌≤◌, [], ◌∷◌, ◌++◌, length, ap, sym, subst, ◌∙◌, arith, IsErrOf}
-use Rattle.std.specs.Prelude.{if◌then◌else◌, ◌||◌, is_some, IfErr}
-use Rattle.std.specs.Option.{unwrap_or}
+use Rattle.std.proofs.Common.{rules, ◌≡◌, ◌==◌, ◌-◌, ◌<◌, [], ◌∷◌, ◌++◌, length, ap, sym, subst, ◌∙◌, arith, IsErrOf}
+use Rattle.std.specs.Prelude.{if◌then◌else◌, IfErr}
 use Rattle.gitconf_text.specs.LineEnds.{bytes_of_line_end}
 use Rattle.gitconf_state.specs.Including.{spliced, whole}
 use Rattle.gitconf_state.specs.State.{State}
 use Rattle.gitconf_store.specs.Appends.{included}
 use Rattle.gitconf_store.specs.Gathering.{gathered, Gathered, GatheringFits}
 use Rattle.gitconf_store.proofs.AppendedFiles.{not_memory, not_refused}
-use Rattle.gitconf_store.proofs.Gathered.{included_fits, included_state, long, room_is, run}
+use Rattle.gitconf_store.proofs.Gathered.{included_fits, included_state, long, room_is}
+use Rattle.gitconf_store.proofs.GatheredLists.{run}
 use Rattle.gitconf_store.proofs.gathering.Gathering.include.Goals as goal
 
 pub returns-in_err-check_put-clause-too_large : goal.returns-in_err-check_put-clause-too_large

@@ -1,10 +1,10 @@
-use Rattle.std.proofs.Common.{◌≡◌, ◌++◌, Bool, ap, sym, ◌∙◌}
+use Rattle.std.proofs.Common.{◌++◌, ap, sym, ◌∙◌}
 use Rattle.std.specs.List.{list_any}
-use Rattle.gitconf_finding.specs.Walks.{by_name_left, with_name}
+use Rattle.gitconf_finding.specs.Walks.{with_name}
 use Rattle.gitconf_state.specs.Lookup.{has_name, listing}
-use Rattle.gitconf_state.specs.State.{SectionState}
 use Rattle.gitconf_store.specs.Gathering.{Gathered}
-use Rattle.gitconf_store.proofs.Gathered.{any_kept, if_some}
+use Rattle.gitconf_store.proofs.Gathered.{if_some}
+use Rattle.gitconf_store.proofs.GatheredLists.{any_kept}
 use Rattle.gitconf_store.proofs.gathering.Gathering.sections_by_name.Goals as goal
 
 pub returns-clause-none : goal.returns-clause-none
