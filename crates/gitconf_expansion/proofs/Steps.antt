@@ -133,6 +133,10 @@ one_deeper (suc left) asks parent old r some is = subst (λ n. Wanting old r ⊎
     one : suc left - 1 ≡ left
     one = omega arith
 
+-- memory was wanting before anything was visited
+pub expands_wanting : (left : ℕ) (asks : Asks) (parent : Option State) (old : State) → left ≢ 0 → Expands left asks parent old (Ended 27 old)
+expands_wanting left asks parent old some = one_deeper left asks parent old (Ended 27 old) some (inl refl)
+
 -- all sections of a file in which nothing is done are to be visited
 pub expands : (left : ℕ) (asks : Asks) (parent : Option State) (done : State) (rest : List SectionState) (r : Reached) → left ≢ 0 → done.sections ≡ []
     → Visits (Expands (left - 1) asks) asks parent rest done r → Expands left asks parent (whole done rest) r

@@ -1,0 +1,2 @@
+pub mod UrlLemmas
+pub mod Made

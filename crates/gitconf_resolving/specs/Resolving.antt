@@ -1,8 +1,11 @@
 -- A file that is made of bytes, and then expanded.
 use Rattle.std.specs.Prelude.{◌≡◌, ℕ, List, Option, None, Result, Ok, Err}
 use Rattle.gitconf_base.specs.Metadata.{Meta}
+use Rattle.gitconf_includes.specs.declared.init.Error.{Error}
+use Rattle.gitconf_includes.specs.Errors.{init_number}
 use Rattle.gitconf_state.specs.State.{State}
 use Rattle.gitconf_expansion.specs.Expansion.{Asks, Ended, Expands, IsLoadOf, On, Reached}
+use Rattle.gitconf_expansion.specs.Outcomes.{CountsFault}
 
 -- a call makes the expanded file, or refuses by that number
 abbrev pub Makes : {E : Type 0} → (number : E → ℕ) → Result State E → Reached → Type 0
@@ -20,3 +23,8 @@ MakesOf number asks (Err e) (Err n) = n ≡ number e
 -- the text is loaded, and then expanded
 abbrev pub IsMadeOf : {E : Type 0} → (number : E → ℕ) → Asks → (text : List ℕ) → Meta → Result State E → Type 0
 IsMadeOf number asks text place result = (loaded : Result State ℕ) × IsLoadOf asks.rules.lossy text place loaded × MakesOf number asks result loaded
+
+-- how often a host's files failed in such a call, as in one that resolves includes
+abbrev pub MakesCounted : {T : Type 0} → Result T Error → (old new : Option ℕ) → Type 0
+MakesCounted (Ok made) old new = new ≡ old
+MakesCounted (Err e) old new = CountsFault (init_number e) old new

@@ -32,10 +32,7 @@ pub(crate) struct Expansion {
 /// # Errors
 ///
 /// Want of memory.
-fn directive(
-    section: &SectionRef<'_>,
-    condition: Option<BString>,
-) -> Result<Directive, NoMemory>
+fn directive(section: &SectionRef<'_>, condition: Option<BString>) -> Result<Directive, NoMemory>
     ensures condition { IfOk result (λ d. d.condition ≡ condition) }
     ensures paths { IfOk result (λ d. map bstring_bytes d.paths.items ≡ paths_of (shown section.now)) }
     ensures meta { IfOk result (λ d. d.meta.value ≡ (shown section.now).meta) }

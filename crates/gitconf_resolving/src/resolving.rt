@@ -3,7 +3,7 @@ ghost use Rattle.std.specs.Prelude.{◌≡◌, None};
 ghost use Rattle.gitconf_includes.specs.Errors.{includes_number, init_number};
 ghost use Rattle.gitconf_expansion.specs.Expansion.{Expands, Leaves, Reached};
 ghost use Rattle.gitconf_expansion.specs.Outcomes.{asks_of, CountsFaults};
-ghost use Rattle.gitconf_resolving.specs.Resolving.{IsMadeOf};
+ghost use Rattle.gitconf_resolving.specs.Resolving.{IsMadeOf, MakesCounted};
 
 use crate::expansion::{Expansion, load};
 use gitconf_base::meta::Metadata;
@@ -61,9 +61,15 @@ pub fn resolved_text<F: Files>(
 ) -> Result<Store, init::Error>
     ensures made { IsMadeOf init_number (asks_of options.now (F.table files.old)) text.items meta.value result }
     ensures table { F.table files.new ≡ F.table files.old }
+    ensures counted { MakesCounted result (F.failures files.old) (F.failures files.new) }
 {
     let store = load(alloc, text, options.lossy, meta)?;
     let Resolved { store, result } = resolve(alloc, files, options, store);
-    result?;
-    Ok(store)
+    match result {
+        Ok(()) => Ok(store),
+        Err(refused) => {
+            drop(store);
+            Err(init::Error::from(refused))
+        }
+    }
 }

@@ -82,7 +82,7 @@ impl Gathering {
         Gathering {
             count: store.section_count(),
             at: 0,
-            runs: Vec::new(store.alloc()),
+            runs: Vec::new(store.allocator()),
             ahead: 0,
             last: 0,
             line_end: store.line_end(),

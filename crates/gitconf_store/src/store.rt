@@ -284,6 +284,11 @@ impl Store {
         &self.meta
     }
 
+    /// Where memory for what the store keeps comes from.
+    pub fn allocator(&self) -> Global {
+        *self.buffer.allocator()
+    }
+
     /// The same metadata as [`Store::meta`], shared.
     ///
     /// # Errors

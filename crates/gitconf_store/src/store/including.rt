@@ -14,7 +14,6 @@ use gitconf_text::line_end::LineEnd;
 use gitconf_text::parse::span;
 use gitconf_views::section::SectionRef;
 use gitconf_write::line_end::first_line_end;
-use std::alloc::Global;
 
 impl Store {
     /// How many sections there are.
@@ -22,11 +21,6 @@ impl Store {
         ensures { result ≡ length self.now.sections }
     {
         self.sections.len()
-    }
-
-    /// Where its memory comes from.
-    pub(crate) fn alloc(&self) -> Global {
-        *self.buffer.allocator()
     }
 
     /// The section at a place.

@@ -16,7 +16,7 @@ impl File {
     ghost use Rattle.gitconf_expansion.specs.Expansion.{Resolves};
     ghost use Rattle.gitconf_expansion.specs.Outcomes.{asks_of, CountsFaults};
     ghost use Rattle.gitconf_includes.specs.Errors.{includes_number, init_number};
-    ghost use Rattle.gitconf_resolving.specs.Resolving.{IsMadeOf};
+    ghost use Rattle.gitconf_resolving.specs.Resolving.{IsMadeOf, MakesCounted};
 
     /// Reads the files that the file's sections include, and puts each, with what it includes itself, behind the section that includes it: its
     /// sections in their order under the next numbers, and what stands before its first section held behind the section before. Of an
@@ -53,5 +53,30 @@ impl File {
         let Resolved { store, result } = resolve(alloc, &mut host.files, &options, store);
         drop(replace(&mut self.store, store));
         result
+    }
+
+    /// The file that a text is, with the metadata that it and each of its sections get, and with what it includes as
+    /// [`File::resolve_includes`] puts it in. The text is handed over. A lossy load leaves out blanks, comments and line ends, of included files
+    /// too.
+    ///
+    /// # Errors
+    ///
+    /// 1 and 2 where the parser refuses the text, and those of [`File::resolve_includes`]; 15 too where `max_depth` is 0 and the options ask for
+    /// it, whatever the text says.
+    pub fn from_bytes_owned(
+        alloc: Global,
+        text: Vec<u8>,
+        meta: Rc<Metadata>,
+        options: Options<'_>,
+        host: &mut Host,
+    ) -> Result<File, Error>
+        ensures made { IsMadeOf init_number (asks_of options.entry (⟦<Box<dyn Files> as Files>⟧.table host.old.files)) text.items meta.value result }
+        ensures table { ⟦<Box<dyn Files> as Files>⟧.table host.new.files ≡ ⟦<Box<dyn Files> as Files>⟧.table host.old.files }
+        ensures counted { MakesCounted result (⟦<Box<dyn Files> as Files>⟧.failures host.old.files) (⟦<Box<dyn Files> as Files>⟧.failures host.new.files) }
+        ensures env { host.new.env ≡ host.old.env }
+        ensures places { host.new.places ≡ host.old.places }
+    {
+        let store = resolved_text(alloc, &mut host.files, &options, text, meta)?;
+        Ok(File { store })
     }
 }
