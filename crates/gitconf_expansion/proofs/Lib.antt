@@ -1,5 +1,6 @@
 pub mod Fetching
 pub mod Keeping
+pub mod Nothing
 pub mod OnePath
 pub mod OwnSections
 pub mod Says

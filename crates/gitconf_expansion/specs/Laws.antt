@@ -1,10 +1,13 @@
 -- What an expansion keeps of a file.
-use Rattle.std.specs.Prelude.{◌≡◌, ◌⊎◌, ℕ, ltb, List, [], ◌∷◌, map, filter, Option, Some, None, Ok, Result}
+use Rattle.std.specs.Prelude.{◌≡◌, ℕ, ltb, List, [], map, filter, Ok, Err, Result}
 use Rattle.std.specs.List.{AllByRecursion}
 use Rattle.gitconf_text.specs.Document.{IsText, gathered}
 use Rattle.gitconf_text.specs.Part.{Part}
 use Rattle.gitconf_host.specs.Told.{FileTold, read_of}
 use Rattle.gitconf_host.specs.declared.fault.FileFault.{FileFault}
+use Rattle.gitconf_includes.specs.declared.includes.Error.{Error}
+use Rattle.gitconf_includes.specs.Errors.{includes_number}
+use Rattle.gitconf_state.specs.Edit.{with_used}
 use Rattle.gitconf_state.specs.State.{SectionState, State}
 use Rattle.gitconf_expansion.specs.Expansion.{Reached, On, Ended}
 use Rattle.gitconf_expansion.specs.Inclusion.{inclusion, NoInclude}
@@ -31,6 +34,11 @@ pub record IsKept (old new : State) : Type 0 where
 -- no section includes anything
 abbrev pub IncludesNothing : State → Type 0
 IncludesNothing state = AllByRecursion (λ s. inclusion s ≡ NoInclude) state.sections
+
+-- a file is as it was; or memory was wanting, and its buffer may have grown
+abbrev pub IsAsItWas : Result Unit Error → (old new : State) → Type 0
+IsAsItWas (Ok done) old new = new ≡ old
+IsAsItWas (Err e) old new = (includes_number e ≡ 27) × (new ≡ with_used new.used old)
 
 -- no text that stands at a path has an entry before its first section
 abbrev pub AreHeaded : (files : List ℕ → FileTold) → Type 0

@@ -1,10 +1,12 @@
 //! What holds of expansions, for all files and sources of files: each law is a function that does nothing.
-ghost use Rattle.std.specs.Prelude.{◌≡◌, ◌⊎◌, ℕ, List, Option, Some};
+ghost use Rattle.std.specs.Prelude.{◌≡◌, ◌⊎◌, ℕ, suc, List, Option, Result, Some};
 ghost use Rattle.gitconf_host.specs.Told.{FileTold};
+ghost use Rattle.gitconf_includes.specs.declared.includes.Error.{Error};
+ghost use Rattle.gitconf_includes.specs.Errors.{includes_number};
 ghost use Rattle.gitconf_state.specs.Clean.{IsClean};
 ghost use Rattle.gitconf_state.specs.State.{AreNumbered, HasItems, State};
-ghost use Rattle.gitconf_expansion.specs.Expansion.{Asks, Ended, Expands, On, Reached};
-ghost use Rattle.gitconf_expansion.specs.Laws.{file_of, AreHeaded, IncludesNothing, IsKept};
+ghost use Rattle.gitconf_expansion.specs.Expansion.{Asks, Ended, Expands, On, Reached, Resolves};
+ghost use Rattle.gitconf_expansion.specs.Laws.{file_of, AreHeaded, IncludesNothing, IsAsItWas, IsKept};
 
 /// Whatever the outcome, a file's own sections stay in their order, under their numbers and from where they came, and so do its front and
 /// where it comes from itself; only items held behind sections may be more.
@@ -22,4 +24,11 @@ pub fn expansions_keep_items()
 pub fn expansions_stay_clean()
     ensures { (files : List ℕ → FileTold) (left : ℕ) (asks : Asks) (parent : Option State) (old : State) (r : Reached) → asks.table ≡ Some files → AreHeaded files → IsClean old
         → Expands left asks parent old r → IsClean (file_of r) }
+{}
+
+/// A file none of whose sections includes anything is left as it is, or memory was wanting. An expansion that may go no level deep is not
+/// meant: it may be refused.
+pub fn nothing_is_included()
+    ensures expanded { (left : ℕ) (asks : Asks) (parent : Option State) (old : State) (r : Reached) → IncludesNothing old → Expands (suc left) asks parent old r → (r ≡ On old) ⊎ (r ≡ Ended 27 old) }
+    ensures resolved { (asks : Asks) (old new : State) (result : Result Unit Error) → IncludesNothing old → Resolves includes_number asks old result new → IsAsItWas result old new }
 {}
