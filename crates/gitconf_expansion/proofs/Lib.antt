@@ -1,6 +1,7 @@
 pub mod Fetching
 pub mod Keeping
 pub mod Nothing
+pub mod Numbers
 pub mod OnePath
 pub mod OwnSections
 pub mod Says

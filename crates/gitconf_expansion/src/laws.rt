@@ -4,7 +4,7 @@ ghost use Rattle.gitconf_host.specs.Told.{FileTold};
 ghost use Rattle.gitconf_includes.specs.declared.includes.Error.{Error};
 ghost use Rattle.gitconf_includes.specs.Errors.{includes_number};
 ghost use Rattle.gitconf_state.specs.Clean.{IsClean};
-ghost use Rattle.gitconf_state.specs.State.{AreNumbered, HasItems, State};
+ghost use Rattle.gitconf_state.specs.State.{AreNumbered, HasItems, IsState, State};
 ghost use Rattle.gitconf_expansion.specs.Expansion.{Asks, Ended, Expands, On, Reached, Resolves};
 ghost use Rattle.gitconf_expansion.specs.Laws.{file_of, AreHeaded, IncludesNothing, IsAsItWas, IsKept};
 
@@ -17,6 +17,17 @@ pub fn own_sections_stay()
 /// An expansion of a file whose items are such as a text may have has such items, whatever the outcome.
 pub fn expansions_keep_items()
     ensures { (left : ℕ) (asks : Asks) (parent : Option State) (old : State) (r : Reached) → HasItems old → Expands left asks parent old r → HasItems (file_of r) }
+{}
+
+/// An expansion gives no number twice, and none that a section had before.
+pub fn expansions_keep_numbers()
+    ensures { (left : ℕ) (asks : Asks) (parent : Option State) (old : State) (r : Reached) → AreNumbered old.next old.sections → Expands left asks parent old r → AreNumbered (file_of r).next (file_of r).sections }
+{}
+
+/// What holds of every file that was loaded or edited holds of it expanded too, whatever the outcome: its items are such as a text may have,
+/// no number was given twice, and the greatest was not given.
+pub fn expansions_keep_states()
+    ensures { (left : ℕ) (asks : Asks) (parent : Option State) (old : State) (r : Reached) → IsState old → Expands left asks parent old r → IsState (file_of r) }
 {}
 
 /// A clean file stays clean, whatever the outcome, where no text that may be included has an entry before its first section: so what is
