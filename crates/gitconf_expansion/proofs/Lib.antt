@@ -1,3 +1,4 @@
+pub mod Behind
 pub mod Fetching
 pub mod Keeping
 pub mod Nothing

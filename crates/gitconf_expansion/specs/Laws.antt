@@ -1,8 +1,9 @@
 -- What an expansion keeps of a file.
-use Rattle.std.specs.Prelude.{◌≡◌, ℕ, ltb, List, [], map, filter, Ok, Err, Result}
+use Rattle.std.specs.Prelude.{◌≡◌, ◌<◌, ℕ, ltb, true, false, List, [], ◌∷◌, Option, Some, None, map, filter, Ok, Err, Result}
 use Rattle.std.specs.List.{AllByRecursion}
 use Rattle.gitconf_text.specs.Document.{IsText, gathered}
 use Rattle.gitconf_text.specs.Part.{Part}
+use Rattle.gitconf_base.specs.Metadata.{Meta}
 use Rattle.gitconf_host.specs.Told.{FileTold, read_of}
 use Rattle.gitconf_host.specs.declared.fault.FileFault.{FileFault}
 use Rattle.gitconf_includes.specs.declared.includes.Error.{Error}
@@ -30,6 +31,26 @@ pub record IsKept (old new : State) : Type 0 where
   pub front : new.front ≡ old.front
   pub meta : new.meta ≡ old.meta
   pub sections : own_sections old.next new.sections ≡ map unheld old.sections
+
+-- Where a section comes from that an include of a section from there put in, itself or further down: of the same source and trust, and of a
+-- greater level.
+pub record IsIncludedBy (from meta : Meta) : Type 0 where
+  pub source : meta.source ≡ from.source
+  pub trust : meta.trust ≡ from.trust
+  pub level : from.level < meta.level
+
+abbrev pub IsBehind : (own : Option Meta) → (meta : Meta) → Type 0
+IsBehind None meta = ⊥
+IsBehind (Some from) meta = IsIncludedBy from meta
+
+-- Sections with numbers below that are a file's own. Each other one was put in: it stands behind an own one, and an include of the nearest own
+-- one before it put it in. The last own one before all these comes from there, if there is one.
+abbrev pub StandBehind : (below : ℕ) → (own : Option Meta) → List SectionState → Type 0
+StandBehind below own [] = Unit {0}
+StandBehind below own (s ∷ sections) = elim (ltb s.number below) [
+  | true ↦ StandBehind below (Some s.meta) sections
+  | false ↦ IsBehind own s.meta × StandBehind below own sections
+]
 
 -- no section includes anything
 abbrev pub IncludesNothing : State → Type 0

@@ -1,17 +1,22 @@
 //! What holds of expansions, for all files and sources of files: each law is a function that does nothing.
-ghost use Rattle.std.specs.Prelude.{◌≡◌, ◌⊎◌, ℕ, suc, List, Option, Result, Some};
+ghost use Rattle.std.specs.Prelude.{◌≡◌, ◌⊎◌, ℕ, suc, List, None, Option, Result, Some};
 ghost use Rattle.gitconf_host.specs.Told.{FileTold};
 ghost use Rattle.gitconf_includes.specs.declared.includes.Error.{Error};
 ghost use Rattle.gitconf_includes.specs.Errors.{includes_number};
 ghost use Rattle.gitconf_state.specs.Clean.{IsClean};
 ghost use Rattle.gitconf_state.specs.State.{AreNumbered, HasItems, IsState, State};
 ghost use Rattle.gitconf_expansion.specs.Expansion.{Asks, Ended, Expands, On, Reached, Resolves};
-ghost use Rattle.gitconf_expansion.specs.Laws.{file_of, AreHeaded, IncludesNothing, IsAsItWas, IsKept};
+ghost use Rattle.gitconf_expansion.specs.Laws.{file_of, AreHeaded, IncludesNothing, IsAsItWas, IsKept, StandBehind};
 
 /// Whatever the outcome, a file's own sections stay in their order, under their numbers and from where they came, and so do its front and
 /// where it comes from itself; only items held behind sections may be more.
 pub fn own_sections_stay()
     ensures { (left : ℕ) (asks : Asks) (parent : Option State) (old : State) (r : Reached) → AreNumbered old.next old.sections → Expands left asks parent old r → IsKept old (file_of r) }
+{}
+
+/// Each section that was put in stands behind one of the file's own, whose source and trust it has, with a greater level.
+pub fn included_sections_stand_behind()
+    ensures { (left : ℕ) (asks : Asks) (parent : Option State) (old : State) (r : Reached) → AreNumbered old.next old.sections → Expands left asks parent old r → StandBehind old.next None (file_of r).sections }
 {}
 
 /// An expansion of a file whose items are such as a text may have has such items, whatever the outcome.
