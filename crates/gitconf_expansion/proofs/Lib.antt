@@ -1,6 +1,7 @@
 pub mod Behind
 pub mod Fetching
 pub mod Keeping
+pub mod Lossy
 pub mod Nothing
 pub mod Numbers
 pub mod OnePath

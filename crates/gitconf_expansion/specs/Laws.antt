@@ -1,5 +1,5 @@
 -- What an expansion keeps of a file.
-use Rattle.std.specs.Prelude.{◌≡◌, ◌<◌, ℕ, ltb, true, false, List, [], ◌∷◌, Option, Some, None, map, filter, Ok, Err, Result}
+use Rattle.std.specs.Prelude.{◌≡◌, ◌<◌, ℕ, ltb, Bool, true, false, List, [], ◌∷◌, Option, Some, None, map, filter, Ok, Err, Result}
 use Rattle.std.specs.List.{AllByRecursion}
 use Rattle.gitconf_text.specs.Document.{IsText, gathered}
 use Rattle.gitconf_text.specs.Part.{Part}
@@ -9,8 +9,10 @@ use Rattle.gitconf_host.specs.declared.fault.FileFault.{FileFault}
 use Rattle.gitconf_includes.specs.declared.includes.Error.{Error}
 use Rattle.gitconf_includes.specs.Errors.{includes_number}
 use Rattle.gitconf_state.specs.Edit.{with_used}
-use Rattle.gitconf_state.specs.State.{SectionState, State}
-use Rattle.gitconf_expansion.specs.Expansion.{Reached, On, Ended}
+use Rattle.gitconf_includes.specs.Rules.{Rules}
+use Rattle.gitconf_state.specs.Lookup.{listed}
+use Rattle.gitconf_state.specs.State.{entries_of, SectionState, State}
+use Rattle.gitconf_expansion.specs.Expansion.{Asks, Reached, On, Ended}
 use Rattle.gitconf_expansion.specs.Inclusion.{inclusion, NoInclude}
 
 -- the file that stands behind an outcome
@@ -64,3 +66,21 @@ IsAsItWas (Err e) old new = (includes_number e ≡ 27) × (new ≡ with_used new
 -- no text that stands at a path has an entry before its first section
 abbrev pub AreHeaded : (files : List ℕ → FileTold) → Type 0
 AreHeaded files = (path text : List ℕ) (parts : List Part) → ◌≡◌ {A = Result (List ℕ) FileFault} (read_of (files path)) (Ok text) → IsText text parts → (gathered parts).front ≡ []
+
+-- Files say the same: their fronts have the same entries, and their sections the same numbers, the same documents, and come from the same
+-- places; and the next section gets the same number.
+pub record SayTheSame (one other : State) : Type 0 where
+  pub front : entries_of one.front ≡ entries_of other.front
+  pub sections : listed one ≡ listed other
+  pub next : one.next ≡ other.next
+
+-- the same of files that include others, or of none
+abbrev pub ParentsSayTheSame : (one other : Option State) → Type 0
+ParentsSayTheSame None None = Unit {0}
+ParentsSayTheSame None (Some other) = ⊥
+ParentsSayTheSame (Some one) None = ⊥
+ParentsSayTheSame (Some one) (Some other) = SayTheSame one other
+
+-- by these rules and files, with all of each included file, or with what has a meaning alone
+abbrev pub asks_with : (lossy : Bool) → Rules → (files : List ℕ → FileTold) → Asks
+asks_with lossy rules files = record { rules = record rules { lossy = lossy }; table = Some files }

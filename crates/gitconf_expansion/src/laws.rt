@@ -1,12 +1,13 @@
 //! What holds of expansions, for all files and sources of files: each law is a function that does nothing.
-ghost use Rattle.std.specs.Prelude.{◌≡◌, ◌⊎◌, ℕ, suc, List, None, Option, Result, Some};
+ghost use Rattle.std.specs.Prelude.{◌≡◌, ◌⊎◌, ℕ, suc, true, false, List, None, Option, Result, Some};
 ghost use Rattle.gitconf_host.specs.Told.{FileTold};
 ghost use Rattle.gitconf_includes.specs.declared.includes.Error.{Error};
 ghost use Rattle.gitconf_includes.specs.Errors.{includes_number};
+ghost use Rattle.gitconf_includes.specs.Rules.{Rules};
 ghost use Rattle.gitconf_state.specs.Clean.{IsClean};
-ghost use Rattle.gitconf_state.specs.State.{AreNumbered, HasItems, IsState, State};
+ghost use Rattle.gitconf_state.specs.State.{document_of, AreNumbered, HasItems, IsState, State};
 ghost use Rattle.gitconf_expansion.specs.Expansion.{Asks, Ended, Expands, On, Reached, Resolves};
-ghost use Rattle.gitconf_expansion.specs.Laws.{file_of, AreHeaded, IncludesNothing, IsAsItWas, IsKept, StandBehind};
+ghost use Rattle.gitconf_expansion.specs.Laws.{file_of, AreHeaded, IncludesNothing, asks_with, IsAsItWas, IsKept, ParentsSayTheSame, SayTheSame, StandBehind};
 
 /// Whatever the outcome, a file's own sections stay in their order, under their numbers and from where they came, and so do its front and
 /// where it comes from itself; only items held behind sections may be more.
@@ -47,4 +48,13 @@ pub fn expansions_stay_clean()
 pub fn nothing_is_included()
     ensures expanded { (left : ℕ) (asks : Asks) (parent : Option State) (old : State) (r : Reached) → IncludesNothing old → Expands (suc left) asks parent old r → (r ≡ On old) ⊎ (r ≡ Ended 27 old) }
     ensures resolved { (asks : Asks) (old new : State) (result : Result Unit Error) → IncludesNothing old → Resolves includes_number asks old result new → IsAsItWas result old new }
+{}
+
+/// A lossy expansion says what one does that keeps all, where both go on: of files that say the same, and so of one file. Where one is refused
+/// nothing is said, since what is left out takes no room.
+pub fn lossy_expansions_say_the_same()
+    ensures same { (rules : Rules) (files : List ℕ → FileTold) (left : ℕ) (parent other_parent : Option State) (old other full lossy : State) → ParentsSayTheSame parent other_parent → SayTheSame old other
+        → Expands left (asks_with false rules files) parent old (On full) → Expands left (asks_with true rules files) other_parent other (On lossy) → SayTheSame full lossy }
+    ensures document { (rules : Rules) (files : List ℕ → FileTold) (left : ℕ) (parent : Option State) (old full lossy : State)
+        → Expands left (asks_with false rules files) parent old (On full) → Expands left (asks_with true rules files) parent old (On lossy) → document_of full ≡ document_of lossy }
 {}
