@@ -1,12 +1,11 @@
 -- An included file that is fetched.
-use Rattle.std.proofs.Common.{rules, ◌≡◌, ◌≢◌, ◌⊎◌, ℕ, ◌==◌, Bool, true, false, List, Option, Some, None, Result, Ok, Err, inl, inr, refl, sym, ap, ◌∙◌, subst}
+use Rattle.std.proofs.Common.{◌≡◌, ◌≢◌, ◌⊎◌, ℕ, ◌==◌, Bool, true, false, List, Option, Some, None, Result, Ok, Err, inl, inr, refl, sym, ap, ◌∙◌, subst}
 use Rattle.std.specs.Prelude.{IfSome, IsErrAnd}
 use Rattle.std.proofs.lemmas.Bool.{eqb-true}
 use Rattle.std.specs.declared.vec.Vec.{Vec}
 use Rattle.gitconf_base.specs.Metadata.{Meta}
 use Rattle.gitconf_host.specs.Told.{FileTold, IsReadOf, read_of}
 use Rattle.gitconf_host.specs.declared.fault.FileFault.{FileFault}
-use Rattle.gitconf_host.specs.declared.fault.Stage.TheVariants.{Memory}
 use Rattle.gitconf_includes.specs.declared.includes.Error.{Error}
 use Rattle.gitconf_includes.specs.Errors.{include_of_parse, includes_number}
 use Rattle.gitconf_parse.specs.EventResult.{IsRefused}

@@ -1,5 +1,10 @@
+pub mod Behind
+pub mod ExpansionRows
 pub mod Fetching
 pub mod Keeping
+pub mod Lossy
+pub mod Nothing
+pub mod Numbers
 pub mod OnePath
 pub mod OwnSections
 pub mod Says

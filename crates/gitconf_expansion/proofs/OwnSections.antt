@@ -1,18 +1,17 @@
 -- A file's own sections stay.
-use Rattle.std.proofs.Common.{◌≡◌, ℕ, ◌+◌, ◌<◌, ◌≤◌, ltb, Bool, true, false, List, [], ◌∷◌, ◌++◌, length, Option, refl, sym, ap, ◌∙◌, arith, append-nil}
+use Rattle.std.proofs.Common.{◌≡◌, ℕ, ◌+◌, ◌≤◌, ltb, Bool, true, false, List, [], ◌∷◌, ◌++◌, Option, refl, sym, ap, ◌∙◌, arith, append-nil}
 use Rattle.std.specs.Prelude.{map, filter}
 use Rattle.std.proofs.lemmas.List.{map-append}
 use Rattle.std.proofs.lemmas.List.Elements.{filter-append}
 use Rattle.std.proofs.lemmas.Bool.{le-ltb, lt-ltb}
 use Rattle.gitconf_text.specs.Part.{Item}
-use Rattle.gitconf_base.specs.Metadata.{Meta}
 use Rattle.gitconf_state.specs.Edits.{held_behind_last, numbered_from}
 use Rattle.gitconf_state.specs.Including.{spliced, whole}
 use Rattle.gitconf_state.specs.LineEnds.{file_line_end}
 use Rattle.gitconf_state.specs.State.{AreNumbered, SectionState, State}
-use Rattle.gitconf_expansion.specs.Expansion.{Asks, Deeper, Expands, Reached}
+use Rattle.gitconf_expansion.specs.Expansion.{Asks, Expands, Reached}
 use Rattle.gitconf_expansion.specs.Laws.{file_of, own_sections, unheld, IsKept}
-use Rattle.gitconf_expansion.proofs.Keeping.{expansion, Keeps}
+use Rattle.gitconf_expansion.proofs.Keeping.{expansion}
 
 own_append : (below : ℕ) (xs ys : List SectionState) → own_sections below (xs ++ ys) ≡ own_sections below xs ++ own_sections below ys
 own_append below xs ys = ap (map unheld) (filter-append (λ s. ltb s.number below) xs ys) ∙ map-append unheld (filter (λ s. ltb s.number below) xs) (filter (λ s. ltb s.number below) ys)
@@ -65,6 +64,6 @@ put_in old other rest done stays = record {
 
 pub stay : (left : ℕ) (asks : Asks) (parent : Option State) (old : State) (r : Reached) → AreNumbered old.next old.sections → Expands left asks parent old r → IsKept old (file_of r)
 stay left asks parent old r numbered expands =
-    let stays = expansion (Stays old) (λ _. Unit {0}) asks (λ deeper other rest done kept holds. put_in old other rest done kept) (λ n from path other parent full fetched is. tt) left parent old r
+    let stays = expansion (Stays old) (λ _. Unit {0}) asks (λ other rest done room kept holds. put_in old other rest done kept) (λ n from path other parent full fetched is. tt) left parent old r
     (record { next = omega arith; front = refl; meta = refl; sections = own_all old.next old.sections numbered }) expands in
     record { front = stays.front; meta = stays.meta; sections = stays.sections }

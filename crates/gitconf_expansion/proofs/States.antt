@@ -1,7 +1,6 @@
 -- Expansions of states are states, and those of clean ones are clean.
-use Rattle.std.proofs.Common.{◌≡◌, ℕ, suc, ◌+◌, ◌<◌, ◌≤◌, ◌==◌, Bool, true, false, not, List, [], ◌∷◌, ◌++◌, length, Option, Some, Result, Ok, Err, refl, sym, ap, subst, ◌∙◌, arith, append_assoc}
+use Rattle.std.proofs.Common.{◌≡◌, ℕ, ◌==◌, Bool, true, false, not, List, [], ◌∷◌, ◌++◌, Option, Some, Result, Ok, Err, refl, sym, ap, subst, ◌∙◌}
 use Rattle.std.specs.List.{AllByRecursion}
-use Rattle.std.proofs.lemmas.Bool.{eqb-true}
 use Rattle.gitconf_text.specs.Document.{IsText, gathered}
 use Rattle.gitconf_text.specs.Part.{LineEndsItem, Part}
 use Rattle.gitconf_text.specs.Token.{tokens_of}
@@ -15,9 +14,8 @@ use Rattle.gitconf_state.specs.Edits.{held_behind_last, numbered_from}
 use Rattle.gitconf_state.specs.Including.{spliced, whole}
 use Rattle.gitconf_state.specs.LineEnds.{file_line_end}
 use Rattle.gitconf_state.specs.Loads.{IsFullLoad, IsLoad}
-use Rattle.gitconf_state.specs.State.{is_entry, is_item, document_of, entries_of, AreNumbered, HasItems, HasSectionItems, SectionState, State}
+use Rattle.gitconf_state.specs.State.{is_entry, is_item, entries_of, HasItems, HasSectionItems, SectionState, State}
 use Rattle.gitconf_state.proofs.EditItems.{file_line_end_is, one_line_end}
-use Rattle.gitconf_state.proofs.EditNumbers.{behind_last}
 use Rattle.gitconf_state.proofs.EditsKeep.{behind_last_holds, holds_appended, joined_passes, numbered_from_clean, numbered_from_items, without_entries}
 use Rattle.gitconf_state.proofs.LoadingClean.{full_has_items, full_is_clean, kept_has_items, lossy_is_clean}
 use Rattle.gitconf_state.proofs.LoadingDocument as document
@@ -35,7 +33,7 @@ others_hold P [] ys all = all
 others_hold P (x ∷ xs) ys all = others_hold P xs ys all.1
 
 -- a file with items, with another one put in
-items_put_in : (other : State) (rest : List SectionState) (done : State) → HasItems (whole done rest) → HasItems other → HasItems (whole (spliced other rest done) rest)
+pub items_put_in : (other : State) (rest : List SectionState) (done : State) → HasItems (whole done rest) → HasItems other → HasItems (whole (spliced other rest done) rest)
 items_put_in other rest done has more = record {
   front = has.front;
   sections = holds_appended HasSectionItems (held_behind_last line_end other.front done.sections ++ numbered_from done.next other.sections) rest
@@ -94,33 +92,36 @@ loaded_headed true text place state none is =
     record { clean = lossy_is_clean is.0 state is.1.fits load front; front = front }
 
 -- what is fetched was loaded, of a text that the table tells
-fetched_load : (asks : Asks) (from : Meta) (path : List ℕ) (other : State) → IsFetched asks from path (Ok other)
-    → (text : List ℕ) × (place : Meta) × May asks.table (λ told. ◌≡◌ {A = Result (List ℕ) FileFault} (Ok text) (read_of (told path))) × IsLoaded asks.rules.lossy text place other
+pub fetched_load : (asks : Asks) (from : Meta) (path : List ℕ) (other : State) → IsFetched asks from path (Ok other)
+    → (text : List ℕ) × May asks.table (λ told. ◌≡◌ {A = Result (List ℕ) FileFault} (Ok text) (read_of (told path))) × IsLoaded asks.rules.lossy text (included_meta from path) other
 fetched_load asks from path other (Err fault, told, is) = absurd (cc)
-fetched_load asks from path other (Ok text, told, is) = (text, included_meta from path, told, go (from.level == 255) is)
+fetched_load asks from path other (Ok text, told, is) = (text, told, go (from.level == 255) is)
   where
     go : (end : Bool) → elim end as (λ _. Type 0) [ true ↦ ◌≡◌ {A = Result State ℕ} (Ok other) (Err 15) | false ↦ IsLoadOf asks.rules.lossy text (included_meta from path) (Ok other) ]
         → IsLoaded asks.rules.lossy text (included_meta from path) other
     go true is = absurd (cc)
     go false is = is
 
+pub fetched_items : (asks : Asks) (from : Meta) (path : List ℕ) (other : State) → IsFetched asks from path (Ok other) → HasItems other
+fetched_items asks from path other fetched = let load = fetched_load asks from path other fetched in loaded_items asks.rules.lossy load.0 (included_meta from path) other load.2
+
 -- An expansion of a file with items has items.
 pub items_stay : (left : ℕ) (asks : Asks) (parent : Option State) (old : State) (r : Reached) → HasItems old → Expands left asks parent old r → HasItems (file_of r)
 items_stay left asks parent old r has expands =
-    whole_expansion HasItems asks (λ deeper other rest done here more. items_put_in other rest done here more)
-    (λ from path other fetched. let load = fetched_load asks from path other fetched in loaded_items asks.rules.lossy load.0 load.1 other load.3) left parent old r has expands
+    whole_expansion HasItems asks (λ other rest done room here more. items_put_in other rest done here more)
+    (fetched_items asks) left parent old r has expands
 
 -- A clean file stays clean, where no text that may be included has an entry before its first section.
 pub clean_stays : (files : List ℕ → FileTold) (left : ℕ) (asks : Asks) (parent : Option State) (old : State) (r : Reached) → asks.table ≡ Some files → AreHeaded files → IsClean old
     → Expands left asks parent old r → IsClean (file_of r)
 clean_stays files left asks parent old r tells headed clean expands =
-    expansion IsClean IsHeaded asks (λ deeper other rest done here more. clean_put_in other rest done here more)
+    expansion IsClean IsHeaded asks (λ other rest done room here more. clean_put_in other rest done here more)
     (λ n from path other above full fetched deeper. whole_expansion IsHeaded asks
-    (λ below another rest done here more. record { clean = clean_put_in another rest done here.clean more; front = here.front }) loads n (Some above) other (On full) (loads from path other fetched) deeper)
+    (λ another rest done room here more. record { clean = clean_put_in another rest done here.clean more; front = here.front }) loads n (Some above) other (On full) (loads from path other fetched) deeper)
     left parent old r clean expands
   where
     loads : (from : Meta) (path : List ℕ) (other : State) → IsFetched asks from path (Ok other) → IsHeaded other
     loads from path other fetched =
         let load = fetched_load asks from path other fetched in
-        let told = subst (λ (t : Option (List ℕ → FileTold)). May t (λ (files : List ℕ → FileTold). ◌≡◌ {A = Result (List ℕ) FileFault} (Ok load.0) (read_of (files path)))) tells load.2 in
-        loaded_headed asks.rules.lossy load.0 load.1 other (λ parts is. headed path load.0 parts (sym told) is) load.3
+        let told = subst (λ (t : Option (List ℕ → FileTold)). May t (λ (files : List ℕ → FileTold). ◌≡◌ {A = Result (List ℕ) FileFault} (Ok load.0) (read_of (files path)))) tells load.1 in
+        loaded_headed asks.rules.lossy load.0 (included_meta from path) other (λ parts is. headed path load.0 parts (sym told) is) load.2

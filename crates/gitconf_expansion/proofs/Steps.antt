@@ -1,5 +1,5 @@
 -- Steps of an expansion.
-use Rattle.std.proofs.Common.{◌≡◌, ◌≢◌, ◌⊎◌, ℕ, zero, suc, ◌+◌, ◌-◌, ◌<◌, Bool, true, false, List, [], ◌∷◌, ◌++◌, length, if◌then◌else◌, Option, Some, None, Result, Ok, Err, inl, inr, refl, sym, ap, subst, ◌∙◌, arith, append_assoc, append-nil}
+use Rattle.std.proofs.Common.{◌≡◌, ◌≢◌, ◌⊎◌, ℕ, zero, suc, ◌-◌, ◌<◌, Bool, true, false, List, [], ◌∷◌, ◌++◌, length, if◌then◌else◌, Option, Some, None, Result, Ok, Err, inl, inr, refl, sym, ap, subst, ◌∙◌, arith, append_assoc, append-nil}
 use Rattle.std.specs.Prelude.{IsErrAnd}
 use Rattle.std.specs.Option.{unwrap_or}
 use Rattle.gitconf_text.specs.Part.{Item}
@@ -16,7 +16,7 @@ use Rattle.gitconf_expansion.specs.declared.config_file.Directive.{Directive}
 use Rattle.gitconf_expansion.specs.declared.config_file.Visited.{Visited}
 use Rattle.gitconf_expansion.specs.declared.config_file.Visited.TheVariants as visits
 use Rattle.gitconf_expansion.specs.Expansion.{Asks, Deeper, Ended, Expands, Gives, GoesOn, Leaves, On, Reached, Visits, Wanting}
-use Rattle.gitconf_expansion.specs.Inclusion.{Includes, Inclusion, is_followed}
+use Rattle.gitconf_expansion.specs.Inclusion.{Includes, is_followed}
 use Rattle.gitconf_expansion.specs.Outcomes.{LeavesDone, told}
 use Rattle.gitconf_expansion.specs.Visits.{condition_of, paths_of, IsStep, IsVisited}
 

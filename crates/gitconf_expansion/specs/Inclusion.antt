@@ -3,7 +3,7 @@
 use Rattle.std.specs.Prelude.{ℕ, Bool, true, false, List, [], Option, Some, None, Result, Ok, Err, map, filter, flat_map, codes, if◌then◌else◌}
 use Rattle.std.specs.List.{list_any}
 use Rattle.std.specs.Str.{bytes_eq}
-use Rattle.gitconf_text.specs.Header.{Header, name_of, subsection_of}
+use Rattle.gitconf_text.specs.Header.{name_of, subsection_of}
 use Rattle.gitconf_base.specs.Metadata.{Meta}
 use Rattle.gitconf_glob.specs.Pattern.{matches}
 use Rattle.gitconf_state.specs.State.{SectionState, State}

@@ -1,12 +1,18 @@
 -- What an expansion keeps of a file.
-use Rattle.std.specs.Prelude.{◌≡◌, ◌⊎◌, ℕ, ltb, List, [], ◌∷◌, map, filter, Option, Some, None, Ok, Result}
+use Rattle.std.specs.Prelude.{◌≡◌, ◌<◌, ℕ, ltb, Bool, true, false, List, [], ◌∷◌, Option, Some, None, map, filter, Ok, Err, Result}
 use Rattle.std.specs.List.{AllByRecursion}
 use Rattle.gitconf_text.specs.Document.{IsText, gathered}
 use Rattle.gitconf_text.specs.Part.{Part}
+use Rattle.gitconf_base.specs.Metadata.{Meta}
 use Rattle.gitconf_host.specs.Told.{FileTold, read_of}
 use Rattle.gitconf_host.specs.declared.fault.FileFault.{FileFault}
-use Rattle.gitconf_state.specs.State.{SectionState, State}
-use Rattle.gitconf_expansion.specs.Expansion.{Reached, On, Ended}
+use Rattle.gitconf_includes.specs.declared.includes.Error.{Error}
+use Rattle.gitconf_includes.specs.Errors.{includes_number}
+use Rattle.gitconf_state.specs.Edit.{with_used}
+use Rattle.gitconf_includes.specs.Rules.{Rules}
+use Rattle.gitconf_state.specs.Lookup.{listed}
+use Rattle.gitconf_state.specs.State.{entries_of, SectionState, State}
+use Rattle.gitconf_expansion.specs.Expansion.{Asks, Reached, On, Ended}
 use Rattle.gitconf_expansion.specs.Inclusion.{inclusion, NoInclude}
 
 -- the file that stands behind an outcome
@@ -28,10 +34,53 @@ pub record IsKept (old new : State) : Type 0 where
   pub meta : new.meta ≡ old.meta
   pub sections : own_sections old.next new.sections ≡ map unheld old.sections
 
+-- Where a section comes from that an include of a section from there put in, itself or further down: of the same source and trust, and of a
+-- greater level.
+pub record IsIncludedBy (from meta : Meta) : Type 0 where
+  pub source : meta.source ≡ from.source
+  pub trust : meta.trust ≡ from.trust
+  pub level : from.level < meta.level
+
+abbrev pub IsBehind : (own : Option Meta) → (meta : Meta) → Type 0
+IsBehind None meta = ⊥
+IsBehind (Some from) meta = IsIncludedBy from meta
+
+-- Sections with numbers below that are a file's own. Each other one was put in: it stands behind an own one, and an include of the nearest own
+-- one before it put it in. The last own one before all these comes from there, if there is one.
+abbrev pub StandBehind : (below : ℕ) → (own : Option Meta) → List SectionState → Type 0
+StandBehind below own [] = Unit {0}
+StandBehind below own (s ∷ sections) = elim (ltb s.number below) [
+  | true ↦ StandBehind below (Some s.meta) sections
+  | false ↦ IsBehind own s.meta × StandBehind below own sections
+]
+
 -- no section includes anything
 abbrev pub IncludesNothing : State → Type 0
 IncludesNothing state = AllByRecursion (λ s. inclusion s ≡ NoInclude) state.sections
 
+-- a file is as it was; or memory was wanting, and its buffer may have grown
+abbrev pub IsAsItWas : Result Unit Error → (old new : State) → Type 0
+IsAsItWas (Ok done) old new = new ≡ old
+IsAsItWas (Err e) old new = (includes_number e ≡ 27) × (new ≡ with_used new.used old)
+
 -- no text that stands at a path has an entry before its first section
 abbrev pub AreHeaded : (files : List ℕ → FileTold) → Type 0
 AreHeaded files = (path text : List ℕ) (parts : List Part) → ◌≡◌ {A = Result (List ℕ) FileFault} (read_of (files path)) (Ok text) → IsText text parts → (gathered parts).front ≡ []
+
+-- Files say the same: their fronts have the same entries, and their sections the same numbers, the same documents, and come from the same
+-- places; and the next section gets the same number.
+pub record SayTheSame (one other : State) : Type 0 where
+  pub front : entries_of one.front ≡ entries_of other.front
+  pub sections : listed one ≡ listed other
+  pub next : one.next ≡ other.next
+
+-- the same of files that include others, or of none
+abbrev pub ParentsSayTheSame : (one other : Option State) → Type 0
+ParentsSayTheSame None None = Unit {0}
+ParentsSayTheSame None (Some other) = ⊥
+ParentsSayTheSame (Some one) None = ⊥
+ParentsSayTheSame (Some one) (Some other) = SayTheSame one other
+
+-- by these rules and files, with all of each included file, or with what has a meaning alone
+abbrev pub asks_with : (lossy : Bool) → Rules → (files : List ℕ → FileTold) → Asks
+asks_with lossy rules files = record { rules = record rules { lossy = lossy }; table = Some files }

@@ -1,14 +1,13 @@
 -- The outcomes of calls, told by the definitions: what was made, or the number of the refusal.
-use Rattle.std.specs.Prelude.{◌≡◌, ◌⊎◌, ℕ, Bool, true, false, ◌==◌, ◌||◌, List, [], Option, Some, None, Result, Ok, Err, if◌then◌else◌}
+use Rattle.std.specs.Prelude.{◌≡◌, ◌⊎◌, ℕ, true, false, ◌==◌, ◌||◌, List, Option, Result, Ok, Err}
 use Rattle.gitconf_host.specs.Told.{CountsOne, FileTold}
 use Rattle.gitconf_includes.specs.declared.includes.Error.{Error}
 use Rattle.gitconf_includes.specs.declared.init.Options.{Options}
 use Rattle.gitconf_includes.specs.Errors.{includes_number}
 use Rattle.gitconf_includes.specs.Rules.{rules_of}
-use Rattle.gitconf_state.specs.Edit.{with_used}
 use Rattle.gitconf_state.specs.Including.{whole}
 use Rattle.gitconf_state.specs.State.{SectionState, State}
-use Rattle.gitconf_expansion.specs.Expansion.{Asks, Leaves, Reached, On, Ended}
+use Rattle.gitconf_expansion.specs.Expansion.{Asks, Leaves, Reached, On}
 
 -- by the rules of these options, and the table that a host tells
 abbrev pub asks_of : Options → Option (List ℕ → FileTold) → Asks

@@ -1,10 +1,13 @@
 //! What holds of expansions, for all files and sources of files: each law is a function that does nothing.
-ghost use Rattle.std.specs.Prelude.{◌≡◌, ◌⊎◌, ℕ, List, Option, Some};
+ghost use Rattle.std.specs.Prelude.{◌≡◌, ◌⊎◌, ℕ, suc, true, false, List, None, Option, Result, Some};
 ghost use Rattle.gitconf_host.specs.Told.{FileTold};
+ghost use Rattle.gitconf_includes.specs.declared.includes.Error.{Error};
+ghost use Rattle.gitconf_includes.specs.Errors.{includes_number};
+ghost use Rattle.gitconf_includes.specs.Rules.{Rules};
 ghost use Rattle.gitconf_state.specs.Clean.{IsClean};
-ghost use Rattle.gitconf_state.specs.State.{AreNumbered, HasItems, State};
-ghost use Rattle.gitconf_expansion.specs.Expansion.{Asks, Ended, Expands, On, Reached};
-ghost use Rattle.gitconf_expansion.specs.Laws.{file_of, AreHeaded, IncludesNothing, IsKept};
+ghost use Rattle.gitconf_state.specs.State.{document_of, AreNumbered, HasItems, IsState, State};
+ghost use Rattle.gitconf_expansion.specs.Expansion.{Asks, Ended, Expands, On, Reached, Resolves};
+ghost use Rattle.gitconf_expansion.specs.Laws.{file_of, AreHeaded, IncludesNothing, asks_with, IsAsItWas, IsKept, ParentsSayTheSame, SayTheSame, StandBehind};
 
 /// Whatever the outcome, a file's own sections stay in their order, under their numbers and from where they came, and so do its front and
 /// where it comes from itself; only items held behind sections may be more.
@@ -12,9 +15,25 @@ pub fn own_sections_stay()
     ensures { (left : ℕ) (asks : Asks) (parent : Option State) (old : State) (r : Reached) → AreNumbered old.next old.sections → Expands left asks parent old r → IsKept old (file_of r) }
 {}
 
+/// Each section that was put in stands behind one of the file's own, whose source and trust it has, with a greater level.
+pub fn included_sections_stand_behind()
+    ensures { (left : ℕ) (asks : Asks) (parent : Option State) (old : State) (r : Reached) → AreNumbered old.next old.sections → Expands left asks parent old r → StandBehind old.next None (file_of r).sections }
+{}
+
 /// An expansion of a file whose items are such as a text may have has such items, whatever the outcome.
 pub fn expansions_keep_items()
     ensures { (left : ℕ) (asks : Asks) (parent : Option State) (old : State) (r : Reached) → HasItems old → Expands left asks parent old r → HasItems (file_of r) }
+{}
+
+/// An expansion gives no number twice, and none that a section had before.
+pub fn expansions_keep_numbers()
+    ensures { (left : ℕ) (asks : Asks) (parent : Option State) (old : State) (r : Reached) → AreNumbered old.next old.sections → Expands left asks parent old r → AreNumbered (file_of r).next (file_of r).sections }
+{}
+
+/// What holds of every file that was loaded or edited holds of it expanded too, whatever the outcome: its items are such as a text may have,
+/// no number was given twice, and the greatest was not given.
+pub fn expansions_keep_states()
+    ensures { (left : ℕ) (asks : Asks) (parent : Option State) (old : State) (r : Reached) → IsState old → Expands left asks parent old r → IsState (file_of r) }
 {}
 
 /// A clean file stays clean, whatever the outcome, where no text that may be included has an entry before its first section: so what is
@@ -22,4 +41,20 @@ pub fn expansions_keep_items()
 pub fn expansions_stay_clean()
     ensures { (files : List ℕ → FileTold) (left : ℕ) (asks : Asks) (parent : Option State) (old : State) (r : Reached) → asks.table ≡ Some files → AreHeaded files → IsClean old
         → Expands left asks parent old r → IsClean (file_of r) }
+{}
+
+/// A file none of whose sections includes anything is left as it is, or memory was wanting. An expansion that may go no level deep is not
+/// meant: it may be refused.
+pub fn nothing_is_included()
+    ensures expanded { (left : ℕ) (asks : Asks) (parent : Option State) (old : State) (r : Reached) → IncludesNothing old → Expands (suc left) asks parent old r → (r ≡ On old) ⊎ (r ≡ Ended 27 old) }
+    ensures resolved { (asks : Asks) (old new : State) (result : Result Unit Error) → IncludesNothing old → Resolves includes_number asks old result new → IsAsItWas result old new }
+{}
+
+/// A lossy expansion says what one does that keeps all, where both go on: of files that say the same, and so of one file. Where one is refused
+/// nothing is said, since what is left out takes no room.
+pub fn lossy_expansions_say_the_same()
+    ensures same { (rules : Rules) (files : List ℕ → FileTold) (left : ℕ) (parent other_parent : Option State) (old other full lossy : State) → ParentsSayTheSame parent other_parent → SayTheSame old other
+        → Expands left (asks_with false rules files) parent old (On full) → Expands left (asks_with true rules files) other_parent other (On lossy) → SayTheSame full lossy }
+    ensures document { (rules : Rules) (files : List ℕ → FileTold) (left : ℕ) (parent : Option State) (old full lossy : State)
+        → Expands left (asks_with false rules files) parent old (On full) → Expands left (asks_with true rules files) parent old (On lossy) → document_of full ≡ document_of lossy }
 {}

@@ -1,4 +1,4 @@
-use Rattle.std.proofs.Common.{rules, ◌≡◌, Bool, Ok, Result, ap, sym, ◌∙◌, ℕ}
+use Rattle.std.proofs.Common.{Ok, ap, sym, ◌∙◌}
 use Rattle.std.specs.Option.{option_copied, option_map, unwrap_or}
 use Rattle.gitconf_includes.specs.Conditions.{holds, judged}
 use Rattle.gitconf_includes.specs.Rules.{rules_of_includes}

@@ -1,14 +1,12 @@
-use Rattle.std.proofs.Common.{rules, ◌≡◌, ◌⊎◌, ◌-◌, ◌<◌, ℕ, Bool, true, false, List, Option, Some, None, Ok, Err, inl, inr, refl, sym, ap, subst, ◌∙◌, length}
-use Rattle.std.specs.Option.{option_copied, option_map, unwrap_or}
+use Rattle.std.proofs.Common.{rules, ◌≡◌, ◌⊎◌, ◌-◌, ◌<◌, true, Some, None, Ok, Err, refl, sym, ap, subst, ◌∙◌, length}
+use Rattle.std.specs.Option.{option_copied, option_map}
 use Rattle.std.specs.Prelude.{IfSome, string_bytes}
 use Rattle.bstr.specs.Owned.{bstring_bytes}
 use Rattle.gitconf_host.specs.Told.{is_there}
 use Rattle.gitconf_includes.specs.declared.includes.Error.TheVariants as refusals
-use Rattle.gitconf_includes.specs.Errors.{includes_number}
 use Rattle.gitconf_includes.specs.Paths.{file_named}
 use Rattle.gitconf_includes.specs.Rules.{rules_of}
-use Rattle.gitconf_state.specs.Edit.{with_used}
-use Rattle.gitconf_state.specs.Including.{has_room, whole}
+use Rattle.gitconf_state.specs.Including.{whole}
 use Rattle.gitconf_state.specs.State.{State}
 use Rattle.gitconf_expansion.specs.Expansion.{Ended, Expands, Gives, IsFetched, On}
 use Rattle.gitconf_expansion.specs.Inclusion.{Includes}

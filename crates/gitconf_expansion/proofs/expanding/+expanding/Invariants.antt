@@ -1,9 +1,9 @@
-use Rattle.std.proofs.Common.{◌≡◌, ◌-◌, ◌<◌, ◌≤◌, ◌≢◌, [], length, map, ℕ, ◌+◌, ◌*◌}
+use Rattle.std.proofs.Common.{◌≡◌, ◌-◌, ◌<◌, ◌≢◌, length, map, ◌+◌, ◌*◌}
 use Rattle.std.specs.Option.{option_copied, option_map}
 use Rattle.std.specs.Vec.Iter.{into_iter_items}
 use Rattle.bstr.specs.Owned.{bstring_bytes}
 use Rattle.gitconf_state.specs.Including.{whole}
-use Rattle.gitconf_expansion.specs.Expansion.{Expands, FollowsAll, Reached, Visits}
+use Rattle.gitconf_expansion.specs.Expansion.{Expands, FollowsAll, Reached}
 use Rattle.gitconf_expansion.specs.Outcomes.{asks_of}
 use Rattle.gitconf_expansion.proofs.Steps.{Suffices}
 use Rattle.gitconf_expansion.proofs.expanding.+expanding.Given as goal
