@@ -4,12 +4,12 @@
 ghost use Rattle.std.specs.Prelude.{◌≡◌, OnErr};
 ghost use Rattle.script_answers.specs.Session.{ChangesFile};
 
-use super::parsing::kept_events;
 use gitconf_script::arguments::{bytes, no_words, slot, switch};
 use gitconf_script::words::Word;
 use gix_config::File;
 use gix_config::file::init;
 use script_answers::answer::{Answer, Outcome};
+use script_answers::kinds::kept_events;
 use script_answers::refusal::Refusal;
 use script_answers::session::Session;
 use std::alloc::Global;

@@ -1,0 +1,7 @@
+//! The commands of a script that change a file, make one, or change the state of the script. Each does a call of the
+//! library, or a few, and answers what that answered.
+#![tactic(auto)]
+
+pub mod changes;
+mod edits;
+mod files;
