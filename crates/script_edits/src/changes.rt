@@ -1,7 +1,7 @@
 //! The commands that change a file or make one, by groups.
 
-use crate::{edits, files};
-use gitconf_script::commands::{EditCommand, StateCommand};
+use crate::{edits, files, outside};
+use gitconf_script::commands::{EditCommand, OutsideCommand, StateCommand};
 use gitconf_script::words::Word;
 use script_answers::answer::Outcome;
 use script_answers::session::Session;
@@ -47,5 +47,22 @@ pub fn state_outcome<'a>(
         StateCommand::Append => files::append(alloc, session, words),
         StateCommand::Reset => files::reset(alloc, session, words),
         StateCommand::Refusals => files::refusals(session, words),
+    }
+}
+
+/// Commands that tell what lies outside of a file.
+pub fn outside_outcome<'a>(
+    alloc: Global,
+    session: &mut Session,
+    command: OutsideCommand,
+    words: &[Word<'_>],
+) -> Outcome<'a> {
+    match command {
+        OutsideCommand::File => outside::file(alloc, session, words),
+        OutsideCommand::Fault => outside::fault(alloc, session, words),
+        OutsideCommand::Variable => outside::var(alloc, session, words),
+        OutsideCommand::Path => outside::at(alloc, session, words),
+        OutsideCommand::Level => outside::set_level(alloc, session, words),
+        OutsideCommand::Expansion => outside::options(alloc, session, words),
     }
 }

@@ -25,7 +25,11 @@ pub fn text_outcome<'a>(alloc: Global, command: TextCommand, words: &[Word<'_>])
 }
 
 /// Commands on values and paths, which ask no file.
-pub fn value_outcome<'a>(alloc: Global, command: ValueCommand, words: &'a [Word<'_>]) -> Outcome<'a> {
+pub fn value_outcome<'a>(
+    alloc: Global,
+    command: ValueCommand,
+    words: &'a [Word<'_>],
+) -> Outcome<'a> {
     match command {
         ValueCommand::Decode => values::decode(alloc, words),
         ValueCommand::Escape => values::escape(alloc, words),
@@ -80,6 +84,7 @@ pub fn view_outcome<'a>(file: &'a File, command: ViewCommand, words: &[Word<'_>]
         ViewCommand::Count => sections::count(file, words),
         ViewCommand::Void => sections::void(file, words),
         ViewCommand::LineEnd => sections::newline(file, words),
+        ViewCommand::Origin => sections::metaof(file, words),
     }
 }
 
