@@ -16,10 +16,10 @@ from words import Malformed, hex_word, to_transcript
 BEYOND = {"name", "valuename", "keeps", "loadkept", "setkey", "stringkey", "printfail", "printnone", "refusals", "reset",
           "sectionkey", "sectionif", "bynameif", "headerof", "valueof", "implicitof", "valuesof", "namesof", "hasname",
           "countof", "entriesof", "display", "rawwith", "rawswith", "flag", "tryflag", "flags", "flagwith", "flagswith",
-          "removeif", "renameif", "editid"}
+          "removeif", "renameif", "editid", "metaof", "level"}
 
 # Of these, the ones that change the file.
-CHANGES = {"loadkept", "removeif", "renameif", "editid"}
+CHANGES = {"loadkept", "removeif", "renameif", "editid", "level"}
 
 # Commands by a key, and the one by names that stands for each.
 BY_NAMES = {"stringkey": "string", "setkey": "setraw"}

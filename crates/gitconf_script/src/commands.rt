@@ -15,6 +15,7 @@ pub enum Command {
     Print(PrintCommand),
     Edit(EditCommand),
     State(StateCommand),
+    Outside(OutsideCommand),
 }
 
 /// Commands on texts and names, which ask no file.
@@ -112,6 +113,8 @@ pub enum ViewCommand {
     Void,
     /// `newline`
     LineEnd,
+    /// `metaof`
+    Origin,
 }
 
 /// Commands that look sections up, or compare files.
@@ -221,6 +224,23 @@ pub enum StateCommand {
     Refusals,
 }
 
+/// Commands that tell what lies outside of a file, for those that ask for it.
+#[derive(Clone, Copy)]
+pub enum OutsideCommand {
+    /// `file`
+    File,
+    /// `fault`
+    Fault,
+    /// `var`
+    Variable,
+    /// `at`
+    Path,
+    /// `level`
+    Level,
+    /// `options`
+    Expansion,
+}
+
 /// The command that the first word names, and the words behind it; nothing, and all words, where there is none such.
 pub fn command_of<'a, 'b>(words: &'a [Word<'b>]) -> (Option<Command>, &'a [Word<'b>]) {
     match words.split_first() {
@@ -257,8 +277,11 @@ fn named(word: &[u8]) -> Option<Command> {
     if let Some(command) = named_in(&EDIT_COMMANDS, word) {
         return Some(Command::Edit(command));
     }
-    match named_in(&STATE_COMMANDS, word) {
-        Some(command) => Some(Command::State(command)),
+    if let Some(command) = named_in(&STATE_COMMANDS, word) {
+        return Some(Command::State(command));
+    }
+    match named_in(&OUTSIDE_COMMANDS, word) {
+        Some(command) => Some(Command::Outside(command)),
         None => None,
     }
 }
@@ -303,7 +326,7 @@ static TYPED_COMMANDS: [(&[u8], TypedCommand); 7] = [
     (b"flagswith", TypedCommand::FlagsWithSections),
 ];
 
-static VIEW_COMMANDS: [(&[u8], ViewCommand); 8] = [
+static VIEW_COMMANDS: [(&[u8], ViewCommand); 9] = [
     (b"dump", ViewCommand::Dump),
     (b"printsec", ViewCommand::PrintSection),
     (b"front", ViewCommand::Front),
@@ -312,6 +335,7 @@ static VIEW_COMMANDS: [(&[u8], ViewCommand); 8] = [
     (b"count", ViewCommand::Count),
     (b"void", ViewCommand::Void),
     (b"newline", ViewCommand::LineEnd),
+    (b"metaof", ViewCommand::Origin),
 ];
 
 static SECTION_COMMANDS: [(&[u8], SectionCommand); 8] = [
@@ -368,4 +392,13 @@ static STATE_COMMANDS: [(&[u8], StateCommand); 9] = [
     (b"append", StateCommand::Append),
     (b"reset", StateCommand::Reset),
     (b"refusals", StateCommand::Refusals),
+];
+
+static OUTSIDE_COMMANDS: [(&[u8], OutsideCommand); 6] = [
+    (b"file", OutsideCommand::File),
+    (b"fault", OutsideCommand::Fault),
+    (b"var", OutsideCommand::Variable),
+    (b"at", OutsideCommand::Path),
+    (b"level", OutsideCommand::Level),
+    (b"options", OutsideCommand::Expansion),
 ];

@@ -2,6 +2,7 @@
 //! The language is told in docs/scripts.md.
 #![tactic(auto)]
 
+mod commands;
 mod program;
 
 use program::run;

@@ -1,6 +1,7 @@
 //! What the program does with its streams, whatever these are.
 ghost use Rattle.std.specs.Prelude.{◌≡◌, ◌≤◌, false};
 
+use crate::commands::outcome_of;
 use gitconf_script::bracket::Bracket;
 use gitconf_script::commands::{Command, StateCommand, command_of};
 use gitconf_script::editors::opening_of;
@@ -9,7 +10,6 @@ use gitconf_script::words::{Word, words_of};
 use script_answers::rendering::line_of;
 use script_answers::session::Session;
 use script_blocks::blocks::play_block;
-use script_commands::commands::outcome_of;
 use std::alloc::{AllocError, Global};
 use std::io::{Read, Write};
 

@@ -10,3 +10,10 @@ ChangesFile F old new = new ≡ record old { f = new.f }
 ChangesFile G old new = new ≡ record old { g = new.g }
 ChangesFile H old new = new ≡ record old { h = new.h }
 ChangesFile I old new = new ≡ record old { i = new.i }
+
+-- and what text that file was loaded from
+abbrev pub LoadsFile : Slot → (old new : Session) → Type 0
+LoadsFile F old new = new ≡ record old { f = new.f; loaded = new.loaded }
+LoadsFile G old new = new ≡ record old { g = new.g; loaded = new.loaded }
+LoadsFile H old new = new ≡ record old { h = new.h; loaded = new.loaded }
+LoadsFile I old new = new ≡ record old { i = new.i; loaded = new.loaded }

@@ -2,7 +2,7 @@
 
 use crate::refusal::Refusal;
 use bstr::BString;
-use gix_config::file::{Section, SectionId, SectionRef};
+use gix_config::file::{Metadata, Section, SectionId, SectionRef};
 use gix_config::parse::{Error, Events};
 use gix_config::{File, Path};
 use std::borrow::CowSlice;
@@ -69,6 +69,8 @@ pub enum Answer<'a> {
     Header(SectionRef<'a>, BString),
     /// All sections of a file, with their entries.
     Dump(&'a File),
+    /// Where a section comes from.
+    Origin(&'a Metadata),
 }
 
 impl Answer<'_> {

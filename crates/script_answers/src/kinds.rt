@@ -1,9 +1,11 @@
 //! The letters of the kinds of events, and filters that drop some of these kinds.
 
 use crate::refusal::Refusal;
+use gitconf_script::arguments::text_and_letters;
 use gitconf_script::kinds::{
     BLANKS, COMMENTS, LAST_PIECES, LINE_ENDS, NAMES, PIECES, SEPARATORS, VALUES, kinds_of,
 };
+use gitconf_script::words::Word;
 use gix_config::parse::{EventRef, Events};
 use std::alloc::Global;
 
@@ -34,10 +36,18 @@ const LAYOUT: u8 = LINE_ENDS | BLANKS | COMMENTS;
 
 const ALL: u8 = 255;
 
+/// BYTES LETTERS: the events of a text without the kinds of these letters, or all.
+pub fn kept_events(alloc: Global, words: &[Word<'_>]) -> Result<Events, Refusal> {
+    match text_and_letters(words)? {
+        (text, None) => Ok(Events::from_bytes(alloc, text, None)?),
+        (text, Some(letters)) => events_without(alloc, text, letters),
+    }
+}
+
 /// The events of a text without the kinds of these letters. A set of kinds that has no filter here is refused.
 //
 // A filter is a function that captures nothing, so each set has one of its own.
-pub fn events_without(alloc: Global, text: &[u8], letters: &[u8]) -> Result<Events, Refusal> {
+fn events_without(alloc: Global, text: &[u8], letters: &[u8]) -> Result<Events, Refusal> {
     let events = match kinds_of(letters)? {
         0 => Events::from_bytes(alloc, text, Some(no_headers)),
         NAMES => Events::from_bytes(alloc, text, Some(no_names)),

@@ -4,6 +4,7 @@
 pub mod answer;
 pub mod arguments;
 pub mod kinds;
+pub mod outside;
 pub mod refusal;
 pub mod rendering;
 pub mod session;

@@ -10,9 +10,10 @@ use gitconf_script::answers::{
     put_number, put_optional, put_refused,
 };
 use gix_config::File;
-use gix_config::file::{Section, SectionId, SectionRef};
+use gix_config::file::{Metadata, Section, SectionId, SectionRef};
 use gix_config::parse::{Error, EventRef};
 use gix_config::refusals::Refusal as _;
+use gix_config::source::{Source, Trust};
 use gix_config::value::normalize;
 use std::alloc::{AllocError, Global};
 
@@ -82,6 +83,43 @@ fn put_answer(alloc: Global, line: &mut String, answer: &Answer<'_>) -> Result<(
             put_bytes(alloc, line, text)
         }
         Answer::Dump(file) => put_sections(alloc, line, file),
+        Answer::Origin(meta) => put_origin(alloc, line, meta),
+    }
+}
+
+/// Where a section comes from: the path of its file, its source, how many includes stand above it, and how far it is
+/// trusted.
+fn put_origin(alloc: Global, line: &mut String, meta: &Metadata) -> Result<(), AllocError> {
+    match &meta.path {
+        Some(path) => put_bytes(alloc, line, path.as_bytes())?,
+        None => put_optional(alloc, line, None)?,
+    }
+    line.push_str(source_word(meta.source))?;
+    put_number(line, meta.level as usize)?;
+    line.push_str(trust_word(meta.trust))
+}
+
+/// A source as a word, behind a blank.
+fn source_word(source: Source) -> &'static str {
+    match source {
+        Source::GitInstallation => " installation",
+        Source::System => " system",
+        Source::Git => " git",
+        Source::User => " user",
+        Source::Local => " local",
+        Source::Worktree => " worktree",
+        Source::Env => " env",
+        Source::Cli => " cli",
+        Source::Api => " api",
+        Source::EnvOverride => " override",
+    }
+}
+
+/// Trust as a word, behind a blank.
+fn trust_word(trust: Trust) -> &'static str {
+    match trust {
+        Trust::Reduced => " reduced",
+        Trust::Full => " full",
     }
 }
 

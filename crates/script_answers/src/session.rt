@@ -1,14 +1,34 @@
-//! What commands work on: four files, one of which is the current one, and two sections that stand alone.
+//! What commands work on: four files, one of which is the current one, two sections that stand alone, and what is told of what
+//! lies outside.
 
-ghost use Rattle.std.specs.Prelude.{◌≡◌, OnErr, OnOk};
-ghost use Rattle.script_answers.specs.Session.{ChangesFile};
+ghost use Rattle.std.specs.Prelude.{◌≡◌, None, OnErr, OnOk};
+ghost use Rattle.script_answers.specs.Session.{ChangesFile, LoadsFile};
 
+use crate::outside::Outside;
 use gitconf_script::words::{Place, Slot};
 use gix_config::File;
 use gix_config::file::{Metadata, Section};
 use std::alloc::{AllocError, Global};
 use std::mem::replace;
 use std::rc::Rc;
+
+/// A text that a file is made of.
+#[derive(Drop)]
+pub struct Loaded {
+    pub text: Vec<u8>,
+    /// Whether blanks, comments and line ends are left out.
+    pub lossy: bool,
+}
+
+impl Loaded {
+    /// An empty text.
+    pub fn nothing(alloc: Global) -> Loaded {
+        Loaded {
+            text: Vec::new(alloc),
+            lossy: false,
+        }
+    }
+}
 
 /// The state of a script.
 #[derive(Drop)]
@@ -22,6 +42,9 @@ pub struct Session {
     current: Slot,
     /// Of what is loaded or made.
     meta: Rc<Metadata>,
+    /// What the current file was last made of, since it is the current one.
+    loaded: Option<Loaded>,
+    outside: Outside,
     tells_refusals: bool,
 }
 
@@ -40,6 +63,8 @@ impl Session {
             t: None,
             current: Slot::F,
             meta,
+            loaded: Some(Loaded::nothing(alloc)),
+            outside: Outside::new(alloc),
             tells_refusals: false,
         })
     }
@@ -71,16 +96,30 @@ impl Session {
 
     /// Makes that file the current one.
     pub fn select(&mut self, slot: Slot)
-        ensures { self.new ≡ record self.old { current = slot } }
+        ensures { self.new ≡ record self.old { current = slot; loaded = None } }
     {
         self.current = slot;
+        self.loaded = None;
     }
 
-    /// Puts a file in the place of the current one.
-    pub fn put(&mut self, file: File)
+    /// Puts a file in the place of the current one, with what it was made of.
+    pub fn put(&mut self, file: File, loaded: Option<Loaded>)
+        ensures { LoadsFile self.old.current self.old self.new }
+    {
+        self.put_at(self.current, file);
+        self.loaded = loaded;
+    }
+
+    /// Puts a file in the place of the current one, that was made of the same.
+    pub fn put_again(&mut self, file: File)
         ensures { ChangesFile self.old.current self.old self.new }
     {
         self.put_at(self.current, file);
+    }
+
+    /// What the current file was last made of, since it is the current one.
+    pub fn loaded(&self) -> Option<&Loaded> {
+        self.loaded.as_ref()
     }
 
     /// Puts a file into that place.
@@ -128,6 +167,26 @@ impl Session {
     /// The metadata of what is loaded or made.
     pub fn meta(&self) -> Result<Rc<Metadata>, AllocError> {
         self.meta.clone()
+    }
+
+    /// Where what is loaded or made comes from.
+    pub fn origin(&self) -> &Metadata {
+        &self.meta
+    }
+
+    /// What is loaded or made from now on comes from there.
+    pub fn set_meta(&mut self, meta: Rc<Metadata>) {
+        self.meta = meta;
+    }
+
+    /// What is told of what lies outside.
+    pub fn outside(&self) -> &Outside {
+        &self.outside
+    }
+
+    /// The same, to be changed.
+    pub fn outside_mut(&mut self) -> &mut Outside {
+        &mut self.outside
     }
 
     /// Whether each answer is to say if a growth was refused.

@@ -2,18 +2,19 @@
 //!
 //! A command that is refused leaves that state as it was, but that `append` takes a file; and one that loads changes no other file.
 ghost use Rattle.std.specs.Prelude.{◌≡◌, OnErr};
-ghost use Rattle.script_answers.specs.Session.{ChangesFile};
+ghost use Rattle.script_answers.specs.Session.{LoadsFile};
 
-use super::parsing::kept_events;
 use gitconf_script::arguments::{bytes, no_words, slot, switch};
 use gitconf_script::words::Word;
 use gix_config::File;
-use gix_config::file::init;
+use gix_config::file::{Metadata, init};
 use script_answers::answer::{Answer, Outcome};
+use script_answers::kinds::kept_events;
 use script_answers::refusal::Refusal;
-use script_answers::session::Session;
+use script_answers::session::{Loaded, Session};
 use std::alloc::Global;
 use std::mem::replace;
+use std::rc::Rc;
 
 /// `use SLOT`: makes a file the current one.
 pub fn select<'a>(session: &mut Session, words: &[Word<'_>]) -> Outcome<'a>
@@ -30,22 +31,29 @@ pub fn load<'a>(
     words: &[Word<'_>],
     lossy: bool,
 ) -> Outcome<'a>
-    ensures others { ChangesFile session.old.current session.old session.new }
+    ensures others { LoadsFile session.old.current session.old session.new }
     ensures err { OnErr result (session.new ≡ session.old) }
 {
+    let text = Vec::from_slice(alloc, bytes(words)?)?;
+    let loaded = Loaded { text, lossy };
+    let file = file_of(alloc, &loaded, session.meta()?)?;
+    session.put(file, Some(loaded));
+    Ok(Answer::Done)
+}
+
+/// The file that a text is.
+pub fn file_of(alloc: Global, loaded: &Loaded, meta: Rc<Metadata>) -> Result<File, init::Error> {
     let options = init::Options {
-        lossy,
+        lossy: loaded.lossy,
         ..init::Options::default()
     };
-    let file = File::from_bytes_no_includes(alloc, bytes(words)?, session.meta()?, options)?;
-    session.put(file);
-    Ok(Answer::Done)
+    File::from_bytes_no_includes(alloc, &loaded.text, meta, options)
 }
 
 /// `loadkept BYTES LETTERS`: the current file is made of the events of a text without some kinds, where they keep all
 /// entries.
 pub fn loadkept<'a>(alloc: Global, session: &mut Session, words: &[Word<'_>]) -> Outcome<'a>
-    ensures others { ChangesFile session.old.current session.old session.new }
+    ensures others { LoadsFile session.old.current session.old session.new }
     ensures err { OnErr result (session.new ≡ session.old) }
 {
     let events = kept_events(alloc, words)?;
@@ -53,18 +61,18 @@ pub fn loadkept<'a>(alloc: Global, session: &mut Session, words: &[Word<'_>]) ->
         return Err(Refusal::Line);
     }
     let file = File::from_parse_events_no_includes(alloc, events, session.meta()?)?;
-    session.put(file);
+    session.put(file, None);
     Ok(Answer::Done)
 }
 
 /// `new`: the current file is an empty one.
 pub fn new<'a>(alloc: Global, session: &mut Session, words: &[Word<'_>]) -> Outcome<'a>
-    ensures others { ChangesFile session.old.current session.old session.new }
+    ensures others { LoadsFile session.old.current session.old session.new }
     ensures err { OnErr result (session.new ≡ session.old) }
 {
     no_words(words)?;
     let file = File::new(alloc, session.meta()?);
-    session.put(file);
+    session.put(file, Some(Loaded::nothing(alloc)));
     Ok(Answer::Done)
 }
 

@@ -1,11 +1,11 @@
 //! Commands on texts and names, which ask no file.
 
-use gitconf_script::arguments::{bytes, text_and_letters};
+use gitconf_script::arguments::bytes;
 use gitconf_script::words::Word;
 use gix_config::parse::Events;
 use gix_config::parse::section::{Name, ValueName};
 use script_answers::answer::{Answer, Outcome};
-use script_answers::kinds::events_without;
+use script_answers::kinds::kept_events;
 use script_answers::refusal::Refusal;
 use std::alloc::Global;
 
@@ -28,14 +28,6 @@ pub fn errtext<'a>(alloc: Global, words: &[Word<'_>]) -> Outcome<'a> {
 /// `keeps BYTES LETTERS`: the events of a text without some kinds, and whether they keep all entries.
 pub fn keeps<'a>(alloc: Global, words: &[Word<'_>]) -> Outcome<'a> {
     Ok(Answer::Kept(kept_events(alloc, words)?))
-}
-
-/// The events of a text without some kinds.
-pub fn kept_events(alloc: Global, words: &[Word<'_>]) -> Result<Events, Refusal> {
-    match text_and_letters(words)? {
-        (text, None) => Ok(Events::from_bytes(alloc, text, None)?),
-        (text, Some(letters)) => events_without(alloc, text, letters),
-    }
 }
 
 /// `name BYTES`: whether bytes are the name of a section.

@@ -1,53 +1,19 @@
-//! The commands. Each does a call of the library, or a few, and answers what that answered.
+//! The commands that change nothing, by groups.
 
-pub mod edits;
-mod files;
-mod layout;
-mod lookups;
-mod parsing;
-mod paths;
-mod printing;
-mod sections;
-mod typed;
-mod values;
-mod views;
-
+use crate::{layout, lookups, parsing, paths, printing, sections, typed, values, views};
 use gitconf_script::commands::{
-    Command, EditCommand, LookUpCommand, PartCommand, PrintCommand, SectionCommand, StateCommand,
-    TextCommand, TypedCommand, ValueCommand, ViewCommand,
+    LookUpCommand, PartCommand, PrintCommand, SectionCommand, TextCommand, TypedCommand,
+    ValueCommand, ViewCommand,
 };
 use gitconf_script::words::Word;
 use gix_config::File;
-use script_answers::answer::{Answer, Outcome};
+use script_answers::answer::Outcome;
 use script_answers::session::Session;
 use script_answers::writers::Failure;
 use std::alloc::Global;
 
-/// Does a command, with the words behind it. Of none it answers that it is unknown.
-pub fn outcome_of<'a>(
-    alloc: Global,
-    session: &'a mut Session,
-    command: Option<Command>,
-    words: &'a [Word<'_>],
-) -> Outcome<'a> {
-    let Some(command) = command else {
-        return Ok(Answer::Unknown);
-    };
-    match command {
-        Command::Text(command) => text_outcome(alloc, command, words),
-        Command::Value(command) => value_outcome(alloc, command, words),
-        Command::LookUp(command) => look_up_outcome(session.file(), command, words),
-        Command::Typed(command) => typed_outcome(alloc, session.file(), command, words),
-        Command::View(command) => view_outcome(session.file(), command, words),
-        Command::Section(command) => section_outcome(alloc, session, command, words),
-        Command::Part(command) => part_outcome(alloc, session.file(), command, words),
-        Command::Print(command) => print_outcome(alloc, session.file(), command, words),
-        Command::Edit(command) => edit_outcome(alloc, session, command, words),
-        Command::State(command) => state_outcome(alloc, session, command, words),
-    }
-}
-
-fn text_outcome<'a>(alloc: Global, command: TextCommand, words: &[Word<'_>]) -> Outcome<'a> {
+/// Commands on texts and names, which ask no file.
+pub fn text_outcome<'a>(alloc: Global, command: TextCommand, words: &[Word<'_>]) -> Outcome<'a> {
     match command {
         TextCommand::Events => parsing::events(alloc, words),
         TextCommand::ErrorText => parsing::errtext(alloc, words),
@@ -58,7 +24,12 @@ fn text_outcome<'a>(alloc: Global, command: TextCommand, words: &[Word<'_>]) -> 
     }
 }
 
-fn value_outcome<'a>(alloc: Global, command: ValueCommand, words: &'a [Word<'_>]) -> Outcome<'a> {
+/// Commands on values and paths, which ask no file.
+pub fn value_outcome<'a>(
+    alloc: Global,
+    command: ValueCommand,
+    words: &'a [Word<'_>],
+) -> Outcome<'a> {
     match command {
         ValueCommand::Decode => values::decode(alloc, words),
         ValueCommand::Escape => values::escape(alloc, words),
@@ -69,7 +40,8 @@ fn value_outcome<'a>(alloc: Global, command: ValueCommand, words: &'a [Word<'_>]
     }
 }
 
-fn look_up_outcome<'a>(file: &File, command: LookUpCommand, words: &[Word<'_>]) -> Outcome<'a> {
+/// Commands that look values of a key up.
+pub fn look_up_outcome<'a>(file: &File, command: LookUpCommand, words: &[Word<'_>]) -> Outcome<'a> {
     match command {
         LookUpCommand::Text => lookups::string(file, words),
         LookUpCommand::TextOfKey => lookups::stringkey(file, words),
@@ -83,7 +55,8 @@ fn look_up_outcome<'a>(file: &File, command: LookUpCommand, words: &[Word<'_>]) 
     }
 }
 
-fn typed_outcome<'a>(
+/// Commands that look values of a key up with their sections, or in a type that the caller names.
+pub fn typed_outcome<'a>(
     alloc: Global,
     file: &File,
     command: TypedCommand,
@@ -100,7 +73,8 @@ fn typed_outcome<'a>(
     }
 }
 
-fn view_outcome<'a>(file: &'a File, command: ViewCommand, words: &[Word<'_>]) -> Outcome<'a> {
+/// Commands that look at a file.
+pub fn view_outcome<'a>(file: &'a File, command: ViewCommand, words: &[Word<'_>]) -> Outcome<'a> {
     match command {
         ViewCommand::Dump => sections::dump(file, words),
         ViewCommand::PrintSection => sections::printsec(file, words),
@@ -110,10 +84,12 @@ fn view_outcome<'a>(file: &'a File, command: ViewCommand, words: &[Word<'_>]) ->
         ViewCommand::Count => sections::count(file, words),
         ViewCommand::Void => sections::void(file, words),
         ViewCommand::LineEnd => sections::newline(file, words),
+        ViewCommand::Origin => sections::metaof(file, words),
     }
 }
 
-fn section_outcome<'a>(
+/// Commands that look sections up, or compare files.
+pub fn section_outcome<'a>(
     alloc: Global,
     session: &'a Session,
     command: SectionCommand,
@@ -132,7 +108,8 @@ fn section_outcome<'a>(
     }
 }
 
-fn part_outcome<'a>(
+/// Commands that look at one section, by its place.
+pub fn part_outcome<'a>(
     alloc: Global,
     file: &'a File,
     command: PartCommand,
@@ -150,7 +127,8 @@ fn part_outcome<'a>(
     }
 }
 
-fn print_outcome<'a>(
+/// Commands that write a file.
+pub fn print_outcome<'a>(
     alloc: Global,
     file: &File,
     command: PrintCommand,
@@ -166,46 +144,5 @@ fn print_outcome<'a>(
             words,
             Failure::NothingTaken,
         ),
-    }
-}
-
-fn edit_outcome<'a>(
-    alloc: Global,
-    session: &'a mut Session,
-    command: EditCommand,
-    words: &[Word<'_>],
-) -> Outcome<'a> {
-    match command {
-        EditCommand::SetRaw => edits::setraw(session.file_mut(), words),
-        EditCommand::SetByKey => edits::setkey(session.file_mut(), words),
-        EditCommand::Remove => edits::remove(session, words),
-        EditCommand::RemovePassing => edits::removeif(session, words),
-        EditCommand::RemoveNumbered => edits::removeid(alloc, session, words),
-        EditCommand::Rename => edits::rename(alloc, session.file_mut(), words),
-        EditCommand::RenamePassing => edits::renameif(alloc, session.file_mut(), words),
-        EditCommand::SetExisting => edits::setexisting(session.file_mut(), words),
-        EditCommand::SetExistingAll => edits::setmulti(alloc, session.file_mut(), words),
-        EditCommand::NewSection => edits::newsection(alloc, session.file_mut(), words),
-        EditCommand::NewAlone => edits::detached(alloc, session, words),
-        EditCommand::PushSection => edits::pushsection(session, words),
-    }
-}
-
-fn state_outcome<'a>(
-    alloc: Global,
-    session: &mut Session,
-    command: StateCommand,
-    words: &[Word<'_>],
-) -> Outcome<'a> {
-    match command {
-        StateCommand::Select => files::select(session, words),
-        StateCommand::Load => files::load(alloc, session, words, false),
-        StateCommand::LoadLossy => files::load(alloc, session, words, true),
-        StateCommand::LoadKept => files::loadkept(alloc, session, words),
-        StateCommand::New => files::new(alloc, session, words),
-        StateCommand::Clone => files::clone(session, words),
-        StateCommand::Append => files::append(alloc, session, words),
-        StateCommand::Reset => files::reset(alloc, session, words),
-        StateCommand::Refusals => files::refusals(session, words),
     }
 }

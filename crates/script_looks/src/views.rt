@@ -1,6 +1,6 @@
 //! Commands that look sections up and compare files, and those that look at one section.
 
-use super::sections::section_at;
+use crate::sections::section_at;
 use bstr::BString;
 use gitconf_script::arguments::{
     SectionNames, bytes, no_words, number_and_text, section_names, section_names_and_flag, slot,

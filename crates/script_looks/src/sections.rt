@@ -70,3 +70,11 @@ pub fn newline<'a>(file: &'a File, words: &[Word<'_>]) -> Outcome<'a> {
     no_words(words)?;
     Ok(Answer::Bytes(CowSlice::Borrowed(file.detect_newline_style())))
 }
+
+/// `metaof N`: where a section comes from.
+pub fn metaof<'a>(file: &'a File, words: &[Word<'_>]) -> Outcome<'a> {
+    match section_at(file, words)? {
+        Some(section) => Ok(Answer::Origin(section.meta())),
+        None => Ok(Answer::Absent),
+    }
+}
