@@ -11,6 +11,9 @@ ghost use Rattle.gitconf_finding.specs.ValuePlaces.{editor_of_numbered};
 ghost use Rattle.gix_config.specs.Puts.{put_bytes};
 ghost use Rattle.gix_config.specs.SectionEditors.{with_leading};
 
+/// Those of files that others are put into.
+pub use gitconf_expansion::laws as includes;
+
 /// A new editor is an editor, as edits ask for one: of a section that is found by its names or its number, of one that is made, and of a
 /// value in the section of a number. It stays one with other blanks before names, and with line ends switched on or off. What it asks of
 /// the state holds of every file (`state` of [`File::sections`](crate::file::File::sections)).
