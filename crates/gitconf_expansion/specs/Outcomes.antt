@@ -1,13 +1,19 @@
 -- The outcomes of calls, told by the definitions: what was made, or the number of the refusal.
-use Rattle.std.specs.Prelude.{◌≡◌, ◌⊎◌, ℕ, true, false, ◌==◌, ◌||◌, List, Option, Result, Ok, Err}
-use Rattle.gitconf_host.specs.Told.{CountsOne, FileTold}
+use Rattle.std.specs.Prelude.{◌≡◌, ◌⊎◌, ℕ, true, false, ◌==◌, ◌||◌, List, Option, None, Result, Ok, Err, string_bytes}
+use Rattle.std.specs.declared.alloc.Global.{Global}
+use Rattle.std.specs.declared.string.String.{String}
+use Rattle.gitconf_host.specs.Told.{CountsOne, FileTold, read_of}
+use Rattle.gitconf_host.specs.declared.fault.FileFault.{FileFault}
+use Rattle.gitconf_host.specs.declared.fault.Stage.TheVariants.{Open, Read, Memory}
+use Rattle.gitconf_includes.specs.Conditions.{IsUnresolved}
 use Rattle.gitconf_includes.specs.declared.includes.Error.{Error}
+use Rattle.gitconf_includes.specs.declared.includes.Error.TheVariants as refusals
 use Rattle.gitconf_includes.specs.declared.init.Options.{Options}
 use Rattle.gitconf_includes.specs.Errors.{includes_number}
 use Rattle.gitconf_includes.specs.Rules.{rules_of}
 use Rattle.gitconf_state.specs.Including.{whole}
 use Rattle.gitconf_state.specs.State.{SectionState, State}
-use Rattle.gitconf_expansion.specs.Expansion.{Asks, Leaves, Reached, On}
+use Rattle.gitconf_expansion.specs.Expansion.{Asks, Leaves, May, On, Reached}
 
 -- by the rules of these options, and the table that a host tells
 abbrev pub asks_of : Options → Option (List ℕ → FileTold) → Asks
@@ -26,6 +32,24 @@ CountsFault number old new = elim (number == 19 || number == 20) [ true ↦ Coun
 abbrev pub CountsFaults : {T : Type 0} → Result T Error → (old new : Option ℕ) → Type 0
 CountsFaults (Ok made) old new = new ≡ old
 CountsFaults (Err e) old new = CountsFault (includes_number e) old new
+
+-- a host that tells what stands at each path answers that fault of one
+abbrev pub IsFaultOf : Option (List ℕ → FileTold) → (path : List ℕ) → FileFault → Type 0
+IsFaultOf table path fault = May table (λ told. ◌≡◌ {A = Result (List ℕ) FileFault} (read_of (told path)) (Err fault))
+
+-- how a fault of the file at a path refuses
+abbrev pub fault_refusal : FileFault → (path : String Global) → Error
+fault_refusal fault path = elim fault.stage [ Open ↦ refusals.Io path fault | Read ↦ refusals.CopyBuffer fault | Memory ↦ refusals.Memory ]
+
+-- What a refusal tells beside its number: the fault of a file that was opened or read, with the path of one that couldn't be opened; the depth
+-- that the options allow; and what the git folder lacks.
+abbrev pub IsCause : Options → Option (List ℕ → FileTold) → Error → Type 0
+IsCause options table (refusals.Io path fault) = (fault.stage ≡ Open) × IsFaultOf table (string_bytes path) fault
+IsCause options table (refusals.CopyBuffer fault) = (path : List ℕ) × (fault.stage ≡ Read) × IsFaultOf table path fault
+IsCause options table (refusals.IncludeDepthExceeded depth) = depth ≡ options.includes.max_depth
+IsCause options table refusals.MissingGitDir = options.includes.conditional.git_dir ≡ None
+IsCause options table (refusals.Realpath fault) = IsUnresolved fault options.includes.conditional.git_dir
+IsCause options table e = Unit {0}
 
 -- what a path or all paths of a section leave: what is then done, or a refusal with the file
 abbrev pub LeavesDone : Result Unit Error → (rest : List SectionState) → (done : State) → Reached → Type 0

@@ -1,12 +1,13 @@
 //! Files that are expanded.
 ghost use Rattle.std.specs.Option.{option_copied, option_map};
-ghost use Rattle.std.specs.Prelude.{◌≡◌, ◌-◌, ◌<◌, [], if◌then◌else◌, length, map, Err, None, Ok, OnOk};
+ghost use Rattle.std.specs.Prelude.{◌≡◌, ◌-◌, ◌<◌, [], if◌then◌else◌, length, map, Err, IfErr, None, Ok, OnOk};
 ghost use Rattle.bstr.specs.Owned.{bstring_bytes};
 ghost use Rattle.gitconf_includes.specs.Errors.{includes_number};
+ghost use Rattle.gitconf_includes.specs.declared.includes.Error.TheVariants.{IncludeDepthExceeded};
 ghost use Rattle.gitconf_state.specs.Including.{whole};
 ghost use Rattle.gitconf_expansion.specs.Expansion.{Expands, Follows, FollowsAll, Gives, Leaves, Reached};
 ghost use Rattle.gitconf_expansion.specs.Inclusion.{Includes};
-ghost use Rattle.gitconf_expansion.specs.Outcomes.{asks_of, told, CountsFaults, LeavesDone};
+ghost use Rattle.gitconf_expansion.specs.Outcomes.{asks_of, told, CountsFaults, IsCause, LeavesDone};
 ghost use Rattle.gitconf_expansion.specs.Visits.{condition_of, paths_of};
 
 use crate::conditions::is_followed;
@@ -22,7 +23,8 @@ use std::alloc::Global;
 
 /// A file at the last level: it is refused where the options ask for that.
 fn at_the_limit(options: &Options<'_>) -> Result<(), Error>
-    ensures { told (λ done. done) result ≡ (if options.now.includes.err_on_max_depth_exceeded then Err 15 else Ok (tt {0})) }
+    ensures says { told (λ done. done) result ≡ (if options.now.includes.err_on_max_depth_exceeded then Err 15 else Ok (tt {0})) }
+    ensures cause { IfErr result (λ e. e ≡ IncludeDepthExceeded options.now.includes.max_depth) }
 {
     if options.includes.err_on_max_depth_exceeded {
         return Err(Error::IncludeDepthExceeded {
@@ -54,6 +56,7 @@ fn follow<F: Files, S: ConfigFile>(
     ensures rest { S.rest file.new ≡ S.rest file.old }
     ensures some { OnOk result (0 < length (S.done file.new).sections) }
     ensures table { F.table files.new ≡ F.table files.old }
+    ensures cause { IfErr result (IsCause options.now (F.table files.old)) }
     ensures counted { CountsFaults result (F.failures files.old) (F.failures files.new) }
 {
     let Some(path) = file_named(alloc, &options.includes, from, path)? else {
@@ -88,6 +91,7 @@ fn follow_all<F: Files, S: ConfigFile>(
         from.now (map bstring_bytes paths.items) (S.rest file.old) (S.done file.old) r × LeavesDone result (S.rest file.new) (S.done file.new) r }
     ensures rest { S.rest file.new ≡ S.rest file.old }
     ensures table { F.table files.new ≡ F.table files.old }
+    ensures cause { IfErr result (IsCause options.now (F.table files.old)) }
     ensures counted { CountsFaults result (F.failures files.old) (F.failures files.new) }
 {
     for path in paths {
@@ -118,6 +122,7 @@ fn obey<'a, 'b, F: Files, S: ConfigFile>(
         (S.rest file.old) (S.done file.old) r × LeavesDone result (S.rest file.new) (S.done file.new) r }
     ensures rest { S.rest file.new ≡ S.rest file.old }
     ensures table { F.table files.new ≡ F.table files.old }
+    ensures cause { IfErr result (IsCause options.now (F.table files.old)) }
     ensures counted { CountsFaults result (F.failures files.old) (F.failures files.new) }
 {
     if !is_followed(alloc, options, parent, &*file, &directive)? {
@@ -151,6 +156,7 @@ fn expand<'a, F: Files, S: ConfigFile>(
         (option_map (λ s. whole (S.done s) (S.rest s)) (option_copied parent.entry)) (whole (S.done file.old) (S.rest file.old)) r
         × Leaves includes_number result (whole (S.done file.new) (S.rest file.new)) r }
     ensures table { F.table files.new ≡ F.table files.old }
+    ensures cause { IfErr result (IsCause options.now (F.table files.old)) }
     ensures counted { CountsFaults result (F.failures files.old) (F.failures files.new) }
 {
     if left == 0 {
@@ -179,6 +185,7 @@ pub fn expand_file<F: Files, S: ConfigFile>(
     ensures expanded { (r : Reached) × Expands options.now.includes.max_depth (asks_of options.now (F.table files.old)) None (whole (S.done file.old) (S.rest file.old)) r
         × Leaves includes_number result (whole (S.done file.new) (S.rest file.new)) r }
     ensures table { F.table files.new ≡ F.table files.old }
+    ensures cause { IfErr result (IsCause options.now (F.table files.old)) }
     ensures counted { CountsFaults result (F.failures files.old) (F.failures files.new) }
 {
     let depth = options.includes.max_depth;

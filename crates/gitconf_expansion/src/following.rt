@@ -1,9 +1,9 @@
 //! One included file: read and loaded.
-ghost use Rattle.std.specs.Prelude.{◌≡◌, ◌⊎◌, ◌<◌, [], Err, IfOk, string_bytes};
+ghost use Rattle.std.specs.Prelude.{◌≡◌, ◌⊎◌, ◌<◌, [], Err, IfErr, IfOk, string_bytes};
 ghost use Rattle.gitconf_includes.specs.Errors.{includes_number};
 ghost use Rattle.gitconf_state.specs.Including.{whole};
 ghost use Rattle.gitconf_expansion.specs.Expansion.{fault_number, included_meta, IsFetched};
-ghost use Rattle.gitconf_expansion.specs.Outcomes.{asks_of, told, CountsFaults};
+ghost use Rattle.gitconf_expansion.specs.Outcomes.{asks_of, fault_refusal, told, CountsFaults, IsCause};
 
 use crate::config_file::ConfigFile;
 use gitconf_base::meta::Metadata;
@@ -16,7 +16,8 @@ use std::rc::Rc;
 
 /// How a fault of the file at that path refuses.
 fn refusal(fault: FileFault, path: String) -> Error
-    ensures { includes_number result ≡ fault_number fault.stage }
+    ensures number { includes_number result ≡ fault_number fault.stage }
+    ensures is { result ≡ fault_refusal fault path }
 {
     match fault.stage {
         Stage::Open => Error::Io {
@@ -67,6 +68,7 @@ pub(crate) fn fetch<F: Files, S: ConfigFile>(
 ) -> Result<S, Error>
     ensures fetched { (told (λ s. whole (S.done s) (S.rest s)) result ≡ Err 27)
         ⊎ IsFetched (asks_of options.now (F.table files.old)) from.now (string_bytes path) (told (λ s. whole (S.done s) (S.rest s)) result) }
+    ensures cause { IfErr result (IsCause options.now (F.table files.old)) }
     ensures fresh { IfOk result (λ s. (S.done s).sections ≡ []) }
     ensures table { F.table files.new ≡ F.table files.old }
     ensures counted { CountsFaults result (F.failures files.old) (F.failures files.new) }

@@ -1,11 +1,14 @@
 -- A file that is made of bytes, and then expanded.
 use Rattle.std.specs.Prelude.{◌≡◌, ℕ, List, Option, None, Result, Ok, Err}
 use Rattle.gitconf_base.specs.Metadata.{Meta}
+use Rattle.gitconf_host.specs.Told.{FileTold}
 use Rattle.gitconf_includes.specs.declared.init.Error.{Error}
+use Rattle.gitconf_includes.specs.declared.init.Error.TheVariants.{Includes}
+use Rattle.gitconf_includes.specs.declared.init.Options.{Options}
 use Rattle.gitconf_includes.specs.Errors.{init_number}
 use Rattle.gitconf_state.specs.State.{State}
 use Rattle.gitconf_expansion.specs.Expansion.{Asks, Ended, Expands, IsLoadOf, On, Reached}
-use Rattle.gitconf_expansion.specs.Outcomes.{CountsFault}
+use Rattle.gitconf_expansion.specs.Outcomes.{CountsFault, IsCause}
 
 -- a call makes the expanded file, or refuses by that number
 abbrev pub Makes : {E : Type 0} → (number : E → ℕ) → Result State E → Reached → Type 0
@@ -28,3 +31,8 @@ IsMadeOf number asks text place result = (loaded : Result State ℕ) × IsLoadOf
 abbrev pub MakesCounted : {T : Type 0} → Result T Error → (old new : Option ℕ) → Type 0
 MakesCounted (Ok made) old new = new ≡ old
 MakesCounted (Err e) old new = CountsFault (init_number e) old new
+
+-- what a refused include tells beside its number
+abbrev pub IsMadeCause : Options → Option (List ℕ → FileTold) → Error → Type 0
+IsMadeCause options table (Includes e) = IsCause options table e
+IsMadeCause options table e = Unit {0}

@@ -1,9 +1,9 @@
 //! Includes that are resolved.
-ghost use Rattle.std.specs.Prelude.{◌≡◌, None};
+ghost use Rattle.std.specs.Prelude.{◌≡◌, None, IfErr};
 ghost use Rattle.gitconf_includes.specs.Errors.{includes_number, init_number};
 ghost use Rattle.gitconf_expansion.specs.Expansion.{Expands, Leaves, Reached};
-ghost use Rattle.gitconf_expansion.specs.Outcomes.{asks_of, CountsFaults};
-ghost use Rattle.gitconf_resolving.specs.Resolving.{IsMadeOf, MakesCounted};
+ghost use Rattle.gitconf_expansion.specs.Outcomes.{asks_of, CountsFaults, IsCause};
+ghost use Rattle.gitconf_resolving.specs.Resolving.{IsMadeCause, IsMadeOf, MakesCounted};
 
 use crate::expansion::{Expansion, load};
 use gitconf_base::meta::Metadata;
@@ -34,6 +34,7 @@ pub fn resolve<F: Files>(
 ) -> Resolved
     ensures expanded { (r : Reached) × Expands options.now.includes.max_depth (asks_of options.now (F.table files.old)) None store r
         × Leaves includes_number result.result result.store r }
+    ensures cause { IfErr result.result (IsCause options.now (F.table files.old)) }
     ensures table { F.table files.new ≡ F.table files.old }
     ensures counted { CountsFaults result.result (F.failures files.old) (F.failures files.new) }
 {
@@ -60,6 +61,7 @@ pub fn resolved_text<F: Files>(
     meta: Rc<Metadata>,
 ) -> Result<Store, init::Error>
     ensures made { IsMadeOf init_number (asks_of options.now (F.table files.old)) text.items meta.value result }
+    ensures cause { IfErr result (IsMadeCause options.now (F.table files.old)) }
     ensures table { F.table files.new ≡ F.table files.old }
     ensures counted { MakesCounted result (F.failures files.old) (F.failures files.new) }
 {

@@ -12,11 +12,11 @@ use std::mem::replace;
 use std::rc::Rc;
 
 impl File {
-    ghost use Rattle.std.specs.Prelude.{◌≡◌};
+    ghost use Rattle.std.specs.Prelude.{◌≡◌, IfErr};
     ghost use Rattle.gitconf_expansion.specs.Expansion.{Resolves};
-    ghost use Rattle.gitconf_expansion.specs.Outcomes.{asks_of, CountsFaults};
+    ghost use Rattle.gitconf_expansion.specs.Outcomes.{asks_of, CountsFaults, IsCause};
     ghost use Rattle.gitconf_includes.specs.Errors.{includes_number, init_number};
-    ghost use Rattle.gitconf_resolving.specs.Resolving.{IsMadeOf, MakesCounted};
+    ghost use Rattle.gitconf_resolving.specs.Resolving.{IsMadeCause, IsMadeOf, MakesCounted};
 
     /// Reads the files that the file's sections include, and puts each, with what it includes itself, behind the section that includes it: its
     /// sections in their order under the next numbers, and what stands before its first section held behind the section before. Of an
@@ -39,6 +39,7 @@ impl File {
         host: &mut Host,
     ) -> Result<(), includes::Error>
         ensures expanded { Resolves includes_number (asks_of options.entry (⟦<Box<dyn Files> as Files>⟧.table host.old.files)) self.old result self.new }
+        ensures cause { IfErr result (IsCause options.entry (⟦<Box<dyn Files> as Files>⟧.table host.old.files)) }
         ensures table { ⟦<Box<dyn Files> as Files>⟧.table host.new.files ≡ ⟦<Box<dyn Files> as Files>⟧.table host.old.files }
         ensures counted { CountsFaults result (⟦<Box<dyn Files> as Files>⟧.failures host.old.files) (⟦<Box<dyn Files> as Files>⟧.failures host.new.files) }
         ensures env { host.new.env ≡ host.old.env }
@@ -71,6 +72,7 @@ impl File {
         host: &mut Host,
     ) -> Result<File, Error>
         ensures made { IsMadeOf init_number (asks_of options.entry (⟦<Box<dyn Files> as Files>⟧.table host.old.files)) text.items meta.value result }
+        ensures cause { IfErr result (IsMadeCause options.entry (⟦<Box<dyn Files> as Files>⟧.table host.old.files)) }
         ensures table { ⟦<Box<dyn Files> as Files>⟧.table host.new.files ≡ ⟦<Box<dyn Files> as Files>⟧.table host.old.files }
         ensures counted { MakesCounted result (⟦<Box<dyn Files> as Files>⟧.failures host.old.files) (⟦<Box<dyn Files> as Files>⟧.failures host.new.files) }
         ensures env { host.new.env ≡ host.old.env }

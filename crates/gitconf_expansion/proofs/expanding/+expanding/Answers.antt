@@ -22,7 +22,7 @@ expand-returns-then-left-eq0-clause-expanded g w c =
     let asks = asks_of c.args.options.now (g.F.Files.table c.args.files.now) in
     let parent = option_map (λ s. whole (g.S.ConfigFile.done s) (g.S.ConfigFile.rest s)) (option_copied c.args.parent) in
     let old = whole (g.S.ConfigFile.done c.args.file.now) (g.S.ConfigFile.rest c.args.file.now) in
-    let end = limited c.args.options.now.includes.err_on_max_depth_exceeded old c.at_the_limit.result c.at_the_limit.ensures in
+    let end = limited c.args.options.now.includes.err_on_max_depth_exceeded old c.at_the_limit.result c.at_the_limit.ensures.says in
     (end.0, expands_no_more c.args.left asks parent old end.0 c.if-left-eq0.true end.1, end.2)
 
 pub expand-returns-in_err-section-clause-expanded : goal.expand-returns-in_err-section-clause-expanded

@@ -13,7 +13,7 @@ returns-in-Err-clause-fetched g c =
     let at : c.deref.result.now ≡ string_bytes c.args.path = search rules in
     let asks = asks_of c.args.options.now (g.F.Files.table c.args.files.now) in
     subst (λ p. Fetches asks c.args.from.now p (Err (includes_number c.refusal.result))) at
-    (faulted ℕ asks c.args.from.now c.deref.result.now c.in-Err.fault (includes_number c.refusal.result) c.in-Err.ensures.told c.refusal.ensures)
+    (faulted ℕ asks c.args.from.now c.deref.result.now c.in-Err.fault (includes_number c.refusal.result) c.in-Err.ensures.told c.refusal.ensures.number)
 
 pub returns-then-from-clause-fetched : goal.returns-then-from-clause-fetched
 returns-then-from-clause-fetched g c =
