@@ -1,5 +1,5 @@
 -- Files that are made of bytes, by how the calls end.
-use Rattle.std.proofs.Common.{◌≡◌, ◌≢◌, ℕ, ◌==◌, Bool, true, false, List, Option, None, Result, Ok, Err, refl, sym, ap, subst, ◌∙◌}
+use Rattle.std.proofs.Common.{◌≡◌, ◌≢◌, ℕ, ◌==◌, Bool, true, false, List, None, Result, Ok, Err, refl, sym, ap, subst, ◌∙◌}
 use Rattle.std.specs.Prelude.{IsErrAnd}
 use Rattle.std.proofs.lemmas.Bool.{eqb-true}
 use Rattle.gitconf_base.specs.Metadata.{Meta}
@@ -10,9 +10,9 @@ use Rattle.gitconf_includes.specs.Errors.{includes_number, init_number, init_of_
 use Rattle.gitconf_parse.specs.EventResult.{IsRefused}
 use Rattle.gitconf_parse.specs.ParseError.{Refusal}
 use Rattle.gitconf_state.specs.State.{State}
-use Rattle.gitconf_expansion.specs.Expansion.{Asks, Ended, Expands, IsLoaded, IsLoadOf, Leaves, On, Reached, Resolves}
+use Rattle.gitconf_expansion.specs.Expansion.{Asks, Ended, Expands, IsLoaded, Leaves, On, Reached, Resolves}
 use Rattle.gitconf_expansion.proofs.Steps.{as_it_was, expands_wanting, leaves_refused}
-use Rattle.gitconf_resolving.specs.Resolving.{IsMadeOf, Makes}
+use Rattle.gitconf_resolving.specs.Resolving.{IsMadeOf}
 
 parse_number : (e : Refusal) → init_number (init_of_parse e) ≡ e.number
 parse_number e = go (e.number == 27) refl

@@ -1,4 +1,4 @@
-use Rattle.std.proofs.Common.{rules, ◌≡◌, None, Ok, Err, ap, refl, subst}
+use Rattle.std.proofs.Common.{None, Err, subst}
 use Rattle.gitconf_includes.specs.Errors.{includes_number}
 use Rattle.gitconf_expansion.specs.Expansion.{Expands, Leaves, Reached}
 use Rattle.gitconf_expansion.specs.Outcomes.{asks_of}

@@ -1,4 +1,4 @@
-use Rattle.std.proofs.Common.{rules, ◌≡◌, Bool, sym, subst, ◌∙◌}
+use Rattle.std.proofs.Common.{rules, ◌≡◌, sym, subst, ◌∙◌}
 use Rattle.std.specs.Prelude.{IsNone}
 use Rattle.std.specs.List.{list_any}
 use Rattle.gitconf_finding.specs.Walks.{by_name_left}
