@@ -11,7 +11,7 @@ use Rattle.gitconf_state.specs.State.{AreNumbered, SectionState, State}
 use Rattle.gitconf_state.proofs.EditsKeep.{behind_last_holds, holds_appended}
 use Rattle.gitconf_expansion.specs.Expansion.{Asks, Expands, included_meta, IsFetched, On, Reached}
 use Rattle.gitconf_expansion.specs.Laws.{file_of, IsIncludedBy, StandBehind}
-use Rattle.gitconf_expansion.proofs.Keeping.{expansion_from, limit, one_level, IsKept}
+use Rattle.gitconf_expansion.proofs.Keeping.{expansion_from, limit, one_level, EachStepKeeps}
 use Rattle.gitconf_expansion.proofs.States.{fetched_load}
 
 -- all sections come from an include of a section from there, or from one further down
@@ -43,7 +43,7 @@ record IsUnderWay (from here : Meta) (done : State) (rest : List SectionState) :
   below : Below from done rest
   is : IsIncludedBy from here
 
-below_kept : (from : Meta) → IsKept (Below from) (IsUnderWay from) (λ here other. AreIncludedBy here other.sections) (λ file. AreIncludedBy from file.sections)
+below_kept : (from : Meta) → EachStepKeeps (Below from) (IsUnderWay from) (λ here other. AreIncludedBy here other.sections) (λ file. AreIncludedBy from file.sections)
 below_kept from = record {
   visit = λ s rest done kept. record {
     below = record { done_are = holds_appended (λ s. IsIncludedBy from s.meta) done.sections (s ∷ []) kept.done_are (kept.rest_are.0, tt); rest_are = kept.rest_are.1 };
@@ -151,7 +151,7 @@ record IsBehindOwn (below : ℕ) (from : Meta) (done : State) (rest : List Secti
   between : Between below done rest
   last : last_own below None done.sections ≡ Some from
 
-behind_kept : (below : ℕ) → IsKept (Between below) (IsBehindOwn below) (λ from other. AreIncludedBy from other.sections) (λ file. StandBehind below None file.sections)
+behind_kept : (below : ℕ) → EachStepKeeps (Between below) (IsBehindOwn below) (λ from other. AreIncludedBy from other.sections) (λ file. StandBehind below None file.sections)
 behind_kept below = record {
   visit = λ s rest done kept. record {
     between = record {

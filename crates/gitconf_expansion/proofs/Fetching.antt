@@ -1,18 +1,20 @@
 -- An included file that is fetched.
-use Rattle.std.proofs.Common.{◌≡◌, ◌≢◌, ◌⊎◌, ℕ, ◌==◌, Bool, true, false, List, Option, Some, None, Result, Ok, Err, inl, inr, refl, sym, ap, ◌∙◌, subst}
-use Rattle.std.specs.Prelude.{IfSome, IsErrAnd}
+use Rattle.std.proofs.Common.{◌≡◌, ◌≢◌, ◌⊎◌, ℕ, ◌==◌, if◌then◌else◌, Bool, true, false, List, Option, Some, None, Result, Ok, Err, inl, inr, refl, sym, ap, ◌∙◌, subst}
+use Rattle.std.specs.Prelude.{IfErr, IfSome, IsErrAnd}
 use Rattle.std.proofs.lemmas.Bool.{eqb-true}
 use Rattle.std.specs.declared.vec.Vec.{Vec}
 use Rattle.gitconf_base.specs.Metadata.{Meta}
 use Rattle.gitconf_host.specs.Told.{FileTold, IsReadOf, read_of}
 use Rattle.gitconf_host.specs.declared.fault.FileFault.{FileFault}
 use Rattle.gitconf_includes.specs.declared.includes.Error.{Error}
+use Rattle.gitconf_includes.specs.declared.includes.Error.TheVariants as refusals
+use Rattle.gitconf_includes.specs.declared.init.Options.{Options}
 use Rattle.gitconf_includes.specs.Errors.{include_of_parse, includes_number}
 use Rattle.gitconf_parse.specs.EventResult.{IsRefused}
 use Rattle.gitconf_parse.specs.ParseError.{Refusal}
 use Rattle.gitconf_state.specs.State.{State}
 use Rattle.gitconf_expansion.specs.Expansion.{Asks, IsFetched, IsLoaded, IsLoadOf, May, fault_number, included_meta}
-use Rattle.gitconf_expansion.specs.Outcomes.{told}
+use Rattle.gitconf_expansion.specs.Outcomes.{told, IsCause, IsTextOf}
 
 -- a call was refused for want of memory, or is what is fetched
 abbrev pub Fetches : Asks → Meta → (path : List ℕ) → Result State ℕ → Type 0
@@ -68,3 +70,17 @@ pub refused : {Z T : Type 0} (asks : Asks) (from : Meta) (path : List ℕ) (text
     → IsErrAnd result (λ r. r ≡ include_of_parse e) → Fetches asks from path (told f result)
 refused asks from path text e f (Ok made) read within is err = absurd err
 refused asks from path text e f (Err r) read within is err = loads asks from path text (Err (includes_number r)) read within (e, is, ap includes_number err ∙ parse_number e)
+
+-- and their causes
+pub parse_cause : {T Z : Type 0} (options : Options) (table : Option (List ℕ → FileTold)) (path : List ℕ) (text : Vec ℕ Z) (e : Refusal) (result : Result T Error)
+    → IfSome table (λ files. IsReadOf (Ok text) (files path)) → IsRefused text.items e → IsErrAnd result (λ r. r ≡ include_of_parse e) → IfErr result (IsCause options table)
+parse_cause options table path text e (Ok made) read refused err = tt
+parse_cause options table path text e (Err r) read refused err = subst (IsCause options table) (sym err) (go (e.number == 27))
+  where
+    told : (t : Option (List ℕ → FileTold)) → IfSome t (λ files. IsReadOf (Ok text) (files path)) → IsTextOf t path text.items
+    told None is = tt
+    told (Some files) is = is
+
+    go : (b : Bool) → IsCause options table (if b then refusals.Memory else refusals.Parse e)
+    go true = tt
+    go false = (path, text.items, told table read, refused)

@@ -13,7 +13,7 @@ use Rattle.gitconf_expansion.proofs.Steps.{all_done, whole_visited}
 
 -- What holds of what is done and what is still to be visited (P), and while a section from there is under way (At): each step of a visit
 -- keeps it, where Q holds of what is put in for that section. F then holds of the whole file.
-pub record IsKept (P : State → List SectionState → Type 0) (At : Meta → State → List SectionState → Type 0) (Q : Meta → State → Type 0) (F : State → Type 0) : Type 0 where
+pub record EachStepKeeps (P : State → List SectionState → Type 0) (At : Meta → State → List SectionState → Type 0) (Q : Meta → State → Type 0) (F : State → Type 0) : Type 0 where
   pub visit : (s : SectionState) (rest : List SectionState) (done : State) → P done (s ∷ rest) → At s.meta (visited done s) rest
   pub put : (from : Meta) (other : State) (rest : List SectionState) (done : State) → has_room other rest done ≡ true → At from done rest → Q from other → At from (spliced other rest done) rest
   pub leave : (from : Meta) (rest : List SectionState) (done : State) → At from done rest → P done rest
@@ -30,7 +30,7 @@ Kept P F rest (On now) = P now rest
 Kept P F rest (Ended number file) = F file
 
 module _ (P : State → List SectionState → Type 0) (At : Meta → State → List SectionState → Type 0) (Q : Meta → State → Type 0) (F : State → Type 0) (asks : Asks) (deeper : Deeper)
-    (keeps : IsKept P At Q F) (holds : Holds Q asks deeper) where
+    (keeps : EachStepKeeps P At Q F) (holds : Holds Q asks deeper) where
   whole_file : (from : Meta) (rest : List SectionState) (done : State) → At from done rest → F (whole done rest)
   whole_file from rest done kept = keeps.file rest done (keeps.leave from rest done kept)
 
@@ -119,9 +119,9 @@ limit F asks old r kept is = go asks.rules.refuses_depth is
     go true ends = subst (λ x. F (file_of x)) (sym ends) kept
     go false on = subst (λ x. F (file_of x)) (sym on) kept
 
--- what holds of an expansion of each file that is put in, and is kept where it is, holds of the whole expansion
+-- an expansion keeps what each step of its visits keeps, where Q holds of each file that is put in
 pub expansion_from : (P : State → List SectionState → Type 0) (At : Meta → State → List SectionState → Type 0) (Q : Meta → State → Type 0) (F : State → Type 0) (asks : Asks)
-    → IsKept P At Q F → ((n : ℕ) → Holds Q asks (Expands n asks))
+    → EachStepKeeps P At Q F → ((n : ℕ) → Holds Q asks (Expands n asks))
     → (left : ℕ) (parent : Option State) (old : State) (r : Reached) → P (with_sections [] old) old.sections → Expands left asks parent old r → F (file_of r)
 unfolding Expands
 expansion_from P At Q F asks keeps holds zero parent old r kept is = limit F asks old r (keeps.file old.sections (with_sections [] old) kept) is
@@ -131,7 +131,7 @@ expansion_from P At Q F asks keeps holds (suc left) parent old r kept is = one_l
 abbrev pub Keeps : (P Q : State → Type 0) → Type 0
 Keeps P Q = (other : State) (rest : List SectionState) (done : State) → has_room other rest done ≡ true → P (whole done rest) → Q other → P (whole (spliced other rest done) rest)
 
-is_kept : (P Q : State → Type 0) → Keeps P Q → IsKept (λ done rest. P (whole done rest)) (λ from done rest. P (whole done rest)) (λ from other. Q other) P
+is_kept : (P Q : State → Type 0) → Keeps P Q → EachStepKeeps (λ done rest. P (whole done rest)) (λ from done rest. P (whole done rest)) (λ from other. Q other) P
 is_kept P Q keeps = record {
   visit = λ s rest done kept. subst P (sym (whole_visited done s rest)) kept;
   put = λ from other rest done room kept holds. keeps other rest done room kept holds;

@@ -11,6 +11,7 @@ use Rattle.gitconf_includes.specs.declared.includes.Error.TheVariants as refusal
 use Rattle.gitconf_includes.specs.declared.init.Options.{Options}
 use Rattle.gitconf_includes.specs.Errors.{includes_number}
 use Rattle.gitconf_includes.specs.Rules.{rules_of}
+use Rattle.gitconf_parse.specs.EventResult.{IsRefused}
 use Rattle.gitconf_state.specs.Including.{whole}
 use Rattle.gitconf_state.specs.State.{SectionState, State}
 use Rattle.gitconf_expansion.specs.Expansion.{Asks, Leaves, May, On, Reached}
@@ -37,15 +38,20 @@ CountsFaults (Err e) old new = CountsFault (includes_number e) old new
 abbrev pub IsFaultOf : Option (List ℕ → FileTold) → (path : List ℕ) → FileFault → Type 0
 IsFaultOf table path fault = May table (λ told. ◌≡◌ {A = Result (List ℕ) FileFault} (read_of (told path)) (Err fault))
 
+-- or that text
+abbrev pub IsTextOf : Option (List ℕ → FileTold) → (path text : List ℕ) → Type 0
+IsTextOf table path text = May table (λ told. ◌≡◌ {A = Result (List ℕ) FileFault} (read_of (told path)) (Ok text))
+
 -- how a fault of the file at a path refuses
 abbrev pub fault_refusal : FileFault → (path : String Global) → Error
 fault_refusal fault path = elim fault.stage [ Open ↦ refusals.Io path fault | Read ↦ refusals.CopyBuffer fault | Memory ↦ refusals.Memory ]
 
--- What a refusal tells beside its number: the fault of a file that was opened or read, with the path of one that couldn't be opened; the depth
--- that the options allow; and what the git folder lacks.
+-- What a refusal tells beside its number: the fault of a file that was opened or read, with the path of one that couldn't be opened; how the
+-- parser refuses the text of a file; the depth that the options allow; and what the git folder lacks.
 abbrev pub IsCause : Options → Option (List ℕ → FileTold) → Error → Type 0
 IsCause options table (refusals.Io path fault) = (fault.stage ≡ Open) × IsFaultOf table (string_bytes path) fault
 IsCause options table (refusals.CopyBuffer fault) = (path : List ℕ) × (fault.stage ≡ Read) × IsFaultOf table path fault
+IsCause options table (refusals.Parse e) = (path text : List ℕ) × IsTextOf table path text × IsRefused text e
 IsCause options table (refusals.IncludeDepthExceeded depth) = depth ≡ options.includes.max_depth
 IsCause options table refusals.MissingGitDir = options.includes.conditional.git_dir ≡ None
 IsCause options table (refusals.Realpath fault) = IsUnresolved fault options.includes.conditional.git_dir

@@ -3,7 +3,7 @@ use Rattle.std.specs.Prelude.{string_bytes}
 use Rattle.gitconf_base.specs.Metadata.{Meta}
 use Rattle.gitconf_includes.specs.Errors.{includes_number}
 use Rattle.gitconf_state.specs.Including.{whole}
-use Rattle.gitconf_expansion.proofs.Fetching.{Fetches, faulted, loaded, refused, too_deep}
+use Rattle.gitconf_expansion.proofs.Fetching.{Fetches, faulted, loaded, parse_cause, refused, too_deep}
 use Rattle.gitconf_expansion.specs.Expansion.{included_meta}
 use Rattle.gitconf_expansion.specs.Outcomes.{asks_of, told}
 use Rattle.gitconf_expansion.proofs.following.fetch.Goals as goal
@@ -27,6 +27,11 @@ returns-in_err-load-clause-fetched g c =
     let asks = asks_of c.args.options.now (g.F.Files.table c.args.files.now) in
     subst (λ p. Fetches asks c.args.from.now p (told (λ s. whole (g.S.ConfigFile.done s) (g.S.ConfigFile.rest s)) c.from_residual-in_err-load.result)) at
     (refused asks c.args.from.now c.deref.result.now c.in-Ok.text c.in_err-load.field-0.0 (λ s. whole (g.S.ConfigFile.done s) (g.S.ConfigFile.rest s)) c.from_residual-in_err-load.result c.in-Ok.ensures.told (λ e. c.if-from.false (ap (λ (m : Meta). m.level) c.from.view_is ∙ e)) c.in_err-load.ensures.refused c.from_residual-in_err-load.ensures.1)
+
+pub returns-in_err-load-clause-cause : goal.returns-in_err-load-clause-cause
+returns-in_err-load-clause-cause g c =
+    parse_cause c.args.options.now (g.F.Files.table c.args.files.now) c.deref.result.now c.in-Ok.text c.in_err-load.field-0.0 c.from_residual-in_err-load.result c.in-Ok.ensures.told c.in_err-load.ensures.refused
+    c.from_residual-in_err-load.ensures.1
 
 pub returns-clause-fetched : goal.returns-clause-fetched
 returns-clause-fetched g c =
