@@ -224,7 +224,7 @@ pub enum StateCommand {
     Refusals,
 }
 
-/// Commands that tell what lies outside of a file, for those that ask for it.
+/// Commands that tell what lies outside of a file, and those that ask for it.
 #[derive(Clone, Copy)]
 pub enum OutsideCommand {
     /// `file`
@@ -239,6 +239,10 @@ pub enum OutsideCommand {
     Level,
     /// `options`
     Expansion,
+    /// `resolve`
+    Resolve,
+    /// `owned`
+    Owned,
 }
 
 /// The command that the first word names, and the words behind it; nothing, and all words, where there is none such.
@@ -394,11 +398,13 @@ static STATE_COMMANDS: [(&[u8], StateCommand); 9] = [
     (b"refusals", StateCommand::Refusals),
 ];
 
-static OUTSIDE_COMMANDS: [(&[u8], OutsideCommand); 6] = [
+static OUTSIDE_COMMANDS: [(&[u8], OutsideCommand); 8] = [
     (b"file", OutsideCommand::File),
     (b"fault", OutsideCommand::Fault),
     (b"var", OutsideCommand::Variable),
     (b"at", OutsideCommand::Path),
     (b"level", OutsideCommand::Level),
     (b"options", OutsideCommand::Expansion),
+    (b"resolve", OutsideCommand::Resolve),
+    (b"owned", OutsideCommand::Owned),
 ];

@@ -1,7 +1,7 @@
 //! Why a command was not done.
 
 use gitconf_script::words::NotUnderstood;
-use gix_config::file::{init, rename_section, section, set_raw_value};
+use gix_config::file::{includes, init, rename_section, section, set_raw_value};
 use gix_config::lookup::existing;
 use gix_config::parse::section::{NameError, ValueNameError, header};
 use gix_config::parse::{Error, SinkFault, span};
@@ -44,6 +44,16 @@ impl From<init::Error> for Refusal {
     fn from(refusal: init::Error) -> Refusal {
         match refusal {
             init::Error::Parse(refusal) => Refusal::from(refusal),
+            init::Error::Includes(refusal) => Refusal::from(refusal),
+            other => Refusal::Numbered(other.number()),
+        }
+    }
+}
+
+impl From<includes::Error> for Refusal {
+    fn from(refusal: includes::Error) -> Refusal {
+        match refusal {
+            includes::Error::Parse(refusal) => Refusal::from(refusal),
             other => Refusal::Numbered(other.number()),
         }
     }

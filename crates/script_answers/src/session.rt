@@ -189,6 +189,11 @@ impl Session {
         &mut self.outside
     }
 
+    /// Puts that in place of what is told of what lies outside, which it answers.
+    pub fn replace_outside(&mut self, outside: Outside) -> Outside {
+        replace(&mut self.outside, outside)
+    }
+
     /// Whether each answer is to say if a growth was refused.
     pub fn tells_refusals(&self) -> bool
         ensures { result ≡ self.now.tells_refusals }

@@ -1,6 +1,6 @@
 //! The commands that change a file or make one, by groups.
 
-use crate::{edits, files, outside};
+use crate::{edits, expanding, files, outside};
 use gitconf_script::commands::{EditCommand, OutsideCommand, StateCommand};
 use gitconf_script::words::Word;
 use script_answers::answer::Outcome;
@@ -50,7 +50,7 @@ pub fn state_outcome<'a>(
     }
 }
 
-/// Commands that tell what lies outside of a file.
+/// Commands on what lies outside of a file.
 pub fn outside_outcome<'a>(
     alloc: Global,
     session: &mut Session,
@@ -64,5 +64,7 @@ pub fn outside_outcome<'a>(
         OutsideCommand::Path => outside::at(alloc, session, words),
         OutsideCommand::Level => outside::set_level(alloc, session, words),
         OutsideCommand::Expansion => outside::options(alloc, session, words),
+        OutsideCommand::Resolve => expanding::resolve(alloc, session, words),
+        OutsideCommand::Owned => expanding::owned(alloc, session, words),
     }
 }

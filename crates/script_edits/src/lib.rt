@@ -4,5 +4,6 @@
 
 pub mod changes;
 mod edits;
+mod expanding;
 mod files;
 mod outside;

@@ -1,0 +1,75 @@
+//! Commands that read the files which a file includes, by what the script tells of them.
+//
+// A host is made in each call that needs one, and lent to no other function of ours: a function that takes one is refused by
+// the check where it could put another box into it.
+
+use gitconf_script::arguments::{bytes, no_words};
+use gitconf_script::words::Word;
+use gix_config::File;
+use gix_config::file::Metadata;
+use gix_config::host::{Host, Places};
+use script_answers::answer::{Answer, Outcome};
+use script_answers::outside::Outside;
+use script_answers::refusal::Refusal;
+use script_answers::session::Session;
+use std::alloc::{AllocError, Global};
+use std::rc::Rc;
+
+/// `resolve`: puts into the current file what its sections include.
+pub fn resolve<'a>(alloc: Global, session: &mut Session, words: &[Word<'_>]) -> Outcome<'a> {
+    no_words(words)?;
+    let outside = session.replace_outside(Outside::new(alloc));
+    let expanded = expand(alloc, session.file_mut(), &outside);
+    drop(session.replace_outside(outside));
+    match expanded {
+        Ok(()) => Ok(Answer::Done),
+        Err(refusal) => Err(refusal),
+    }
+}
+
+/// `owned BYTES`: the current file is that text, with what its sections include.
+pub fn owned<'a>(alloc: Global, session: &mut Session, words: &[Word<'_>]) -> Outcome<'a> {
+    let text = Vec::from_slice(alloc, bytes(words)?)?;
+    let file = expanded_text(alloc, text, session.meta()?, session.outside())?;
+    session.put(file, None);
+    Ok(Answer::Done)
+}
+
+/// Puts into a file what its sections include.
+fn expand(alloc: Global, file: &mut File, outside: &Outside) -> Result<(), Refusal> {
+    let files = outside.files(alloc)?;
+    let variables = outside.variables(alloc)?;
+    let mut host = Host {
+        files: Box::new(alloc, files)?,
+        env: Box::new(alloc, variables)?,
+        places: places(alloc)?,
+    };
+    Ok(file.resolve_includes(outside.options(), &mut host)?)
+}
+
+/// The file that a text is, with what its sections include.
+fn expanded_text(
+    alloc: Global,
+    text: Vec<u8>,
+    meta: Rc<Metadata>,
+    outside: &Outside,
+) -> Result<File, Refusal> {
+    let files = outside.files(alloc)?;
+    let variables = outside.variables(alloc)?;
+    let mut host = Host {
+        files: Box::new(alloc, files)?,
+        env: Box::new(alloc, variables)?,
+        places: places(alloc)?,
+    };
+    Ok(File::from_bytes_owned(alloc, text, meta, outside.options(), &mut host)?)
+}
+
+/// The places that a program knows: no configuration of an installation, no home folder, and no users.
+fn places(alloc: Global) -> Result<Places, AllocError> {
+    Ok(Places {
+        installation_config: None,
+        system_prefix: String::from_str(alloc, "/")?,
+        home: None,
+        homes: None,
+    })
+}
