@@ -1,13 +1,14 @@
 //! Times what the Rust crate does with a file, as often as asked: `bench WHAT ROUNDS KEY FILE`.
 //!
 //! WHAT is a word of `crates/bench`, but `match`; each round prints its nanoseconds.
-use std::{hint::black_box, mem, time::Instant};
+use std::{collections::BTreeSet, hint::black_box, mem, time::Instant};
 
 use gix_config::{
     File,
-    file::{Metadata, init},
+    file::{Metadata, includes, init},
     format, parse, value,
 };
+use host::Entry;
 
 const LOOKUPS: u32 = 256;
 const PUSHES: u32 = 100_000;
@@ -43,6 +44,49 @@ fn push(text: &[u8], key: &str) -> u128 {
     taken / u128::from(PUSHES)
 }
 
+/// The text at a path of the form `/DEPTH/SECTIONS/NAME`, as `made` of `crates/bench` makes it, and the path that it includes.
+fn made(path: &str) -> (String, Option<String>) {
+    let [_, depth, sections, name] = path.splitn(4, '/').collect::<Vec<_>>()[..] else {
+        panic!("{path} is not of that form");
+    };
+    let depth: u32 = depth.parse().expect("a number of levels");
+    let mut text: String = (0..sections.parse::<u32>().expect("a number of sections"))
+        .map(|n| format!("[s \"{n}\"]\n\tk = v\n"))
+        .collect();
+    let below = depth.checked_sub(1).map(|below| format!("/{below}/{sections}/{name}"));
+    if let Some(below) = &below {
+        text.push_str(&format!("[include]\n\tpath = {below}\n"));
+    }
+    (text, below)
+}
+
+/// Puts all files into the driver's table that are included, so that reading one copies its bytes.
+fn make_files(file: &File) {
+    let paths: BTreeSet<String> =
+        file.strings("include.path").unwrap_or_default().iter().map(|path| path.to_string()).collect();
+    for path in paths {
+        let mut next = Some(path);
+        while let Some(path) = next {
+            let (text, below) = made(&path);
+            host::with(|table| table.files.insert(path.into(), Entry::Bytes(text.into())));
+            next = below;
+        }
+    }
+}
+
+fn include(text: &[u8]) -> u128 {
+    let mut file = load(text);
+    let includes = includes::Options {
+        max_depth: 255,
+        err_on_max_depth_exceeded: false,
+        ..includes::Options::follow(Default::default(), Default::default())
+    };
+    let options = init::Options { includes, ..Default::default() };
+    let taken = nanos(|| file.resolve_includes(options).expect("includes that are resolved"));
+    black_box(file);
+    taken
+}
+
 fn look_ups(look_up: impl Fn()) -> u128 {
     nanos(|| (0..LOOKUPS).for_each(|_| look_up())) / u128::from(LOOKUPS)
 }
@@ -52,6 +96,9 @@ fn main() {
     let (what, key) = (words[1].as_str(), words[3].as_str());
     let text = std::fs::read(&words[4]).expect("a file");
     let mut file = if what == "decode" { File::default() } else { load(&text) };
+    if what == "include" {
+        make_files(&file);
+    }
     for _ in 0..words[2].parse::<u32>().expect("a number of rounds") {
         let taken = match what {
             // An earlier file is let go.
@@ -68,6 +115,7 @@ fn main() {
             "print" => nanos(|| drop(black_box(file.to_bstring()))),
             "set" => set(&text, key),
             "push" => push(&text, key),
+            "include" => include(&text),
             "lay-out" => nanos(|| drop(black_box(format::normalize(black_box(&text), Default::default())).ok())),
             "decode" => nanos(|| drop(black_box(value::normalize(black_box(text.as_slice()))))),
             _ => panic!("{what} is no measure"),

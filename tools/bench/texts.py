@@ -58,6 +58,27 @@ SHORT_ITEMS = [
 ]
 
 
+# Where the sections stand that include others.
+PLACES = ("at the front", "at the end", "spread")
+
+
+def made(levels, sections):
+    """The path of a file of so many sections, the first of so many that include one another, as the program makes it."""
+    return f"/{levels - 1}/{sections}/made"
+
+
+def including(sections, files, place, path):
+    """Remotes, of which so many are sections instead that include the path, and stand at that place."""
+    include = f"[include]\n\tpath = {path}\n"
+    if place == "at the front":
+        includes = range(files)
+    elif place == "at the end":
+        includes = range(sections - files, sections)
+    else:
+        includes = {n * sections // files for n in range(files)}
+    return "".join(include if n in includes else _remote(n) for n in range(sections)).encode()
+
+
 # Path patterns, and texts to match them against: what a pattern begins with, what is repeated behind that, how often, what it ends
 # with; what is repeated in the text, and how often.
 PATTERNS = [("", "*a", 64, "b", "a", 200)]

@@ -1,19 +1,24 @@
 //! Times what the library does with standard input, as often as asked: `bench WHAT ROUNDS WORD [times]`.
 //!
-//! WHAT is `events`, `load`, `look-up`, `raw`, `boolean`, `by-name`, `values`, `print`, `set`, `push`, `lay-out`, `decode` or `match`, or
-//! `all` for each of them in turn. WORD is a key, but for `match` a path pattern; what needs neither passes over it. Standard input is
-//! a text, for `decode` a raw value, and for `match` what the pattern is matched against. With `times` each round tells its nanoseconds.
+//! WHAT is `events`, `load`, `look-up`, `raw`, `boolean`, `by-name`, `values`, `print`, `set`, `push`, `lay-out`, `decode`, `match` or
+//! `include`, or `all` for each of them in turn. WORD is a key, but for `match` a path pattern; what needs neither passes over it. Standard
+//! input is a text, for `decode` a raw value, and for `match` what the pattern is matched against. With `times` each round tells its
+//! nanoseconds. The files that a text includes for `include` are made by their paths, as `made` tells.
 #![tactic(auto)]
+
+mod made;
 
 ghost use Rattle.std.specs.Prelude.{◌≡◌};
 ghost use Rattle.gix_config.specs.SectionEditors.{lent};
 
 use anyhow::{Context, Result, bail};
-use gix_config::file::SectionMut;
+use gix_config::file::{SectionMut, includes, init};
 use gix_config::format::{Options, normalize};
 use gix_config::glob::wildmatch;
+use gix_config::host::{Host, MemEnv, Places};
 use gix_config::parse::Events;
 use gix_config::{File, KeyRef, value};
+use made::MadeFiles;
 use std::alloc::Global;
 use std::io::{BufReader, Read};
 use std::mem::replace;
@@ -63,6 +68,8 @@ enum Measure {
     Decode,
     /// Matching a path pattern.
     Match,
+    /// Resolving the includes of a file that was not expanded before.
+    Include,
 }
 
 /// What it is timed with.
@@ -378,6 +385,63 @@ fn time_match(rt: HostRuntime, task: Task<'_>) -> Result<()> {
     Ok(())
 }
 
+/// Includes are followed as deep as they may go.
+fn followed() -> init::Options<'static> {
+    let mut includes = includes::Options::follow(Default::default(), Default::default());
+    includes.max_depth = 255;
+    includes.err_on_max_depth_exceeded = false;
+    init::Options {
+        includes,
+        lossy: false,
+        ignore_io_errors: false,
+    }
+}
+
+/// Resolves the file's includes, and answers the nanoseconds that this took.
+fn include<R: Clock>(rt: &R, file: &mut File, host: &mut Host) -> Result<u128> {
+    let start = Instant::now(rt)?;
+    file.resolve_includes(followed(), host)?;
+    Ok(start.elapsed(rt)?.as_nanos())
+}
+
+/// How many entries the text has with what it includes, and the nanoseconds of the includes alone.
+fn include_in<R: Clock + AllocGlobal>(
+    rt: &R,
+    text: &[u8],
+    host: &mut Host,
+) -> Result<(usize, u128)> {
+    let mut file = load(rt.alloc(), text)?;
+    let nanos = include(rt, &mut file, host)?;
+    Ok((file.num_values(), nanos))
+}
+
+/// The rounds of resolving includes.
+fn inclusions(rt: HostRuntime, task: Task<'_>, host: &mut Host) -> Result<()> {
+    let mut entries = 0;
+    for _ in 0..task.rounds {
+        let (count, nanos) = include_in(&rt, task.text, host)?;
+        tell(rt, task, nanos)?;
+        entries = count;
+    }
+    println!(rt; "{entries} entries with those included")?;
+    Ok(())
+}
+
+fn time_include(rt: HostRuntime, task: Task<'_>) -> Result<()> {
+    let alloc = rt.alloc();
+    let mut host = Host {
+        files: Box::new(alloc, MadeFiles::new(alloc))?,
+        env: Box::new(alloc, MemEnv::new(alloc))?,
+        places: Places {
+            installation_config: None,
+            system_prefix: String::new(alloc),
+            home: None,
+            homes: None,
+        },
+    };
+    inclusions(rt, task, &mut host)
+}
+
 fn time(rt: HostRuntime, measure: Measure, task: Task<'_>) -> Result<()> {
     match measure {
         Measure::Events => time_events(rt, task),
@@ -390,6 +454,7 @@ fn time(rt: HostRuntime, measure: Measure, task: Task<'_>) -> Result<()> {
         Measure::LayOut => time_lay_out(rt, task),
         Measure::Decode => time_decode(rt, task),
         Measure::Match => time_match(rt, task),
+        Measure::Include => time_include(rt, task),
     }
 }
 
@@ -409,11 +474,12 @@ fn is_asked(word: &str, measure: Measure) -> bool {
         Measure::LayOut => "lay-out",
         Measure::Decode => "decode",
         Measure::Match => "match",
+        Measure::Include => "include",
     };
     word == name || word == "all"
 }
 
-const MEASURES: [Measure; 13] = [
+const MEASURES: [Measure; 14] = [
     Measure::Events,
     Measure::Load,
     Measure::LookUp(LookUp::Value),
@@ -427,6 +493,7 @@ const MEASURES: [Measure; 13] = [
     Measure::LayOut,
     Measure::Decode,
     Measure::Match,
+    Measure::Include,
 ];
 
 /// What the words behind the program's name ask for: the word of the measure, and the task.
