@@ -13,7 +13,7 @@ from transcripts import Row
 from words import to_transcript
 
 # A command with more growths than this has none to be refused one by one.
-MOST_GROWTHS = 5000
+MOST_GROWTHS = 20000
 
 OUT_OF_MEMORY = "err E27"
 
