@@ -397,38 +397,10 @@ fn followed() -> init::Options<'static> {
     }
 }
 
-/// Resolves the file's includes, and answers the nanoseconds that this took.
-fn include<R: Clock>(rt: &R, file: &mut File, host: &mut Host) -> Result<u128> {
-    let start = Instant::now(rt)?;
-    file.resolve_includes(followed(), host)?;
-    Ok(start.elapsed(rt)?.as_nanos())
-}
-
 /// How many entries the text has with what it includes, and the nanoseconds of the includes alone.
-fn include_in<R: Clock + AllocGlobal>(
-    rt: &R,
-    text: &[u8],
-    host: &mut Host,
-) -> Result<(usize, u128)> {
-    let mut file = load(rt.alloc(), text)?;
-    let nanos = include(rt, &mut file, host)?;
-    Ok((file.num_values(), nanos))
-}
-
-/// The rounds of resolving includes.
-fn inclusions(rt: HostRuntime, task: Task<'_>, host: &mut Host) -> Result<()> {
-    let mut entries = 0;
-    for _ in 0..task.rounds {
-        let (count, nanos) = include_in(&rt, task.text, host)?;
-        tell(rt, task, nanos)?;
-        entries = count;
-    }
-    println!(rt; "{entries} entries with those included")?;
-    Ok(())
-}
-
-fn time_include(rt: HostRuntime, task: Task<'_>) -> Result<()> {
+fn include_in<R: Clock + AllocGlobal>(rt: &R, text: &[u8]) -> Result<(usize, u128)> {
     let alloc = rt.alloc();
+    let mut file = load(alloc, text)?;
     let mut host = Host {
         files: Box::new(alloc, MadeFiles::new(alloc))?,
         env: Box::new(alloc, MemEnv::new(alloc))?,
@@ -439,7 +411,22 @@ fn time_include(rt: HostRuntime, task: Task<'_>) -> Result<()> {
             homes: None,
         },
     };
-    inclusions(rt, task, &mut host)
+    let start = Instant::now(rt)?;
+    file.resolve_includes(followed(), &mut host)?;
+    let nanos = start.elapsed(rt)?.as_nanos();
+    Ok((file.num_values(), nanos))
+}
+
+/// The rounds of resolving includes.
+fn time_include(rt: HostRuntime, task: Task<'_>) -> Result<()> {
+    let mut entries = 0;
+    for _ in 0..task.rounds {
+        let (count, nanos) = include_in(&rt, task.text)?;
+        tell(rt, task, nanos)?;
+        entries = count;
+    }
+    println!(rt; "{entries} entries with those included")?;
+    Ok(())
 }
 
 fn time(rt: HostRuntime, measure: Measure, task: Task<'_>) -> Result<()> {
