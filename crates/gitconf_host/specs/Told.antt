@@ -1,6 +1,6 @@
 -- What sources of files and of variables tell: a table that their calls answer by, and how often a call failed. A source
 -- that tells nothing is told by `None`.
-use Rattle.std.specs.Prelude.{◌≡◌, ◌==◌, ◌⊎◌, if◌then◌else◌, ℕ, ◌+◌, Bool, true, false, List, Option, Some, None, Result, Ok, Err, string_bytes}
+use Rattle.std.specs.Prelude.{◌≡◌, ◌==◌, ◌⊎◌, if◌then◌else◌, ℕ, ◌+◌, ◌<◌, ◌≤◌, Bool, true, false, List, Option, Some, None, Result, Ok, Err, string_bytes}
 use Rattle.std.specs.declared.vec.Vec.{Vec}
 use Rattle.gitconf_base.specs.declared.source.Trust.{Trust}
 use Rattle.gitconf_host.specs.declared.fault.FileFault.{FileFault}
@@ -47,16 +47,33 @@ abbrev pub IsTrustOf : Result Trust FileFault → FileTold → Type 0
 IsTrustOf (Ok trust) told = trust_of told ≡ Ok trust
 IsTrustOf (Err fault) told = (fault.stage ≡ Memory) ⊎ (trust_of told ≡ Err fault)
 
--- one failure more
+-- nothing is asked of a host that tells nothing
+abbrev pub May : {T : Type 0} → Option T → (T → Type 0) → Type 0
+May None P = Unit {0}
+May (Some told) P = P told
+
+-- one failure more; what tells no count goes on so
 abbrev pub CountsOne : (old new : Option ℕ) → Type 0
 CountsOne (Some m) (Some n) = n ≡ m + 1
 CountsOne (Some m) None = Unit {0}
-CountsOne None n = Unit {0}
+CountsOne None n = n ≡ None
 
 -- no failure more, or, where a fault was answered, one
 abbrev pub IsCounted : {T : Type 0} → Result T FileFault → (old new : Option ℕ) → Type 0
 IsCounted (Ok done) old new = new ≡ old
 IsCounted (Err fault) old new = CountsOne old new
+
+-- over many calls: no failure fewer
+abbrev pub IsNoLess : (old new : Option ℕ) → Type 0
+IsNoLess (Some m) (Some n) = m ≤ n
+IsNoLess (Some m) None = Unit {0}
+IsNoLess None n = n ≡ None
+
+-- at least one failure more
+abbrev pub Grew : (old new : Option ℕ) → Type 0
+Grew (Some m) (Some n) = m < n
+Grew (Some m) None = Unit {0}
+Grew None n = n ≡ None
 
 -- a count that is kept in 64 bits tells nothing at its end
 abbrev pub told_count : (count : ℕ) → Option ℕ

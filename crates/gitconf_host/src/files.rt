@@ -7,8 +7,8 @@ use gitconf_base::source::Trust;
 ///
 /// A source tells in `table` what stands at each path, or `None`; where it tells a table, each call answers by it, and
 /// no call changes it, whatever its outcome. It tells in `failures` how many faults it has answered, or `None` where it
-/// keeps no count or the count is past its end: a call that answers a fault counts one, and each other call none. So a
-/// fault of a source that counts comes from that source alone.
+/// keeps no count or the count is past its end, and then goes on with `None`: a call that answers a fault counts one, and
+/// each other call none. So a fault of a source that counts comes from that source alone.
 pub trait Files: Drop {
     ghost use Rattle.std.specs.Prelude.{◌≡◌, ℕ, List, Option, IfSome};
     ghost use Rattle.gitconf_host.specs.Told.{FileTold, is_there, IsReadOf, IsTrustOf, IsCounted};

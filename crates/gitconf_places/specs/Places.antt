@@ -8,12 +8,8 @@ use Rattle.gitconf_values.specs.Paths.{join}
 use Rattle.gitconf_base.specs.declared.source.Source.{Source}
 use Rattle.gitconf_base.specs.declared.source.Source.TheVariants.{GitInstallation, System, Git, User, Local, Worktree, Env, Cli, Api, EnvOverride}
 use Rattle.gitconf_host.specs.Told.{VariableTold, NotSet, HasText, NoText}
+pub use Rattle.gitconf_host.specs.Told.{May}
 use Rattle.gitconf_host.specs.declared.host.Places.{Places}
-
--- nothing is asked of a source that tells nothing
-abbrev pub May : {T : Type 0} → Option T → (T → Type 0) → Type 0
-May None P = Unit {0}
-May (Some told) P = P told
 
 -- the text that a variable is set to; what is no text counts as unset
 abbrev pub text_told : VariableTold → Option (List ℕ)
