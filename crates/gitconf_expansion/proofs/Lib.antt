@@ -5,6 +5,8 @@ pub mod Keeping
 pub mod Lossy
 pub mod Nothing
 pub mod Numbers
+pub mod OneLoad
+pub mod OneOutcome
 pub mod OnePath
 pub mod OwnSections
 pub mod Says

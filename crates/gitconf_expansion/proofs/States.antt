@@ -52,9 +52,9 @@ items_put_in other rest done has more = record {
     closes = one_line_end line_end (file_line_end_is (whole done rest))
 
 -- a clean one, with a clean one that has no entry in its front
-record IsHeaded (state : State) : Type 0 where
-  clean : IsClean state
-  front : entries_of state.front ≡ []
+pub record IsHeaded (state : State) : Type 0 where
+  pub clean : IsClean state
+  pub front : entries_of state.front ≡ []
 
 clean_put_in : (other : State) (rest : List SectionState) (done : State) → IsClean (whole done rest) → IsHeaded other → IsClean (whole (spliced other rest done) rest)
 clean_put_in other rest done clean more = record {
@@ -82,7 +82,7 @@ loaded_items false text place state is = full_has_items is.0 state is.1.fits (re
 loaded_items true text place state is =
     kept_has_items keeps_meaning is.0 state (lossy_keeps_entries (tokens_of is.0)) is.1.fits (record { tokens = is.2.tokens_are; held = is.2.held })
 
-loaded_headed : (lossy : Bool) (text : List ℕ) (place : Meta) (state : State) → ((parts : List Part) → IsText text parts → (gathered parts).front ≡ []) → IsLoaded lossy text place state → IsHeaded state
+pub loaded_headed : (lossy : Bool) (text : List ℕ) (place : Meta) (state : State) → ((parts : List Part) → IsText text parts → (gathered parts).front ≡ []) → IsLoaded lossy text place state → IsHeaded state
 loaded_headed false text place state none is =
     let load : IsFullLoad is.0 state = record { tokens = is.2.tokens_are; held = is.2.held } in
     record { clean = full_is_clean is.0 state is.1.fits load; front = ap (λ d. d.front) (document.full_document is.0 state load) ∙ none is.0 is.1 }
@@ -111,17 +111,24 @@ items_stay left asks parent old r has expands =
     whole_expansion HasItems asks (λ other rest done room here more. items_put_in other rest done here more)
     (fetched_items asks) left parent old r has expands
 
+-- what is fetched is clean and has no entry before its first section, where no text that may be included has one
+fetched_headed : (files : List ℕ → FileTold) (asks : Asks) → asks.table ≡ Some files → AreHeaded files → (from : Meta) (path : List ℕ) (other : State) → IsFetched asks from path (Ok other) → IsHeaded other
+fetched_headed files asks tells headed from path other fetched =
+    let load = fetched_load asks from path other fetched in
+    let told = subst (λ (t : Option (List ℕ → FileTold)). May t (λ (files : List ℕ → FileTold). ◌≡◌ {A = Result (List ℕ) FileFault} (Ok load.0) (read_of (files path)))) tells load.1 in
+    loaded_headed asks.rules.lossy load.0 (included_meta from path) other (λ parts is. headed path load.0 parts (sym told) is) load.2
+
+-- So is a file that has none before its first section itself.
+pub headed_stays : (files : List ℕ → FileTold) (left : ℕ) (asks : Asks) (parent : Option State) (old : State) (r : Reached) → asks.table ≡ Some files → AreHeaded files → IsHeaded old
+    → Expands left asks parent old r → IsHeaded (file_of r)
+headed_stays files left asks parent old r tells headed is expands =
+    whole_expansion IsHeaded asks (λ another rest done room here more. record { clean = clean_put_in another rest done here.clean more; front = here.front })
+    (fetched_headed files asks tells headed) left parent old r is expands
+
 -- A clean file stays clean, where no text that may be included has an entry before its first section.
 pub clean_stays : (files : List ℕ → FileTold) (left : ℕ) (asks : Asks) (parent : Option State) (old : State) (r : Reached) → asks.table ≡ Some files → AreHeaded files → IsClean old
     → Expands left asks parent old r → IsClean (file_of r)
 clean_stays files left asks parent old r tells headed clean expands =
     expansion IsClean IsHeaded asks (λ other rest done room here more. clean_put_in other rest done here more)
-    (λ n from path other above full fetched deeper. whole_expansion IsHeaded asks
-    (λ another rest done room here more. record { clean = clean_put_in another rest done here.clean more; front = here.front }) loads n (Some above) other (On full) (loads from path other fetched) deeper)
+    (λ n from path other above full fetched deeper. headed_stays files n asks (Some above) other (On full) tells headed (fetched_headed files asks tells headed from path other fetched) deeper)
     left parent old r clean expands
-  where
-    loads : (from : Meta) (path : List ℕ) (other : State) → IsFetched asks from path (Ok other) → IsHeaded other
-    loads from path other fetched =
-        let load = fetched_load asks from path other fetched in
-        let told = subst (λ (t : Option (List ℕ → FileTold)). May t (λ (files : List ℕ → FileTold). ◌≡◌ {A = Result (List ℕ) FileFault} (Ok load.0) (read_of (files path)))) tells load.1 in
-        loaded_headed asks.rules.lossy load.0 (included_meta from path) other (λ parts is. headed path load.0 parts (sym told) is) load.2

@@ -1,6 +1,6 @@
 -- How a file is expanded: which files its sections include, and where these stand behind that.
 -- Source: git, which reads an included file in the place of its include; the refusals and the rule of depths are gix-config's.
-use Rattle.std.specs.Prelude.{◌≡◌, ◌⊎◌, ℕ, zero, suc, ◌+◌, ◌==◌, Bool, true, false, List, [], ◌∷◌, Option, Some, None, Result, Ok, Err, filter, length, if◌then◌else◌}
+use Rattle.std.specs.Prelude.{◌≡◌, ◌<◌, ◌⊎◌, ℕ, zero, suc, ◌+◌, ◌^◌, ◌==◌, Bool, true, false, List, [], ◌∷◌, Option, Some, None, Result, Ok, Err, filter, length, if◌then◌else◌}
 use Rattle.std.specs.Option.{unwrap_or}
 use Rattle.gitconf_text.specs.Document.{IsText}
 use Rattle.gitconf_text.specs.Part.{Part}
@@ -11,6 +11,7 @@ use Rattle.gitconf_items.specs.TokenDocument.{keeps_meaning}
 use Rattle.gitconf_parse.specs.EventResult.{IsRefused}
 use Rattle.gitconf_parse.specs.ParseError.{Refusal}
 use Rattle.gitconf_host.specs.Told.{FileTold, is_there, read_of}
+pub use Rattle.gitconf_host.specs.Told.{May}
 use Rattle.gitconf_host.specs.declared.fault.FileFault.{FileFault}
 use Rattle.gitconf_host.specs.declared.fault.Stage.{Stage}
 use Rattle.gitconf_host.specs.declared.fault.Stage.TheVariants.{Open, Read, Memory}
@@ -27,11 +28,6 @@ pub record Asks : Type 0 where
   pub rules : Rules
   pub table : Option (List ℕ → FileTold)
 
--- a host that tells nothing may answer anything
-abbrev pub May : {T : Type 0} → Option T → (T → Type 0) → Type 0
-May None P = Unit {0}
-May (Some told) P = P told
-
 -- an expansion goes on with what is done, or was refused by a number, with the file as it then stands
 pub data Reached : Type 0 where
   On : (done : State) → Reached
@@ -42,9 +38,10 @@ abbrev pub kept_tokens : (lossy : Bool) → List Token → List Token
 kept_tokens true tokens = filter (keeps_token keeps_meaning) tokens
 kept_tokens false tokens = tokens
 
--- a state is made of a text that comes from one place
+-- a state is made of a text that comes from one place, of at most 4294967295 bytes
 abbrev pub IsLoaded : (lossy : Bool) → (text : List ℕ) → Meta → State → Type 0
-IsLoaded lossy text place state = (parts : List Part) × IsText text parts × IsMade (kept_tokens lossy (tokens_of parts)) place (length text) state
+IsLoaded lossy text place state =
+    (parts : List Part) × IsText text parts × IsMade (kept_tokens lossy (tokens_of parts)) place (length text) state × (length text < 2 ^ 32)
 
 -- the outcome of loading a text: such a state, or the number of the parser's refusal
 abbrev pub IsLoadOf : (lossy : Bool) → (text : List ℕ) → Meta → Result State ℕ → Type 0

@@ -1,5 +1,5 @@
--- What an expansion keeps of a file.
-use Rattle.std.specs.Prelude.{◌≡◌, ◌<◌, ℕ, ltb, Bool, true, false, List, [], ◌∷◌, Option, Some, None, map, filter, Ok, Err, Result}
+-- What an expansion keeps of a file, and when two outcomes are alike.
+use Rattle.std.specs.Prelude.{◌≡◌, ◌≢◌, ◌<◌, ℕ, ltb, Bool, true, false, List, [], ◌∷◌, Option, Some, None, map, filter, Ok, Err, Result}
 use Rattle.std.specs.List.{AllByRecursion}
 use Rattle.gitconf_text.specs.Document.{IsText, gathered}
 use Rattle.gitconf_text.specs.Part.{Part}
@@ -84,3 +84,15 @@ ParentsSayTheSame (Some one) (Some other) = SayTheSame one other
 -- by these rules and files, with all of each included file, or with what has a meaning alone
 abbrev pub asks_with : (lossy : Bool) → Rules → (files : List ℕ → FileTold) → Asks
 asks_with lossy rules files = record { rules = record rules { lossy = lossy }; table = Some files }
+
+-- an outcome that is not for want of memory
+abbrev pub IsAnswered : Reached → Type 0
+IsAnswered (On done) = Unit {0}
+IsAnswered (Ended number file) = number ≢ 27
+
+-- Calls on one file end alike: both leave the same file; or one number refuses both, and the files that are left differ in their buffers alone.
+abbrev pub EndAlike : (one other : Result Unit Error) → (new left : State) → Type 0
+EndAlike (Ok done) (Ok made) new left = new ≡ left
+EndAlike (Ok done) (Err f) new left = ⊥
+EndAlike (Err e) (Ok made) new left = ⊥
+EndAlike (Err e) (Err f) new left = (includes_number e ≡ includes_number f) × (new ≡ with_used new.used left)

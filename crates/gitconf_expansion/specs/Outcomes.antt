@@ -1,5 +1,5 @@
 -- The outcomes of calls, told by the definitions: what was made, or the number of the refusal.
-use Rattle.std.specs.Prelude.{◌≡◌, ◌⊎◌, ℕ, true, false, ◌==◌, ◌||◌, List, Option, None, Result, Ok, Err, string_bytes}
+use Rattle.std.specs.Prelude.{◌≡◌, ◌⊎◌, ℕ, Bool, true, false, ◌==◌, ◌||◌, List, Option, None, Result, Ok, Err, string_bytes}
 use Rattle.std.specs.declared.alloc.Global.{Global}
 use Rattle.std.specs.declared.string.String.{String}
 use Rattle.gitconf_host.specs.Told.{CountsOne, FileTold, read_of}
@@ -25,10 +25,14 @@ abbrev pub told : {T U : Type 0} → (T → U) → Result T Error → Result U �
 told f (Ok made) = Ok (f made)
 told f (Err e) = Err (includes_number e)
 
+-- the refusals that come of a host's file: an include that can't be opened or read, and a file that is loaded by its path and can't be
+abbrev pub is_file_number : (number : ℕ) → Bool
+is_file_number number = number == 19 || (number == 20 || number == 21)
+
 -- How often a host's files failed: once more where opening or reading one refuses; for want of memory maybe once more, where a file
 -- answered it; and else not at all.
 abbrev pub CountsFault : (number : ℕ) → (old new : Option ℕ) → Type 0
-CountsFault number old new = elim (number == 19 || number == 20) [ true ↦ CountsOne old new | false ↦ (new ≡ old) ⊎ ((number ≡ 27) × CountsOne old new) ]
+CountsFault number old new = elim (is_file_number number) [ true ↦ CountsOne old new | false ↦ (new ≡ old) ⊎ ((number ≡ 27) × CountsOne old new) ]
 
 abbrev pub CountsFaults : {T : Type 0} → Result T Error → (old new : Option ℕ) → Type 0
 CountsFaults (Ok made) old new = new ≡ old

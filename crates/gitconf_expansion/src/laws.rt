@@ -1,13 +1,14 @@
 //! What holds of expansions, for all files and sources of files: each law is a function that does nothing.
-ghost use Rattle.std.specs.Prelude.{◌≡◌, ◌⊎◌, ℕ, suc, true, false, List, None, Option, Result, Some};
+ghost use Rattle.std.specs.Prelude.{◌≡◌, ◌≢◌, ◌⊎◌, ℕ, suc, true, false, Bool, IfErr, List, None, Option, Result, Some};
+ghost use Rattle.gitconf_base.specs.Metadata.{Meta};
 ghost use Rattle.gitconf_host.specs.Told.{FileTold};
 ghost use Rattle.gitconf_includes.specs.declared.includes.Error.{Error};
 ghost use Rattle.gitconf_includes.specs.Errors.{includes_number};
 ghost use Rattle.gitconf_includes.specs.Rules.{Rules};
 ghost use Rattle.gitconf_state.specs.Clean.{IsClean};
 ghost use Rattle.gitconf_state.specs.State.{document_of, AreNumbered, HasItems, IsState, State};
-ghost use Rattle.gitconf_expansion.specs.Expansion.{Asks, Ended, Expands, On, Reached, Resolves};
-ghost use Rattle.gitconf_expansion.specs.Laws.{file_of, AreHeaded, IncludesNothing, asks_with, IsAsItWas, IsKept, ParentsSayTheSame, SayTheSame, StandBehind};
+ghost use Rattle.gitconf_expansion.specs.Expansion.{Asks, Ended, Expands, IsLoadOf, On, Reached, Resolves};
+ghost use Rattle.gitconf_expansion.specs.Laws.{file_of, AreHeaded, EndAlike, IncludesNothing, asks_with, IsAnswered, IsAsItWas, IsKept, ParentsSayTheSame, SayTheSame, StandBehind};
 
 /// Whatever the outcome, a file's own sections stay in their order, under their numbers and from where they came, and so do its front and
 /// where it comes from itself; only items held behind sections may be more.
@@ -57,4 +58,16 @@ pub fn lossy_expansions_say_the_same()
         → Expands left (asks_with false rules files) parent old (On full) → Expands left (asks_with true rules files) other_parent other (On lossy) → SayTheSame full lossy }
     ensures document { (rules : Rules) (files : List ℕ → FileTold) (left : ℕ) (parent : Option State) (old full lossy : State)
         → Expands left (asks_with false rules files) parent old (On full) → Expands left (asks_with true rules files) parent old (On lossy) → document_of full ≡ document_of lossy }
+{}
+
+/// Over files that are told, an expansion has one outcome, want of memory aside, and so has a call: two that are made on one file leave the same
+/// file, or are refused by one number and leave files that differ in their buffers alone. A text has one load.
+pub fn expansions_have_one_outcome()
+    ensures expanded { (asks : Asks) (files : List ℕ → FileTold) (left : ℕ) (parent : Option State) (old : State) (r s : Reached) → asks.table ≡ Some files → IsAnswered r → IsAnswered s
+        → Expands left asks parent old r → Expands left asks parent old s → r ≡ s }
+    ensures resolved { (asks : Asks) (files : List ℕ → FileTold) (old new left : State) (one other : Result Unit Error) → asks.table ≡ Some files
+        → IfErr one (λ e. includes_number e ≢ 27) → IfErr other (λ e. includes_number e ≢ 27)
+        → Resolves includes_number asks old one new → Resolves includes_number asks old other left → EndAlike one other new left }
+    ensures loaded { (lossy : Bool) (text : List ℕ) (place : Meta) (one other : Result State ℕ) → IfErr one (λ n. n ≢ 27) → IfErr other (λ n. n ≢ 27)
+        → IsLoadOf lossy text place one → IsLoadOf lossy text place other → one ≡ other }
 {}
