@@ -1,2 +1,3 @@
 pub mod UrlLemmas
 pub mod Made
+pub mod OneFile

@@ -3,9 +3,10 @@ use Rattle.std.specs.Prelude.{◌≡◌, ℕ, List, Option, None, Result, Ok, Er
 use Rattle.gitconf_base.specs.Metadata.{Meta}
 use Rattle.gitconf_host.specs.Told.{FileTold}
 use Rattle.gitconf_includes.specs.declared.init.Error.{Error}
-use Rattle.gitconf_includes.specs.declared.init.Error.TheVariants.{Includes}
+use Rattle.gitconf_includes.specs.declared.init.Error.TheVariants.{Includes, Parse}
 use Rattle.gitconf_includes.specs.declared.init.Options.{Options}
 use Rattle.gitconf_includes.specs.Errors.{init_number}
+use Rattle.gitconf_parse.specs.EventResult.{IsRefused}
 use Rattle.gitconf_state.specs.State.{State}
 use Rattle.gitconf_expansion.specs.Expansion.{Asks, Ended, Expands, IsLoadOf, On, Reached}
 use Rattle.gitconf_expansion.specs.Outcomes.{CountsFault, IsCause}
@@ -32,7 +33,15 @@ abbrev pub MakesCounted : {T : Type 0} → Result T Error → (old new : Option 
 MakesCounted (Ok made) old new = new ≡ old
 MakesCounted (Err e) old new = CountsFault (init_number e) old new
 
--- what a refused include tells beside its number
-abbrev pub IsMadeCause : Options → Option (List ℕ → FileTold) → Error → Type 0
-IsMadeCause options table (Includes e) = IsCause options table e
-IsMadeCause options table e = Unit {0}
+-- what a refusal tells beside its number: how the parser refuses the text, and what an include tells
+abbrev pub IsMadeCause : Options → Option (List ℕ → FileTold) → (text : List ℕ) → Error → Type 0
+IsMadeCause options table text (Parse e) = IsRefused text e
+IsMadeCause options table text (Includes e) = IsCause options table e
+IsMadeCause options table text e = Unit {0}
+
+-- Files that are made are the same; or one number refuses both.
+abbrev pub AreMadeAlike : (one other : Result State Error) → Type 0
+AreMadeAlike (Ok made) (Ok other) = made ≡ other
+AreMadeAlike (Ok made) (Err f) = ⊥
+AreMadeAlike (Err e) (Ok other) = ⊥
+AreMadeAlike (Err e) (Err f) = init_number e ≡ init_number f

@@ -86,7 +86,7 @@ fn has_url(section: &SectionRef<'_>, pattern: &[u8]) -> Result<bool, NoMemory>
 /// # Errors
 ///
 /// Those of the parser.
-pub(crate) fn load(
+pub fn load(
     alloc: Global,
     text: Vec<u8>,
     lossy: bool,

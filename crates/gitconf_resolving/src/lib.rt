@@ -2,4 +2,5 @@
 #![tactic(auto)]
 
 mod expansion;
+pub mod laws;
 pub mod resolving;

@@ -5,7 +5,8 @@ ghost use Rattle.gitconf_expansion.specs.Expansion.{Expands, Leaves, Reached};
 ghost use Rattle.gitconf_expansion.specs.Outcomes.{asks_of, CountsFaults, IsCause};
 ghost use Rattle.gitconf_resolving.specs.Resolving.{IsMadeCause, IsMadeOf, MakesCounted};
 
-use crate::expansion::{Expansion, load};
+use crate::expansion::Expansion;
+pub use crate::expansion::load;
 use gitconf_base::meta::Metadata;
 use gitconf_expansion::expanding::expand_file;
 use gitconf_host::Files;
@@ -61,7 +62,7 @@ pub fn resolved_text<F: Files>(
     meta: Rc<Metadata>,
 ) -> Result<Store, init::Error>
     ensures made { IsMadeOf init_number (asks_of options.now (F.table files.old)) text.items meta.value result }
-    ensures cause { IfErr result (IsMadeCause options.now (F.table files.old)) }
+    ensures cause { IfErr result (IsMadeCause options.now (F.table files.old) text.items) }
     ensures table { F.table files.new ≡ F.table files.old }
     ensures counted { MakesCounted result (F.failures files.old) (F.failures files.new) }
 {

@@ -1,0 +1,16 @@
+//! What holds of files that are made of bytes, with what these include: each law is a function that does nothing.
+ghost use Rattle.std.specs.Prelude.{◌≡◌, ◌≢◌, ℕ, IfErr, List, Result, Some};
+ghost use Rattle.gitconf_base.specs.Metadata.{Meta};
+ghost use Rattle.gitconf_host.specs.Told.{FileTold};
+ghost use Rattle.gitconf_includes.specs.declared.init.Error.{Error};
+ghost use Rattle.gitconf_includes.specs.Errors.{init_number};
+ghost use Rattle.gitconf_state.specs.State.{State};
+ghost use Rattle.gitconf_expansion.specs.Expansion.{Asks};
+ghost use Rattle.gitconf_resolving.specs.Resolving.{AreMadeAlike, IsMadeOf};
+
+/// Over files that are told, one text from one place makes one file, want of memory aside, or is refused by one number.
+pub fn a_text_makes_one_file()
+    ensures { (asks : Asks) (files : List ℕ → FileTold) (text : List ℕ) (place : Meta) (one other : Result State Error) → asks.table ≡ Some files
+        → IfErr one (λ e. init_number e ≢ 27) → IfErr other (λ e. init_number e ≢ 27)
+        → IsMadeOf init_number asks text place one → IsMadeOf init_number asks text place other → AreMadeAlike one other }
+{}
