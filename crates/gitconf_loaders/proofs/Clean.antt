@@ -1,0 +1,197 @@
+-- What is loaded is clean, where no text that the host tells has an entry before its first section.
+use Rattle.std.proofs.Common.{◌≡◌, ℕ, Bool, true, false, not, if◌then◌else◌, List, [], ◌∷◌, Option, Some, None, Result, Ok, Err, inl, inr, refl, sym, ap, subst}
+use Rattle.std.specs.List.{list_all}
+use Rattle.gitconf_text.specs.Document.{IsText, gathered}
+use Rattle.gitconf_text.specs.Part.{BlanksItem, CommentItem, EntryItem, Item, LineEndsItem, Part}
+use Rattle.gitconf_base.specs.Metadata.{api_meta, Meta, meta_of_file}
+use Rattle.gitconf_base.specs.declared.source.Source.{Source}
+use Rattle.gitconf_host.specs.Told.{FileTold, May, read_of, VariableTold}
+use Rattle.gitconf_host.specs.declared.host.Places.{Places}
+use Rattle.gitconf_host.specs.declared.fault.FileFault.{FileFault}
+use Rattle.gitconf_host.specs.declared.fault.Stage.{Stage}
+use Rattle.gitconf_host.specs.declared.fault.Stage.TheVariants.{Open, Read, Memory}
+use Rattle.gitconf_state.specs.Clean.{IsClean}
+use Rattle.gitconf_state.specs.Edits.{Append, apply, joined}
+use Rattle.gitconf_state.specs.LineEnds.{file_line_end}
+use Rattle.gitconf_state.specs.Loads.{IsFullLoad}
+use Rattle.gitconf_state.specs.State.{entries_of, is_entry, SectionState, State}
+use Rattle.gitconf_state.proofs.EditsKeep.{apply_clean, joined_passes, without_entries}
+use Rattle.gitconf_state.proofs.LoadingClean.{full_is_clean}
+use Rattle.gitconf_parse.proofs.OneDocument.{one_document}
+use Rattle.gitconf_expansion.specs.Expansion.{Asks, Ended, IsLoaded, On}
+use Rattle.gitconf_expansion.specs.Laws.{AreHeaded}
+use Rattle.gitconf_expansion.proofs.States.{headed_stays, IsHeaded, loaded_headed}
+use Rattle.gitconf_resolving.specs.Resolving.{IsMadeOf}
+use Rattle.gitconf_loaders.specs.Globals.{empty_file, home_rules, IsGlobal}
+use Rattle.gitconf_loaders.specs.Paths.{AreLoaded, has_room_behind, IsBehind, IsFileLoaded, IsLoadedFrom, IsLoadOfPaths, IsMetaLoaded, IsTextTaken, Joins, once, taken}
+
+-- a full load
+full_clean : (text : List ℕ) (meta : Meta) (state : State) → IsLoaded false text meta state → IsClean state
+full_clean text meta state is =
+    let load : IsFullLoad is.0 state = record { tokens = is.2.tokens_are; held = is.2.held } in
+    full_is_clean is.0 state is.1.fits load
+
+-- a file by its path, with no include
+pub from_path : (table : Option (List ℕ → FileTold)) (path : List ℕ) (source : Source) (file : State) → IsLoadedFrom table path source (Ok file) → IsClean file
+from_path table path source file (inl wanting) = absurd (cc)
+from_path table path source file (inr (Err fault, told, is)) = absurd (cc)
+from_path table path source file (inr (Ok trust, told, (Err fault, read, is))) = absurd (cc)
+from_path table path source file (inr (Ok trust, told, (Ok text, read, load))) = full_clean text (meta_of_file path source trust) file load
+
+-- where the text has no entry before its first section, the front has none
+pub path_headed : (files : List ℕ → FileTold) (path : List ℕ) (source : Source) (file : State) → AreHeaded files → IsLoadedFrom (Some files) path source (Ok file) → IsHeaded file
+path_headed files path source file headed (inl wanting) = absurd (cc)
+path_headed files path source file headed (inr (Err fault, told, is)) = absurd (cc)
+path_headed files path source file headed (inr (Ok trust, told, (Err fault, read, is))) = absurd (cc)
+path_headed files path source file headed (inr (Ok trust, told, (Ok text, read, load))) =
+    loaded_headed false text (meta_of_file path source trust) file (λ parts is. headed path text parts (sym read) is) load
+
+-- items without entries have none
+no_entries : (items : List Item) → list_all (λ i. not (is_entry i)) items ≡ true → entries_of items ≡ []
+no_entries [] none = refl
+no_entries (BlanksItem run ∷ items) none = no_entries items none
+no_entries (LineEndsItem run ∷ items) none = no_entries items none
+no_entries (CommentItem tag text ∷ items) none = no_entries items none
+no_entries (EntryItem e ∷ items) none = absurd (cc)
+
+-- a file behind another one
+pub behind_headed : (target other now : State) → IsHeaded target → IsHeaded other → IsBehind target other now → IsHeaded now
+behind_headed target other now is more behind = subst IsHeaded (sym behind.0) (record {
+  clean = record { sections = clean.sections; blanks = clean.blanks; names = clean.names };
+  front = front target.sections;
+})
+  where
+    clean : IsClean (apply (Append other) target)
+    clean = apply_clean (Append other) target (more.clean, more.front) is.clean
+
+    front : (sections : List SectionState) → entries_of (elim sections as (λ _. List Item) [ [] ↦ joined (file_line_end target) target.front other.front | s ∷ ss ↦ target.front ]) ≡ []
+    front [] = no_entries (joined (file_line_end target) target.front other.front)
+        (joined_passes (λ i. not (is_entry i)) (file_line_end target) target.front other.front refl (without_entries target.front is.front) (without_entries other.front more.front))
+    front (s ∷ ss) = is.front
+
+-- an empty text has nothing
+empty_headed : (parts : List Part) → IsText [] parts → (gathered parts).front ≡ []
+empty_headed parts is = ap (λ d. d.front) (one_document [] parts [] is.spelled_is is.fits refl tt)
+
+module _ (files : List ℕ → FileTold) (asks : Asks) (tells : asks.table ≡ Some files) (headed : AreHeaded files) where
+  -- what is made of a text
+  pub made : (text : List ℕ) (meta : Meta) (file : State) → ((parts : List Part) → IsText text parts → (gathered parts).front ≡ []) → IsMadeOf (λ n. n) asks text meta (Ok file) → IsHeaded file
+  made text meta file none (Ok state, load, (On done, expands, is)) =
+      subst IsHeaded (sym is) (headed_stays files asks.rules.max_depth asks None state (On done) tells headed (loaded_headed asks.rules.lossy text meta state none load) expands)
+  made text meta file none (Ok state, load, (Ended n end, expands, is)) = absurd is
+  made text meta file none (Err n, load, is) = absurd is
+
+  -- what is taken
+  text_headed : (must_exist ignores : Bool) (path text : List ℕ) → IsTextTaken asks.table must_exist ignores path (Ok (Some text)) → (parts : List Part) → IsText text parts → (gathered parts).front ≡ []
+  text_headed must_exist ignores path text (Ok read, told, is) parts of_text =
+      headed path text parts (sym (subst (λ (t : Option (List ℕ → FileTold)). May t (λ (files : List ℕ → FileTold). ◌≡◌ {A = Result (List ℕ) FileFault} (Ok text) (read_of (files path)))) tells
+      (subst (λ r. May asks.table (λ (files : List ℕ → FileTold). ◌≡◌ {A = Result (List ℕ) FileFault} (Ok r) (read_of (files path)))) (sym (text_is is)) told))) of_text
+    where
+      text_in : Result (Option (List ℕ)) ℕ → List ℕ
+      text_in (Ok (Some t)) = t
+      text_in r = []
+
+      text_is : ◌≡◌ {A = Result (Option (List ℕ)) ℕ} (Ok (Some text)) (Ok (Some read)) → text ≡ read
+      text_is e = ap text_in e
+  text_headed must_exist ignores path text (Err fault, told, is) parts of_text = go fault.stage refl
+    where
+      of_open : (b : Bool) → ◌≡◌ {A = Result (Option (List ℕ)) ℕ} (Ok (Some text)) (if b then Ok None else Err 21) → ⊥
+      of_open true e = absurd (cc)
+      of_open false e = absurd (cc)
+
+      of_read : (b : Bool) → ◌≡◌ {A = Result (Option (List ℕ)) ℕ} (Ok (Some text)) (if b then Ok (Some []) else Err 21) → text ≡ []
+      of_read true e = ap text_in e
+        where
+          text_in : Result (Option (List ℕ)) ℕ → List ℕ
+          text_in (Ok (Some t)) = t
+          text_in r = []
+      of_read false e = absurd (cc)
+
+      go : (stage : Stage) → fault.stage ≡ stage → (gathered parts).front ≡ []
+      go Open at = absurd (of_open _ (rw at at is))
+      go Read at = empty_headed parts (subst (λ t. IsText t parts) (of_read ignores (rw at at is)) of_text)
+      go Memory at = let e : ◌≡◌ {A = Result (Option (List ℕ)) ℕ} (Ok (Some text)) (Err 27) = rw at at is in absurd (cc)
+
+  -- what stands, if anything does
+  abbrev pub StandHeaded : Option State → Type 0
+  StandHeaded None = Unit {0}
+  StandHeaded (Some file) = IsHeaded file
+
+  joins : (target : Option State) (file : State) (now : Option State) → StandHeaded target → IsHeaded file → Joins target file (Ok now) → StandHeaded now
+  joins None file now stands is joined = subst StandHeaded (sym (some joined)) is
+    where
+      some_in : Result (Option State) ℕ → Option State
+      some_in (Ok s) = s
+      some_in (Err n) = None
+
+      some : ◌≡◌ {A = Result (Option State) ℕ} (Ok now) (Ok (Some file)) → now ≡ Some file
+      some e = ap some_in e
+  joins (Some target) file now stands is joined = go (has_room_behind target file) joined
+    where
+      some_in : Result (Option State) ℕ → Option State
+      some_in (Ok s) = s
+      some_in (Err n) = None
+
+      go : (room : Bool) → elim room as (λ _. Type 0) [ true ↦ (s : State) × IsBehind target file s × (◌≡◌ {A = Result (Option State) ℕ} (Ok now) (Ok (Some s))) | false ↦ ◌≡◌ {A = Result (Option State) ℕ} (Ok now) (Err 3) ]
+          → StandHeaded now
+      go true (s, behind, e) = subst StandHeaded (sym (ap some_in e)) (behind_headed target file s stands is behind)
+      go false e = absurd (cc)
+
+  one : (must_exist ignores : Bool) (meta : Meta) (target now : Option State) → StandHeaded target → IsMetaLoaded must_exist ignores asks meta target (Ok now) → StandHeaded now
+  one must_exist ignores meta target now stands is = go meta.path refl is
+    where
+      some_in : Result (Option State) ℕ → Option State
+      some_in (Ok s) = s
+      some_in (Err n) = None
+
+      same : ◌≡◌ {A = Result (Option State) ℕ} (Ok now) (Ok target) → StandHeaded now
+      same e = subst StandHeaded (sym (ap some_in e)) stands
+
+      of_file : (path : List ℕ) → IsFileLoaded must_exist ignores asks meta path target (Ok now) → StandHeaded now
+      of_file path (inl wanting) = absurd (cc)
+      of_file path (inr (Err n, taken, e)) = absurd (cc)
+      of_file path (inr (Ok None, taken, e)) = same e
+      of_file path (inr (Ok (Some text), taken, (Err n, is_made, e))) = absurd (cc)
+      of_file path (inr (Ok (Some text), taken, (Ok file, is_made, joined))) =
+          joins target file now stands (made text meta file (text_headed must_exist ignores path text taken) is_made) joined
+
+      go : (path : Option (List ℕ)) → meta.path ≡ path
+          → elim path as (λ _. Type 0) [ None ↦ ◌≡◌ {A = Result (Option State) ℕ} (Ok now) (Ok target) | Some at ↦ IsFileLoaded must_exist ignores asks meta at target (Ok now) ] → StandHeaded now
+      go None at e = same e
+      go (Some path) at loaded = of_file path loaded
+
+  pub all : (must_exist ignores : Bool) (metas : List Meta) (target now : Option State) → StandHeaded target → AreLoaded must_exist ignores asks metas target (Ok now) → StandHeaded now
+  all must_exist ignores [] target now stands is = subst StandHeaded (sym (ap some_in is)) stands
+    where
+      some_in : Result (Option State) ℕ → Option State
+      some_in (Ok s) = s
+      some_in (Err n) = None
+  all must_exist ignores (meta ∷ metas) target now stands (Err n, first, is) = absurd (cc)
+  all must_exist ignores (meta ∷ metas) target now stands (Ok mid, first, later) = all must_exist ignores metas mid now (one must_exist ignores meta target mid stands first) later
+
+-- the whole call
+pub paths_clean : (files : List ℕ → FileTold) (must_exist ignores : Bool) (asks : Asks) (metas : List Meta) (file : State) → asks.table ≡ Some files → AreHeaded files
+    → IsLoadOfPaths must_exist ignores asks metas (Ok (Some file)) → IsClean file × (entries_of file.front ≡ [])
+paths_clean files must_exist ignores asks metas file tells headed (inl wanting) = absurd (cc)
+paths_clean files must_exist ignores asks metas file tells headed (inr loaded) =
+    let is = all files asks tells headed must_exist ignores (once [] metas) None (Some file) tt loaded in (is.clean, is.front)
+
+-- a file that has nothing
+empty_clean : (meta : Meta) → IsClean (empty_file meta)
+empty_clean meta = record { sections = tt; blanks = refl; names = refl }
+
+pub global_clean : (variables : Option (List ℕ → VariableTold)) (places : Places) (files : List ℕ → FileTold) (file : State) → AreHeaded files
+    → IsGlobal variables places (Some files) (Ok file) → IsClean file × (entries_of file.front ≡ [])
+global_clean variables places files file headed (inl wanting) = absurd (cc)
+global_clean variables places files file headed (inr (found, are_found, (Err n, loaded, is))) = absurd (cc)
+global_clean variables places files file headed (inr (found, are_found, (Ok None, loaded, is))) = subst (λ s. IsClean s × (entries_of s.front ≡ [])) (sym (ap file_in is)) (empty_clean api_meta, refl)
+  where
+    file_in : Result State ℕ → State
+    file_in (Ok s) = s
+    file_in (Err n) = empty_file api_meta
+global_clean variables places files file headed (inr (found, are_found, (Ok (Some state), loaded, is))) =
+    subst (λ s. IsClean s × (entries_of s.front ≡ [])) (sym (ap file_in is)) (paths_clean files true false (record { rules = home_rules places; table = Some files }) found state refl headed loaded)
+  where
+    file_in : Result State ℕ → State
+    file_in (Ok s) = s
+    file_in (Err n) = state

@@ -1,0 +1,60 @@
+-- What the refusals of loaders tell beside their numbers.
+use Rattle.std.specs.Prelude.{◌≡◌, ◌⊎◌, ℕ, Bool, true, List, Option, Some, None, Result, Ok, Err, string_bytes}
+use Rattle.std.specs.BTreeSet.{BTreeSet, contains_text}
+use Rattle.std.specs.List.{list_any}
+use Rattle.std.specs.Option.{option_eq}
+use Rattle.std.specs.Str.{bytes_eq}
+use Rattle.std.specs.declared.alloc.Global.{Global}
+use Rattle.std.specs.declared.string.String.{String}
+use Rattle.gitconf_base.specs.Metadata.{Meta}
+use Rattle.gitconf_base.specs.declared.source.Trust.{Trust}
+use Rattle.gitconf_host.specs.Told.{FileTold, May, read_of, trust_of}
+use Rattle.gitconf_host.specs.declared.fault.FileFault.{FileFault}
+use Rattle.gitconf_host.specs.declared.fault.Stage.TheVariants.{Open, Read, Memory}
+use Rattle.gitconf_includes.specs.declared.init.Error.TheVariants as init
+use Rattle.gitconf_includes.specs.declared.init.Options.{Options}
+use Rattle.gitconf_parse.specs.EventResult.{IsRefused}
+use Rattle.gitconf_expansion.specs.Outcomes.{IsCause, IsFaultOf, IsTextOf}
+use Rattle.gitconf_loaders.specs.declared.from_paths.Error.{Error}
+use Rattle.gitconf_loaders.specs.declared.from_paths.Error.TheVariants as paths
+use Rattle.gitconf_loaders.specs.Paths.{is_among, IsTextTaken}
+
+-- how a fault of the file at a path refuses
+abbrev pub load_refusal : FileFault → (path : String Global) → Error
+load_refusal fault path = elim fault.stage [ Open ↦ paths.Io path fault | Read ↦ paths.Io path fault | Memory ↦ paths.Memory ]
+
+-- a host that tells what stands at each path answers that fault of one, where it is read or asked how far it is trusted
+abbrev pub IsFault : Option (List ℕ → FileTold) → (path : List ℕ) → FileFault → Type 0
+IsFault table path fault =
+    May table (λ told. (◌≡◌ {A = Result Trust FileFault} (trust_of (told path)) (Err fault)) ⊎ (◌≡◌ {A = Result (List ℕ) FileFault} (read_of (told path)) (Err fault)))
+
+-- Of one file: the path that it was asked for, with the fault; and how the parser refuses its text.
+abbrev pub IsFileCause : Option (List ℕ → FileTold) → (path : List ℕ) → Error → Type 0
+IsFileCause table path (paths.Io at fault) = (string_bytes at ≡ path) × IsFault table path fault
+IsFileCause table path (paths.Init (init.Parse e)) = (text : List ℕ) × IsTextOf table path text × IsRefused text e
+IsFileCause table path e = Unit {0}
+
+-- Of one with what it includes: the path that it was asked for, with the fault; how the parser refuses what was taken; and what an include
+-- tells.
+abbrev pub IsPathCause : (must_exist : Bool) → Options → Option (List ℕ → FileTold) → (path : List ℕ) → Error → Type 0
+IsPathCause must_exist options table path (paths.Io at fault) = (string_bytes at ≡ path) × IsFaultOf table path fault
+IsPathCause must_exist options table path (paths.Init (init.Parse e)) =
+    (text : List ℕ) × IsTextTaken table must_exist options.ignore_io_errors path (Ok (Some text)) × IsRefused text e
+IsPathCause must_exist options table path (paths.Init (init.Includes e)) = IsCause options table e
+IsPathCause must_exist options table path e = Unit {0}
+
+abbrev pub IsMetaCause : (must_exist : Bool) → Options → Option (List ℕ → FileTold) → Meta → Error → Type 0
+IsMetaCause must_exist options table meta e = elim meta.path [ None ↦ ⊥ | Some path ↦ IsPathCause must_exist options table path e ]
+
+-- whether it has that path
+abbrev pub has_path : (path : List ℕ) → Meta → Bool
+has_path path meta = option_eq bytes_eq meta.path (Some path)
+
+-- Of several: that of one of them; or memory was wanting.
+abbrev pub IsLoadCause : (must_exist : Bool) → Options → Option (List ℕ → FileTold) → List Meta → Error → Type 0
+IsLoadCause must_exist options table metas e =
+    (e ≡ paths.Memory) ⊎ (path : List ℕ) × (list_any (has_path path) metas ≡ true) × IsPathCause must_exist options table path e
+
+-- a set has these paths
+abbrev pub Sees : BTreeSet (String Global) → (paths : List (List ℕ)) → Type 0
+Sees set paths = (path : String Global) → contains_text set (string_bytes path) ≡ is_among (string_bytes path) paths

@@ -1,0 +1,23 @@
+//! What holds of loaded files, for all hosts that tell what stands at each path: each law is a function that does nothing.
+ghost use Rattle.std.specs.Prelude.{◌≡◌, ℕ, Bool, List, [], Ok, Option, Some};
+ghost use Rattle.gitconf_base.specs.Metadata.{Meta};
+ghost use Rattle.gitconf_base.specs.declared.source.Source.{Source};
+ghost use Rattle.gitconf_host.specs.Told.{FileTold, VariableTold};
+ghost use Rattle.gitconf_host.specs.declared.host.Places.{Places};
+ghost use Rattle.gitconf_state.specs.Clean.{IsClean};
+ghost use Rattle.gitconf_state.specs.State.{entries_of, State};
+ghost use Rattle.gitconf_expansion.specs.Expansion.{Asks};
+ghost use Rattle.gitconf_expansion.specs.Laws.{AreHeaded};
+ghost use Rattle.gitconf_loaders.specs.Globals.{IsGlobal};
+ghost use Rattle.gitconf_loaders.specs.Paths.{IsLoadedFrom, IsLoadOfPaths};
+
+/// Files that are loaded by their paths are clean, those of the machine and of the user too, and have no entry before their first section;
+/// where no text that may be loaded or included has one. A file that is loaded without includes is clean in any case. So what is written of
+/// them reads back.
+pub fn loaded_files_are_clean()
+    ensures path { (table : Option (List ℕ → FileTold)) (path : List ℕ) (source : Source) (file : State) → IsLoadedFrom table path source (Ok file) → IsClean file }
+    ensures paths { (files : List ℕ → FileTold) (must_exist ignores : Bool) (asks : Asks) (metas : List Meta) (file : State) → asks.table ≡ Some files → AreHeaded files
+        → IsLoadOfPaths must_exist ignores asks metas (Ok (Some file)) → IsClean file × (entries_of file.front ≡ []) }
+    ensures globals { (variables : Option (List ℕ → VariableTold)) (places : Places) (files : List ℕ → FileTold) (file : State) → AreHeaded files
+        → IsGlobal variables places (Some files) (Ok file) → IsClean file × (entries_of file.front ≡ []) }
+{}

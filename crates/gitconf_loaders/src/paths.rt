@@ -1,0 +1,235 @@
+//! Files that are loaded by their paths.
+ghost use Rattle.std.specs.Prelude.{◌≡◌, ◌⊎◌, ◌&&◌, ◌||◌, ℕ, if◌then◌else◌, List, [], ◌∷◌, Err, not, IfErr, IfOk, string_bytes};
+ghost use Rattle.gitconf_expansion.specs.Outcomes.{asks_of, IsFaultOf};
+ghost use Rattle.gitconf_includes.specs.declared.init.Error.TheVariants.{Span};
+ghost use Rattle.gitconf_loaders.specs.Causes.{IsFileCause, IsLoadCause, IsMetaCause, load_refusal, Sees};
+ghost use Rattle.gitconf_loaders.specs.Errors.{paths_number};
+ghost use Rattle.gitconf_host.specs.declared.fault.Stage.TheVariants.{Memory};
+ghost use Rattle.gitconf_loaders.specs.declared.from_paths.Error.TheVariants as refusals;
+ghost use Rattle.gitconf_loaders.specs.Paths.{CountsLoad, is_among, IsLoadedFrom, IsLoadOfPaths, IsMetaLoaded, IsTextTaken, Joins, left_by, load_fault, numbered, once, text_taken};
+
+use crate::from_paths::Error;
+use gitconf_base::meta::Metadata;
+use gitconf_base::source::Source;
+use gitconf_host::{FileFault, Files, Stage};
+use gitconf_includes::init::Options;
+use gitconf_resolving::resolving::{load, resolved_text};
+use gitconf_store::store::Store;
+use gitconf_text::NoMemory;
+use std::alloc::Global;
+use std::collections::BTreeSet;
+use std::rc::Rc;
+
+/// Shares metadata.
+///
+/// # Errors
+///
+/// Want of memory.
+pub(crate) fn shared(alloc: Global, meta: Metadata) -> Result<Rc<Metadata>, NoMemory>
+    ensures { IfOk result (λ shared. shared.value ≡ meta) }
+{
+    Ok(Rc::new(alloc, meta)?)
+}
+
+/// How a fault of the file at that path refuses.
+fn refusal(fault: FileFault, path: String) -> Error
+    ensures number { paths_number result ≡ load_fault fault.stage }
+    ensures is { result ≡ load_refusal fault path }
+{
+    match fault.stage {
+        Stage::Open | Stage::Read => Error::Io {
+            path,
+            source: fault,
+        },
+        Stage::Memory => Error::Memory,
+    }
+}
+
+/// The file at a path, of that source, at level 0, with the trust that the host tells, which is asked first. No include is followed.
+///
+/// # Errors
+///
+/// 21 where the trust can't be told, or the file can't be opened or read; 1 and 2 where the parser refuses it; 27 for want of memory.
+pub fn from_path<F: Files>(
+    alloc: Global,
+    files: &mut F,
+    path: String,
+    source: Source,
+) -> Result<Store, Error>
+    ensures loaded { IsLoadedFrom (F.table files.old) (string_bytes path) source (numbered paths_number result) }
+    ensures cause { IfErr result (IsFileCause (F.table files.old) (string_bytes path)) }
+    ensures table { F.table files.new ≡ F.table files.old }
+    ensures counted { CountsLoad (numbered paths_number result) (F.failures files.old) (F.failures files.new) }
+{
+    let trust = match files.trust(&path) {
+        Ok(trust) => trust,
+        Err(fault) => return Err(refusal(fault, path)),
+    };
+    let text = match files.read(&path) {
+        Ok(text) => text,
+        Err(fault) => return Err(refusal(fault, path)),
+    };
+    let meta = Metadata {
+        path: Some(path),
+        source,
+        level: 0,
+        trust,
+    };
+    Ok(load(alloc, text, false, shared(alloc, meta)?)?)
+}
+
+/// Whether a path stands in the set for the first time; it does from now on.
+///
+/// # Errors
+///
+/// Want of memory.
+fn is_new(alloc: Global, seen: &mut BTreeSet<String>, path: &str) -> Result<bool, NoMemory>
+    ensures { (before : List (List ℕ)) → Sees seen.old before
+        → IfOk result (λ new. (new ≡ not (is_among path.now before)) × Sees seen.new (if new then path.now ∷ before else before)) }
+{
+    Ok(seen.insert(String::from_str(alloc, path)?)?)
+}
+
+/// The metadata that has a path, each path once.
+///
+/// # Errors
+///
+/// Want of memory.
+fn once(alloc: Global, metas: Vec<Metadata>) -> Result<Vec<Metadata>, NoMemory>
+    ensures { IfOk result (λ kept. kept.items ≡ once [] metas.items) }
+{
+    let mut seen = BTreeSet::new(alloc);
+    let mut kept = Vec::new(alloc);
+    for meta in metas {
+        if let Some(path) = &meta.path
+            && is_new(alloc, &mut seen, path)?
+        {
+            kept.push(meta)?;
+        }
+    }
+    Ok(kept)
+}
+
+/// Whether a file that can't be opened is passed over.
+fn is_passed_over(fault: FileFault, must_exist: bool, ignores: bool) -> bool
+    ensures { result ≡ (ignores || (fault.not_found && not must_exist)) }
+{
+    ignores || (fault.not_found && !must_exist)
+}
+
+/// The text of a file that is to be loaded, or `None` where it is passed over.
+///
+/// # Errors
+///
+/// The fault that refuses the load.
+fn text_of<F: Files>(
+    alloc: Global,
+    files: &mut F,
+    must_exist: bool,
+    ignores: bool,
+    path: &str,
+) -> Result<Option<Vec<u8>>, FileFault>
+    ensures taken { (text_taken result ≡ Err 27) ⊎ IsTextTaken (F.table files.old) must_exist ignores path.now (text_taken result) }
+    ensures fault { IfErr result (λ fault. (fault.stage ≡ Memory) ⊎ IsFaultOf (F.table files.old) path.now fault) }
+    ensures table { F.table files.new ≡ F.table files.old }
+    ensures counted { CountsLoad (numbered (λ fault. load_fault fault.stage) result) (F.failures files.old) (F.failures files.new) }
+{
+    let fault = match files.read(path) {
+        Ok(text) => return Ok(Some(text)),
+        Err(fault) => fault,
+    };
+    match fault.stage {
+        Stage::Open if is_passed_over(fault, must_exist, ignores) => Ok(None),
+        Stage::Read if ignores => Ok(Some(Vec::new(alloc))),
+        Stage::Open | Stage::Read | Stage::Memory => Err(fault),
+    }
+}
+
+/// Puts a file behind those before it; the first one is the beginning.
+///
+/// # Errors
+///
+/// 3 where there is no room for it; 27 for want of memory.
+fn join(target: &mut Option<Store>, made: Store) -> Result<(), Error>
+    ensures joined { (left_by paths_number result target.new ≡ Err 27) ⊎ Joins target.old made (left_by paths_number result target.new) }
+    ensures cause { IfErr result (λ e. (e ≡ refusals.Memory) ⊎ (e ≡ refusals.Init (Span 3))) }
+{
+    match target {
+        Some(before) => Ok(before.append(made)?),
+        None => {
+            *target = Some(made);
+            Ok(())
+        }
+    }
+}
+
+/// The file at a path, with what it includes, goes behind those before it.
+///
+/// # Errors
+///
+/// 21 where it can't be opened or read, unless that is passed over; else those of `resolved_text`, and 3.
+fn load_behind<F: Files>(
+    alloc: Global,
+    files: &mut F,
+    must_exist: bool,
+    options: &Options<'_>,
+    meta: Metadata,
+    target: &mut Option<Store>,
+) -> Result<(), Error>
+    ensures loaded { IsMetaLoaded must_exist options.now.ignore_io_errors (asks_of options.now (F.table files.old)) meta target.old (left_by paths_number result target.new) }
+    ensures cause { IfErr result (IsMetaCause must_exist options.now (F.table files.old) meta) }
+    ensures table { F.table files.new ≡ F.table files.old }
+    ensures counted { CountsLoad (left_by paths_number result target.new) (F.failures files.old) (F.failures files.new) }
+{
+    let Metadata {
+        path,
+        source,
+        level,
+        trust,
+    } = meta;
+    let Some(path) = path else {
+        return Ok(());
+    };
+    let text = match text_of(alloc, files, must_exist, options.ignore_io_errors, &path) {
+        Ok(Some(text)) => text,
+        Ok(None) => return Ok(()),
+        Err(fault) => return Err(refusal(fault, path)),
+    };
+    let meta = Metadata {
+        path: Some(path),
+        source,
+        level,
+        trust,
+    };
+    let made = resolved_text(alloc, files, options, text, shared(alloc, meta)?)?;
+    join(target, made)
+}
+
+/// The files of metadata that has a path, each with what it includes by the options, one behind the other; `None` where no file was loaded.
+/// Of several with one path the first is taken. A file that isn't there is passed over unless it must exist; the options tell whether other
+/// faults are ignored: a file that can't be opened is passed over then, and one that can't be read counts as empty.
+///
+/// Each file is read and parsed once. What is put behind others is moved once, and the paths are kept in a tree.
+///
+/// # Errors
+///
+/// 21 where a file can't be opened or read, and that isn't ignored; 1, 2 and 12 to 20 as a file and its includes are refused; 3 where there is
+/// no room for one; 27 for want of memory.
+pub fn from_paths<F: Files>(
+    alloc: Global,
+    files: &mut F,
+    metas: Vec<Metadata>,
+    must_exist: bool,
+    options: &Options<'_>,
+) -> Result<Option<Store>, Error>
+    ensures loaded { IsLoadOfPaths must_exist options.now.ignore_io_errors (asks_of options.now (F.table files.old)) metas.items (numbered paths_number result) }
+    ensures cause { IfErr result (IsLoadCause must_exist options.now (F.table files.old) metas.items) }
+    ensures table { F.table files.new ≡ F.table files.old }
+    ensures counted { CountsLoad (numbered paths_number result) (F.failures files.old) (F.failures files.new) }
+{
+    let mut target = None;
+    for meta in once(alloc, metas)? {
+        load_behind(alloc, files, must_exist, options, meta, &mut target)?;
+    }
+    Ok(target)
+}

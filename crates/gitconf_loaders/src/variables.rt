@@ -1,0 +1,82 @@
+//! Entries that variables of the environment tell.
+ghost use Rattle.std.specs.Prelude.{◌≡◌, IfErr, IfOk, string_bytes};
+ghost use Rattle.std.specs.Option.{option_map};
+ghost use Rattle.std.specs.Result.{result_map_both};
+ghost use Rattle.gitconf_loaders.specs.Errors.{env_number};
+ghost use Rattle.gitconf_loaders.specs.Paths.{numbered};
+ghost use Rattle.gitconf_loaders.specs.Variables as spec;
+ghost use Rattle.gitconf_loaders.specs.Variables.{IsCount, IsCountCause, IsEntryCause, IsKeyAt, IsValueAt};
+
+use crate::from_env::Error;
+use gitconf_host::{Env, EnvVar};
+use gitconf_text::NoMemory;
+use std::alloc::Global;
+
+/// How many entries the variables tell: none where `GIT_CONFIG_COUNT` isn't set, or is set to what is no text. A plus may stand before the
+/// digits.
+///
+/// # Errors
+///
+/// 23 for what is no number below 2 to the 64th; 27 for want of memory.
+pub fn count<E: Env>(env: &mut E) -> Result<usize, Error>
+    ensures count { IsCount (E.variables env.old) (numbered env_number result) }
+    ensures cause { IfErr result (IsCountCause (E.variables env.old)) }
+    ensures stays { E.variables env.new ≡ E.variables env.old }
+{
+    match env.var("GIT_CONFIG_COUNT")? {
+        EnvVar::Text(input) => match input.parse() {
+            Ok(count) => Ok(count),
+            Err(_) => Err(Error::InvalidConfigCount { input }),
+        },
+        EnvVar::Unset | EnvVar::IllFormed => Ok(0),
+    }
+}
+
+/// The names of an entry's variables, counted from 0.
+fn key_variable(alloc: Global, index: usize) -> Result<String, NoMemory>
+    ensures { IfOk result (λ name. string_bytes name ≡ spec.key_variable index) }
+{
+    Ok(format!(in alloc; "GIT_CONFIG_KEY_{index}")?)
+}
+
+fn value_variable(alloc: Global, index: usize) -> Result<String, NoMemory>
+    ensures { IfOk result (λ name. string_bytes name ≡ spec.value_variable index) }
+{
+    Ok(format!(in alloc; "GIT_CONFIG_VALUE_{index}")?)
+}
+
+/// The key of an entry, counted from 0.
+///
+/// # Errors
+///
+/// 24 where its variable isn't set, 22 where that is set to what is no text; 27 for want of memory.
+pub fn key_at<E: Env>(alloc: Global, env: &mut E, index: usize) -> Result<String, Error>
+    ensures key { IsKeyAt (E.variables env.old) index (result_map_both string_bytes env_number result) }
+    ensures cause { IfErr result (IsEntryCause index) }
+    ensures stays { E.variables env.new ≡ E.variables env.old }
+{
+    let name = key_variable(alloc, index)?;
+    match env.var(&name)? {
+        EnvVar::Text(key) => Ok(key),
+        EnvVar::Unset => Err(Error::InvalidKeyId { key_id: index }),
+        EnvVar::IllFormed => Err(Error::IllformedUtf8 { index, kind: "key" }),
+    }
+}
+
+/// The value of an entry, counted from 0; `None` where its variable is set to what is no text.
+///
+/// # Errors
+///
+/// 26 where the variable isn't set; 27 for want of memory.
+pub fn value_at<E: Env>(alloc: Global, env: &mut E, index: usize) -> Result<Option<String>, Error>
+    ensures value { IsValueAt (E.variables env.old) index (result_map_both (option_map string_bytes) env_number result) }
+    ensures cause { IfErr result (IsEntryCause index) }
+    ensures stays { E.variables env.new ≡ E.variables env.old }
+{
+    let name = value_variable(alloc, index)?;
+    match env.var(&name)? {
+        EnvVar::Text(value) => Ok(Some(value)),
+        EnvVar::Unset => Err(Error::InvalidValueId { value_id: index }),
+        EnvVar::IllFormed => Ok(None),
+    }
+}
