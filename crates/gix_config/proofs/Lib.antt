@@ -2,6 +2,9 @@ pub mod Integers
 pub mod Conversions
 pub mod Puts
 pub mod Numbers
+pub mod Entries
+pub mod CleanLoads
+pub mod Repositories
 pub mod ValueEditors
 pub mod MultiValueEditors
 pub mod Standing

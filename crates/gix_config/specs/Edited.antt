@@ -1,5 +1,5 @@
 -- What an edit leaves of a file, and which section an editor stands on.
-use Rattle.std.specs.Prelude.{◌≡◌, ◌==◌, ◌+◌, ◌≤◌, ◌^◌, ◌↔◌, ℕ, Bool, false, true, List, [], ◌∷◌, Option, Some, None, Result, IfErr, IsErrAnd, OnErr, OnOk}
+use Rattle.std.specs.Prelude.{◌≡◌, ◌==◌, ◌+◌, ◌≤◌, ◌^◌, ◌↔◌, ℕ, Bool, false, true, Result, IfErr, IsErrAnd, OnErr, OnOk}
 use Rattle.std.specs.List.{list_any}
 use Rattle.gitconf_text.specs.Names.{is_value_name}
 use Rattle.gitconf_state.specs.Edit.{with_used}

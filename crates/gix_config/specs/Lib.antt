@@ -11,3 +11,5 @@ pub mod ValueEditors
 pub mod Targeted
 pub mod MultiValueEditors
 pub mod AloneEditors
+pub mod Environment
+pub mod Repository

@@ -1,5 +1,5 @@
 -- Editors of a value: the file, the number of its section, its place there, whether it stands, and what they write beside it.
-use Rattle.std.specs.Prelude.{◌≡◌, ◌≢◌, ℕ, Bool, true, List, Option, Some, None, Result, Ok, Err, if◌then◌else◌}
+use Rattle.std.specs.Prelude.{◌≡◌, ◌≢◌, ℕ, Bool, true, List, Option, None, Result, Ok, Err, if◌then◌else◌}
 use Rattle.std.specs.Borrow.{GName}
 use Rattle.gitconf_base.specs.Key.{Key}
 use Rattle.gitconf_base.specs.Metadata.{Meta}

@@ -2,3 +2,4 @@
 pub use gitconf_host::{
     Env, EnvVar, FileFault, Files, Host, MemEnv, MemFile, MemFiles, Places, Stage,
 };
+pub use gitconf_places::StorageLocation;

@@ -1,18 +1,26 @@
-//! What holds of editors, for all of them: each law is a function that does nothing.
-ghost use Rattle.std.specs.Prelude.{◌≡◌, ◌≤◌, ℕ, Bool, true, List, Option, Some};
+//! What holds of editors and of loaded files, for all of them: each law is a function that does nothing.
+ghost use Rattle.std.specs.Prelude.{◌≡◌, ◌≤◌, ℕ, Bool, true, List, [], Ok, Option, Some};
 ghost use Rattle.gitconf_base.specs.Metadata.{Meta};
+ghost use Rattle.gitconf_host.specs.Told.{FileTold, VariableTold};
+ghost use Rattle.gitconf_host.specs.declared.host.Places.{Places};
 ghost use Rattle.gitconf_state.specs.Clean.{IsClean};
 ghost use Rattle.gitconf_state.specs.Edit.{new_section};
 ghost use Rattle.gitconf_state.specs.Edits.{Edit, has_blank_leading, new_bytes, numbered, IsEditor};
 ghost use Rattle.gitconf_state.specs.Editors.{Editor, editor_of};
-ghost use Rattle.gitconf_state.specs.State.{HasItems, SectionState, State};
+ghost use Rattle.gitconf_state.specs.State.{entries_of, HasItems, SectionState, State};
+ghost use Rattle.gitconf_expansion.specs.Expansion.{Asks};
+ghost use Rattle.gitconf_expansion.specs.Laws.{AreHeaded};
 ghost use Rattle.gitconf_finding.specs.Picks.{picked};
 ghost use Rattle.gitconf_finding.specs.ValuePlaces.{editor_of_numbered};
+ghost use Rattle.gix_config.specs.Environment.{AreNamed, IsFromEnv, IsOverrides};
 ghost use Rattle.gix_config.specs.Puts.{put_bytes};
+ghost use Rattle.gix_config.specs.Repository.{IsRepository};
 ghost use Rattle.gix_config.specs.SectionEditors.{with_leading};
 
 /// Those of files that others are put into.
 pub use gitconf_expansion::laws as includes;
+/// Those of files that are loaded by their paths.
+pub use gitconf_loaders::laws as loaders;
 
 /// A new editor is an editor, as edits ask for one: of a section that is found by its names or its number, of one that is made, and of a
 /// value in the section of a number. It stays one with other blanks before names, and with line ends switched on or off. What it asks of
@@ -40,4 +48,20 @@ pub fn new_editors_of_clean_files_put_blanks()
 /// What an editor's edit puts into the buffer, and what a new section does, is no longer than the tokens that it makes.
 pub fn edits_put_no_more_than_their_tokens()
     ensures { (edit : Edit) (state : State) → put_bytes edit state ≤ new_bytes edit state }
+{}
+
+/// The file that variables tell is clean, and that of the overrides, where no key names a section with an empty name and no subsection, and no
+/// text that may be included has an entry before its first section.
+pub fn files_of_variables_are_clean()
+    ensures made { (variables : List ℕ → VariableTold) (files : List ℕ → FileTold) (asks : Asks) (file : State) → AreNamed variables → asks.table ≡ Some files → AreHeaded files
+        → IsFromEnv (Some variables) asks (Ok (Some file)) → IsClean file × (entries_of file.front ≡ []) }
+    ensures overrides { (variables : List ℕ → VariableTold) (places : Places) (files : List ℕ → FileTold) (file : State) → AreNamed variables → AreHeaded files
+        → IsOverrides (Some variables) places (Some files) (Ok file) → IsClean file × (entries_of file.front ≡ []) }
+{}
+
+/// The configuration of a repository is clean, where that holds of variables and of texts, those of the repository's own files too: so what is
+/// written of it reads back.
+pub fn repositories_are_clean()
+    ensures { (variables : List ℕ → VariableTold) (places : Places) (files : List ℕ → FileTold) (dir : List ℕ) (real : Option (List ℕ)) (file : State) → AreNamed variables → AreHeaded files
+        → IsRepository (Some variables) places (Some files) dir real (Ok file) → IsClean file × (entries_of file.front ≡ []) }
 {}

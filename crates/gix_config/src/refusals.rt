@@ -1,6 +1,7 @@
 //! The numbers of refusals, E1 to E28, as programs tell them. They stand here alone: no crate below asks for a number.
 ghost use Rattle.std.specs.Prelude.{◌≡◌};
 
+use crate::file::init::{from_env, from_git_dir, from_paths};
 use crate::file::{includes, init, rename_section, section, section_mut, set_raw_value};
 use crate::lookup;
 use crate::lookup::existing;
@@ -228,6 +229,58 @@ impl Refusal for init::Error {
             init::Error::Includes(e) => e.number(),
             init::Error::Span(e) => e.number(),
             init::Error::Memory => 27,
+        }
+    }
+}
+
+impl Refusal for from_paths::Error {
+    ghost use Rattle.gitconf_loaders.specs.Errors.{paths_number};
+
+    ghost number_of = { paths_number };
+
+    fn number(&self) -> u8 {
+        match self {
+            from_paths::Error::Io { .. } => 21,
+            from_paths::Error::Init(e) => e.number(),
+            from_paths::Error::Memory => 27,
+        }
+    }
+}
+
+impl Refusal for from_env::Error {
+    ghost use Rattle.gitconf_loaders.specs.Errors.{env_number};
+
+    ghost number_of = { env_number };
+
+    fn number(&self) -> u8 {
+        match self {
+            from_env::Error::IllformedUtf8 { .. } => 22,
+            from_env::Error::InvalidConfigCount { .. } => 23,
+            from_env::Error::InvalidKeyId { .. } => 24,
+            from_env::Error::InvalidKeyValue { .. } => 25,
+            from_env::Error::InvalidValueId { .. } => 26,
+            from_env::Error::PathInterpolationError(e) => e.number(),
+            from_env::Error::Includes(e) => e.number(),
+            from_env::Error::Section(e) => e.number(),
+            from_env::Error::SectionValue(e) => e.number(),
+            from_env::Error::Memory => 27,
+        }
+    }
+}
+
+impl Refusal for from_git_dir::Error {
+    ghost use Rattle.gitconf_loaders.specs.Errors.{git_number};
+
+    ghost number_of = { git_number };
+
+    fn number(&self) -> u8 {
+        match self {
+            from_git_dir::Error::FromPaths(e) => e.number(),
+            from_git_dir::Error::FromEnv(e) => e.number(),
+            from_git_dir::Error::Init(e) => e.number(),
+            from_git_dir::Error::Includes(e) => e.number(),
+            from_git_dir::Error::Span(e) => e.number(),
+            from_git_dir::Error::Memory => 27,
         }
     }
 }

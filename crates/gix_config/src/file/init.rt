@@ -1,8 +1,13 @@
-//! Files that are made of bytes.
+//! Files that are made of bytes, that are loaded by their paths, and that variables and repositories tell.
+
+mod environment;
+mod loading;
+mod repository;
 
 use crate::file::File;
 use gitconf_base::meta::Metadata;
 pub use gitconf_includes::init::{Error, Options};
+pub use gitconf_loaders::{from_env, from_git_dir, from_paths};
 use gitconf_store::store::Store;
 use std::alloc::Global;
 use std::rc::Rc;

@@ -72,7 +72,7 @@ impl File {
         host: &mut Host,
     ) -> Result<File, Error>
         ensures made { IsMadeOf init_number (asks_of options.entry (⟦<Box<dyn Files> as Files>⟧.table host.old.files)) text.items meta.value result }
-        ensures cause { IfErr result (IsMadeCause options.entry (⟦<Box<dyn Files> as Files>⟧.table host.old.files)) }
+        ensures cause { IfErr result (IsMadeCause options.entry (⟦<Box<dyn Files> as Files>⟧.table host.old.files) text.items) }
         ensures table { ⟦<Box<dyn Files> as Files>⟧.table host.new.files ≡ ⟦<Box<dyn Files> as Files>⟧.table host.old.files }
         ensures counted { MakesCounted result (⟦<Box<dyn Files> as Files>⟧.failures host.old.files) (⟦<Box<dyn Files> as Files>⟧.failures host.new.files) }
         ensures env { host.new.env ≡ host.old.env }

@@ -1,4 +1,4 @@
-use Rattle.std.proofs.Common.{rules, ap, ◌∙◌}
+use Rattle.std.proofs.Common.{ap, ◌∙◌}
 use Rattle.gitconf_state.specs.Edits.{Pop, apply}
 use Rattle.gitconf_state.specs.Editors.{popped}
 use Rattle.gix_config.specs.Edited.{has_number}

@@ -1,4 +1,4 @@
-use Rattle.std.proofs.Common.{rules, ap, ◌∙◌}
+use Rattle.std.proofs.Common.{ap, ◌∙◌}
 use Rattle.gitconf_state.specs.Edits.{Remove, apply}
 use Rattle.gitconf_state.specs.Editors.{removed}
 use Rattle.gix_config.specs.Edited.{has_number}

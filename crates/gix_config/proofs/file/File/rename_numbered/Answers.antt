@@ -1,8 +1,6 @@
-use Rattle.std.proofs.Common.{rules, refl, ap, ◌∙◌}
+use Rattle.std.proofs.Common.{refl, ap, ◌∙◌}
 use Rattle.std.specs.Option.{option_copied}
-use Rattle.gitconf_state.specs.Edit.{with_used}
 use Rattle.gitconf_state.specs.Edits.{Rename, apply, renamed}
-use Rattle.gitconf_store.specs.Renamings.{HeaderGrows}
 use Rattle.gix_config.specs.Edited.{has_number}
 use Rattle.gix_config.proofs.Numbers.{if_numbered, used_stands, sections_keep_numbers}
 use Rattle.gix_config.proofs.file.File.rename_numbered.Goals as goal

@@ -1,8 +1,4 @@
-use Rattle.std.proofs.Common.{rules, ◌≡◌, subst, sym, ap, ◌∙◌}
-use Rattle.gitconf_state.specs.State.{State}
-use Rattle.gitconf_expansion.specs.Expansion.{Resolves}
-use Rattle.gitconf_expansion.specs.Outcomes.{asks_of}
-use Rattle.gitconf_includes.specs.Errors.{includes_number}
+use Rattle.std.proofs.Common.{rules, ◌≡◌, sym}
 use Rattle.gitconf_resolving.proofs.Made.{resolves, resolves_wanting}
 use Rattle.gix_config.proofs.file.File.resolve_includes.Goals as goal
 

@@ -1,5 +1,5 @@
-use Rattle.std.proofs.Common.{rules, sym, ap, ◌∙◌}
-use Rattle.std.specs.Prelude.{None, option_map}
+use Rattle.std.proofs.Common.{sym, ap, ◌∙◌}
+use Rattle.std.specs.Prelude.{option_map}
 use Rattle.gitconf_views.specs.Views.{shown}
 use Rattle.gix_config.specs.Edited.{has_number}
 use Rattle.gix_config.proofs.Numbers.{number_missing}

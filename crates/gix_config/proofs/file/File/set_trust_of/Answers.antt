@@ -1,4 +1,4 @@
-use Rattle.std.proofs.Common.{rules, refl, ap, ◌∙◌}
+use Rattle.std.proofs.Common.{refl, ap, ◌∙◌}
 use Rattle.gitconf_state.specs.Edits.{SetTrust, apply, with_trust}
 use Rattle.gix_config.specs.Edited.{has_number}
 use Rattle.gix_config.proofs.Numbers.{either_stands, sections_keep_numbers}

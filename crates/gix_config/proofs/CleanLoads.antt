@@ -1,0 +1,214 @@
+-- Files of variables and of repositories are clean.
+use Rattle.std.proofs.Common.{◌≡◌, ℕ, zero, suc, ◌+◌, ◌==◌, Bool, true, false, List, [], Option, Some, None, Result, Ok, Err, inl, inr, refl, sym, ap, ◌∙◌, subst}
+use Rattle.gitconf_base.specs.Key.{Key, parsed_key}
+use Rattle.gitconf_base.specs.Metadata.{api_meta, Meta}
+use Rattle.gitconf_base.specs.declared.source.Source.{Source}
+use Rattle.gitconf_base.specs.declared.source.Source.TheVariants.{Local, Worktree}
+use Rattle.gitconf_host.specs.Told.{FileTold, VariableTold}
+use Rattle.gitconf_host.specs.declared.host.Places.{Places}
+use Rattle.gitconf_state.specs.Clean.{IsClean, is_nameless}
+use Rattle.gitconf_state.specs.Edit.{made_header, with_used}
+use Rattle.gitconf_state.specs.Edits.{apply, has_blank_leading, NewSection, Push}
+use Rattle.gitconf_state.specs.Editors.{Editor}
+use Rattle.gitconf_state.specs.State.{entries_of, SectionState, State}
+use Rattle.gitconf_state.proofs.EditsKeep.{apply_clean}
+use Rattle.gitconf_expansion.specs.Expansion.{Asks, Ended, On}
+use Rattle.gitconf_expansion.specs.Laws.{AreHeaded}
+use Rattle.gitconf_expansion.proofs.States.{headed_stays, IsHeaded}
+use Rattle.gitconf_finding.specs.Picks.{picked}
+use Rattle.gitconf_resolving.specs.Resolving.{MakesOf}
+use Rattle.gitconf_loaders.specs.Globals.{empty_file, home_rules}
+use Rattle.gitconf_loaders.specs.Paths.{has_room_behind, IsBehind, IsLoadedFrom, Then}
+use Rattle.gitconf_loaders.specs.Variables.{key_told, key_variable}
+use Rattle.gitconf_loaders.proofs.Clean.{behind_headed, global_clean, path_headed}
+use Rattle.gix_config.specs.Environment.{AreNamed, ArePut, Edited, env_meta, IsEntryPut, IsFromEnv, IsOverrides, IsPushed, IsPut, IsPutUnder}
+use Rattle.gix_config.specs.Repository.{folder_of, has_worktree, IsExpandedBehind, IsJoined, IsPutBehind, IsRepository, IsWorktree, IsWorktreeBehind, local_path, repository_rules, RepositoryFiles, worktree_path}
+use Rattle.gix_config.specs.SectionEditors.{editor_at, IsFoundOr}
+use Rattle.gix_config.proofs.NewEditors.{clean_picked}
+
+-- what stands behind an outcome
+abbrev state_in : State → Result State ℕ → State
+state_in other (Ok s) = s
+state_in other (Err n) = other
+
+-- a clean file whose front has no entry
+headed_used : (used : ℕ) (state : State) → IsHeaded state → IsHeaded (with_used used state)
+headed_used used state is = record { clean = record { sections = is.clean.sections; blanks = is.clean.blanks; names = is.clean.names }; front = is.front }
+
+-- the section that was found or made, with an editor that puts blanks alone before names
+section_headed : (key : Key) (old : State) (edited : Edited) (found : Option SectionState) → picked key.section key.subsection (λ _. true) old ≡ found
+    → is_nameless (made_header key.section key.subsection) ≡ false → IsHeaded old → IsFoundOr (editor_at old) key.section key.subsection found old edited.0 edited.1
+    → IsHeaded edited.0 × (has_blank_leading edited.1.1 ≡ true)
+section_headed key old edited (Some s) at named is (same, told) =
+    (subst IsHeaded (sym same) is, ap (λ (t : ℕ × Editor). has_blank_leading t.1) told ∙ clean_picked key.section key.subsection (λ _. true) old s is.clean at)
+section_headed key old edited None at named is (made, told) = (
+  subst IsHeaded (sym made) (headed_used edited.0.used (apply (NewSection key.section key.subsection) old) (record {
+    clean = apply_clean (NewSection key.section key.subsection) old named is.clean;
+    front = is.front;
+  })),
+  ap (λ (t : ℕ × Editor). has_blank_leading t.1) told,
+)
+
+-- a value is pushed there
+pushed_headed : (name : List ℕ) (value : Option (List ℕ)) (edited : Edited) (new : State) → IsHeaded edited.0 → has_blank_leading edited.1.1 ≡ true → IsPushed name value edited (Ok new) → IsHeaded new
+pushed_headed name None edited new is blank pushed = absurd (cc)
+pushed_headed name (Some value) edited new is blank (Err e, other, done, left) = absurd (cc)
+pushed_headed name (Some value) edited new is blank (Ok done, other, edit, left) =
+    subst IsHeaded (sym (ap (state_in new) left)) (subst IsHeaded (sym edit.ok) (headed_used other.used (apply (Push edited.1.0 edited.1.1 name (Some value) None) edited.0) (record {
+      clean = apply_clean (Push edited.1.0 edited.1.1 name (Some value) None) edited.0 blank is.clean;
+      front = is.front;
+    })))
+
+put_headed : (key : Key) (value : Option (List ℕ)) (old new : State) → is_nameless (made_header key.section key.subsection) ≡ false → IsHeaded old → IsPut key value old (Ok new) → IsHeaded new
+put_headed key value old new named is (Err e, found, refused) = absurd (cc)
+put_headed key value old new named is (Ok edited, found, pushed) =
+    let there = section_headed key old edited (picked key.section key.subsection (λ _. true) old) refl named is found.ok in
+    pushed_headed key.name value edited new there.0 there.1 pushed
+
+module _ (variables : List ℕ → VariableTold) (named : AreNamed variables) where
+  under_headed : (index : ℕ) (text : List ℕ) (value : Option (List ℕ)) (old new : State) → ◌≡◌ {A = Result (List ℕ) ℕ} (key_told (variables (key_variable index))) (Ok text)
+      → IsHeaded old → IsPutUnder (parsed_key text) value old (Ok new) → IsHeaded new
+  under_headed index text value old new told is put = go (parsed_key text) refl put
+    where
+      go : (key : Option Key) → parsed_key text ≡ key → IsPutUnder key value old (Ok new) → IsHeaded new
+      go None at put = absurd (cc)
+      go (Some key) at put = put_headed key value old new (named index text key told at) is put
+
+  entry_headed : (index : ℕ) (old new : State) → IsHeaded old → IsEntryPut (Some variables) index old (Ok new) → IsHeaded new
+  entry_headed index old new is (Err n, key, e) = absurd (cc)
+  entry_headed index old new is (Ok text, key, (Err n, value, e)) = absurd (cc)
+  entry_headed index old new is (Ok text, key, (Ok value, told, inl wanting)) = absurd (cc)
+  entry_headed index old new is (Ok text, inl wanting, (Ok value, told, inr put)) = absurd (cc)
+  entry_headed index old new is (Ok text, inr (answer, asked, given), (Ok value, told, inr put)) =
+      under_headed index text value old new (ap key_told (sym asked) ∙ sym given) is put
+
+  entries_headed : (left index : ℕ) (old new : State) → IsHeaded old → ArePut (Some variables) left index old (Ok new) → IsHeaded new
+  entries_headed zero index old new is put = subst IsHeaded (sym (ap (state_in new) put)) is
+  entries_headed (suc left) index old new is (Err n, put, e) = absurd (cc)
+  entries_headed (suc left) index old new is (Ok mid, put, later) = entries_headed left (index + 1) mid new (entry_headed index old mid is put) later
+
+-- a file that has nothing
+empty_headed : (meta : Meta) → IsHeaded (empty_file meta)
+empty_headed meta = record { clean = record { sections = tt; blanks = refl; names = refl }; front = refl }
+
+-- a file with what it includes
+expanded_headed : (files : List ℕ → FileTold) (asks : Asks) (old new : State) → asks.table ≡ Some files → AreHeaded files → IsHeaded old → MakesOf (λ n. n) asks (Ok new) (Ok old) → IsHeaded new
+expanded_headed files asks old new tells headed is (On done, expands, e) = subst IsHeaded (sym e) (headed_stays files asks.rules.max_depth asks None old (On done) tells headed is expands)
+expanded_headed files asks old new tells headed is (Ended n end, expands, e) = absurd e
+
+env_headed : (variables : List ℕ → VariableTold) (files : List ℕ → FileTold) (asks : Asks) (file : State) → AreNamed variables → asks.table ≡ Some files → AreHeaded files
+    → IsFromEnv (Some variables) asks (Ok (Some file)) → IsHeaded file
+env_headed variables files asks file named tells headed (inl wanting) = absurd (cc)
+env_headed variables files asks file named tells headed (inr (Err n, counts, e)) = absurd (cc)
+env_headed variables files asks file named tells headed (inr (Ok count, counts, made)) = go (count == 0) made
+  where
+    file_in : Result (Option State) ℕ → State
+    file_in (Ok (Some s)) = s
+    file_in r = file
+
+    of_entries : Then (ArePut (Some variables) count 0 (empty_file env_meta)) (λ state. Then (λ r. MakesOf (λ number. number) asks r (Ok state)) (λ state r. r ≡ Ok (Some state))) (Ok (Some file)) → IsHeaded file
+    of_entries (Err n, put, e) = absurd (cc)
+    of_entries (Ok state, put, (Err n, expands, e)) = absurd (cc)
+    of_entries (Ok state, put, (Ok full, expands, e)) =
+        subst IsHeaded (sym (ap file_in e)) (expanded_headed files asks state full tells headed (entries_headed variables named count 0 (empty_file env_meta) state (empty_headed env_meta) put) expands)
+
+    go : (none : Bool) → elim none as (λ _. Type 0) [
+      | true ↦ ◌≡◌ {A = Result (Option State) ℕ} (Ok (Some file)) (Ok None)
+      | false ↦ Then (ArePut (Some variables) count 0 (empty_file env_meta)) (λ state. Then (λ r. MakesOf (λ number. number) asks r (Ok state)) (λ state r. r ≡ Ok (Some state))) (Ok (Some file))
+    ] → IsHeaded file
+    go true e = absurd (cc)
+    go false made = of_entries made
+
+overrides_headed : (variables : List ℕ → VariableTold) (places : Places) (files : List ℕ → FileTold) (file : State) → AreNamed variables → AreHeaded files
+    → IsOverrides (Some variables) places (Some files) (Ok file) → IsHeaded file
+overrides_headed variables places files file named headed (inl wanting) = absurd (cc)
+overrides_headed variables places files file named headed (inr (Err n, made, e)) = absurd (cc)
+overrides_headed variables places files file named headed (inr (Ok None, made, e)) = subst IsHeaded (sym (ap (state_in file) e)) (empty_headed api_meta)
+overrides_headed variables places files file named headed (inr (Ok (Some state), made, e)) =
+    subst IsHeaded (sym (ap (state_in file) e)) (env_headed variables files (record { rules = home_rules places; table = Some files }) state named refl headed made)
+
+-- a file behind another one
+put_behind_headed : (target other now : State) → IsHeaded target → IsHeaded other → IsPutBehind target other (Ok now) → IsHeaded now
+put_behind_headed target other now is more (inl wanting) = absurd (cc)
+put_behind_headed target other now is more (inr put) = go (has_room_behind target other) put
+  where
+    go : (room : Bool) → elim room as (λ _. Type 0) [ true ↦ (s : State) × IsBehind target other s × (◌≡◌ {A = Result State ℕ} (Ok now) (Ok s)) | false ↦ ◌≡◌ {A = Result State ℕ} (Ok now) (Err 3) ] → IsHeaded now
+    go true (s, behind, e) = subst IsHeaded (sym (ap (state_in now) e)) (behind_headed target other s is more behind)
+    go false e = absurd (cc)
+
+module _ (variables : List ℕ → VariableTold) (places : Places) (files : List ℕ → FileTold) (named : AreNamed variables) (headed : AreHeaded files) where
+  behind_expanded : (asks : Asks) (target file now : State) → asks.table ≡ Some files → IsHeaded target → IsHeaded file → IsExpandedBehind asks target file (Ok now) → IsHeaded now
+  behind_expanded asks target file now tells is more (Err n, expands, e) = absurd (cc)
+  behind_expanded asks target file now tells is more (Ok full, expands, put) = put_behind_headed target full now is (expanded_headed files asks file full tells headed more expands) put
+
+  worktree_behind : (asks : Asks) (worktree : Option State) (target now : State) → asks.table ≡ Some files → IsHeaded target → ((file : State) → worktree ≡ Some file → IsHeaded file)
+      → IsWorktreeBehind asks worktree target (Ok now) → IsHeaded now
+  worktree_behind asks None target now tells is more e = subst IsHeaded (sym (ap (state_in now) e)) is
+  worktree_behind asks (Some worktree) target now tells is more put = behind_expanded asks target worktree now tells is (more worktree refl) put
+
+  joined_headed : (asks : Asks) (parts : RepositoryFiles) (now : State) → asks.table ≡ Some files → IsHeaded parts.globals → IsHeaded parts.local → ((file : State) → parts.worktree ≡ Some file → IsHeaded file)
+      → IsJoined (Some variables) places (Some files) asks parts (Ok now) → IsHeaded now
+  joined_headed asks parts now tells globals local worktree (Err n, expands, e) = absurd (cc)
+  joined_headed asks parts now tells globals local worktree (Ok first, expands, (Err n, second, e)) = absurd (cc)
+  joined_headed asks parts now tells globals local worktree (Ok first, expands, (Ok both, second, (Err n, third, e))) = absurd (cc)
+  joined_headed asks parts now tells globals local worktree (Ok first, expands, (Ok both, second, (Ok all, third, (Err n, made, e)))) = absurd (cc)
+  joined_headed asks parts now tells globals local worktree (Ok first, expands, (Ok both, second, (Ok all, third, (Ok overrides, made, put)))) =
+      let one = expanded_headed files asks parts.globals first tells headed globals expands in
+      let two = behind_expanded asks first parts.local both tells one local second in
+      let three = worktree_behind asks parts.worktree both all tells two worktree third in
+      put_behind_headed all overrides now three (overrides_headed variables places files overrides named headed made) put
+
+  worktree_headed : (folder : List ℕ) (local : State) (worktree : Option State) → IsWorktree (Some files) folder local (Ok worktree) → (file : State) → worktree ≡ Some file → IsHeaded file
+  worktree_headed folder local worktree is file some = go (has_worktree local) is
+    where
+      found_in : Result (Option State) ℕ → Option State
+      found_in (Ok s) = s
+      found_in (Err n) = None
+
+      file_in : Option State → State
+      file_in (Some s) = s
+      file_in None = file
+
+      of_path : (path : List ℕ) (source : Source) → Then (IsLoadedFrom (Some files) path source) (λ state r. r ≡ Ok (Some state)) (Ok worktree) → IsHeaded file
+      of_path path source (Err n, loaded, e) = absurd (cc)
+      of_path path source (Ok state, loaded, e) = subst IsHeaded (ap file_in (sym (ap found_in e) ∙ some)) (path_headed files path source state headed loaded)
+
+      go : (has : Bool) → elim has as (λ _. Type 0) [
+        | true ↦ Then (IsLoadedFrom (Some files) (worktree_path folder) Worktree) (λ state r. r ≡ Ok (Some state)) (Ok worktree)
+        | false ↦ ◌≡◌ {A = Result (Option State) ℕ} (Ok worktree) (Ok None)
+      ] → IsHeaded file
+      go true loaded = of_path (worktree_path folder) Worktree loaded
+      go false e = let none : None ≡ Some file = sym (ap found_in e) ∙ some in absurd (cc)
+
+  repository_headed : (dir : List ℕ) (real : Option (List ℕ)) (file : State) → IsRepository (Some variables) places (Some files) dir real (Ok file) → IsHeaded file
+  repository_headed dir real file (inl wanting) = absurd (cc)
+  repository_headed dir real file (inr (Err n, read, e)) = absurd (cc)
+  repository_headed dir real file (inr (Ok parts, inl wanting, joined)) = absurd (cc)
+  repository_headed dir real file (inr (Ok parts, inr (Err n, local, e), joined)) = absurd (cc)
+  repository_headed dir real file (inr (Ok parts, inr (Ok local, of_local, (Err n, worktree, e)), joined)) = absurd (cc)
+  repository_headed dir real file (inr (Ok parts, inr (Ok local, of_local, (Ok worktree, of_worktree, (Err n, globals, e))), joined)) = absurd (cc)
+  repository_headed dir real file (inr (Ok parts, inr (Ok local, of_local, (Ok worktree, of_worktree, (Ok globals, of_globals, e))), joined)) =
+      let is : parts ≡ record { local = local; worktree = worktree; globals = globals } = ap parts_in e in
+      let clean = global_clean (Some variables) places files globals headed of_globals in
+      joined_headed (record { rules = repository_rules places (folder_of (local_path dir)) real; table = Some files }) parts file refl
+      (subst (λ (p : RepositoryFiles). IsHeaded p.globals) (sym is) (record { clean = clean.0; front = clean.1 }))
+      (subst (λ (p : RepositoryFiles). IsHeaded p.local) (sym is) (path_headed files (local_path dir) Local local headed of_local))
+      (subst (λ (p : RepositoryFiles). (s : State) → p.worktree ≡ Some s → IsHeaded s) (sym is) (worktree_headed (folder_of (local_path dir)) local worktree of_worktree))
+      joined
+    where
+      parts_in : Result RepositoryFiles ℕ → RepositoryFiles
+      parts_in (Ok p) = p
+      parts_in (Err n) = parts
+
+-- as the laws say it
+pub env_clean : (variables : List ℕ → VariableTold) (files : List ℕ → FileTold) (asks : Asks) (file : State) → AreNamed variables → asks.table ≡ Some files → AreHeaded files
+    → IsFromEnv (Some variables) asks (Ok (Some file)) → IsClean file × (entries_of file.front ≡ [])
+env_clean variables files asks file named tells headed made = let is = env_headed variables files asks file named tells headed made in (is.clean, is.front)
+
+pub overrides_clean : (variables : List ℕ → VariableTold) (places : Places) (files : List ℕ → FileTold) (file : State) → AreNamed variables → AreHeaded files
+    → IsOverrides (Some variables) places (Some files) (Ok file) → IsClean file × (entries_of file.front ≡ [])
+overrides_clean variables places files file named headed made = let is = overrides_headed variables places files file named headed made in (is.clean, is.front)
+
+pub repository_clean : (variables : List ℕ → VariableTold) (places : Places) (files : List ℕ → FileTold) (dir : List ℕ) (real : Option (List ℕ)) (file : State) → AreNamed variables → AreHeaded files
+    → IsRepository (Some variables) places (Some files) dir real (Ok file) → IsClean file × (entries_of file.front ≡ [])
+repository_clean variables places files dir real file named headed loaded = let is = repository_headed variables places files named headed dir real file loaded in (is.clean, is.front)

@@ -1,0 +1,8 @@
+use Rattle.gix_config.proofs.CleanLoads.{env_clean, overrides_clean}
+use Rattle.gix_config.proofs.laws.files_of_variables_are_clean.Goals as goal
+
+pub returns-clause-made : goal.returns-clause-made
+returns-clause-made c = env_clean
+
+pub returns-clause-overrides : goal.returns-clause-overrides
+returns-clause-overrides c = overrides_clean

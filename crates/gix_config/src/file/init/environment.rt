@@ -1,0 +1,287 @@
+//! Files that are made of what variables of the environment tell.
+ghost use Rattle.std.specs.Option.{option_map};
+ghost use Rattle.std.specs.Prelude.{◌≡◌, ℕ, Ok, unwrap_or, IfErr, IfOk, string_bytes};
+ghost use Rattle.gitconf_base.specs.Key.{key_of, parsed_key};
+ghost use Rattle.gitconf_base.specs.Metadata.{api_meta};
+ghost use Rattle.gitconf_expansion.specs.Outcomes.{asks_of, CountsFaults, IsCause};
+ghost use Rattle.gitconf_includes.specs.Errors.{includes_number};
+ghost use Rattle.gitconf_loaders.specs.Errors.{env_number};
+ghost use Rattle.gitconf_loaders.specs.Globals.{empty_file};
+ghost use Rattle.gitconf_resolving.specs.Resolving.{MakesOf};
+ghost use Rattle.gitconf_loaders.specs.Paths.{CountsLoad, left_by, numbered};
+ghost use Rattle.gitconf_loaders.specs.Variables.{IsEntryCause};
+ghost use Rattle.gix_config.specs.Environment.{ArePut, IsEntryPut, IsEnvCause, IsFromEnv, IsOverrides, IsOverridesCause, IsPushed, IsPut, IsPutUnder};
+ghost use Rattle.gix_config.specs.SectionEditors.{edited, lent, told};
+
+use crate::file::section_mut::SectionMut;
+use crate::file::{File, shared};
+use gitconf_base::key::KeyRef;
+use gitconf_base::meta::Metadata;
+use gitconf_base::source::Source;
+use gitconf_host::{Env, Files, Host, Places};
+use gitconf_includes::includes;
+use gitconf_includes::init::Options;
+use gitconf_loaders::from_env::Error;
+use gitconf_loaders::globals::home_options;
+use gitconf_loaders::variables::{count, key_at, value_at};
+use gitconf_resolving::resolving::{Resolved, resolve};
+use gitconf_text::NoMemory;
+use std::alloc::Global;
+
+/// Pushes the value of an entry, counted from 0, behind those of a section.
+///
+/// # Errors
+///
+/// 22 for a value that is no text; 6 for a name that is none, 3 where there is no room; 27 for want of memory.
+fn push_value(
+    section: &mut SectionMut<'_>,
+    name: &str,
+    value: Option<String>,
+    index: usize,
+) -> Result<(), Error>
+    ensures same_file { lent section.new ≡ lent section.old }
+    ensures pushed { IsPushed name.now (option_map string_bytes value) (edited section.old, told section.old) (left_by env_number result (edited section.new)) }
+    ensures cause { IfErr result (IsEntryCause index) }
+{
+    let Some(value) = value else {
+        return Err(Error::IllformedUtf8 {
+            index,
+            kind: "value",
+        });
+    };
+    match section.push(name, Some(value.as_bytes())) {
+        Ok(()) => Ok(()),
+        Err(refusal) => Err(Error::from(refusal)),
+    }
+}
+
+/// Puts an entry, counted from 0, into the last section of the key's names, or into one that is made.
+///
+/// # Errors
+///
+/// 4, 5 and 3 where a section can't be made, and those of [`push_value`].
+fn put_value(
+    file: &mut File,
+    key: KeyRef<'_>,
+    value: Option<String>,
+    index: usize,
+) -> Result<(), Error>
+    ensures put { IsPut (key_of key.entry) (option_map string_bytes value) file.old (left_by env_number result file.new) }
+    ensures cause { IfErr result (IsEntryCause index) }
+{
+    match file.section_mut_or_create_new(key.section_name, key.subsection_name) {
+        Ok(mut section) => push_value(&mut section, key.value_name, value, index),
+        Err(refusal) => Err(Error::from(refusal)),
+    }
+}
+
+/// The same by the text of the key.
+///
+/// # Errors
+///
+/// 25 for a text that has no dot, and those of [`put_value`].
+fn put_under(file: &mut File, key: String, value: Option<String>, index: usize) -> Result<(), Error>
+    ensures put { IsPutUnder (parsed_key (string_bytes key)) (option_map string_bytes value) file.old (left_by env_number result file.new) }
+    ensures cause { IfErr result (IsEntryCause index) }
+{
+    match KeyRef::parse_unvalidated(key.as_bytes()) {
+        Some(key) => put_value(file, key, value, index),
+        None => Err(Error::InvalidKeyValue {
+            key_id: index,
+            key_val: key,
+        }),
+    }
+}
+
+/// Puts the entry that variables tell, counted from 0, into the file.
+///
+/// # Errors
+///
+/// 24 where the key isn't set, 22 where it is no text, 26 where the value isn't set, and those of [`put_under`].
+fn put_entry<E: Env>(alloc: Global, env: &mut E, index: usize, file: &mut File) -> Result<(), Error>
+    ensures put { IsEntryPut (E.variables env.old) index file.old (left_by env_number result file.new) }
+    ensures cause { IfErr result (IsEntryCause index) }
+    ensures stays { E.variables env.new ≡ E.variables env.old }
+{
+    let key = key_at(alloc, env, index)?;
+    let value = value_at(alloc, env, index)?;
+    put_under(file, key, value, index)
+}
+
+/// Puts so many entries into the file, in order.
+///
+/// # Errors
+///
+/// Those of [`put_entry`].
+fn put_entries<E: Env>(
+    alloc: Global,
+    env: &mut E,
+    count: usize,
+    file: &mut File,
+) -> Result<(), Error>
+    ensures put { ArePut (E.variables env.old) count 0 file.old (left_by env_number result file.new) }
+    ensures cause { IfErr result (λ e. (index : ℕ) × IsEntryCause index e) }
+    ensures stays { E.variables env.new ≡ E.variables env.old }
+{
+    for index in 0..count {
+        put_entry(alloc, env, index, file)?;
+    }
+    Ok(())
+}
+
+/// A file without sections, which comes from the environment.
+///
+/// # Errors
+///
+/// Want of memory.
+fn empty(alloc: Global, meta: Metadata) -> Result<File, NoMemory>
+    ensures { IfOk result (λ file. file ≡ empty_file meta) }
+{
+    Ok(File::new(alloc, shared(alloc, meta)?))
+}
+
+/// The file with what it includes.
+///
+/// # Errors
+///
+/// Those of includes.
+pub(crate) fn expanded<F: Files>(
+    alloc: Global,
+    files: &mut F,
+    options: &Options<'_>,
+    file: File,
+) -> Result<File, includes::Error>
+    ensures expanded { MakesOf includes_number (asks_of options.now (F.table files.old)) result (Ok file) }
+    ensures cause { IfErr result (IsCause options.now (F.table files.old)) }
+    ensures table { F.table files.new ≡ F.table files.old }
+    ensures counted { CountsFaults result (F.failures files.old) (F.failures files.new) }
+{
+    let File { store } = file;
+    let Resolved { store, result } = resolve(alloc, files, options, store);
+    match result {
+        Ok(()) => Ok(File { store }),
+        Err(refusal) => {
+            drop(store);
+            Err(refusal)
+        }
+    }
+}
+
+/// The file of the entries that variables tell, with what it includes; `None` without entries.
+///
+/// # Errors
+///
+/// Those of [`File::from_env`].
+pub(crate) fn env_file<F: Files, E: Env>(
+    alloc: Global,
+    files: &mut F,
+    env: &mut E,
+    options: &Options<'_>,
+) -> Result<Option<File>, Error>
+    ensures made { IsFromEnv (E.variables env.old) (asks_of options.now (F.table files.old)) (numbered env_number result) }
+    ensures cause { IfErr result (IsEnvCause (E.variables env.old) options.now (F.table files.old)) }
+    ensures table { F.table files.new ≡ F.table files.old }
+    ensures counted { CountsLoad (numbered env_number result) (F.failures files.old) (F.failures files.new) }
+    ensures stays { E.variables env.new ≡ E.variables env.old }
+{
+    let count = count(env)?;
+    if count == 0 {
+        return Ok(None);
+    }
+    let mut file = empty(alloc, Metadata::from(Source::Env))?;
+    put_entries(alloc, env, count, &mut file)?;
+    Ok(Some(expanded(alloc, files, options, file)?))
+}
+
+/// The file, or an empty one from the calling program.
+///
+/// # Errors
+///
+/// Want of memory.
+fn or_empty(alloc: Global, made: Option<File>) -> Result<File, NoMemory>
+    ensures { IfOk result (λ file. file ≡ unwrap_or made (empty_file api_meta)) }
+{
+    match made {
+        Some(file) => Ok(file),
+        None => empty(alloc, Metadata::api()),
+    }
+}
+
+/// The file of the overrides.
+///
+/// # Errors
+///
+/// Those of [`File::from_env`].
+pub(crate) fn overrides<F: Files, E: Env>(
+    alloc: Global,
+    files: &mut F,
+    env: &mut E,
+    places: &Places,
+) -> Result<File, Error>
+    ensures made { IsOverrides (E.variables env.old) places.now (F.table files.old) (numbered env_number result) }
+    ensures cause { IfErr result (IsOverridesCause (E.variables env.old) places.now (F.table files.old)) }
+    ensures table { F.table files.new ≡ F.table files.old }
+    ensures counted { CountsLoad (numbered env_number result) (F.failures files.old) (F.failures files.new) }
+    ensures stays { E.variables env.new ≡ E.variables env.old }
+{
+    let made = env_file(alloc, files, env, &home_options(places))?;
+    Ok(or_empty(alloc, made)?)
+}
+
+impl File {
+    ghost use Rattle.std.specs.Prelude.{◌≡◌, IfErr};
+    ghost use Rattle.gitconf_expansion.specs.Outcomes.{asks_of};
+    ghost use Rattle.gitconf_loaders.specs.Errors.{env_number};
+    ghost use Rattle.gitconf_loaders.specs.Paths.{CountsLoad, numbered};
+    ghost use Rattle.gix_config.specs.Environment.{IsEnvCause, IsFromEnv, IsOverrides, IsOverridesCause};
+
+    /// The file that variables tell, which comes from no path and from the source `Env`, fully trusted, at level 0; with what it includes by
+    /// the options. `GIT_CONFIG_COUNT` tells how many entries there are, and the key and the value of each stand in `GIT_CONFIG_KEY_0`,
+    /// `GIT_CONFIG_VALUE_0` and so on. Each entry goes into the last section of the key's names, or into a new one. `None` where there is no
+    /// count, or it is 0 or no text.
+    ///
+    /// Three variables are asked at most for an entry, and its section is found by an index.
+    ///
+    /// # Errors
+    ///
+    /// 23 for a count that is no number below 2 to the 64th. Of the first entry that can't be put, the first that fits: 24 for a key that isn't
+    /// set, 22 for one that is no text, 26 for a value that isn't set, 25 for a key without a dot, 4 and 5 for names that a section can't be made
+    /// of, 22 for a value that is no text, 6 for a name that is none; 3 where there is no room. Then those of
+    /// [`File::resolve_includes`], and 15 too where `max_depth` is 0 and the options ask for it. 27 for want of memory.
+    pub fn from_env(
+        alloc: Global,
+        options: Options<'_>,
+        host: &mut Host,
+    ) -> Result<Option<File>, Error>
+        ensures made { IsFromEnv (⟦<Box<dyn Env> as Env>⟧.variables host.old.env) (asks_of options.entry (⟦<Box<dyn Files> as Files>⟧.table host.old.files)) (numbered env_number result) }
+        ensures cause { IfErr result (IsEnvCause (⟦<Box<dyn Env> as Env>⟧.variables host.old.env) options.entry (⟦<Box<dyn Files> as Files>⟧.table host.old.files)) }
+        ensures table { ⟦<Box<dyn Files> as Files>⟧.table host.new.files ≡ ⟦<Box<dyn Files> as Files>⟧.table host.old.files }
+        ensures counted { CountsLoad (numbered env_number result) (⟦<Box<dyn Files> as Files>⟧.failures host.old.files) (⟦<Box<dyn Files> as Files>⟧.failures host.new.files) }
+        ensures env { ⟦<Box<dyn Env> as Env>⟧.variables host.new.env ≡ ⟦<Box<dyn Env> as Env>⟧.variables host.old.env }
+        ensures places { host.new.places ≡ host.old.places }
+    {
+        let Host {
+            files,
+            env,
+            places: _,
+        } = host;
+        env_file(alloc, files, env, &options)
+    }
+
+    /// [`File::from_env`], where includes go by the home folders of the host's places; an empty file where that is `None`.
+    ///
+    /// # Errors
+    ///
+    /// Those of [`File::from_env`].
+    pub fn from_environment_overrides(alloc: Global, host: &mut Host) -> Result<File, Error>
+        ensures made { IsOverrides (⟦<Box<dyn Env> as Env>⟧.variables host.old.env) host.old.places (⟦<Box<dyn Files> as Files>⟧.table host.old.files) (numbered env_number result) }
+        ensures cause { IfErr result (IsOverridesCause (⟦<Box<dyn Env> as Env>⟧.variables host.old.env) host.old.places (⟦<Box<dyn Files> as Files>⟧.table host.old.files)) }
+        ensures table { ⟦<Box<dyn Files> as Files>⟧.table host.new.files ≡ ⟦<Box<dyn Files> as Files>⟧.table host.old.files }
+        ensures counted { CountsLoad (numbered env_number result) (⟦<Box<dyn Files> as Files>⟧.failures host.old.files) (⟦<Box<dyn Files> as Files>⟧.failures host.new.files) }
+        ensures env { ⟦<Box<dyn Env> as Env>⟧.variables host.new.env ≡ ⟦<Box<dyn Env> as Env>⟧.variables host.old.env }
+        ensures places { host.new.places ≡ host.old.places }
+    {
+        let Host { files, env, places } = host;
+        overrides(alloc, files, env, places)
+    }
+}

@@ -1,0 +1,144 @@
+//! Files that are loaded by their paths.
+
+use crate::file::File;
+use gitconf_base::meta::Metadata;
+use gitconf_base::source::Source;
+use gitconf_host::{Env, Files, Host};
+use gitconf_includes::init::Options;
+use gitconf_loaders::from_paths::Error;
+use gitconf_loaders::{globals, paths};
+use std::alloc::Global;
+
+impl File {
+    ghost use Rattle.std.specs.Prelude.{◌≡◌, true, IfErr, string_bytes};
+    ghost use Rattle.gitconf_expansion.specs.Outcomes.{asks_of};
+    ghost use Rattle.gitconf_loaders.specs.Causes.{IsFileCause, IsLoadCause};
+    ghost use Rattle.gitconf_loaders.specs.Errors.{paths_number};
+    ghost use Rattle.gitconf_loaders.specs.Globals.{IsGlobal, IsGlobalCause};
+    ghost use Rattle.gitconf_loaders.specs.Paths.{CountsLoad, IsLoadedFrom, IsLoadOfPaths, numbered};
+
+    /// The file at a path, of that source, at level 0, with the trust that the host tells, which is asked first. No include is followed.
+    /// The file is read and parsed once.
+    ///
+    /// # Errors
+    ///
+    /// 21 where the trust can't be told, or the file can't be opened or read; 1 and 2 where the parser refuses it; 27 for want of memory.
+    pub fn from_path_no_includes(
+        alloc: Global,
+        path: String,
+        source: Source,
+        host: &mut Host,
+    ) -> Result<File, Error>
+        ensures loaded { IsLoadedFrom (⟦<Box<dyn Files> as Files>⟧.table host.old.files) (string_bytes path) source (numbered paths_number result) }
+        ensures cause { IfErr result (IsFileCause (⟦<Box<dyn Files> as Files>⟧.table host.old.files) (string_bytes path)) }
+        ensures table { ⟦<Box<dyn Files> as Files>⟧.table host.new.files ≡ ⟦<Box<dyn Files> as Files>⟧.table host.old.files }
+        ensures counted { CountsLoad (numbered paths_number result) (⟦<Box<dyn Files> as Files>⟧.failures host.old.files) (⟦<Box<dyn Files> as Files>⟧.failures host.new.files) }
+        ensures env { host.new.env ≡ host.old.env }
+        ensures places { host.new.places ≡ host.old.places }
+    {
+        let store = paths::from_path(alloc, &mut host.files, path, source)?;
+        Ok(File { store })
+    }
+
+    /// The files of metadata that has a path, each with what it includes by the options, one behind the other as [`File::append`] puts them;
+    /// `None` where no file was loaded. Metadata without a path is passed over, and of several with one path the first is taken. The options
+    /// tell whether faults are ignored: a file that can't be opened is passed over then, and one that can't be read counts as empty.
+    ///
+    /// Each file is read and parsed once. What is put behind others is moved once, and the paths are kept in a tree.
+    ///
+    /// # Errors
+    ///
+    /// 21 where a file can't be opened, also where there is none, or read, and that isn't ignored; 1, 2 and 12 to 20 as a file and its includes
+    /// are refused; 3 where there is no room for one; 27 for want of memory.
+    pub fn from_paths_metadata(
+        alloc: Global,
+        metas: Vec<Metadata>,
+        options: Options<'_>,
+        host: &mut Host,
+    ) -> Result<Option<File>, Error>
+        ensures loaded { IsLoadOfPaths true options.entry.ignore_io_errors (asks_of options.entry (⟦<Box<dyn Files> as Files>⟧.table host.old.files)) metas.items (numbered paths_number result) }
+        ensures cause { IfErr result (IsLoadCause true options.entry (⟦<Box<dyn Files> as Files>⟧.table host.old.files) metas.items) }
+        ensures table { ⟦<Box<dyn Files> as Files>⟧.table host.new.files ≡ ⟦<Box<dyn Files> as Files>⟧.table host.old.files }
+        ensures counted { CountsLoad (numbered paths_number result) (⟦<Box<dyn Files> as Files>⟧.failures host.old.files) (⟦<Box<dyn Files> as Files>⟧.failures host.new.files) }
+        ensures env { host.new.env ≡ host.old.env }
+        ensures places { host.new.places ≡ host.old.places }
+    {
+        File::from_paths_metadata_buf(alloc, metas, true, options, host)
+    }
+
+    /// As [`File::from_paths_metadata`]; a file that isn't there is passed over unless it must exist. The Rust crate takes a buffer too, which
+    /// texts are read into; here each text is handed over to its file.
+    ///
+    /// # Errors
+    ///
+    /// Those of [`File::from_paths_metadata`].
+    pub fn from_paths_metadata_buf(
+        alloc: Global,
+        metas: Vec<Metadata>,
+        err_on_non_existing_paths: bool,
+        options: Options<'_>,
+        host: &mut Host,
+    ) -> Result<Option<File>, Error>
+        ensures loaded { IsLoadOfPaths err_on_non_existing_paths options.entry.ignore_io_errors (asks_of options.entry (⟦<Box<dyn Files> as Files>⟧.table host.old.files)) metas.items (numbered paths_number result) }
+        ensures cause { IfErr result (IsLoadCause err_on_non_existing_paths options.entry (⟦<Box<dyn Files> as Files>⟧.table host.old.files) metas.items) }
+        ensures table { ⟦<Box<dyn Files> as Files>⟧.table host.new.files ≡ ⟦<Box<dyn Files> as Files>⟧.table host.old.files }
+        ensures counted { CountsLoad (numbered paths_number result) (⟦<Box<dyn Files> as Files>⟧.failures host.old.files) (⟦<Box<dyn Files> as Files>⟧.failures host.new.files) }
+        ensures env { host.new.env ≡ host.old.env }
+        ensures places { host.new.places ≡ host.old.places }
+    {
+        match paths::from_paths(
+            alloc,
+            &mut host.files,
+            metas,
+            err_on_non_existing_paths,
+            &options,
+        ) {
+            Ok(Some(store)) => Ok(Some(File { store })),
+            Ok(None) => Ok(None),
+            Err(refusal) => Err(refusal),
+        }
+    }
+
+    /// As [`File::from_paths_metadata`], of any source of files: for a program that is generic over where its files come from.
+    ///
+    /// # Errors
+    ///
+    /// Those of [`File::from_paths_metadata`].
+    pub fn from_paths_metadata_of<F: Files>(
+        alloc: Global,
+        metas: Vec<Metadata>,
+        options: Options<'_>,
+        files: &mut F,
+    ) -> Result<Option<File>, Error>
+        ensures loaded { IsLoadOfPaths true options.entry.ignore_io_errors (asks_of options.entry (F.table files.old)) metas.items (numbered paths_number result) }
+        ensures cause { IfErr result (IsLoadCause true options.entry (F.table files.old) metas.items) }
+        ensures table { F.table files.new ≡ F.table files.old }
+        ensures counted { CountsLoad (numbered paths_number result) (F.failures files.old) (F.failures files.new) }
+    {
+        match paths::from_paths(alloc, files, metas, true, &options) {
+            Ok(Some(store)) => Ok(Some(File { store })),
+            Ok(None) => Ok(None),
+            Err(refusal) => Err(refusal),
+        }
+    }
+
+    /// The configuration of the machine and of the user: what stands at the places of the sources `GitInstallation`, `System`, `Git` and
+    /// `User`, in this order, each with what it includes, one behind the other; an empty file where no file stands at any. Each is fully
+    /// trusted, at level 0. Includes go by the home folders of the host's places. Variables are asked anew for each place.
+    ///
+    /// # Errors
+    ///
+    /// Those of [`File::from_paths_metadata`].
+    pub fn from_globals(alloc: Global, host: &mut Host) -> Result<File, Error>
+        ensures loaded { IsGlobal (⟦<Box<dyn Env> as Env>⟧.variables host.old.env) host.old.places (⟦<Box<dyn Files> as Files>⟧.table host.old.files) (numbered paths_number result) }
+        ensures cause { IfErr result (IsGlobalCause host.old.places (⟦<Box<dyn Files> as Files>⟧.table host.old.files)) }
+        ensures table { ⟦<Box<dyn Files> as Files>⟧.table host.new.files ≡ ⟦<Box<dyn Files> as Files>⟧.table host.old.files }
+        ensures counted { CountsLoad (numbered paths_number result) (⟦<Box<dyn Files> as Files>⟧.failures host.old.files) (⟦<Box<dyn Files> as Files>⟧.failures host.new.files) }
+        ensures env { ⟦<Box<dyn Env> as Env>⟧.variables host.new.env ≡ ⟦<Box<dyn Env> as Env>⟧.variables host.old.env }
+        ensures places { host.new.places ≡ host.old.places }
+    {
+        let Host { files, env, places } = host;
+        let store = globals::from_globals(alloc, files, env, places)?;
+        Ok(File { store })
+    }
+}
