@@ -9,11 +9,15 @@ import socket
 import subprocess
 import tempfile
 
+from gixcfg_folder import drop_rights, folder_of
 from gixcfg_runs import Ending
 
 # Linux's F_SETPIPE_SZ, which Python has a name for from 3.10 on.
 SET_PIPE_SIZE = 1031
 PIPE_SIZE = 1 << 20
+
+# How many times as long a run with a huge file has.
+HUGE = 10
 
 
 class Failed(Exception):
@@ -23,16 +27,17 @@ class Failed(Exception):
 def ending(program, run, limit, variables=None):
     """How a run of this program ends. `limit` is the seconds that it has."""
     with contextlib.ExitStack() as stack:
+        folder = stack.enter_context(folder_of(run.entries))
         source = stack.enter_context(_source(run.input))
         out = stack.enter_context(_target(run.out))
         err = stack.enter_context(_target(run.err))
         try:
             process = subprocess.Popen(
-                [os.fsencode(str(program))] + run.words, stdin=source, stdout=out, stderr=err,
-                preexec_fn=_room_for(run), env={**os.environ, **(variables or {})})
-        except OSError as fault:
+                [os.fsencode(os.path.abspath(program))] + run.words, stdin=source, stdout=out, stderr=err, cwd=folder,
+                preexec_fn=_preparation_of(run), env=_variables_of(run, variables or {}))
+        except (OSError, subprocess.SubprocessError) as fault:
             raise Failed(f"it can't be started: {fault}") from fault
-        printed, told = _communicate(process, limit)
+        printed, told = _communicate(process, limit * HUGE if run.is_huge else limit)
         if run.input.stays_unread and source.tell() != 0:
             raise Failed(f"{source.tell()} bytes of its standard input were read")
         return Ending(_status(process), _seen(run.out, out, printed), _seen(run.err, err, told))
@@ -114,14 +119,28 @@ def _seen(wanted, target, taken):
     return target.read()
 
 
-def _room_for(run):
-    """What is done in the process before the program: files can't grow past the room, and a write tells so."""
+def _variables_of(run, variables):
+    """The variables of the process: its own in place of ours, but for those that it is to have not."""
+    own = {name: text for name, text in run.variables.items() if text is not None}
+    return {**{name: text for name, text in os.environb.items() if name not in run.variables}, **own, **variables}
+
+
+def _preparation_of(run):
+    """What is done in the process before the program."""
     rooms = [output.room for output in (run.out, run.err) if output.room is not None]
-    if not rooms:
+    if not rooms and not run.has_locked:
         return None
 
-    def limit_files():
-        signal.signal(signal.SIGXFSZ, signal.SIG_IGN)
-        resource.setrlimit(resource.RLIMIT_FSIZE, (min(rooms), min(rooms)))
+    def prepare():
+        if rooms:
+            _limit_files(min(rooms))
+        if run.has_locked:
+            drop_rights()
 
-    return limit_files
+    return prepare
+
+
+def _limit_files(room):
+    """Files can't grow past the room, and a write tells so."""
+    signal.signal(signal.SIGXFSZ, signal.SIG_IGN)
+    resource.setrlimit(resource.RLIMIT_FSIZE, (room, room))

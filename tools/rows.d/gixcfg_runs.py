@@ -1,12 +1,14 @@
 """Runs of the program `gixcfg`: its words and streams, and its status, output and error.
 
-A run is a line `gixcfg WORDS [< INPUT] [> OUTPUT] [2> ERROR]`, and behind two blanks on the next line `STATUS OUTPUT ERROR`.
+A run is a line `gixcfg WORDS [in PARTS] [< INPUT] [> OUTPUT] [2> ERROR]`, and behind two blanks on the next line
+`STATUS OUTPUT ERROR`.
 rows/README.md has the form of each of them.
 """
 
 import re
-from typing import List, NamedTuple, Optional
+from typing import Dict, List, NamedTuple, Optional
 
+from gixcfg_folder import KINDS, Entry
 from words import Malformed, QUOTED, quote, unquote
 
 _TOKEN = re.compile(rf"{QUOTED}|[^ \"]+")
@@ -32,15 +34,29 @@ class Run(NamedTuple):
     """A run of the program."""
 
     words: List[bytes]
+    entries: List[Entry]
+    variables: Dict[bytes, Optional[bytes]]
     input: Input
     out: Output
     err: Output
 
     @property
+    def has_locked(self):
+        """Whether a file without rights stands in its folder."""
+        return any(entry.kind == "locked" for entry in self.entries)
+
+    @property
+    def is_huge(self):
+        """Whether a file of its folder is too long to be read at once."""
+        return any(entry.kind == "sparse" for entry in self.entries)
+
+    @property
     def is_plain(self):
-        """Whether no stream fails or is slow."""
+        """Whether no stream fails or is slow, and no file is huge."""
         given = self.input
-        return given.text is not None and given == Input(given.text) and self.out == self.err == Output()
+        return (given.text is not None and given == Input(given.text, stays_unread=given.stays_unread)
+                and self.out == self.err == Output()
+                and not self.is_huge and not any(entry.kind == "pipe" for entry in self.entries))
 
 
 class Ending(NamedTuple):
@@ -85,6 +101,10 @@ class _Tokens:
             raise Malformed(f"no number: {word}")
         return int(word)
 
+    def ends_with_streams(self):
+        """Whether only streams are left, or nothing."""
+        return not self._tokens or self._tokens[0] in ("<", ">", "2>")
+
     def comes_quoted(self):
         return bool(self._tokens) and self._tokens[0].startswith('"')
 
@@ -126,11 +146,33 @@ def run_of(line, folder):
     words = []
     while tokens.comes_quoted():
         words.append(tokens.quoted())
+    entries, variables = _parts_of(tokens) if tokens.accept("in") else ([], {})
     given = _input_of(tokens) if tokens.accept("<") else Input(b"")
     out = _output_of(tokens) if tokens.accept(">") else Output()
     err = _output_of(tokens) if tokens.accept("2>") else Output()
     tokens.close()
-    return Run(words, given, out, err)
+    return Run(words, entries, variables, given, out, err)
+
+
+def _parts_of(tokens):
+    """What stands in the folder of the run, and the variables that it has in place of ours."""
+    entries, variables = [], {}
+    while not tokens.ends_with_streams():
+        kind = tokens.next()
+        if kind == "set":
+            name = tokens.quoted()
+            variables[name] = tokens.quoted()
+        elif kind == "unset":
+            variables[tokens.quoted()] = None
+        elif kind == "sparse":
+            entries.append(Entry(kind, tokens.quoted(), tokens.number()))
+        elif kind == "folder":
+            entries.append(Entry(kind, tokens.quoted()))
+        elif kind in KINDS:
+            entries.append(Entry(kind, tokens.quoted(), tokens.text()))
+        else:
+            raise Malformed(f"nothing that a folder may have: {kind}")
+    return entries, variables
 
 
 def _input_of(tokens):

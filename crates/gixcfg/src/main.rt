@@ -4,7 +4,9 @@
 mod output;
 mod program;
 
+use gitconf_disk::{Disk, Process};
 use gix_config::NoMemory;
+use gix_config::host::{Host, Places};
 use gix_config::refusals::Refusal;
 use program::{MEMORY, run};
 use std::alloc::Global;
@@ -26,11 +28,33 @@ fn borrowed(alloc: Global, words: &[String]) -> Result<Vec<&str>, NoMemory> {
     Ok(words.iter().map(|word| word.as_str()).collect(alloc)?)
 }
 
-/// Runs the program with the words of the process and its three streams.
+/// The places of configuration. The program loads none of them, so it knows no more than where the machine's would stand.
+fn places(alloc: Global) -> Result<Places, NoMemory> {
+    Ok(Places {
+        installation_config: None,
+        system_prefix: String::from_str(alloc, "/")?,
+        home: None,
+        homes: None,
+    })
+}
+
+/// Runs the program with the words of the process, its three streams, its variables, and the files of the disk.
 fn run_process(rt: &HostRuntime) -> Result<u8, NoMemory> {
     let words = words_of(rt)?;
     let args = borrowed(rt.alloc(), &words)?;
-    Ok(run(rt.alloc(), &args, rt.reader(), rt.stdout(), rt.stderr()))
+    let mut host = Host {
+        files: Box::new(rt.alloc(), Disk::new(*rt))?,
+        env: Box::new(rt.alloc(), Process::new(*rt))?,
+        places: places(rt.alloc())?,
+    };
+    Ok(run(
+        rt.alloc(),
+        &args,
+        rt.reader(),
+        rt.stdout(),
+        rt.stderr(),
+        &mut host,
+    ))
 }
 
 fn main(rt: HostRuntime) -> ExitCode {

@@ -1,22 +1,34 @@
 //! What the program does with its words and its streams, whatever these are.
 ghost use Rattle.std.specs.Prelude.{◌≡◌, ◌≤◌};
-ghost use Rattle.gixcfg.specs.Status.{status_of};
+ghost use Rattle.gixcfg.specs.Status.{load_status, status_of};
 
 use crate::output::Output;
 use bstr::BString;
-use gix_config::file::{SectionId, SectionRef, section_mut, set_raw_value};
+use gix_config::file::init::{self, from_paths};
+use gix_config::file::{Metadata, SectionId, SectionRef, includes, section_mut, set_raw_value};
 use gix_config::format::{Options, normalize};
+use gix_config::host::{Env, EnvVar, Files, Host};
 use gix_config::lookup::existing;
 use gix_config::parse::{Error, SinkFault};
 use gix_config::refusals::Refusal;
 use gix_config::{File, KeyRef, NoMemory, value};
 use std::alloc::{AllocError, AllocFailed, Global};
+use std::io;
 use std::io::{ErrorKind, Read, Write};
 
 /// The status where memory was wanting.
 pub const MEMORY: u8 = 5;
 
 /// What the program is asked to do.
+#[derive(Clone, Copy)]
+enum Task<'a> {
+    /// It works on the file that standard input is.
+    OnInput(Command<'a>),
+    /// It prints the last value of a key of the file at a path, with what that file includes.
+    Load(&'a str, KeyRef<'a>),
+}
+
+/// What is to be done with the file that standard input is.
 #[derive(Clone, Copy)]
 enum Command<'a> {
     /// Prints the last value of a key.
@@ -52,6 +64,10 @@ enum Fault {
     RefusedEdit(set_raw_value::Error),
     /// A value is refused by the type that it is to have.
     RefusedValue(value::Error),
+    /// A file is refused, or what it includes.
+    RefusedFile(from_paths::Error),
+    /// A file can't be opened or read: the number of the refusal, 19 to 21.
+    UnreadFile(u8),
     /// Standard input can't be read.
     Input,
     /// Standard output failed.
@@ -63,15 +79,18 @@ enum Fault {
 impl Fault {
     ghost use Rattle.gixcfg.specs.Status.{status_of};
 
-    /// The exit status: 1 for missing, 2 for usage, 3 for a refusal, 4 for a stream that failed, 5 for memory.
+    /// The exit status: 1 for missing, 2 for usage, 3 for a refusal, 4 for a file or a stream that failed, 5 for memory.
     fn status(&self) -> u8
         ensures { result ≡ status_of self.now }
     {
         match self {
             Fault::Missing => 1,
             Fault::Usage => 2,
-            Fault::Refused(_) | Fault::RefusedEdit(_) | Fault::RefusedValue(_) => 3,
-            Fault::Input | Fault::Output => 4,
+            Fault::Refused(_)
+            | Fault::RefusedEdit(_)
+            | Fault::RefusedValue(_)
+            | Fault::RefusedFile(_) => 3,
+            Fault::UnreadFile(_) | Fault::Input | Fault::Output => 4,
             Fault::Memory => MEMORY,
         }
     }
@@ -132,24 +151,49 @@ impl From<value::Error> for Fault {
     }
 }
 
-/// Runs the program with the words behind its name, standard input, standard output and standard error, and answers
-/// its exit status: 0 done, 1 missing, 2 usage, 3 refused, 4 input or output, 5 memory.
+impl From<from_paths::Error> for Fault {
+    fn from(refusal: from_paths::Error) -> Fault {
+        of_number(refusal.number(), refusal)
+    }
+}
+
+/// The fault that a refusal of a load is, by its number.
+fn of_number(number: u8, refusal: from_paths::Error) -> Fault
+    ensures { status_of result ≡ load_status number }
+{
+    if number == 27 {
+        Fault::Memory
+    } else if 18 < number && number < 22 {
+        Fault::UnreadFile(number)
+    } else {
+        Fault::RefusedFile(refusal)
+    }
+}
+
+/// Runs the program with the words behind its name, standard input, standard output, standard error, and the files and
+/// variables that it may ask for, and answers its exit status: 0 done, 1 missing, 2 usage, 3 refused, 4 input or output,
+/// 5 memory.
 ///
 /// `get KEY` prints the last value of a key and a line feed, `all KEY` each of its values and a line feed, `bool KEY` and `int KEY` its
 /// boolean and its integer and a line feed, `set KEY VALUE` the file with that value, `unset KEY` the file without the
 /// key's last entry in the last section that has one, `list` a line for each entry of a section, `print`
 /// the file that standard input is, `fmt` that file laid out by the default options. Standard input is read whole, and only where the
 /// words are understood.
+///
+/// `load PATH get KEY` reads the file at a path and the files that it includes, and not standard input, and prints the last value of a key
+/// and a line feed. Home is what the variable `HOME` says.
 pub fn run<R: Read + Drop, W: Write + Drop, E: Write + Drop>(
     alloc: Global,
     args: &[&str],
     mut input: R,
     mut out: W,
     mut err: E,
+    host: &mut Host,
 ) -> u8
     ensures { result ≤ 5 }
 {
-    match execute(alloc, args, &mut input, &mut out) {
+    let Host { files, env, .. } = host;
+    match execute(alloc, args, &mut input, &mut out, files, env) {
         Ok(()) => 0,
         Err(fault) => {
             tell(&fault, &mut err);
@@ -159,14 +203,27 @@ pub fn run<R: Read + Drop, W: Write + Drop, E: Write + Drop>(
 }
 
 /// Does what the words ask for.
-fn execute<R: Read, W: Write>(
+fn execute<R: Read, W: Write, F: Files, V: Env>(
     alloc: Global,
     args: &[&str],
     input: &mut R,
     out: &mut W,
+    files: &mut F,
+    env: &mut V,
 ) -> Result<(), Fault> {
-    let command = command_of(args)?;
-    let text = read_all(alloc, input)?;
+    match task_of(args)? {
+        Task::OnInput(command) => work_on(alloc, command, read_all(alloc, input)?, out),
+        Task::Load(path, key) => put(&get(&load_path(alloc, path, files, env)?, key)?, out),
+    }
+}
+
+/// Does with a text what the command asks for.
+fn work_on<W: Write>(
+    alloc: Global,
+    command: Command<'_>,
+    text: Vec<u8>,
+    out: &mut W,
+) -> Result<(), Fault> {
     match command {
         Command::Get(key) => put(&get(&load_entries(alloc, text)?, key)?, out),
         Command::All(key) => put(&all(alloc, &load_entries(alloc, text)?, key)?, out),
@@ -177,6 +234,16 @@ fn execute<R: Read, W: Write>(
         Command::List => put(&list(alloc, &load_entries(alloc, text)?)?, out),
         Command::Print => put_file(alloc, &load(alloc, text)?, out),
         Command::Fmt => put(&laid_out(alloc, &text)?, out),
+    }
+}
+
+/// The task that the words are.
+fn task_of<'a>(args: &[&'a str]) -> Result<Task<'a>, Fault> {
+    match args {
+        [word, path, command, key] if *word == "load" && *command == "get" => {
+            Ok(Task::Load(path, key_of(key)?))
+        }
+        _ => Ok(Task::OnInput(command_of(args)?)),
     }
 }
 
@@ -230,6 +297,40 @@ fn load(alloc: Global, text: Vec<u8>) -> Result<File, Fault> {
 /// Standard input as a file to look things up in, without its blanks, line ends and comments.
 fn load_entries(alloc: Global, text: Vec<u8>) -> Result<File, Fault> {
     Ok(File::try_from_bytes_owned_lossy(alloc, text)?)
+}
+
+/// The home folder that the variables tell, if there is one.
+fn home_of<V: Env>(env: &mut V) -> Result<Option<String>, NoMemory> {
+    match env.var("HOME")? {
+        EnvVar::Text(home) => Ok(Some(home)),
+        EnvVar::Unset | EnvVar::IllFormed => Ok(None),
+    }
+}
+
+/// Where the file at a path comes from: the caller, who trusts it.
+fn meta_of(alloc: Global, path: &str) -> Result<Metadata, NoMemory> {
+    Ok(Metadata::api().at(String::from_str(alloc, path)?))
+}
+
+/// The file at a path to look things up in, with what it includes. There is no repository for conditions to be about.
+fn load_path<F: Files, V: Env>(
+    alloc: Global,
+    path: &str,
+    files: &mut F,
+    env: &mut V,
+) -> Result<File, Fault> {
+    let home = home_of(env)?;
+    let mut metas = Vec::new(alloc);
+    metas.push(meta_of(alloc, path)?)?;
+    let options = init::Options {
+        includes: includes::Options::follow_without_conditional(home.as_deref(), None),
+        lossy: true,
+        ignore_io_errors: false,
+    };
+    match File::from_paths_metadata_of(alloc, metas, options, files)? {
+        Some(file) => Ok(file),
+        None => Err(Fault::Missing),
+    }
 }
 
 /// The value of a key, on a line.
@@ -433,5 +534,15 @@ fn tell<E: Write>(fault: &Fault, err: &mut E) {
             let number = refusal.number();
             writeln!(err, "gixcfg: E{number}")
         }
+        Fault::RefusedFile(refusal) => tell_file(refusal, err),
+        Fault::UnreadFile(number) => writeln!(err, "gixcfg: E{number}"),
     };
+}
+
+/// Tells why a file is refused, with the parser's text where it was the parser.
+fn tell_file<E: Write>(refusal: &from_paths::Error, err: &mut E) -> io::Result<()> {
+    match refusal.number() {
+        number @ 1..=2 => writeln!(err, "gixcfg: E{number}: {refusal}"),
+        number => writeln!(err, "gixcfg: E{number}"),
+    }
 }
