@@ -16,16 +16,20 @@ from words import Malformed, hex_word, to_transcript
 BEYOND = {"name", "valuename", "keeps", "loadkept", "setkey", "stringkey", "printfail", "printnone", "refusals", "reset",
           "sectionkey", "sectionif", "bynameif", "headerof", "valueof", "implicitof", "valuesof", "namesof", "hasname",
           "countof", "entriesof", "display", "rawwith", "rawswith", "flag", "tryflag", "flags", "flagwith", "flagswith",
-          "removeif", "renameif", "editid", "metaof", "level"}
+          "removeif", "renameif", "editid", "metaof", "level", "place", "frompath", "paths", "overrides", "failread",
+          "failtrust"}
 
 # Of these, the ones that change the file.
-CHANGES = {"loadkept", "removeif", "renameif", "editid", "level"}
+CHANGES = {"loadkept", "removeif", "renameif", "editid", "level", "frompath", "paths", "overrides"}
+
+# Of these, the ones that change what later commands answer, also those that load.
+LASTING = {"failread", "failtrust"}
 
 # Commands by a key, and the one by names that stands for each.
 BY_NAMES = {"stringkey": "string", "setkey": "setraw"}
 
 # These load a file anew, so that both programs have the same one again.
-LOADS = {"load", "lossy", "new", "reset"}
+LOADS = {"load", "lossy", "new", "reset", "owned", "globals", "fromenv", "gitdir"}
 
 HAS_NONE = {"refused", "unknown"}
 
@@ -135,11 +139,13 @@ class _Comparison:
         self._listed = listed
         self._report = report
         self._is_same_file = True
+        self._is_same_outside = True
 
     def run(self, transcript, start):
         """Compares the rows of a transcript."""
         done, program = 0, None
         self._is_same_file = True
+        self._is_same_outside = True
         try:
             program = start()
             for row in transcript.rows:
@@ -156,10 +162,13 @@ class _Comparison:
         if row.wanted == "unknown" or (answer in HAS_NONE and row.word in BEYOND and answer != row.answer):
             # One of the two programs has done it, the other hasn't.
             self._is_same_file = self._is_same_file and row.word not in CHANGES and answer in HAS_NONE
+            self._is_same_outside = self._is_same_outside and row.word not in LASTING
             self._pass_over(row.word)
             return
         self._is_same_file = self._is_same_file or (row.word in LOADS and answer == "ok")
-        if self._is_same_file:
+        if not self._is_same_outside:
+            self._pass_over("rows behind what the other program wasn't told")
+        elif self._is_same_file:
             self._compare(transcript, row, answer)
         else:
             self._pass_over("rows whose file the other program hasn't")

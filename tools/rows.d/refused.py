@@ -221,8 +221,9 @@ def _refuse_afresh(session, place):
             return number
         _check_refusal(row, answer, number + 1)
         after = session.state(place.ends_in_scope)
-        # A call that can do without the growth has done all.
-        _check_state(row, (done if answer == row.answer else before, done, after), number + 1)
+        # A call that can do without the growth has done all. Want of memory may come sooner than where it is the row's own answer.
+        has_done_all = answer == row.answer and answer != OUT_OF_MEMORY
+        _check_state(row, (done if has_done_all else before, done, after), number + 1)
     raise Fault(f"more than {MOST_GROWTHS} growths")
 
 

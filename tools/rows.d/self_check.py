@@ -108,6 +108,17 @@ sys.stderr.write("?" if FAULT == "error" else "")
 sys.exit(1 if FAULT == "status" else 0)
 """
 
+# A program that is called as gixcfg is, and prints what stands in its folder, and two variables.
+LOOKER = r"""#!PYTHON
+import os
+def text(name):
+    try:
+        return open(name).read()
+    except OSError as fault:
+        return type(fault).__name__
+print(*[text(name) for name in ("m", "d/m", "p", "l", "k", "s", "none")], *[os.environ.get(name) for name in ("HOME", "USER")], end="")
+"""
+
 # A program whose file, behind an edit, is `[a]`, LF, `k=v #c`, LF; what it shows of it there, or of the same text loaded, may be wrong.
 READER = r"""#!PYTHON
 import sys
@@ -143,7 +154,11 @@ GROWING = '# one\nload "v"\n  ok\nprintif "a"\n  ok "v"\nappend "g"\n  unknown\n
 SCOPE = '# one\nload "v"\n  ok\nedit "a" -\n  ok\npush "w"\n  ok\nend\n  ok\nprint\n  ok "w"\n'
 BEYOND = ('# one\nload "v"\n  ok\nstringkey "a.k"\n  ok "v"\nname "x"\n  ok\nloadkept "z" -\n  ok\nprint\n  ok "z"\n'
           'load "u"\n  ok\nprint\n  ok "u"\n')
+LOADERS = ('# one\nload "v"\n  ok\npaths true\n  ok\nprint\n  ok "w"\nload "u"\n  ok\nprint\n  ok "u"\nfailread 1 open\n  ok\n'
+           'load "x"\n  err E21\nprint\n  ok "u"\n')
 RUNS = 'gixcfg "get" < "v"\n  0 "v" ""\n\ngixcfg "other" < "v" unread\n  2 "" "usage"\n'
+AROUND = ('gixcfg "get" in file "m" "v" file "d/m" "w" times 2 pipe "p" "x" link "l" "m" locked "k" "y" sparse "s" 1 pipe "q" "z"'
+          ' set "HOME" "h" unset "USER"\n  0 "v ww x v PermissionError \\x00 FileNotFoundError h None" ""\n')
 EDIT = '# one\nset "a" - "k" "v"\n  ok\n'
 REASON = "# A reason.\nin rows.txt: one\n"
 
@@ -216,6 +231,11 @@ CASES = [
     program_run("status", ('got     1 "v" ""',), "1 passed, 1 failed"),
     program_run("reads", ("1 bytes of its standard input were read",), "1 passed, 1 failed"),
     program_run("hangs", ("got     nothing: no end in",), "0 passed, 2 failed"),
+    Case("gixcfg, what stands in its folder", LOOKER, "program.txt", AROUND, (), (), "1 passed, 0 failed"),
+    Case("gixcfg, another file in its folder", LOOKER, "program.txt", AROUND.replace('"v" file', '"u" file'), (), ('got     0 "u ww x u',),
+         "0 passed, 1 failed"),
+    Case("gixcfg, nothing that a folder has", LOOKER, "program.txt", 'gixcfg "get" in thing "m"\n  0 "" ""\n', (),
+         ("nothing that a folder may have: thing",), "0 passed, 1 failed"),
     other("the same", "right", "", (), "4 passed, 0 failed"),
     other("a difference", "changed", "", ("rows.txt:4: a difference that isn't listed",), "3 passed, 1 failed"),
     other("a listed one", "changed", REASON + "count\n  ok 1\n  ok 2\n", ("1 listed differences were seen",),
@@ -226,6 +246,9 @@ CASES = [
           "4 passed, 1 failed"),
     other("commands that it has not", "right", "", ("passed over:     1 of name", "passed over:     1 of loadkept",
                                                     "passed over:     1 of rows whose file"), "4 passed, 0 failed", BEYOND),
+    other("commands on what lies outside that it has not", "right", "",
+          ("passed over:     1 of paths", "passed over:     1 of rows whose file", "passed over:     1 of failread",
+           "passed over:     2 of rows behind what"), "3 passed, 0 failed", LOADERS),
     other("one without a reason", "changed", "in rows.txt: one\ncount\n  ok 1\n  ok 2\n", ("has a reason",),
           "0 passed, 1 failed"),
     left("right", (), "1 passed, 0 failed"),

@@ -16,6 +16,7 @@ pub enum Command {
     Edit(EditCommand),
     State(StateCommand),
     Outside(OutsideCommand),
+    Loader(LoaderCommand),
 }
 
 /// Commands on texts and names, which ask no file.
@@ -243,6 +244,29 @@ pub enum OutsideCommand {
     Resolve,
     /// `owned`
     Owned,
+    /// `failread`
+    FailRead,
+    /// `failtrust`
+    FailTrust,
+}
+
+/// Commands that make a file of what lies outside, and the one that tells where that stands.
+#[derive(Clone, Copy)]
+pub enum LoaderCommand {
+    /// `place`
+    Place,
+    /// `frompath`
+    FromPath,
+    /// `paths`
+    FromPaths,
+    /// `globals`
+    Globals,
+    /// `fromenv`
+    FromVariables,
+    /// `overrides`
+    Overrides,
+    /// `gitdir`
+    FromGitDir,
 }
 
 /// The command that the first word names, and the words behind it; nothing, and all words, where there is none such.
@@ -284,8 +308,11 @@ fn named(word: &[u8]) -> Option<Command> {
     if let Some(command) = named_in(&STATE_COMMANDS, word) {
         return Some(Command::State(command));
     }
-    match named_in(&OUTSIDE_COMMANDS, word) {
-        Some(command) => Some(Command::Outside(command)),
+    if let Some(command) = named_in(&OUTSIDE_COMMANDS, word) {
+        return Some(Command::Outside(command));
+    }
+    match named_in(&LOADER_COMMANDS, word) {
+        Some(command) => Some(Command::Loader(command)),
         None => None,
     }
 }
@@ -398,7 +425,7 @@ static STATE_COMMANDS: [(&[u8], StateCommand); 9] = [
     (b"refusals", StateCommand::Refusals),
 ];
 
-static OUTSIDE_COMMANDS: [(&[u8], OutsideCommand); 8] = [
+static OUTSIDE_COMMANDS: [(&[u8], OutsideCommand); 10] = [
     (b"file", OutsideCommand::File),
     (b"fault", OutsideCommand::Fault),
     (b"var", OutsideCommand::Variable),
@@ -407,4 +434,16 @@ static OUTSIDE_COMMANDS: [(&[u8], OutsideCommand); 8] = [
     (b"options", OutsideCommand::Expansion),
     (b"resolve", OutsideCommand::Resolve),
     (b"owned", OutsideCommand::Owned),
+    (b"failread", OutsideCommand::FailRead),
+    (b"failtrust", OutsideCommand::FailTrust),
+];
+
+static LOADER_COMMANDS: [(&[u8], LoaderCommand); 7] = [
+    (b"place", LoaderCommand::Place),
+    (b"frompath", LoaderCommand::FromPath),
+    (b"paths", LoaderCommand::FromPaths),
+    (b"globals", LoaderCommand::Globals),
+    (b"fromenv", LoaderCommand::FromVariables),
+    (b"overrides", LoaderCommand::Overrides),
+    (b"gitdir", LoaderCommand::FromGitDir),
 ];

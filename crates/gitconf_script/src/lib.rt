@@ -11,6 +11,7 @@ pub mod editor_arguments;
 pub mod editors;
 pub mod kinds;
 pub mod layouts;
+pub mod loading;
 pub mod outside;
 pub mod play;
 pub mod turns;

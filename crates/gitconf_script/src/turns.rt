@@ -3,11 +3,16 @@
 /// Counts turns up to one of them.
 #[derive(Clone, Copy)]
 pub struct Turns {
-    /// How many come before that one; none behind it.
+    /// How many come before that one; none behind it, and where there is no such turn.
     before: Option<usize>,
 }
 
 impl Turns {
+    /// No turn.
+    pub fn none() -> Turns {
+        Turns { before: None }
+    }
+
     /// The turn behind so many others.
     pub fn behind(others: usize) -> Turns {
         Turns {

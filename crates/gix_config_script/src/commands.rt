@@ -4,7 +4,7 @@ use gitconf_script::commands::Command;
 use gitconf_script::words::Word;
 use script_answers::answer::{Answer, Outcome};
 use script_answers::session::Session;
-use script_edits::changes::{edit_outcome, outside_outcome, state_outcome};
+use script_edits::changes::{edit_outcome, loader_outcome, outside_outcome, state_outcome};
 use script_looks::looks::{
     look_up_outcome, part_outcome, print_outcome, section_outcome, text_outcome, typed_outcome,
     value_outcome, view_outcome,
@@ -33,5 +33,6 @@ pub fn outcome_of<'a>(
         Command::Edit(command) => edit_outcome(alloc, session, command, words),
         Command::State(command) => state_outcome(alloc, session, command, words),
         Command::Outside(command) => outside_outcome(alloc, session, command, words),
+        Command::Loader(command) => loader_outcome(alloc, session, command, words),
     }
 }

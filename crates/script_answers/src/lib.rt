@@ -3,6 +3,7 @@
 
 pub mod answer;
 pub mod arguments;
+pub mod failing;
 pub mod kinds;
 pub mod outside;
 pub mod refusal;

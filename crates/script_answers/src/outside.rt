@@ -1,10 +1,11 @@
 //! What a script tells of what lies outside of a file, kept plain. A command that asks for it makes a host of its own of
 //! that.
 
+use crate::failing::{Failure, TurnFiles};
 use gitconf_script::outside::{self as words, Fault, Refuses};
 use gix_config::NoMemory;
 use gix_config::file::{includes, init};
-use gix_config::host::{EnvVar, FileFault, MemEnv, MemFile, MemFiles, Stage};
+use gix_config::host::{EnvVar, FileFault, MemEnv, MemFile, MemFiles, Places, Stage};
 use gix_config::path::interpolate;
 use gix_config::source::Trust;
 use includes::conditional;
@@ -55,13 +56,23 @@ impl Variable {
     }
 }
 
-/// What a script tells: files, variables, and how files that include others are expanded. Of two entries for one path or
-/// name the later one counts.
+/// What a script tells: files, which of their calls fail, variables, and how files that include others are expanded. Of two
+/// entries for one path or name the later one counts.
 #[derive(Drop)]
 pub struct Outside {
     files: Vec<FileEntry>,
+    reads: Failure,
+    trusts: Failure,
     variables: Vec<Variable>,
     expansion: Expansion,
+}
+
+/// The parts of a host, two of which it has in boxes.
+#[derive(Drop)]
+pub struct Parts {
+    pub files: TurnFiles,
+    pub variables: MemEnv,
+    pub places: Places,
 }
 
 impl Outside {
@@ -69,6 +80,8 @@ impl Outside {
     pub fn new(alloc: Global) -> Outside {
         Outside {
             files: Vec::new(alloc),
+            reads: Failure::none(),
+            trusts: Failure::none(),
             variables: Vec::new(alloc),
             expansion: Expansion::none(),
         }
@@ -78,6 +91,16 @@ impl Outside {
     pub fn put_file(&mut self, path: String, content: Content) -> Result<(), AllocError> {
         self.files.push(FileEntry { path, content })?;
         Ok(())
+    }
+
+    /// In each command from now on that reads files, that read fails.
+    pub fn fail_read(&mut self, failure: Failure) {
+        self.reads = failure;
+    }
+
+    /// The same of the questions how far a file is trusted.
+    pub fn fail_trust(&mut self, failure: Failure) {
+        self.trusts = failure;
     }
 
     /// Sets a variable.
@@ -91,13 +114,37 @@ impl Outside {
         self.expansion = expansion;
     }
 
-    /// The files, for a host.
-    pub fn files(&self, alloc: Global) -> Result<MemFiles, NoMemory> {
+    /// All that a host is made of.
+    pub fn parts(&self, alloc: Global) -> Result<Parts, NoMemory> {
+        let places = self.places(alloc)?;
+        let variables = self.variables(alloc)?;
+        let files = TurnFiles::new(self.files(alloc)?, self.reads, self.trusts);
+        Ok(Parts {
+            files,
+            variables,
+            places,
+        })
+    }
+
+    /// The files.
+    fn files(&self, alloc: Global) -> Result<MemFiles, NoMemory> {
         let mut files = MemFiles::new(alloc);
         for entry in &self.files {
             files.insert(entry.path.clone()?, entry.content.for_host()?)?;
         }
         Ok(files)
+    }
+
+    /// The places that a program knows: no configuration of an installation, the root as the folder of the machine, the home
+    /// folder that is told, and no users.
+    pub fn places(&self, alloc: Global) -> Result<Places, NoMemory> {
+        let home = owned_text(alloc, self.expansion.home.as_deref())?;
+        Ok(Places {
+            installation_config: None,
+            system_prefix: String::from_str(alloc, "/")?,
+            home,
+            homes: None,
+        })
     }
 
     /// The variables, for a host.
@@ -112,6 +159,11 @@ impl Outside {
     /// How files that include others are expanded.
     pub fn options(&self) -> init::Options<'_> {
         self.expansion.options()
+    }
+
+    /// The folder of the repository with its symbolic links resolved. It can't be resolved where none is told.
+    pub fn real_folder(&self) -> Result<&str, FileFault> {
+        self.expansion.real_folder()
     }
 }
 
@@ -203,16 +255,23 @@ impl Expansion {
         }
     }
 
-    /// The folder of the repository. It can't be resolved where no resolved one is told.
+    /// The folder of the repository, as it is told and as it is resolved.
     fn git_folder(&self) -> Option<conditional::GitDir<'_>> {
         let path = self.git_dir.as_deref()?;
-        let real = match self.real.as_deref() {
+        Some(conditional::GitDir {
+            path,
+            real: self.real_folder(),
+        })
+    }
+
+    /// The folder that is resolved. It can't be where none is told.
+    fn real_folder(&self) -> Result<&str, FileFault> {
+        match self.real.as_deref() {
             Some(real) => Ok(real),
             None => Err(FileFault {
                 stage: Stage::Open,
                 not_found: false,
             }),
-        };
-        Some(conditional::GitDir { path, real })
+        }
     }
 }

@@ -1,6 +1,7 @@
 //! Why a command was not done.
 
 use gitconf_script::words::NotUnderstood;
+use gix_config::file::init::{from_env, from_git_dir, from_paths};
 use gix_config::file::{includes, init, rename_section, section, set_raw_value};
 use gix_config::lookup::existing;
 use gix_config::parse::section::{NameError, ValueNameError, header};
@@ -54,6 +55,36 @@ impl From<includes::Error> for Refusal {
     fn from(refusal: includes::Error) -> Refusal {
         match refusal {
             includes::Error::Parse(refusal) => Refusal::from(refusal),
+            other => Refusal::Numbered(other.number()),
+        }
+    }
+}
+
+impl From<from_paths::Error> for Refusal {
+    fn from(refusal: from_paths::Error) -> Refusal {
+        match refusal {
+            from_paths::Error::Init(refusal) => Refusal::from(refusal),
+            other => Refusal::Numbered(other.number()),
+        }
+    }
+}
+
+impl From<from_env::Error> for Refusal {
+    fn from(refusal: from_env::Error) -> Refusal {
+        match refusal {
+            from_env::Error::Includes(refusal) => Refusal::from(refusal),
+            other => Refusal::Numbered(other.number()),
+        }
+    }
+}
+
+impl From<from_git_dir::Error> for Refusal {
+    fn from(refusal: from_git_dir::Error) -> Refusal {
+        match refusal {
+            from_git_dir::Error::FromPaths(refusal) => Refusal::from(refusal),
+            from_git_dir::Error::FromEnv(refusal) => Refusal::from(refusal),
+            from_git_dir::Error::Init(refusal) => Refusal::from(refusal),
+            from_git_dir::Error::Includes(refusal) => Refusal::from(refusal),
             other => Refusal::Numbered(other.number()),
         }
     }

@@ -1,7 +1,7 @@
 //! The commands that change a file or make one, by groups.
 
-use crate::{edits, expanding, files, outside};
-use gitconf_script::commands::{EditCommand, OutsideCommand, StateCommand};
+use crate::{edits, expanding, files, loading, outside};
+use gitconf_script::commands::{EditCommand, LoaderCommand, OutsideCommand, StateCommand};
 use gitconf_script::words::Word;
 use script_answers::answer::Outcome;
 use script_answers::session::Session;
@@ -66,5 +66,25 @@ pub fn outside_outcome<'a>(
         OutsideCommand::Expansion => outside::options(alloc, session, words),
         OutsideCommand::Resolve => expanding::resolve(alloc, session, words),
         OutsideCommand::Owned => expanding::owned(alloc, session, words),
+        OutsideCommand::FailRead => outside::failread(session, words),
+        OutsideCommand::FailTrust => outside::failtrust(session, words),
+    }
+}
+
+/// Commands that make a file of what lies outside, and the one that asks where that stands.
+pub fn loader_outcome<'a>(
+    alloc: Global,
+    session: &mut Session,
+    command: LoaderCommand,
+    words: &[Word<'_>],
+) -> Outcome<'a> {
+    match command {
+        LoaderCommand::Place => loading::place(alloc, session.outside(), words),
+        LoaderCommand::FromPath => loading::frompath(alloc, session, words),
+        LoaderCommand::FromPaths => loading::paths(alloc, session, words),
+        LoaderCommand::Globals => loading::globals(alloc, session, words),
+        LoaderCommand::FromVariables => loading::fromenv(alloc, session, words),
+        LoaderCommand::Overrides => loading::overrides(alloc, session, words),
+        LoaderCommand::FromGitDir => loading::gitdir(alloc, session, words),
     }
 }

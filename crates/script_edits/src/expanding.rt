@@ -7,12 +7,12 @@ use gitconf_script::arguments::{bytes, no_words};
 use gitconf_script::words::Word;
 use gix_config::File;
 use gix_config::file::Metadata;
-use gix_config::host::{Host, Places};
+use gix_config::host::Host;
 use script_answers::answer::{Answer, Outcome};
-use script_answers::outside::Outside;
+use script_answers::outside::{Outside, Parts};
 use script_answers::refusal::Refusal;
 use script_answers::session::Session;
-use std::alloc::{AllocError, Global};
+use std::alloc::Global;
 use std::rc::Rc;
 
 /// `resolve`: puts into the current file what its sections include.
@@ -37,12 +37,15 @@ pub fn owned<'a>(alloc: Global, session: &mut Session, words: &[Word<'_>]) -> Ou
 
 /// Puts into a file what its sections include.
 fn expand(alloc: Global, file: &mut File, outside: &Outside) -> Result<(), Refusal> {
-    let files = outside.files(alloc)?;
-    let variables = outside.variables(alloc)?;
+    let Parts {
+        files,
+        variables,
+        places,
+    } = outside.parts(alloc)?;
     let mut host = Host {
         files: Box::new(alloc, files)?,
         env: Box::new(alloc, variables)?,
-        places: places(alloc)?,
+        places,
     };
     Ok(file.resolve_includes(outside.options(), &mut host)?)
 }
@@ -54,22 +57,15 @@ fn expanded_text(
     meta: Rc<Metadata>,
     outside: &Outside,
 ) -> Result<File, Refusal> {
-    let files = outside.files(alloc)?;
-    let variables = outside.variables(alloc)?;
+    let Parts {
+        files,
+        variables,
+        places,
+    } = outside.parts(alloc)?;
     let mut host = Host {
         files: Box::new(alloc, files)?,
         env: Box::new(alloc, variables)?,
-        places: places(alloc)?,
+        places,
     };
     Ok(File::from_bytes_owned(alloc, text, meta, outside.options(), &mut host)?)
-}
-
-/// The places that a program knows: no configuration of an installation, no home folder, and no users.
-fn places(alloc: Global) -> Result<Places, AllocError> {
-    Ok(Places {
-        installation_config: None,
-        system_prefix: String::from_str(alloc, "/")?,
-        home: None,
-        homes: None,
-    })
 }

@@ -6,4 +6,5 @@ pub mod changes;
 mod edits;
 mod expanding;
 mod files;
+mod loading;
 mod outside;

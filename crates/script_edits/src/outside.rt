@@ -4,10 +4,13 @@ ghost use Rattle.std.specs.Prelude.{◌≡◌, OnErr};
 
 use crate::files::file_of;
 use gitconf_script::editor_arguments::text_and_bytes;
+use gitconf_script::loading::turn_and_name;
 use gitconf_script::outside::{expansion_of, level, optional_text, path_and_fault, variable};
-use gitconf_script::words::Word;
+use gitconf_script::words::{NotUnderstood, Word, named_in};
 use gix_config::file::Metadata;
+use gix_config::host::Stage;
 use script_answers::answer::{Answer, Outcome};
+use script_answers::failing::Failure;
 use script_answers::outside::{Content, Expansion, owned_text};
 use script_answers::refusal::Refusal;
 use script_answers::session::Session;
@@ -38,6 +41,35 @@ fn put_file(
     let path = String::from_str(alloc, path)?;
     session.outside_mut().put_file(path, content)?;
     Ok(())
+}
+
+static STAGES: [(&[u8], Stage); 3] = [
+    (b"open", Stage::Open),
+    (b"read", Stage::Read),
+    (b"memory", Stage::Memory),
+];
+
+/// N STAGE: which call fails, and at what stage.
+fn failure_of(words: &[Word<'_>]) -> Result<Failure, NotUnderstood> {
+    let (turns, name) = turn_and_name(words)?;
+    match named_in(&STAGES, name) {
+        Some(stage) => Ok(Failure::at(turns, stage)),
+        None => Err(NotUnderstood),
+    }
+}
+
+/// `failread N STAGE`: in each command from now on that reads files, the Nth read fails at that stage.
+pub fn failread<'a>(session: &mut Session, words: &[Word<'_>]) -> Outcome<'a> {
+    let failure = failure_of(words)?;
+    session.outside_mut().fail_read(failure);
+    Ok(Answer::Done)
+}
+
+/// `failtrust N STAGE`: the same of the Nth question how far a file is trusted.
+pub fn failtrust<'a>(session: &mut Session, words: &[Word<'_>]) -> Outcome<'a> {
+    let failure = failure_of(words)?;
+    session.outside_mut().fail_trust(failure);
+    Ok(Answer::Done)
 }
 
 /// `var BYTES OPT`: a variable is set to a text, or to what is no text.
