@@ -55,7 +55,7 @@ pub enum Trust {
 
 impl Source {
     /// The group that this source belongs to, by the table of Git's scopes. It takes no memory.
-    pub fn kind(self) -> Kind
+    pub const fn kind(self) -> Kind
         ensures { result ≡ kind_of self }
     {
         match self {

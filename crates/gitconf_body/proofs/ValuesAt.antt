@@ -1,7 +1,8 @@
 -- Entries that are written and deleted at a place.
 use Rattle.std.proofs.Common.{◌≡◌, ℕ, zero, suc, ◌+◌, ◌-◌, ◌≤◌, ◌<◌, min, Bool, true, false, List, [], ◌∷◌, ◌++◌, length, map, take, drop, slice_set, Some, refl, ap, sym, subst, ◌∙◌, arith, append-nil}
-use Rattle.std.specs.Prelude.{if◌then◌else◌}
+use Rattle.std.specs.Prelude.{◌==◌, if◌then◌else◌}
 use Rattle.std.specs.List.{AllByRecursion}
+use Rattle.std.proofs.lemmas.Bool.{eqb-true}
 use Rattle.std.proofs.lemmas.List.{take-map, drop-map, take_min, take_all, drop_all, length-drop, map-append}
 use Rattle.gitconf_text.specs.Part as parts
 use Rattle.gitconf_items.specs.declared.event.Span.{Span}
@@ -15,22 +16,17 @@ use Rattle.gitconf_items.specs.Items.{piece_of, assigned_of, item_of, items_of}
 use Rattle.gitconf_items.specs.ItemsFit.{AreItemsWithin, AssignedFits, ItemFits, PieceFits}
 use Rattle.gitconf_items.specs.ShownEvents.{IsExtended}
 use Rattle.gitconf_state.specs.Editors as states
-use Rattle.gitconf_state.specs.Editors.{behind_old, deleted_at, entry_made, line_end_item, written_at}
+use Rattle.gitconf_state.specs.Editors.{unless_empty, behind_old, deleted_at, entry_made, line_end_item, written_at}
 use Rattle.gitconf_body.specs.declared.value_at.InPlaceOf.{InPlaceOf}
 use Rattle.gitconf_body.specs.declared.value_at.InPlaceOf.TheVariants.{Nothing, EntryButLineEnd}
 use Rattle.gitconf_body.specs.declared.value_at.InPlaceOf.TheVariants as in_place_of
+use Rattle.gitconf_lines.specs.Spacings.{nothing}
 use Rattle.gitconf_lines.specs.Standing.{Stand, end_items}
 use Rattle.gitconf_body.specs.Taken.{StayWithin}
-use Rattle.gitconf_body.specs.ValuesAt.{IfReplaces, behind_way, is_before_comment, kept_behind, kept_end, keeps_line_end, last_end, stands, unless_short, way_before, without_first}
+use Rattle.gitconf_body.specs.ValuesAt.{IfReplaces, behind_way, is_before_comment, kept_behind, kept_end, keeps_line_end, last_end, last_end_or, stands, unless_short, way_before, without_first}
 use Rattle.gitconf_lines.proofs.Entries.{all_both}
 use Rattle.gitconf_lines.proofs.Standing.{line_ends_stand, none_stand, stand_both, stand_more}
 use Rattle.gitconf_body.proofs.Taken.{dropped_all, taken_all}
-
--- the last of the pieces
-pub last_of : (before : List Piece) (p : Piece) → last_end (before ++ p ∷ []) ≡ p.line_end
-last_of [] p = refl
-last_of (q ∷ []) p = refl
-last_of (q ∷ r ∷ before) p = last_of (r ∷ before) p
 
 -- the bytes of a span that has some, and of one that has none
 first_bytes : (n : ℕ) (xs : List ℕ) → suc n ≤ length xs → (b : ℕ) × (rest : List ℕ) × (take (suc n) xs ≡ b ∷ rest)
@@ -72,15 +68,52 @@ before_shown buffer (items.LineEnds run ∷ is) = refl
 before_shown buffer (items.Comment tag text ∷ is) = refl
 before_shown buffer (items.Entry e ∷ is) = refl
 
-end_shown : (buffer : List ℕ) (ps : List Piece) → bytes_of buffer (last_end ps) ≡ states.last_line_end (map (piece_of buffer) ps)
-end_shown buffer [] = refl
-end_shown buffer (p ∷ []) = refl
-end_shown buffer (p ∷ q ∷ ps) = end_shown buffer (q ∷ ps)
+-- bytes, or those of a piece before them, or others
+unless_both_empty : (later own others : List ℕ) → unless_empty later (unless_empty own others) ≡ unless_empty (unless_empty later own) others
+unless_both_empty [] own others = refl
+unless_both_empty (b ∷ later) own others = refl
+
+or_none : (later : List ℕ) → unless_empty later [] ≡ later
+or_none [] = refl
+or_none (b ∷ later) = refl
+
+-- a number that is not 0
+is_suc : (n : ℕ) → (n == 0) ≡ false → (m : ℕ) × (n ≡ suc m)
+is_suc zero none = absurd (let same : true ≡ false = none in cc)
+is_suc (suc m) none = (m, refl)
+
+end_shown_or : (buffer : List ℕ) (run : Span) (ps : List Piece) → AllByRecursion (PieceFits (length buffer)) ps
+    → bytes_of buffer (last_end_or run ps) ≡ unless_empty (states.last_line_end (map (piece_of buffer) ps)) (bytes_of buffer run)
+end_shown_or buffer run [] fits = refl
+end_shown_or buffer run (p ∷ ps) fits =
+    go (p.line_end.len == 0) refl (λ s. end_shown_or buffer s ps fits.1)
+    ∙ unless_both_empty (states.last_line_end (map (piece_of buffer) ps)) (bytes_of buffer p.line_end) (bytes_of buffer run)
+  where
+    go : (t : Bool) → (p.line_end.len == 0) ≡ t
+        → ((s : Span) → bytes_of buffer (last_end_or s ps) ≡ unless_empty (states.last_line_end (map (piece_of buffer) ps)) (bytes_of buffer s))
+        → bytes_of buffer (last_end_or (if t then run else p.line_end) ps)
+        ≡ unless_empty (states.last_line_end (map (piece_of buffer) ps)) (unless_empty (bytes_of buffer p.line_end) (bytes_of buffer run))
+    go true is later =
+        later run
+        ∙ ap (λ bytes. unless_empty (states.last_line_end (map (piece_of buffer) ps)) (unless_empty bytes (bytes_of buffer run))) (sym (no_bytes buffer p.line_end (eqb-true p.line_end.len 0 is)))
+    go false is later =
+        let n = is_suc p.line_end.len is in
+        let h = has_bytes buffer p.line_end n.0 n.1 fits.0.1 in
+        later p.line_end ∙ ap (unless_empty (states.last_line_end (map (piece_of buffer) ps))) (h.2 ∙ ap (λ bytes. unless_empty bytes (bytes_of buffer run)) (sym h.2))
+
+end_shown : (buffer : List ℕ) (ps : List Piece) → AllByRecursion (PieceFits (length buffer)) ps → bytes_of buffer (last_end ps) ≡ states.last_line_end (map (piece_of buffer) ps)
+end_shown buffer ps fits = end_shown_or buffer nothing ps fits ∙ or_none (states.last_line_end (map (piece_of buffer) ps))
+
+end_fits_or : (limit : ℕ) (run : Span) (ps : List Piece) → SpanFits limit run → AllByRecursion (PieceFits limit) ps → SpanFits limit (last_end_or run ps)
+end_fits_or limit run [] within fits = within
+end_fits_or limit run (p ∷ ps) within fits = go (p.line_end.len == 0) (λ s fit. end_fits_or limit s ps fit fits.1)
+  where
+    go : (t : Bool) → ((s : Span) → SpanFits limit s → SpanFits limit (last_end_or s ps)) → SpanFits limit (last_end_or (if t then run else p.line_end) ps)
+    go true later = later run within
+    go false later = later p.line_end fits.0.1
 
 end_fits : (limit : ℕ) (ps : List Piece) → AllByRecursion (PieceFits limit) ps → SpanFits limit (last_end ps)
-end_fits limit [] fits = omega arith
-end_fits limit (p ∷ []) fits = fits.0.1
-end_fits limit (p ∷ q ∷ ps) fits = end_fits limit (q ∷ ps) fits.1
+end_fits limit ps fits = end_fits_or limit nothing ps (omega arith) fits
 
 -- none stays of a value in one piece
 none_kept : (last : List ℕ) (before : Bool) → [] ≡ elim last as (λ _. List parts.Item) [ [] ↦ if before then line_end_item [] else [] | b ∷ bs ↦ [] ]
@@ -96,7 +129,7 @@ kept_stands buffer (forms.Plain blanks value) behind fits =
 kept_stands buffer (forms.Continued c) behind fits =
     subst (Stand buffer (end_items (kept_end (forms.Continued c) behind)))
     (λ i. elim (bytes_of buffer c.value.last) as (λ _. List parts.Item) [
-      | [] ↦ if before_shown buffer behind i then line_end_item (end_shown buffer c.value.pieces.items i) else []
+      | [] ↦ if before_shown buffer behind i then line_end_item (end_shown buffer c.value.pieces.items fits.1.0 i) else []
       | b ∷ bs ↦ []
     ])
     (kept_of buffer c.value.last (last_end c.value.pieces.items) (is_before_comment behind) fits.1.1 (end_fits (length buffer) c.value.pieces.items fits.1.0))

@@ -1,5 +1,5 @@
 -- Entries that are written at a place among items, as these are stored.
-use Rattle.std.specs.Prelude.{ℕ, zero, suc, ◌+◌, Bool, true, false, List, [], ◌∷◌, ◌++◌, length, Option, Some, None}
+use Rattle.std.specs.Prelude.{ℕ, zero, suc, ◌+◌, ◌==◌, if◌then◌else◌, Bool, true, false, List, [], ◌∷◌, ◌++◌, length, Option, Some, None}
 use Rattle.gitconf_text.specs.Part as parts
 use Rattle.gitconf_text.specs.Value.{escaped}
 use Rattle.gitconf_items.specs.declared.event.Span.{Span}
@@ -38,11 +38,14 @@ written_put e key value = length key + value_put e.around (Some value)
 abbrev pub rewritten_put : (key value : List ℕ) → List parts.Item → ℕ
 rewritten_put key value items = length key + (around_bytes items + length (escaped value))
 
--- the span of the last line end of a value's pieces
+-- the last line end among pieces that has bytes, or else a given span
+abbrev pub last_end_or : Span → List Piece → Span
+last_end_or run [] = run
+last_end_or run (p ∷ ps) = last_end_or (if p.line_end.len == 0 then run else p.line_end) ps
+
+-- the span of the last line end among a value's pieces
 abbrev pub last_end : List Piece → Span
-last_end [] = nothing
-last_end (p ∷ []) = p.line_end
-last_end (p ∷ q ∷ ps) = last_end (q ∷ ps)
+last_end ps = last_end_or nothing ps
 
 -- a comment comes next, blanks aside
 abbrev pub is_before_comment : List Item → Bool

@@ -37,15 +37,17 @@ pub enum InPlaceOf {
     EntryButLineEnd,
 }
 
-/// The line end of the last piece of a value that goes on; no bytes where none does.
-#[tactic(auto, using(crate::proofs::ValuesAt::last_of))]
+/// The last line end among the pieces of a value that goes on; no bytes where none of them has one.
 fn last_line_end(value: &Value) -> Span
     ensures { result ≡ spec.last_end value.now.pieces.items }
 {
-    match value.pieces.split_last() {
-        Some((piece, _)) => piece.line_end,
-        None => NOTHING,
+    let mut last = NOTHING;
+    for piece in value.pieces.iter() {
+        if piece.line_end.len != 0 {
+            last = piece.line_end;
+        }
     }
+    last
 }
 
 /// Whether a comment comes next, blanks aside.

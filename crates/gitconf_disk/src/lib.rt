@@ -1,8 +1,10 @@
-//! What lies outside, as the system has it: files on the disk, and variables of the process.
+//! What lies outside, as the system has it: files on the disk, variables of the process, and random numbers.
 #![tactic(auto)]
 
 mod disk;
 mod process;
+mod random;
 
 pub use disk::Disk;
 pub use process::Process;
+pub use random::seed;

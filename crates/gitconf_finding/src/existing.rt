@@ -1,4 +1,5 @@
 //! Why that is missing which a look-up asks for.
+ghost use Rattle.std.specs.Prelude.{◌≡◌};
 
 use gitconf_text::NoMemory;
 use gitconf_text::parse::section::ValueNameError;
@@ -24,8 +25,22 @@ pub enum Error {
     Memory,
 }
 
+impl From<ValueNameError> for Error {
+    ghost use Rattle.std.specs.Prelude.{◌==◌, if◌then◌else◌};
+    ghost use Rattle.gitconf_finding.specs.declared.existing.Error.TheVariants.{Memory, ValueName};
+
+    ghost from_gives = { λ name e. e ≡ (if name == 27 then Memory else ValueName name) };
+
+    fn from(name: ValueNameError) -> Error {
+        if name.number() == 27 {
+            Error::Memory
+        } else {
+            Error::ValueName(name)
+        }
+    }
+}
+
 impl From<NoMemory> for Error {
-    ghost use Rattle.std.specs.Prelude.{◌≡◌};
     ghost use Rattle.gitconf_finding.specs.declared.existing.Error.TheVariants.{Memory};
 
     ghost from_gives = { λ _ e. e ≡ Memory };

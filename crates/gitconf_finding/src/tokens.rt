@@ -1,5 +1,5 @@
 //! What the tokens of a file tell: its line end, whether there are any, and how many entries.
-ghost use Rattle.std.specs.Prelude.{◌≡◌, ◌+◌, ◌<◌, ◌^◌, ◌++◌, length, flat_map, option_map, true};
+ghost use Rattle.std.specs.Prelude.{◌≡◌, ◌-◌, ◌^◌, ◌++◌, length, flat_map, min, option_map, true};
 ghost use Rattle.std.specs.List.{count_by};
 ghost use Rattle.gitconf_text.specs.Token.{item_tokens};
 ghost use Rattle.gitconf_state.specs.State.{entries_of};
@@ -53,7 +53,7 @@ pub fn are_void(sections: Sections<'_>) -> bool
 
 /// How many entries the sections have; the greatest number where they are more.
 pub fn value_count(sections: Sections<'_>) -> usize
-    ensures { let n = length (section_entries (sections_left sections.entry)) in n < 2 ^ 64 → result ≡ n }
+    ensures { result ≡ min (length (section_entries (sections_left sections.entry))) (2 ^ 64 - 1) }
 {
     let mut count: usize = 0;
     for section in sections {

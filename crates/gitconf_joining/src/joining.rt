@@ -17,7 +17,7 @@ use gitconf_text::line_end::LineEnd;
 use gitconf_text::parse::span;
 use gitconf_write::line_end::ends_line;
 
-/// Whether items begin with the line end, or there are none. Of a comment the text behind its tag is asked.
+/// Whether items begin with the line end, or there are none.
 fn begins_with(buffer: &[u8], items: &[Item], line_end: LineEnd) -> bool
     ensures { result ≡ edits.begins_with (bytes_of_line_end line_end) (items_of buffer.now items.now) }
 {
@@ -26,10 +26,7 @@ fn begins_with(buffer: &[u8], items: &[Item], line_end: LineEnd) -> bool
         Some((first, _)) => match first {
             Item::Blanks(run) => run.bytes_in(buffer).starts_with(line_end.as_bytes()),
             Item::LineEnds(run) => run.bytes_in(buffer).starts_with(line_end.as_bytes()),
-            Item::Comment { tag: _, text } => {
-                text.bytes_in(buffer).starts_with(line_end.as_bytes())
-            }
-            Item::Entry(_) => false,
+            Item::Comment { .. } | Item::Entry(_) => false,
         },
     }
 }

@@ -7,3 +7,4 @@ pub mod Spacings
 pub mod Entries
 pub mod Editors
 pub mod Standing
+pub mod Puts

@@ -4,3 +4,4 @@ pub mod Spacings
 pub mod Editors
 pub mod Standing
 pub mod Blanks
+pub mod Puts

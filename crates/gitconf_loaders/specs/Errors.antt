@@ -1,9 +1,11 @@
 -- The refusals of loaders, of what they come from; want of memory has one case in each.
-use Rattle.std.specs.Prelude.{ℕ, ◌==◌, Bool, false, if◌then◌else◌}
+use Rattle.std.specs.Prelude.{ℕ, ◌==◌, if◌then◌else◌}
 use Rattle.gitconf_text.specs.HeaderErrors.{header_number}
 use Rattle.gitconf_text.specs.declared.parse.section.header.Error.{Error as Header}
 use Rattle.gitconf_text.specs.declared.parse.section.header.Error.TheVariants as header
 use Rattle.gitconf_values.specs.Homes.{interpolate_number}
+use Rattle.gitconf_values.specs.declared.path.interpolate.Error.{Error as Interpolate}
+use Rattle.gitconf_values.specs.declared.path.interpolate.Error.TheVariants as interpolate
 use Rattle.gitconf_parse.specs.ParseError.{Refusal}
 use Rattle.gitconf_views.specs.ValueErrors.{value_number}
 use Rattle.gitconf_views.specs.declared.section.value.Error.{Error as Value}
@@ -66,13 +68,13 @@ abbrev pub env_of_header : Header → Env
 env_of_header header.Memory = env.Memory
 env_of_header e = env.Section e
 
--- whether memory was wanting
-abbrev pub is_memory : Value → Bool
-is_memory (value.Span number) = number == 27
-is_memory (value.ValueName number) = false
-
 abbrev pub env_of_value : Value → Env
-env_of_value e = if is_memory e then env.Memory else env.SectionValue e
+env_of_value value.Memory = env.Memory
+env_of_value e = env.SectionValue e
+
+abbrev pub env_of_interpolate : Interpolate → Env
+env_of_interpolate interpolate.Memory = env.Memory
+env_of_interpolate e = env.PathInterpolationError e
 
 abbrev pub git_of_paths : Paths → Git
 git_of_paths paths.Memory = git.Memory
@@ -81,6 +83,10 @@ git_of_paths e = git.FromPaths e
 abbrev pub git_of_env : Env → Git
 git_of_env env.Memory = git.Memory
 git_of_env e = git.FromEnv e
+
+abbrev pub git_of_init : Init → Git
+git_of_init init.Memory = git.Memory
+git_of_init e = git.Init e
 
 abbrev pub git_of_includes : Includes → Git
 git_of_includes includes.Memory = git.Memory

@@ -1,6 +1,5 @@
 //! How a file is refused that is made of variables of the environment.
 ghost use Rattle.std.specs.Prelude.{◌≡◌};
-ghost use Rattle.gitconf_loaders.specs.Errors as spec;
 
 use gitconf_includes::includes;
 use gitconf_text::NoMemory;
@@ -45,6 +44,19 @@ pub enum Error {
     Memory,
 }
 
+impl From<interpolate::Error> for Error {
+    ghost use Rattle.gitconf_loaders.specs.Errors.{env_of_interpolate};
+
+    ghost from_gives = { λ interpolate e. e ≡ env_of_interpolate interpolate };
+
+    fn from(interpolate: interpolate::Error) -> Error {
+        match interpolate {
+            interpolate::Error::Memory => Error::Memory,
+            interpolate => Error::PathInterpolationError(interpolate),
+        }
+    }
+}
+
 impl From<includes::Error> for Error {
     ghost use Rattle.gitconf_loaders.specs.Errors.{env_of_includes};
 
@@ -71,26 +83,15 @@ impl From<header::Error> for Error {
     }
 }
 
-/// Whether memory was wanting.
-fn is_memory(value: &value::Error) -> bool
-    ensures { result ≡ spec.is_memory value.now }
-{
-    match value {
-        value::Error::Span(span) => span.is_memory(),
-        value::Error::ValueName(_) => false,
-    }
-}
-
 impl From<value::Error> for Error {
     ghost use Rattle.gitconf_loaders.specs.Errors.{env_of_value};
 
     ghost from_gives = { λ value e. e ≡ env_of_value value };
 
     fn from(value: value::Error) -> Error {
-        if is_memory(&value) {
-            Error::Memory
-        } else {
-            Error::SectionValue(value)
+        match value {
+            value::Error::Memory => Error::Memory,
+            value => Error::SectionValue(value),
         }
     }
 }

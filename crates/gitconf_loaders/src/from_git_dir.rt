@@ -56,6 +56,19 @@ impl From<from_env::Error> for Error {
     }
 }
 
+impl From<init::Error> for Error {
+    ghost use Rattle.gitconf_loaders.specs.Errors.{git_of_init};
+
+    ghost from_gives = { λ init e. e ≡ git_of_init init };
+
+    fn from(init: init::Error) -> Error {
+        match init {
+            init::Error::Memory => Error::Memory,
+            init => Error::Init(init),
+        }
+    }
+}
+
 impl From<includes::Error> for Error {
     ghost use Rattle.gitconf_loaders.specs.Errors.{git_of_includes};
 

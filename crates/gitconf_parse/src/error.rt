@@ -91,7 +91,7 @@ impl Error {
     }
 
     /// The line in which the remaining data begins, counted from 1. It is 1 but for refusal 1.
-    pub fn line_number(&self) -> usize
+    pub const fn line_number(&self) -> usize
         ensures { result ≡ self.now.line }
     {
         match &self.cause {

@@ -93,10 +93,6 @@ with_items items s = record s { items = record { items = items } }
 abbrev pub holding : (more : List Item) → Section → Section
 holding more s = record s { held = record { items = s.held.items ++ more } }
 
--- the last section holds more
-abbrev pub last_holding : (more : List Item) → Sections Section → Sections Section
-last_holding more all = edited_at (holding more) (length all.entries - 1) all
-
 -- two lists are the same but for so many items behind the first ones
 pub record IsSameBut (from len : ℕ) (old new : List Item) : Type 0 where
   pub long : length new ≡ length old

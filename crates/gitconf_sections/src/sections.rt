@@ -8,6 +8,7 @@ ghost use Rattle.gitconf_sections.specs.Section.{viewed, IsSectionClone};
 
 mod adding;
 mod editing;
+mod reseeding;
 pub mod walks;
 mod weaving;
 

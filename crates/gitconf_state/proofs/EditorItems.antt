@@ -12,7 +12,7 @@ use Rattle.gitconf_text.proofs.Tests.{both_true}
 use Rattle.gitconf_state.specs.State.{is_item, is_piece, is_value, is_assigned, is_entry, Cut, cut_last}
 use Rattle.gitconf_state.specs.Clean.{has_blanks}
 use Rattle.gitconf_state.specs.Edit.{Spacing, leading_item, with_value, is_entry_of}
-use Rattle.gitconf_state.specs.Editors.{Editor, entry_made, comment_text, comment_made, end_made, line_made, pushed, line_end_pushed, value_set, without_last_blanks, without_first_line_ends, removed, popped, popped_entry, entry_told, last_line_end, is_before_comment, line_end_item, kept_line_end, behind_old, written_at, deleted_at}
+use Rattle.gitconf_state.specs.Editors.{Editor, entry_made, comment_text, comment_made, end_made, line_made, pushed, line_end_pushed, value_set, without_last_blanks, without_first_line_ends, removed, popped, popped_entry, entry_told, unless_empty, last_line_end, is_before_comment, line_end_item, kept_line_end, behind_old, written_at, deleted_at}
 use Rattle.gitconf_state.specs.Edits.{IsEditor, has_blank_leading}
 use Rattle.gitconf_state.proofs.LoadingFilters.{both_hold}
 use Rattle.gitconf_state.proofs.EditLists.{update_last_all}
@@ -173,12 +173,18 @@ value_set_is editor key value items is named all = go (list_any (is_entry_of key
 -- the last line end of pieces is a line end, where there is one
 last_line_end_is : (pieces : List Piece) → list_all is_piece pieces ≡ true → list_all is_item (line_end_item (last_line_end pieces)) ≡ true
 last_line_end_is [] all = refl
-last_line_end_is (p ∷ []) all = go p.line_end refl (both_true (is_piece p) true all).0
+last_line_end_is (p ∷ pieces) all =
+    let b = both_true (is_piece p) (list_all is_piece pieces) all in
+    either (last_line_end pieces) (last_line_end_is pieces b.1) (go p.line_end refl b.0)
   where
     go : (run : List ℕ) → p.line_end ≡ run → is_piece p ≡ true → list_all is_item (line_end_item run) ≡ true
     go [] e is = refl
     go (b ∷ run) e is = rw (one_line_end (b ∷ run) (ap (λ r. elim r as (λ _. Bool) [ [] ↦ true | c ∷ cs ↦ is_line_end r ]) (sym e) ∙ is)) refl
-last_line_end_is (p ∷ q ∷ pieces) all = last_line_end_is (q ∷ pieces) (both_true (is_piece p) (list_all is_piece (q ∷ pieces)) all).1
+
+    either : (later : List ℕ) → list_all is_item (line_end_item later) ≡ true → list_all is_item (line_end_item p.line_end) ≡ true
+        → list_all is_item (line_end_item (unless_empty later p.line_end)) ≡ true
+    either [] is own = own
+    either (b ∷ run) is own = is
 
 kept_line_end_is : (o : Option Assigned) (behind : List Item) → is_assigned o ≡ true → list_all is_item (kept_line_end o behind) ≡ true
 kept_line_end_is None behind is = refl

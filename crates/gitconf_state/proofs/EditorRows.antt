@@ -200,6 +200,10 @@ write_before_a_comment = refl
 write_before_blanks_and_a_comment : printed (write 0 (codes "k") (codes "y") (file ([]) 1 (section 0 (PlainHeader (codes "a")) (line_ends "\n" ∷ pieces_valued "k" " " " " (piece "x" "\n" ∷ []) "" ∷ blanks "  " ∷ comment " c" ∷ line_ends "\n" ∷ []) ∷ []))) ≡ codes "[a]\nk = y\n  # c\n"
 write_before_blanks_and_a_comment = refl
 
+-- a filter dropped the last line end of the value, and not the one before it
+write_before_a_comment_with_a_dropped_line_end : printed (write 0 (codes "k") (codes "v") (file ([]) 1 (section 0 (PlainHeader (codes "a")) (line_ends "\n" ∷ pieces_valued "k" " " " " (piece "x" "\n" ∷ piece "" "" ∷ []) "" ∷ comment " c" ∷ line_ends "\n" ∷ []) ∷ []))) ≡ codes "[a]\nk = v\n# c\n"
+write_before_a_comment_with_a_dropped_line_end = refl
+
 write_carriage_returns_before_a_comment : printed (write 0 (codes "k") (codes "y") (file ([]) 1 (section 0 (PlainHeader (codes "a")) (line_ends "\n" ∷ pieces_valued "k" " " " " (piece "x" "\r\n" ∷ []) "" ∷ note "c" ∷ []) ∷ []))) ≡ codes "[a]\nk = y\r\n;c\n"
 write_carriage_returns_before_a_comment = refl
 

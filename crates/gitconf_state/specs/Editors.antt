@@ -99,11 +99,15 @@ popped_entry items = elim (cut_last is_entry items) [
   | Some c ↦ entry_told c.1.0
 ]
 
--- the line end of the last piece that goes on
+-- bytes, or others where there are none
+abbrev pub unless_empty : List ℕ → (others : List ℕ) → List ℕ
+unless_empty [] others = others
+unless_empty (b ∷ bytes) others = b ∷ bytes
+
+-- the last line end among pieces: a filter of events may have dropped that of one or of all
 abbrev pub last_line_end : List Piece → List ℕ
 last_line_end [] = []
-last_line_end (p ∷ []) = p.line_end
-last_line_end (p ∷ q ∷ pieces) = last_line_end (q ∷ pieces)
+last_line_end (p ∷ pieces) = unless_empty (last_line_end pieces) p.line_end
 
 -- a comment comes next, blanks aside
 abbrev pub is_before_comment : List Item → Bool

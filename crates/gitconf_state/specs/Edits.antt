@@ -79,7 +79,7 @@ abbrev pub begins_with : (line_end : List ℕ) → List Item → Bool
 begins_with line_end [] = true
 begins_with line_end (BlanksItem run ∷ items) = starts_with nat_eq run line_end
 begins_with line_end (LineEndsItem run ∷ items) = starts_with nat_eq run line_end
-begins_with line_end (CommentItem tag text ∷ items) = starts_with nat_eq text line_end
+begins_with line_end (CommentItem tag text ∷ items) = false
 begins_with line_end (EntryItem e ∷ items) = false
 
 abbrev pub between : (line_end : List ℕ) → (items others : List Item) → List Item

@@ -54,6 +54,21 @@ impl From<header::Error> for Error {
     }
 }
 
+impl From<ValueNameError> for Error {
+    ghost use Rattle.std.specs.Prelude.{◌==◌, if◌then◌else◌};
+    ghost use Rattle.gitconf_store.specs.declared.set_raw_value.Error.TheVariants.{Memory, ValueName};
+
+    ghost from_gives = { λ name e. e ≡ (if name == 27 then Memory else ValueName name) };
+
+    fn from(name: ValueNameError) -> Error {
+        if name.number() == 27 {
+            Error::Memory
+        } else {
+            Error::ValueName(name)
+        }
+    }
+}
+
 impl From<span::Error> for Error {
     ghost use Rattle.gitconf_store.specs.SetErrors.{of_span};
 

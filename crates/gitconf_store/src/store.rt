@@ -9,6 +9,7 @@ mod look_ups;
 mod making;
 mod removing;
 mod renaming;
+mod reseeding;
 mod several;
 mod trusting;
 mod values_at;
@@ -70,7 +71,7 @@ impl Store {
     ghost use Rattle.std.specs.Fn.{ComputesKey};
     ghost use Rattle.std.specs.List.{list_any};
     ghost use Rattle.std.specs.Option.{option_copied};
-    ghost use Rattle.std.specs.Prelude.{◌≡◌, ◌==◌, ◌+◌, ◌≤◌, ◌<◌, ◌^◌, ◌↔◌, [], length, false, IfOk, IsErrAnd, IsErrOf, IfSome, OnOk, OnErr, option_map, slice_get, true, List, filter, IfErr, map, Bool, ℕ};
+    ghost use Rattle.std.specs.Prelude.{◌≡◌, ◌==◌, ◌+◌, ◌-◌, ◌≤◌, ◌<◌, ◌^◌, ◌↔◌, [], length, min, false, IfOk, IsErrAnd, IsErrOf, IfSome, OnOk, OnErr, option_map, slice_get, true, List, filter, IfErr, map, Bool, ℕ};
     ghost use Rattle.bstr.specs.Owned.{bstring_bytes};
     ghost use Rattle.gitconf_text.specs.Document.{IsText, Reads, unmarked};
     ghost use Rattle.gitconf_text.specs.HeaderErrors.{header_number};
@@ -330,9 +331,10 @@ impl Store {
         tokens::are_void(self.sections())
     }
 
-    /// How many entries the sections have, those of the front not counted. Takes no memory, and a walk over all.
+    /// How many entries the sections have, those of the front not counted; the greatest number where they are more. Takes no memory, and a
+    /// walk over all.
     pub fn num_values(&self) -> usize
-        ensures { let n = length (section_entries self.now.sections) in n < 2 ^ 64 → result ≡ n }
+        ensures { result ≡ min (length (section_entries self.now.sections)) (2 ^ 64 - 1) }
     {
         tokens::value_count(self.sections())
     }

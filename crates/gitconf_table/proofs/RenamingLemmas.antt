@@ -71,11 +71,11 @@ module _ {T : Type 0} where
   fit_each n names rows (at ∷ places) new fit = fit_each n names (named_at names rows at) places new (fit_named n names rows at new fit)
 
   -- what the table keeps beside them
-  table_each : (next : ℕ) (es : List (SectionEntry T)) (at places names full : List ℕ) (name : List ℕ) (s : Option (List ℕ)) → IsTable next es places names full
-      → IsTable next (with_names_at (record { entries = es; next = next }) at name s).entries places (set_each names at (name_word name)) (set_each full at (full_word name s))
-  table_each next es [] places names full name s h = h
-  table_each next es (i ∷ at) places names full name s h =
-      table_each next (changed_at (λ e. record e { name = fold name; subsection = s }) es i) at places (set names i (name_word name)) (set full i (full_word name s)) name s
+  table_each : {seed : ℕ} (next : ℕ) (es : List (SectionEntry T)) (at places names full : List ℕ) (name : List ℕ) (s : Option (List ℕ)) → IsTable seed next es places names full
+      → IsTable seed next (with_names_at (record { entries = es; next = next }) at name s).entries places (set_each names at (name_word seed name)) (set_each full at (full_word seed name s))
+  table_each {seed} next es [] places names full name s h = h
+  table_each {seed} next es (i ∷ at) places names full name s h =
+      table_each next (changed_at (λ e. record e { name = fold name; subsection = s }) es i) at places (set names i (name_word seed name)) (set full i (full_word seed name s)) name s
       (table_renamed next i es _ places names _ full _ name s refl refl refl h)
 
   -- the table with names that were put behind the letters
@@ -85,12 +85,12 @@ module _ {T : Type 0} where
       entries_named letters2 name s names next rows at put.name_is put.subsection_is
       ∙ ap (λ es. with_names_at (record { entries = es; next = next }) at name s) (entries_same letters letters2 name s names put rows fit)
 
-  pub each_kept : (letters letters2 name : List ℕ) (s : Option (List ℕ)) (names : Names) → ArePut (fold name) s letters letters2 names → (next : ℕ) (rows : List (Row T)) (at places words words2 full full2 : List ℕ)
-      → words2 ≡ set_each words at (name_word name) → full2 ≡ set_each full at (full_word name s) → RowsFit (length letters) rows → IsTable next (entries_of letters rows) places words full
-      → IsTable next (entries_of letters2 (named_each names rows at)) places words2 full2
-  each_kept letters letters2 name s names put next rows at places words words2 full full2 one two fit h =
+  pub each_kept : {seed : ℕ} (letters letters2 name : List ℕ) (s : Option (List ℕ)) (names : Names) → ArePut (fold name) s letters letters2 names → (next : ℕ) (rows : List (Row T)) (at places words words2 full full2 : List ℕ)
+      → words2 ≡ set_each words at (name_word seed name) → full2 ≡ set_each full at (full_word seed name s) → RowsFit (length letters) rows → IsTable seed next (entries_of letters rows) places words full
+      → IsTable seed next (entries_of letters2 (named_each names rows at)) places words2 full2
+  each_kept {seed} letters letters2 name s names put next rows at places words words2 full full2 one two fit h =
       rw (one, two)
-      (subst (λ (all : Sections T). IsTable next all.entries places (set_each words at (name_word name)) (set_each full at (full_word name s)))
+      (subst (λ (all : Sections T). IsTable seed next all.entries places (set_each words at (name_word seed name)) (set_each full at (full_word seed name s)))
       (sym (each_renamed letters letters2 name s names put next rows at fit)) (table_each next (entries_of letters rows) at places words full name s h))
 
   pub each_fits : (letters letters2 name : List ℕ) (s : Option (List ℕ)) (names : Names) → ArePut (fold name) s letters letters2 names → (rows : List (Row T)) (at : List ℕ) → RowsFit (length letters) rows

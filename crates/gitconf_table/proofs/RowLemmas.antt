@@ -229,6 +229,17 @@ module _ {T : Type 0} where
     set_changes f (x ∷ rows) zero r new is e = ap (λ y. y ∷ entries_of letters rows) (e ∙ ap (λ y. f (entry_of_row letters y)) is)
     set_changes f (x ∷ rows) (suc i) r new is e = ap (λ ys. entry_of_row letters x ∷ ys) (set_changes f rows i r new is e)
 
+    -- the words of one row more
+    words_suc : (f : SectionEntry T → ℕ) (rows : List (Row T)) (n : ℕ) (r : Row T) → n < length rows → r ≡ get_or rows n r
+        → take (suc n) (map f (entries_of letters rows)) ≡ take n (map f (entries_of letters rows)) ++ f (entry_of_row letters r) ∷ []
+    words_suc f [] n r within is = absurd (omega (arith, within))
+    words_suc f (x ∷ rows) zero r within is = ap (λ (y : Row T). f (entry_of_row letters y) ∷ []) (sym is)
+    words_suc f (x ∷ rows) (suc n) r within is = ap (λ ws. f (entry_of_row letters x) ∷ ws) (words_suc f rows n r (omega (arith, within)) is)
+
+    pub words_more : (f : SectionEntry T → ℕ) (rows : List (Row T)) (n : ℕ) (r : Row T) → n < length rows → r ≡ get_or rows n r
+        → take (n + 1) (map f (entries_of letters rows)) ≡ take n (map f (entries_of letters rows)) ++ f (entry_of_row letters r) ∷ []
+    words_more f rows n r within is = rw add-one (words_suc f rows n r within is)
+
     -- another content of a row
     pub set_section : (rows : List (Row T)) (i : ℕ) (r : Row T) (w : T) → r ≡ get_or rows i r → entries_of letters (set rows i (record r { section = w })) ≡ changed_at (λ e. record e { section = w }) (entries_of letters rows) i
     set_section rows i r w is = set_changes (λ e. record e { section = w }) rows i r (record r { section = w }) is refl

@@ -17,27 +17,28 @@ use Rattle.gitconf_text.specs.Bytes.{fold}
 use Rattle.gitconf_table.specs.declared.table.Row.{Row}
 use Rattle.gitconf_table.specs.Sections.{SectionEntry, AreNumbered, changed_at, entry_of, has_name, has_number, is_named, no_number, numbered_from, IsEntryClone}
 use Rattle.gitconf_table.specs.Rows.{entries_at, entries_of, entry_of_row}
-use Rattle.gitconf_table.specs.Word.{full_word, name_word, no_bytes, with_bytes}
+use Rattle.gitconf_table.specs.Word.{full_state, full_word, name_state, name_word, nothing_behind, whole_state, with_bytes, word_of}
 use Rattle.gitconf_table.specs.Words.{places_in, places_of}
 use Rattle.gitconf_table.specs.Tables.{IsTable, AreApart, ArePlaced, ArePlacedTo, numbers_of, word_of_name, word_of_names}
 use Rattle.gitconf_table.proofs.SectionLemmas.{all_put_numbered, changed_numbered, fold_again, insert_numbered, none_has, not_placed, number_at-place, push_numbered}
 
--- equal names have equal words
-pub same_names : (a b : List ℕ) → bytes_eq (fold a) (fold b) ≡ true → name_word b ≡ name_word a
-unfolding name_word
-same_names a b h = ap (with_bytes no_bytes) (sym ((bytes_eq-Decides (fold a) (fold b)).0 h))
+-- equal names have equal words, from any seed
+module _ (seed : ℕ) where
+  same_states : (a b : List ℕ) → fold a ≡ fold b → name_state seed b ≡ name_state seed a
+  unfolding name_state
+  same_states a b e = ap (λ bytes. whole_state (with_bytes (nothing_behind seed) bytes)) (sym e)
 
-pub folded_word : (name : List ℕ) → name_word (fold name) ≡ name_word name
-unfolding name_word
-folded_word name = ap (with_bytes no_bytes) (fold_again name)
+  pub same_names : (a b : List ℕ) → bytes_eq (fold a) (fold b) ≡ true → name_state seed b ≡ name_state seed a
+  same_names a b h = same_states a b ((bytes_eq-Decides (fold a) (fold b)).0 h)
 
-full_along : (a b : List ℕ) (s : Option (List ℕ)) → name_word a ≡ name_word b → full_word a s ≡ full_word b s
-unfolding full_word
-full_along a b None e = e
-full_along a b (Some bytes) e = λ j. with_bytes (Rattle.gitconf_table.specs.Word.with_byte (e j) 0) bytes
+  folded_state : (name : List ℕ) → name_state seed (fold name) ≡ name_state seed name
+  folded_state name = same_states name (fold name) (sym (fold_again name))
 
-pub folded_full : (name : List ℕ) (s : Option (List ℕ)) → full_word (fold name) s ≡ full_word name s
-folded_full name s = full_along (fold name) name s (folded_word name)
+  pub folded_word : (name : List ℕ) → name_word seed (fold name) ≡ name_word seed name
+  folded_word name = ap word_of (folded_state name)
+
+  pub folded_full : (name : List ℕ) (s : Option (List ℕ)) → full_word seed (fold name) s ≡ full_word seed name s
+  folded_full name s = ap (λ state. word_of (full_state state s)) (folded_state name)
 
 same_subsections : (s t : Option (List ℕ)) → option_eq bytes_eq s t ≡ true → s ≡ t
 same_subsections None None h = refl
@@ -51,13 +52,13 @@ both true false h = absurd (cc)
 both false b h = absurd (cc)
 
 module _ {T : Type 0} where
-  pub words_named : (name : List ℕ) (e : SectionEntry T) → has_name name e ≡ true → word_of_name e ≡ name_word name
-  words_named name e h = same_names name e.name h
+  pub words_named : (seed : ℕ) (name : List ℕ) (e : SectionEntry T) → has_name name e ≡ true → word_of_name seed e ≡ name_word seed name
+  words_named seed name e h = ap word_of (same_names seed name e.name h)
 
-  pub words_full : (name : List ℕ) (s : Option (List ℕ)) (e : SectionEntry T) → is_named name s e ≡ true → word_of_names e ≡ full_word name s
-  words_full name s e h =
+  pub words_full : (seed : ℕ) (name : List ℕ) (s : Option (List ℕ)) (e : SectionEntry T) → is_named name s e ≡ true → word_of_names seed e ≡ full_word seed name s
+  words_full seed name s e h =
       let parts = both (has_name name e) (option_eq bytes_eq e.subsection s) h in
-      ap (full_word e.name) (same_subsections e.subsection s parts.1) ∙ full_along e.name name s (words_named name e parts.0)
+      λ j. word_of (full_state (same_names seed name e.name parts.0 j) (same_subsections e.subsection s parts.1 j))
 
   -- a filter that only passes sections of a word passes at the places of the word what it passes of all
   found_in : (p : SectionEntry T → Bool) (word_of : SectionEntry T → ℕ) (w : ℕ) → ((e : SectionEntry T) → p e ≡ true → word_of e ≡ w)
@@ -148,16 +149,16 @@ placed_before numbers more rest places new at within inside kept placed k below 
     sym (get_or-take (length places) new (slice_index numbers k) 0 there) ∙ ap (λ ps. slice_index ps (slice_index numbers k)) kept in
     ap (slice_index new) same ∙ stays ∙ placed k (omega (arith, below, within))
 
-module _ {T : Type 0} where
+module _ {T : Type 0} {seed : ℕ} where
   -- one section more at the end
   pub table_push : (next : ℕ) (es : List (SectionEntry T)) (places names full : List ℕ) (e : SectionEntry T) → e.number ≡ next → next < no_number
-      → IsTable next es places names full → IsTable (next + 1) (es ++ e ∷ []) (places ++ length es ∷ []) (names ++ word_of_name e ∷ []) (full ++ word_of_names e ∷ [])
+      → IsTable seed next es places names full → IsTable seed (next + 1) (es ++ e ∷ []) (places ++ length es ∷ []) (names ++ word_of_name seed e ∷ []) (full ++ word_of_names seed e ∷ [])
   table_push next es places names full e is room h = record {
     numbered = record { once = push_numbered next es e is h.numbered.once; within = omega (arith, room) };
     counted = rw length-append (omega (arith, h.counted));
     placed = λ k below. go k below (cases_lt k (length (numbers_of es)));
-    names = sym (map-append word_of_name es (e ∷ []) ∙ ap (λ l. l ++ word_of_name e ∷ []) (sym h.names));
-    full = sym (map-append word_of_names es (e ∷ []) ∙ ap (λ l. l ++ word_of_names e ∷ []) (sym h.full));
+    names = sym (map-append (word_of_name seed) es (e ∷ []) ∙ ap (λ l. l ++ word_of_name seed e ∷ []) (sym h.names));
+    full = sym (map-append (word_of_names seed) es (e ∷ []) ∙ ap (λ l. l ++ word_of_names seed e ∷ []) (sym h.full));
   }
     where
       numbers : numbers_of (es ++ e ∷ []) ≡ numbers_of es ++ e.number ∷ []
@@ -176,28 +177,29 @@ module _ {T : Type 0} where
 
   -- one section more between others
   pub table_put : (next at : ℕ) (es : List (SectionEntry T)) (places more names full : List ℕ) (e : SectionEntry T) → e.number ≡ next → next < no_number
-      → IsTable next es places names full → length more ≡ next + 1 → ArePlaced (numbers_of (insert es at e)) more
-      → IsTable (next + 1) (insert es at e) more (insert names at (word_of_name e)) (insert full at (word_of_names e))
+      → IsTable seed next es places names full → length more ≡ next + 1 → ArePlaced (numbers_of (insert es at e)) more
+      → IsTable seed (next + 1) (insert es at e) more (insert names at (word_of_name seed e)) (insert full at (word_of_names seed e))
   table_put next at es places more names full e is room h count placed = record {
     numbered = record { once = insert_numbered next es at e is h.numbered.once; within = omega (arith, room) };
     counted = count;
     placed = placed;
-    names = sym (map_put word_of_name es at e ∙ ap (λ l. insert l at (word_of_name e)) (sym h.names));
-    full = sym (map_put word_of_names es at e ∙ ap (λ l. insert l at (word_of_names e)) (sym h.full));
+    names = sym (map_put (word_of_name seed) es at e ∙ ap (λ l. insert l at (word_of_name seed e)) (sym h.names));
+    full = sym (map_put (word_of_names seed) es at e ∙ ap (λ l. insert l at (word_of_names seed e)) (sym h.full));
   }
 
   -- one section fewer
   pub table_out : (next at : ℕ) (es : List (SectionEntry T)) (places more names full : List ℕ)
-      → IsTable next es places names full → AreNumbered next (remove es at) → length more ≡ next → ArePlaced (numbers_of (remove es at)) more
-      → IsTable next (remove es at) more (remove names at) (remove full at)
+      → IsTable seed next es places names full → AreNumbered next (remove es at) → length more ≡ next → ArePlaced (numbers_of (remove es at)) more
+      → IsTable seed next (remove es at) more (remove names at) (remove full at)
   table_out next at es places more names full h once count placed = record {
     numbered = record { once = once; within = h.numbered.within };
     counted = count;
     placed = placed;
-    names = sym (map_out word_of_name es at ∙ ap (λ l. remove l at) (sym h.names));
-    full = sym (map_out word_of_names es at ∙ ap (λ l. remove l at) (sym h.full));
+    names = sym (map_out (word_of_name seed) es at ∙ ap (λ l. remove l at) (sym h.names));
+    full = sym (map_out (word_of_names seed) es at ∙ ap (λ l. remove l at) (sym h.full));
   }
 
+module _ {T : Type 0} where
   -- a change of one section, as f shows it
   pub map_changed : (f : SectionEntry T → ℕ) (g : SectionEntry T → SectionEntry T) (w : ℕ) → ((e : SectionEntry T) → f (g e) ≡ w) → (es : List (SectionEntry T)) (i : ℕ) → map f (changed_at g es i) ≡ set (map f es) i w
   map_changed f g w e [] i = refl
@@ -209,10 +211,11 @@ module _ {T : Type 0} where
   map_unchanged f g e (x ∷ es) zero = ap (λ y. y ∷ map f es) (e x)
   map_unchanged f g e (x ∷ es) (suc i) = ap (λ ys. f x ∷ ys) (map_unchanged f g e es i)
 
+module _ {T : Type 0} {seed : ℕ} where
   -- the same numbers and words of other sections
-  pub table_same : (next : ℕ) (es fs : List (SectionEntry T)) (places names full names2 full2 : List ℕ) → IsTable next es places names full
-      → AreNumbered next fs → numbers_of fs ≡ numbers_of es → names2 ≡ map word_of_name fs → full2 ≡ map word_of_names fs
-      → IsTable next fs places names2 full2
+  pub table_same : (next : ℕ) (es fs : List (SectionEntry T)) (places names full names2 full2 : List ℕ) → IsTable seed next es places names full
+      → AreNumbered next fs → numbers_of fs ≡ numbers_of es → names2 ≡ map (word_of_name seed) fs → full2 ≡ map (word_of_names seed) fs
+      → IsTable seed next fs places names2 full2
   table_same next es fs places names full names2 full2 h once numbers same same_full = record {
     numbered = record { once = once; within = h.numbered.within };
     counted = h.counted;
@@ -221,27 +224,40 @@ module _ {T : Type 0} where
     full = same_full;
   }
 
+module _ {T : Type 0} where
+  -- the same sections with words from another seed
+  pub worded : (next from to : ℕ) (es : List (SectionEntry T)) (places names full names2 full2 : List ℕ) → IsTable from next es places names full
+      → names2 ≡ map (word_of_name to) es → full2 ≡ map (word_of_names to) es → IsTable to next es places names2 full2
+  worded next from to es places names full names2 full2 h same same_full = record {
+    numbered = h.numbered;
+    counted = h.counted;
+    placed = h.placed;
+    names = same;
+    full = same_full;
+  }
+
   pub renumbered : (f : SectionEntry T → ℕ) → ((e : SectionEntry T) (n : ℕ) → f (record e { number = n }) ≡ f e) → (next : ℕ) (es : List (SectionEntry T)) → map f (numbered_from next es) ≡ map f es
   renumbered f same next [] = refl
   renumbered f same next (e ∷ es) = λ j. same e next j ∷ renumbered f same (next + 1) es j
 
+module _ {T : Type 0} {seed : ℕ} where
   -- all sections of another table between others
   pub table_all : (next other at : ℕ) (es fs : List (SectionEntry T)) (places places2 more names full names2 full2 : List ℕ) → next + length fs ≤ no_number
-      → IsTable next es places names full → IsTable other fs places2 names2 full2
+      → IsTable seed next es places names full → IsTable seed other fs places2 names2 full2
       → length more ≡ next + length fs → ArePlaced (numbers_of (take at es ++ numbered_from next fs ++ drop at es)) more
-      → IsTable (next + length fs) (take at es ++ numbered_from next fs ++ drop at es) more (take at names ++ names2 ++ drop at names) (take at full ++ full2 ++ drop at full)
+      → IsTable seed (next + length fs) (take at es ++ numbered_from next fs ++ drop at es) more (take at names ++ names2 ++ drop at names) (take at full ++ full2 ++ drop at full)
   table_all next other at es fs places places2 more names full names2 full2 room h h2 count placed = record {
     numbered = record { once = all_put_numbered next at es fs h.numbered.once; within = room };
     counted = count;
     placed = placed;
-    names = sym (map_between word_of_name es (numbered_from next fs) at
-        ∙ (λ j. take at (sym h.names j) ++ (renumbered word_of_name (λ e n. refl) next fs ∙ sym h2.names) j ++ drop at (sym h.names j)));
-    full = sym (map_between word_of_names es (numbered_from next fs) at
-        ∙ (λ j. take at (sym h.full j) ++ (renumbered word_of_names (λ e n. refl) next fs ∙ sym h2.full) j ++ drop at (sym h.full j)));
+    names = sym (map_between (word_of_name seed) es (numbered_from next fs) at
+        ∙ (λ j. take at (sym h.names j) ++ (renumbered (word_of_name seed) (λ e n. refl) next fs ∙ sym h2.names) j ++ drop at (sym h.names j)));
+    full = sym (map_between (word_of_names seed) es (numbered_from next fs) at
+        ∙ (λ j. take at (sym h.full j) ++ (renumbered (word_of_names seed) (λ e n. refl) next fs ∙ sym h2.full) j ++ drop at (sym h.full j)));
   }
 
   -- the place under a number that stands
-  pub place_under : (next id : ℕ) (es : List (SectionEntry T)) (places names full : List ℕ) (at : ℕ) → IsTable next es places names full
+  pub place_under : (next id : ℕ) (es : List (SectionEntry T)) (places names full : List ℕ) (at : ℕ) → IsTable seed next es places names full
       → position (has_number id) es ≡ Some at → (at < length es) × (id < length places) × (slice_index places id ≡ at)
   place_under next id [] places names full at h stands = absurd (cc)
   place_under next id (e ∷ es) places names full at h stands =
@@ -257,7 +273,7 @@ module _ {T : Type 0} where
   other_at n (f ∷ es) zero e all h = let same : f ≡ e = cc in rw same at all.0
   other_at n (f ∷ es) (suc at) e all h = other_at n es at e all.1 h
 
-  module _ (next id : ℕ) (es : List (SectionEntry T)) (places names full : List ℕ) (h : IsTable next es places names full) where
+  module _ {seed : ℕ} (next id : ℕ) (es : List (SectionEntry T)) (places names full : List ℕ) (h : IsTable seed next es places names full) where
     none_if : ((i : ℕ) → position (has_number id) es ≡ Some i → ⊥) → position (has_number id) es ≡ None
     none_if never = go (position (has_number id) es) refl
       where
@@ -318,31 +334,32 @@ module _ {T : Type 0} where
       go true t later = absurd (let g = rw t at h in cc)
       go false t later = rw t (later (rw t at h))
 
-module _ {T : Type 0} where
+module _ {T : Type 0} {seed : ℕ} where
   -- the changes of a table, as the calls leave its parts
   pub table_pushed : (next : ℕ) (es es2 : List (SectionEntry T)) (places places2 names names2 full full2 : List ℕ) (name : List ℕ) (s : Option (List ℕ)) (section : T)
-      → es2 ≡ es ++ entry_of next name s section ∷ [] → places2 ≡ places ++ length es ∷ [] → names2 ≡ names ++ name_word name ∷ [] → full2 ≡ full ++ full_word name s ∷ []
-      → next < no_number → IsTable next es places names full → IsTable (next + 1) es2 places2 names2 full2
+      → es2 ≡ es ++ entry_of next name s section ∷ [] → places2 ≡ places ++ length es ∷ [] → names2 ≡ names ++ name_word seed name ∷ [] → full2 ≡ full ++ full_word seed name s ∷ []
+      → next < no_number → IsTable seed next es places names full → IsTable seed (next + 1) es2 places2 names2 full2
   table_pushed next es es2 places places2 names names2 full full2 name s section e1 e2 e3 e4 room h =
-      rw (e1, e2, e3, e4, ← folded_word name, ← folded_full name s) (table_push next es places names full (entry_of next name s section) refl room h)
+      rw (e1, e2, e3, e4, ← folded_word seed name, ← folded_full seed name s) (table_push next es places names full (entry_of next name s section) refl room h)
 
   pub table_inserted : (next at : ℕ) (es es2 : List (SectionEntry T)) (places more names names2 full full2 : List ℕ) (name : List ℕ) (s : Option (List ℕ)) (section : T)
-      → es2 ≡ insert es at (entry_of next name s section) → names2 ≡ insert names at (name_word name) → full2 ≡ insert full at (full_word name s)
-      → next < no_number → IsTable next es places names full → length more ≡ next + 1 → ArePlaced (numbers_of es2) more → IsTable (next + 1) es2 more names2 full2
+      → es2 ≡ insert es at (entry_of next name s section) → names2 ≡ insert names at (name_word seed name) → full2 ≡ insert full at (full_word seed name s)
+      → next < no_number → IsTable seed next es places names full → length more ≡ next + 1 → ArePlaced (numbers_of es2) more → IsTable seed (next + 1) es2 more names2 full2
   table_inserted next at es es2 places more names names2 full full2 name s section e1 e3 e4 room h count placed =
-      rw (e1, e3, e4, ← folded_word name, ← folded_full name s) (table_put next at es places more names full (entry_of next name s section) refl room h count (rw e1 at placed))
+      rw (e1, e3, e4, ← folded_word seed name, ← folded_full seed name s) (table_put next at es places more names full (entry_of next name s section) refl room h count (rw e1 at placed))
 
   pub table_renamed : (next at : ℕ) (es es2 : List (SectionEntry T)) (places names names2 full full2 : List ℕ) (name : List ℕ) (s : Option (List ℕ))
-      → es2 ≡ changed_at (λ e. record e { name = fold name; subsection = s }) es at → names2 ≡ set names at (name_word name) → full2 ≡ set full at (full_word name s)
-      → IsTable next es places names full → IsTable next es2 places names2 full2
+      → es2 ≡ changed_at (λ e. record e { name = fold name; subsection = s }) es at → names2 ≡ set names at (name_word seed name) → full2 ≡ set full at (full_word seed name s)
+      → IsTable seed next es places names full → IsTable seed next es2 places names2 full2
   table_renamed next at es es2 places names names2 full full2 name s e1 e3 e4 h =
       let f : SectionEntry T → SectionEntry T = λ e. record e { name = fold name; subsection = s } in
       rw (e1, e3, e4) (table_same next es (changed_at f es at) places names full _ _ h
       (changed_numbered f (λ e. refl) next es at h.numbered.once)
       (map_unchanged (λ e. e.number) f (λ e. refl) es at)
-      (ap (λ l. set l at (name_word name)) h.names ∙ sym (map_changed word_of_name f (name_word name) (λ e. folded_word name) es at))
-      (ap (λ l. set l at (full_word name s)) h.full ∙ sym (map_changed word_of_names f (full_word name s) (λ e. folded_full name s) es at)))
+      (ap (λ l. set l at (name_word seed name)) h.names ∙ sym (map_changed (word_of_name seed) f (name_word seed name) (λ e. folded_word seed name) es at))
+      (ap (λ l. set l at (full_word seed name s)) h.full ∙ sym (map_changed (word_of_names seed) f (full_word seed name s) (λ e. folded_full seed name s) es at)))
 
+module _ {T : Type 0} where
   -- what the loop over places needs of the numbers
   pub numbers_within : (next : ℕ) (es : List (SectionEntry T)) (places : List ℕ) → AreNumbered next es → length places ≡ next → (k : ℕ) → k < length (numbers_of es) → slice_index (numbers_of es) k < length places
   numbers_within next es places h count k within = let b = below_next next es h k within in omega (arith, b, count)
@@ -358,17 +375,17 @@ cloned_map C f same [] (d ∷ copies) all = elim all [ ]
 cloned_map C f same (e ∷ entries) [] all = elim all [ ]
 cloned_map C f same (e ∷ entries) (d ∷ copies) all = λ j. same e d all.0 j ∷ cloned_map C f same entries copies all.1 j
 
-module _ {T : Type 0} where
+module _ {T : Type 0} {seed : ℕ} where
   pub table_removed : (next at : ℕ) (es es2 : List (SectionEntry T)) (places more names names2 full full2 : List ℕ)
       → es2 ≡ remove es at → names2 ≡ remove names at → full2 ≡ remove full at
-      → AreNumbered next es2 → IsTable next es places names full → length more ≡ next → ArePlaced (numbers_of es2) more → IsTable next es2 more names2 full2
+      → AreNumbered next es2 → IsTable seed next es places names full → length more ≡ next → ArePlaced (numbers_of es2) more → IsTable seed next es2 more names2 full2
   table_removed next at es es2 places more names names2 full full2 e1 e2 e3 once h count placed =
       rw (e1, e2, e3) (table_out next at es places more names full h (rw e1 at once) count (rw e1 at placed))
 
   pub table_joined : (next other at count : ℕ) (es fs es2 : List (SectionEntry T)) (places places2 more names full names2 full2 names3 full3 : List ℕ)
       → count ≡ length fs → es2 ≡ take at es ++ numbered_from next fs ++ drop at es → names3 ≡ take at names ++ names2 ++ drop at names → full3 ≡ take at full ++ full2 ++ drop at full
-      → next + count ≤ no_number → IsTable next es places names full → IsTable other fs places2 names2 full2
-      → length more ≡ next + count → ArePlaced (numbers_of es2) more → IsTable (next + count) es2 more names3 full3
+      → next + count ≤ no_number → IsTable seed next es places names full → IsTable seed other fs places2 names2 full2
+      → length more ≡ next + count → ArePlaced (numbers_of es2) more → IsTable seed (next + count) es2 more names3 full3
   table_joined next other at count es fs es2 places places2 more names full names2 full2 names3 full3 e0 e1 e2 e3 room h h2 counted placed =
       rw (e0, e1, e2, e3) (table_all next other at es fs places places2 more names full names2 full2 (rw e0 at room) h h2 (rw e0 at counted) (rw e1 at placed))
 

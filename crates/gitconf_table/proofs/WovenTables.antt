@@ -36,15 +36,15 @@ module _ {T : Type 0} where
       (all_woven (λ e. e.number < next) runs n es (all_below next es h))
       (woven_apart HasOther (λ e f k. differs_back e.number f.number k) runs n es (each_apart next es h))
 
-  pub table_woven : (runs : List Run) (n next : ℕ) (es es2 : List (SectionEntry T)) (places more names names2 full full2 : List ℕ)
+  pub table_woven : {seed : ℕ} (runs : List Run) (n next : ℕ) (es es2 : List (SectionEntry T)) (places more names names2 full full2 : List ℕ)
       → es2 ≡ woven runs n es → names2 ≡ woven runs n names → full2 ≡ woven runs n full
-      → IsTable next es places names full → length more ≡ next → ArePlaced (numbers_of es2) more → IsTable next es2 more names2 full2
-  table_woven runs n next es es2 places more names names2 full full2 e1 e2 e3 h count placed = record {
+      → IsTable seed next es places names full → length more ≡ next → ArePlaced (numbers_of es2) more → IsTable seed next es2 more names2 full2
+  table_woven {seed} runs n next es es2 places more names names2 full full2 e1 e2 e3 h count placed = record {
     numbered = record { once = rw e1 (woven_numbered runs n next es h.numbered.once); within = h.numbered.within };
     counted = count;
     placed = placed;
-    names = e2 ∙ ap (woven runs n) h.names ∙ sym (map_woven word_of_name runs n es) ∙ ap (map word_of_name) (sym e1);
-    full = e3 ∙ ap (woven runs n) h.full ∙ sym (map_woven word_of_names runs n es) ∙ ap (map word_of_names) (sym e1);
+    names = e2 ∙ ap (woven runs n) h.names ∙ sym (map_woven (word_of_name seed) runs n es) ∙ ap (map (word_of_name seed)) (sym e1);
+    full = e3 ∙ ap (woven runs n) h.full ∙ sym (map_woven (word_of_names seed) runs n es) ∙ ap (map (word_of_names seed)) (sym e1);
   }
 
   -- its rows

@@ -21,22 +21,22 @@ ArePlacedTo count numbers places = (k : ℕ) → k < count → slice_index place
 abbrev pub ArePlaced : List ℕ → List ℕ → Type 0
 ArePlaced numbers places = ArePlacedTo (length numbers) numbers places
 
--- the word of a section's name, and that of its name and subsection
-abbrev pub word_of_name : {T : Type 0} → SectionEntry T → ℕ
-word_of_name e = name_word e.name
+-- the word of a section's name, and that of its name and subsection, each from a seed
+abbrev pub word_of_name : {T : Type 0} → (seed : ℕ) → SectionEntry T → ℕ
+word_of_name seed e = name_word seed e.name
 
-abbrev pub word_of_names : {T : Type 0} → SectionEntry T → ℕ
-word_of_names e = full_word e.name e.subsection
+abbrev pub word_of_names : {T : Type 0} → (seed : ℕ) → SectionEntry T → ℕ
+word_of_names seed e = full_word seed e.name e.subsection
 
 -- the numbers are in order, each number that stands has its place, and each section its words
-pub record IsTable {T : Type 0} (next : ℕ) (entries : List (SectionEntry T)) (places words full_words : List ℕ) : Type 0 where
+pub record IsTable {T : Type 0} (seed next : ℕ) (entries : List (SectionEntry T)) (places words full_words : List ℕ) : Type 0 where
   pub numbered : IsNumbered (record { entries = entries; next = next })
   pub counted : length places ≡ next
   pub placed : ArePlaced (numbers_of entries) places
-  pub names : words ≡ map word_of_name entries
-  pub full : full_words ≡ map word_of_names entries
+  pub names : words ≡ map (word_of_name seed) entries
+  pub full : full_words ≡ map (word_of_names seed) entries
 
 -- what a table keeps beside its rows is theirs, and their names stand among its letters
-pub record IsKept {T : Type 0} (next : ℕ) (letters : List ℕ) (rows : List (Row T)) (places words full_words : List ℕ) : Type 0 where
-  pub table : IsTable next (entries_of letters rows) places words full_words
+pub record IsKept {T : Type 0} (seed next : ℕ) (letters : List ℕ) (rows : List (Row T)) (places words full_words : List ℕ) : Type 0 where
+  pub table : IsTable seed next (entries_of letters rows) places words full_words
   pub fit : RowsFit (length letters) rows

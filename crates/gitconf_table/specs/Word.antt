@@ -1,25 +1,66 @@
 -- The words by which an index finds names. Nothing rests on which they are, but that equal names have equal ones.
-use Rattle.std.specs.Prelude.{ℕ, ◌*◌, ◌%◌, ◌^◌, List, [], ◌∷◌, Option, Some, None, bit_xor}
+use Rattle.std.specs.Prelude.{ℕ, ◌*◌, ◌/◌, ◌%◌, ◌^◌, List, [], ◌∷◌, length, drop, Option, Some, None, bit_or, bit_xor, nat_lt, if◌then◌else◌}
+use Rattle.std.specs.Int.{from_le_bytes, w64}
+use Rattle.std.specs.Simd.{first_chunks}
 use Rattle.gitconf_text.specs.Bytes.{fold}
+use Rattle.gitconf_table.specs.declared.word.Mixing.{Mixing}
 
--- a word with one byte more
-unfoldable pub with_byte : ℕ → ℕ → ℕ
-with_byte word byte = (bit_xor word byte * 16777619) % 2 ^ 32
+-- a state with a group of bytes more: the two halves of a product of 128 bits, one upon the other
+unfoldable pub mixed : (state group : ℕ) → ℕ
+mixed state group =
+    let product : ℕ = bit_xor state group * 0x9e37_79b9_7f4a_7c15 in
+    bit_xor (product % 2 ^ 64) (product / 2 ^ 64)
 
--- a word with all bytes of a text more
-abbrev pub with_bytes : ℕ → List ℕ → ℕ
-with_bytes word [] = word
-with_bytes word (b ∷ bs) = with_bytes (with_byte word b) bs
+-- no bytes of a name behind a state
+abbrev pub nothing_behind : (state : ℕ) → Mixing
+nothing_behind state = record { state = state; group = 1 }
 
--- the word of no bytes
-abbrev pub no_bytes : ℕ
-no_bytes = 2166136261
+-- one byte of a name more: seven of them are a group, behind a 1, so that groups of fewer are other numbers
+unfoldable pub with_byte : Mixing → ℕ → Mixing
+with_byte m byte =
+    let group : ℕ = bit_or ((m.group * 2 ^ 8) % 2 ^ 64) byte in
+    if nat_lt group (2 ^ 56) then record { state = m.state; group = group } else nothing_behind (mixed m.state group)
 
--- the word of a name, without its case
-unfoldable pub name_word : List ℕ → ℕ
-name_word name = with_bytes no_bytes (fold name)
+-- all bytes of a name more
+abbrev pub with_bytes : Mixing → List ℕ → Mixing
+with_bytes m [] = m
+with_bytes m (b ∷ bs) = with_bytes (with_byte m b) bs
+
+-- the state of all that was put together, with the last group, which is not full
+abbrev pub whole_state : Mixing → ℕ
+whole_state m = mixed m.state m.group
+
+-- the state behind a name, without its case
+unfoldable pub name_state : (seed : ℕ) → List ℕ → ℕ
+name_state seed name = whole_state (with_bytes (nothing_behind seed) (fold name))
+
+-- groups of eight bytes more
+abbrev pub mixed_all : (state : ℕ) → List (List ℕ) → ℕ
+mixed_all state [] = state
+mixed_all state (eight ∷ eights) = mixed_all (mixed state (from_le_bytes w64 eight)) eights
+
+-- fewer bytes behind a group
+abbrev pub group_with : (group : ℕ) → List ℕ → ℕ
+group_with group [] = group
+group_with group (b ∷ bs) = group_with (bit_or ((group * 2 ^ 8) % 2 ^ 64) b) bs
+
+-- the state behind a text: its bytes by eights, and those that are left behind a 1
+unfoldable pub text_state : (state : ℕ) → List ℕ → ℕ
+text_state state text = mixed (mixed_all state (first_chunks 8 (length text / 8) text)) (group_with 1 (drop (length text / 8 * 8) text))
+
+-- the state behind a name and a subsection, from that behind the name
+abbrev pub full_state : (state : ℕ) → Option (List ℕ) → ℕ
+full_state state None = state
+full_state state (Some bytes) = text_state state bytes
+
+-- the word of a state: the upper half of it, mixed once more
+abbrev pub word_of : (state : ℕ) → ℕ
+word_of state = mixed state 0 / 2 ^ 32
+
+-- the word of a name
+abbrev pub name_word : (seed : ℕ) → List ℕ → ℕ
+name_word seed name = word_of (name_state seed name)
 
 -- the word of a name and subsection
-unfoldable pub full_word : List ℕ → Option (List ℕ) → ℕ
-full_word name None = name_word name
-full_word name (Some bytes) = with_bytes (with_byte (name_word name) 0) bytes
+abbrev pub full_word : (seed : ℕ) → List ℕ → Option (List ℕ) → ℕ
+full_word seed name subsection = word_of (full_state (name_state seed name) subsection)

@@ -226,11 +226,24 @@ impl WordIndex {
     #[inline(always)]
     pub fn push(&mut self, word: u32)
         requires { 0 < self.old.room }
-        ensures { self.new.words ≡ self.old.words ++ word ∷ [] }
+        ensures words { self.new.words ≡ self.old.words ++ word ∷ [] }
+        ensures room { self.new.room + 1 ≡ self.old.room }
     {
         let at = self.links.len() as u32;
         self.links.push_reserved(unlinked(word));
         chain(&mut self.links, &mut self.buckets, at);
+    }
+
+    /// Takes all words out. Their memory stays, as room for others. Takes time for the buckets.
+    pub fn clear(&mut self)
+        ensures words { self.new.words ≡ [] }
+        ensures room { length self.old.words + self.old.room ≤ self.new.room }
+    {
+        if self.links.is_empty() {
+            return;
+        }
+        self.links.clear();
+        relink_all(&mut self.links, &mut self.buckets);
     }
 
     /// Puts a word at a place. Takes time for all words.

@@ -2,10 +2,10 @@
 ghost use Rattle.std.specs.Prelude.{◌≡◌, ◌+◌, ◌<◌, ◌≤◌, ◌^◌, drop, length, take, vec_capacity, vec_len, IfOk, OnOk, OnErr};
 ghost use Rattle.std.specs.Option.{option_copied, option_map};
 ghost use Rattle.gitconf_text.specs.Bytes.{fold};
-ghost use Rattle.gitconf_table.specs.Word.{name_word};
+ghost use Rattle.gitconf_table.specs.Word.{name_state};
 ghost use Rattle.gitconf_table.specs.Letters.{name_part, part_of, subsection_len, subsection_part, ArePut, IsPut, IsSubsectionPut};
 
-use crate::word::{NO_BYTES, with_byte};
+use crate::word::Mixing;
 use std::alloc::AllocError;
 use std::mem::size_of;
 
@@ -88,29 +88,29 @@ pub(crate) fn put(letters: &mut Vec<u8>, bytes: &[u8]) -> Part
     }
 }
 
-/// Puts a name in ASCII lower case behind the other bytes, as [`put`] does, and answers its place and its word. A name is
-/// short, so each byte is read and written once, in place of a copy that is put in lower case and read again.
-#[tactic(auto, unfolding(crate::specs::Word::name_word))]
+/// Puts a name in ASCII lower case behind the other bytes, as [`put`] does, and answers its place and the state behind it. A
+/// name is short, so each byte is read and written once, in place of a copy that is put in lower case and read again.
+#[tactic(auto, unfolding(crate::specs::Word::name_state))]
 #[inline(always)]
-fn put_folded(letters: &mut Vec<u8>, name: &[u8]) -> (Part, u32)
+fn put_folded(letters: &mut Vec<u8>, seed: u64, name: &[u8]) -> (Part, u64)
     requires room { vec_len letters.old + length name.now ≤ vec_capacity letters.old }
     requires places { vec_len letters.old + length name.now < 2 ^ 32 }
     ensures put { IsPut (fold name.now) letters.old.items letters.new.items result.0 }
-    ensures word { result.1 ≡ name_word name.now }
+    ensures state { result.1 ≡ name_state seed name.now }
     ensures len { vec_len letters.new ≡ vec_len letters.old + length name.now }
     ensures room { vec_capacity letters.old ≤ vec_capacity letters.new }
 {
     let start = letters.len() as u32;
-    let mut word = NO_BYTES;
+    let mut mixing = Mixing::behind(seed);
     let mut rest = name;
     while let Some((byte, behind)) = rest.split_first() {
         let folded = byte.to_ascii_lowercase();
         letters.push_reserved(folded);
-        word = with_byte(word, folded);
+        mixing = mixing.with_byte(folded);
         rest = behind;
     }
     let len = name.len() as u32;
-    (Part { start, len }, word)
+    (Part { start, len }, mixing.whole())
 }
 
 /// How many bytes a name and a subsection have.
@@ -135,30 +135,31 @@ fn put_subsection(letters: &mut Vec<u8>, subsection: Option<&[u8]>) -> Option<u3
     }
 }
 
-/// Puts the name, in ASCII lower case, and the subsection behind the other bytes, and answers their places and the word of
-/// the name.
+/// Puts the name, in ASCII lower case, and the subsection behind the other bytes, and answers their places and the state
+/// behind the name.
 ///
 /// # Errors
 ///
 /// Want of memory, also where more than 4294967295 bytes would stand there. The bytes are as they were.
 pub(crate) fn put_names(
     letters: &mut Vec<u8>,
+    seed: u64,
     name: &[u8],
     subsection: Option<&[u8]>,
-) -> Result<(Names, u32), AllocError>
+) -> Result<(Names, u64), AllocError>
     ensures ok { IfOk result (λ put. ArePut (fold name.now) (option_copied subsection.entry) letters.old.items letters.new.items put.0) }
-    ensures word { IfOk result (λ put. put.1 ≡ name_word name.now) }
+    ensures state { IfOk result (λ put. put.1 ≡ name_state seed name.now) }
     ensures err { OnErr result (letters.new.items ≡ letters.old.items) }
 {
     make_room(letters, names_len(name, subsection)?)?;
-    let (part, word) = put_folded(letters, name);
+    let (part, state) = put_folded(letters, seed, name);
     let subsection_len = put_subsection(letters, subsection);
     let names = Names {
         start: part.start,
         name_len: part.len,
         subsection_len,
     };
-    Ok((names, word))
+    Ok((names, state))
 }
 
 impl Names {

@@ -11,14 +11,14 @@ ghost use Rattle.gitconf_table.specs.Links.{no_place};
 ghost use Rattle.gitconf_table.specs.Sections.{all_named, entry_of, has_name, ids, is_named, named, no_number, number_at, numbered_from, place_of, section_at, section_of, sections_of, with_all, with_behind, with_last, with_names, without, IsNumbered, IsTableClone};
 ghost use Rattle.gitconf_table.specs.Rows.{entry_of_row, moved_rows, numbers_in, RowsFit};
 ghost use Rattle.gitconf_table.specs.Tables.{AreApart, ArePlaced, ArePlacedTo};
-ghost use Rattle.gitconf_table.specs.Word.{full_word};
+ghost use Rattle.gitconf_table.specs.Word.{full_word, name_word};
 ghost use Rattle.gitconf_table.specs.Words.{places_of};
 ghost use Rattle.gitconf_table.specs.SectionIters.{ids_left, named_left, sections_left, shown_section, with_name_left};
 
 use crate::index::{Places, WordIndex};
 use crate::letters::{Names, make_room, name_at, put, put_names, subsection_at};
 use crate::lists::put_at;
-use crate::word::{full_word, name_word};
+use crate::word::{SEED, full_state, name_state, word_of};
 use gitconf_text::NoMemory;
 use gitconf_text::parse::section::bytes::is_same_name;
 use gitconf_text::parse::span;
@@ -28,9 +28,11 @@ use std::mem::size_of;
 
 mod by_name;
 mod renaming;
+mod reseeding;
 mod weaving;
 
 pub use by_name::{Named, WithName};
+use reseeding::change_words;
 
 /// The number of a section, by which it is found whatever comes before or behind it. The default is the
 /// greatest number, which no section gets from a table.
@@ -92,9 +94,10 @@ pub struct SectionTable<T> {
     letters: Vec<u8>,
     // The place of each number that stands; of another one some place. Of 32 bits, since the indexes take no more words.
     places: Vec<u32>,
-    // The rows by the words of their names, and by those of their names and subsections.
+    // The rows by the words of their names, and by those of their names and subsections; what the words are made from.
     names: WordIndex,
     full: WordIndex,
+    seed: u64,
     next: usize,
 }
 
@@ -107,13 +110,14 @@ impl<T> Model for SectionTable<T> {
 
     ghost view = { λ t. record { entries = entries_of t.letters.items t.rows.items; next = t.next } };
 
-    ghost invariant = { λ t. IsKept t.next t.letters.items t.rows.items t.places.items t.names.words t.full.words };
+    ghost invariant = { λ t. IsKept t.seed t.next t.letters.items t.rows.items t.places.items t.names.words t.full.words };
 }
 
 impl<T> SectionTable<T> {
     ghost use Rattle.gitconf_table.specs.SectionLoan.{LendsSection};
 
-    /// A table without sections, whose first one gets the number 0.
+    /// A table without sections, whose first one gets the number 0. The words by which names are found are made from a seed
+    /// that everyone may know: see [`SectionTable::reseed`].
     pub fn new(alloc: Global) -> SectionTable<T>
         ensures empty { result.entries ≡ [] }
         ensures first { result.next ≡ 0 }
@@ -124,12 +128,13 @@ impl<T> SectionTable<T> {
             places: Vec::new(alloc),
             names: WordIndex::new(alloc),
             full: WordIndex::new(alloc),
+            seed: SEED,
             next: 0,
         }
     }
 
-    /// The same table again: its sections under their numbers and names, with clones of what they hold. Takes memory for
-    /// the names, the places and the indexes at once.
+    /// The same table again: its sections under their numbers and names, with clones of what they hold, and the same seed.
+    /// Takes memory for the names, the places and the indexes at once.
     ///
     /// # Errors
     ///
@@ -145,6 +150,7 @@ impl<T> SectionTable<T> {
             places: Vec::from_slice(*self.rows.allocator(), &self.places)?,
             names: self.names.try_clone()?,
             full: self.full.try_clone()?,
+            seed: self.seed,
             next: self.next,
         })
     }
@@ -225,7 +231,7 @@ impl<T> SectionTable<T> {
         Ids {
             rows: &self.rows,
             letters: &self.letters,
-            places: self.places_named(name, subsection),
+            places: places_named(&self.full, self.seed, name, subsection),
             name,
             subsection,
         }
@@ -244,7 +250,7 @@ impl<T> SectionTable<T> {
         Named {
             rows: &self.rows,
             letters: &self.letters,
-            places: self.places_named(name, subsection),
+            places: places_named(&self.full, self.seed, name, subsection),
             name,
             subsection,
         }
@@ -259,7 +265,7 @@ impl<T> SectionTable<T> {
         WithName {
             rows: &self.rows,
             letters: &self.letters,
-            places: self.names.places(name_word(name.as_bytes())),
+            places: places_of_name(&self.names, self.seed, name),
             name,
         }
     }
@@ -350,13 +356,13 @@ impl<T> SectionTable<T> {
             &mut self.names,
             &mut self.full,
         )?;
-        let (names, word) = put_names(&mut self.letters, name, subsection)?;
+        let (names, state) = put_names(&mut self.letters, self.seed, name, subsection)?;
         let row = Row { id, names, section };
         let at = self.rows.len() as u32;
         self.rows.push_reserved(row);
         self.places.push_reserved(at);
-        self.names.push(word);
-        self.full.push(full_word(name, word, subsection));
+        self.names.push(word_of(state));
+        self.full.push(word_of(full_state(state, subsection)));
         self.next += 1;
         Ok(id)
     }
@@ -393,22 +399,23 @@ impl<T> SectionTable<T> {
             &mut self.names,
             &mut self.full,
         )?;
-        let (names, word) = put_names(&mut self.letters, name, subsection)?;
+        let (names, state) = put_names(&mut self.letters, self.seed, name, subsection)?;
         let row = Row { id, names, section };
         let at = position + 1;
         self.rows.insert(at, row).unwrap();
         // Some place for now: all are written down once the row stands.
         self.places.push(0).unwrap();
         relocate(&self.rows, &mut self.places, 0);
-        self.names.insert(at, word);
-        self.full.insert(at, full_word(name, word, subsection));
+        self.names.insert(at, word_of(state));
+        self.full.insert(at, word_of(full_state(state, subsection)));
         self.next += 1;
         Ok(id)
     }
 
     /// Puts all sections of another table behind the first `position` ones, in their order and under the next
     /// numbers. Their names and what they hold are moved. Takes memory for the places and the indexes, moves what stands
-    /// behind, and links all sections anew; behind all others, those of the other table alone.
+    /// behind, and links all sections anew; behind all others, those of the other table alone. A table with another seed gets
+    /// new words first, as [`SectionTable::reseed`] makes them.
     ///
     /// Errors: a [`span::Error`], number 3 where fewer numbers are left than the other has sections, and else
     /// 27 for want of memory, also where there would be more than 4294967295 sections. The table then is as it was, and
@@ -430,8 +437,9 @@ impl<T> SectionTable<T> {
             rows: mut added,
             letters,
             places: _,
-            names,
-            full,
+            mut names,
+            mut full,
+            seed,
             next: _,
         } = other;
         self.rows.reserve(count)?;
@@ -439,6 +447,7 @@ impl<T> SectionTable<T> {
         self.full.reserve(count)?;
         make_room(&mut self.letters, letters.len())?;
         add_places(&mut self.places, self.next, count)?;
+        change_words(&added, &letters, seed, self.seed, &mut names, &mut full);
         let behind = put(&mut self.letters, &letters).start;
         renumber(&mut added, self.next, behind);
         put_at(&mut self.rows, position, &mut added);
@@ -480,22 +489,35 @@ impl<T> SectionTable<T> {
         ensures ok { OnOk result (self.new ≡ with_names self.old position name.now (option_copied subsection.entry)) }
         ensures err { OnErr result (self.new ≡ self.old) }
     {
-        let (names, word) = put_names(&mut self.letters, name, subsection)?;
-        self.names.set(position, word);
-        self.full.set(position, full_word(name, word, subsection));
+        let (names, state) = put_names(&mut self.letters, self.seed, name, subsection)?;
+        self.names.set(position, word_of(state));
+        self.full
+            .set(position, word_of(full_state(state, subsection)));
         let row = &mut self.rows[position];
         row.names = names;
         Ok(())
     }
+}
 
-    // The places at which the word of the name and subsection stands.
-    fn places_named(&self, name: &str, subsection: Option<&[u8]>) -> Places<'_>
-        ensures { result ≡ places_of (full_word name.now (option_copied subsection.entry)) (map (λ e. full_word e.name e.subsection) self.now.entries) }
-    {
-        let name = name.as_bytes();
-        self.full
-            .places(full_word(name, name_word(name), subsection))
-    }
+// The places at which the word of the name stands, of words that were made from the seed.
+fn places_of_name<'a>(names: &'a WordIndex, seed: u64, name: &str) -> Places<'a>
+    ensures { result ≡ places_of (name_word seed name.now) names.now.words }
+{
+    let state = name_state(seed, name.as_bytes());
+    names.places(word_of(state))
+}
+
+// The same of the name and subsection.
+fn places_named<'a>(
+    full: &'a WordIndex,
+    seed: u64,
+    name: &str,
+    subsection: Option<&[u8]>,
+) -> Places<'a>
+    ensures { result ≡ places_of (full_word seed name.now (option_copied subsection.entry)) full.now.words }
+{
+    let state = name_state(seed, name.as_bytes());
+    full.places(word_of(full_state(state, subsection)))
 }
 
 // Makes room for one row more, its place and its words. Mostly there is some, so that is asked of all of them first.

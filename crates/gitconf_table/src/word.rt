@@ -1,59 +1,132 @@
-//! The words by which names are found.
+//! The words by which names are found: each is made from a seed, so names that collide under one seed mostly don't under
+//! another.
 ghost use Rattle.std.specs.Prelude.{◌≡◌};
 ghost use Rattle.std.specs.Option.{option_copied};
 ghost use Rattle.gitconf_text.specs.Bytes.{fold};
-ghost use Rattle.gitconf_table.specs.Word.{full_word, name_word, with_byte, with_bytes};
+ghost use Rattle.gitconf_table.specs.Word.{full_state, group_with, mixed, name_state, nothing_behind, text_state, whole_state, with_byte, with_bytes, word_of};
 
-// FNV-1a of 32 bits: its word of no bytes, and its prime.
-pub(crate) const NO_BYTES: u32 = 2166136261;
+/// The seed where none is given: the first digits of pi behind its point. Everyone may know it.
+pub(crate) const SEED: u64 = 0x243f_6a88_85a3_08d3;
 
-const PRIME: u32 = 16777619;
+// 2^64 by the golden ratio, made odd: ones and zeros stand in it without a pattern.
+const MULTIPLIER: u64 = 0x9e37_79b9_7f4a_7c15;
 
-// A word with one byte more.
-#[tactic(auto, unfolding(crate::specs::Word::with_byte))]
+// A group of no bytes. The 1 stands before the bytes, so that groups of fewer are other numbers.
+const NO_BYTES: u64 = 1;
+
+// Seven bytes behind the 1, or more.
+const FULL: u64 = 1 << 56;
+
+// A state with a group of bytes more: the two halves of a product of 128 bits, one upon the other. The lower half alone would
+// carry no bit downwards, so that names could be found which collide whatever the seed is.
+#[tactic(auto, unfolding(crate::specs::Word::mixed))]
 #[inline(always)]
-pub(crate) fn with_byte(word: u32, byte: u8) -> u32
-    ensures { result ≡ with_byte word byte }
+fn mixed(state: u64, group: u64) -> u64
+    ensures { result ≡ mixed state group }
 {
-    (word ^ u32::from(byte)).wrapping_mul(PRIME)
+    let (low, high) = (state ^ group).carrying_mul(MULTIPLIER, 0);
+    low ^ high
 }
 
-// A word with all bytes of a text more.
-fn with_bytes(word: u32, bytes: &[u8]) -> u32
-    ensures { result ≡ with_bytes word bytes.now }
-{
-    let mut word = word;
-    let mut rest = bytes;
-    while let Some((byte, behind)) = rest.split_first() {
-        word = with_byte(word, *byte);
-        rest = behind;
+/// A state in the making, of a name that is put in lower case byte by byte: that of all full groups, of seven bytes each,
+/// and the bytes behind these.
+#[derive(Clone, Copy)]
+pub(crate) struct Mixing {
+    state: u64,
+    group: u64,
+}
+
+impl Mixing {
+    /// No bytes behind a state.
+    #[inline(always)]
+    pub(crate) fn behind(state: u64) -> Mixing
+        ensures { result ≡ nothing_behind state }
+    {
+        Mixing {
+            state,
+            group: NO_BYTES,
+        }
     }
-    word
+
+    /// One byte more.
+    #[tactic(auto, unfolding(crate::specs::Word::with_byte))]
+    #[inline(always)]
+    pub(crate) fn with_byte(self, byte: u8) -> Mixing
+        ensures { result ≡ with_byte self byte }
+    {
+        let group = self.group << 8 | byte as u64;
+        if group < FULL {
+            Mixing {
+                state: self.state,
+                group,
+            }
+        } else {
+            Mixing::behind(mixed(self.state, group))
+        }
+    }
+
+    /// The state of all bytes.
+    #[inline(always)]
+    pub(crate) fn whole(self) -> u64
+        ensures { result ≡ whole_state self }
+    {
+        mixed(self.state, self.group)
+    }
 }
 
-/// The word of a name, without ASCII case.
-#[tactic(auto, unfolding(crate::specs::Word::name_word))]
-pub fn name_word(name: &[u8]) -> u32
-    ensures { result ≡ name_word name.now }
+/// The state behind a name, without ASCII case.
+#[tactic(auto, unfolding(crate::specs::Word::name_state))]
+pub(crate) fn name_state(seed: u64, name: &[u8]) -> u64
+    ensures { result ≡ name_state seed name.now }
 {
-    let mut word = NO_BYTES;
+    let mut mixing = Mixing::behind(seed);
     let mut rest = name;
     while let Some((byte, behind)) = rest.split_first() {
-        word = with_byte(word, byte.to_ascii_lowercase());
+        mixing = mixing.with_byte(byte.to_ascii_lowercase());
         rest = behind;
     }
-    word
+    mixing.whole()
 }
 
-/// The word of a name, without ASCII case, and a subsection, if `word` is that of the name.
-#[tactic(auto, unfolding(crate::specs::Word::full_word))]
-pub fn full_word(name: &[u8], word: u32, subsection: Option<&[u8]>) -> u32
-    requires { word ≡ name_word name.now }
-    ensures { result ≡ full_word name.now (option_copied subsection.entry) }
+// So many bytes, fewer than eight, behind a group.
+fn group_with(first: u64, bytes: &[u8]) -> u64
+    ensures { result ≡ group_with first bytes.now }
 {
-    let _ = name;
-    match subsection {
-        None => word,
-        Some(bytes) => with_bytes(with_byte(word, 0), bytes),
+    let mut group = first;
+    for byte in bytes {
+        group = group << 8 | *byte as u64;
     }
+    group
+}
+
+// The state behind a text. It may be long and needs no lower case, so its bytes are taken by eights.
+#[tactic(auto, unfolding(crate::specs::Word::text_state))]
+fn text_state(from: u64, text: &[u8]) -> u64
+    ensures { result ≡ text_state from text.now }
+{
+    let (eights, rest) = text.as_chunks::<8>();
+    let mut state = from;
+    for eight in eights {
+        state = mixed(state, u64::from_le_bytes(*eight));
+    }
+    mixed(state, group_with(NO_BYTES, rest))
+}
+
+/// The state behind a name and a subsection, from that behind the name.
+pub(crate) fn full_state(state: u64, subsection: Option<&[u8]>) -> u64
+    ensures { result ≡ full_state state (option_copied subsection.entry) }
+{
+    match subsection {
+        None => state,
+        Some(bytes) => text_state(state, bytes),
+    }
+}
+
+/// The word of a state, of 32 bits, since each link keeps one: the upper half of the state, which is mixed once more for it.
+/// Else the last group of a text had gone through one product only, and names that differ there alone shared more buckets.
+#[inline(always)]
+pub(crate) fn word_of(state: u64) -> u32
+    ensures { result ≡ word_of state }
+{
+    (mixed(state, 0) >> 32) as u32
 }

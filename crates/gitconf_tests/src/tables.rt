@@ -1,6 +1,6 @@
 //! The table of sections: its changes, and walks over it from both ends.
 
-use self::Step::{Change, Put, PutAll, Remove, Rename};
+use self::Step::{Change, Put, PutAll, Remove, Rename, Reseed};
 use crate::shim::{MOST, Outcome, begin, each_refused, was_refused};
 use gitconf_table::table::{SectionId, SectionTable};
 use gitconf_text::NoMemory;
@@ -36,6 +36,8 @@ enum Step<'a> {
     Remove(usize),
     Rename(usize, Names<'a>),
     Change(usize, u8),
+    /// All names get words from another seed.
+    Reseed(u64),
 }
 
 /// Puts a section in, then those, and removes the first.
@@ -113,6 +115,7 @@ fn take(
         }
         Rename(at, names) => rename(table, at, names)?,
         Change(at, content) => change(table, at, content),
+        Reseed(seed) => table.reseed(seed),
     }
     Ok(None)
 }
@@ -265,7 +268,7 @@ const TEN: [(Names<'static>, u8); 10] = [
 /// A step, its answer, and what is told of the table behind it.
 type Row = (Step<'static>, Option<u8>, &'static [u8]);
 
-static ROWS: [Row; 18] = [
+static ROWS: [Row; 21] = [
     (Put(LAST, CORE, b'a'), Some(b'a'), b"a|a|||||a----------"),
     (
         Put(LAST, LOWER, b'b'),
@@ -287,6 +290,7 @@ static ROWS: [Row; 18] = [
         Some(b'e'),
         b"adbce|a|e|db|c|dbc|abcde------",
     ),
+    (Reseed(1), None, b"adbce|a|e|db|c|dbc|abcde------"),
     (Remove(1), Some(b'b'), b"adce|a|e|d|c|dc|a-cde------"),
     (Remove(1), None, b"adce|a|e|d|c|dc|a-cde------"),
     (Rename(2, CORE), None, b"adce|ac|e|d||d|a-cde------"),
@@ -301,10 +305,16 @@ static ROWS: [Row; 18] = [
         b"fghdcej|fc|e|d|h|hd|--cdefgh-j-",
     ),
     (Rename(5, LOWER), None, b"fghdcej|fc||de|h|hde|--cdefgh-j-"),
+    (Reseed(u64::MAX), None, b"fghdcej|fc||de|h|hde|--cdefgh-j-"),
     (Change(1, b'k'), None, b"fkhdcej|fc||de|h|hde|--cdefkh-j-"),
     (Remove(10), None, b"fkhdcej|fc||de|h|hde|--cdefkh-j-"),
     (
         PutAll(1, &TEN),
+        None,
+        b"f0123456789khdcej|fc||de|h|hde|--cdefkh-j0",
+    ),
+    (
+        Reseed(0),
         None,
         b"f0123456789khdcej|fc||de|h|hde|--cdefkh-j0",
     ),
@@ -338,6 +348,51 @@ fn are_changed(alloc: Global) -> Result<bool, Fail> {
 fn tables_are_changed(rt: HostRuntime) -> Result<(), Fail> {
     assert!(rt; are_changed(rt.alloc())?);
     Ok(())
+}
+
+/// Two subsections of a name that have one word, f5e4a707, from the seed of a new table, and two words from the seed 1.
+const LEFT: &[u8] = b"dcwk";
+
+const RIGHT: &[u8] = b"didd";
+
+/// Whether the sections of the two subsections are told apart.
+fn are_told_apart(table: &SectionTable<u8>) -> bool {
+    behind_named(table, &("Remote", Some(LEFT)), b"|ac", 0) == Some(3)
+        && behind_named(table, &("remote", Some(RIGHT)), b"|b", 0) == Some(2)
+}
+
+/// The same before and behind another seed.
+fn stay_apart(table: &mut SectionTable<u8>) -> bool {
+    if !are_told_apart(table) {
+        return false;
+    }
+    table.reseed(1);
+    are_told_apart(table)
+}
+
+/// The same of a table that is filled here.
+fn is_one_told_apart(alloc: Global) -> Result<bool, span::Error> {
+    let left: Names<'_> = (b"remote", Some(LEFT));
+    let right: Names<'_> = (b"REMOTE", Some(RIGHT));
+    let mut table = table_of(alloc, &[(left, b'a'), (right, b'b'), (left, b'c')])?;
+    Ok(stay_apart(&mut table))
+}
+
+/// Names of one word are told apart, or the growth is refused.
+fn names_told_apart(alloc: Global) -> Result<Outcome, Fail> {
+    begin(alloc)?;
+    let answer = is_one_told_apart(alloc);
+    let refused = was_refused(alloc);
+    let fits = match answer {
+        Ok(apart) => apart,
+        Err(error) => refused && error.number() == 27,
+    };
+    Ok(Outcome { refused, fits })
+}
+
+#[test]
+fn names_of_one_word_are_told_apart(rt: HostRuntime) -> Result<(), Fail> {
+    each_refused(rt.alloc(), "names of one word", names_told_apart)
 }
 
 /// Puts three sections of one name in, and another one, and answers the numbers of the three.

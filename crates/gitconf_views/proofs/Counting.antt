@@ -1,14 +1,12 @@
 -- Newlines and entries, counted section by section.
-use Rattle.std.proofs.Common.{◌≡◌, ℕ, suc, min, arith, ◌+◌, ◌<◌, ◌^◌, List, [], ◌∷◌, length, refl, ap, sym, ◌∙◌, length-append}
+use Rattle.std.proofs.Common.{◌≡◌, ℕ, suc, min, arith, ◌+◌, List, [], ◌∷◌, length, refl, ap, sym, ◌∙◌, length-append}
 use Rattle.std.specs.List.{count_by}
 use Rattle.std.specs.Prelude.{filter}
 use Rattle.std.proofs.lemmas.List.Sums.{length-filter}
-use Rattle.std.proofs.lemmas.Grind.{flat_map-append}
 use Rattle.gitconf_items.specs.declared.items.Item.{Item}
 use Rattle.gitconf_items.specs.declared.items.Item.TheVariants as kinds
 use Rattle.gitconf_state.specs.State.{SectionState, entries_of}
 use Rattle.gitconf_items.specs.Items.{items_of}
-use Rattle.gitconf_write.proofs.Newlines.{first_newline-append, line_end_of-first}
 use Rattle.gitconf_lines.specs.Spacings.{is_stored_entry}
 use Rattle.gitconf_views.specs.Counts.{section_entries}
 
@@ -26,11 +24,9 @@ entries_counted buffer items = sym (length-filter is_stored_entry items) ∙ ent
 -- one section more
 pub section_counted : (s : SectionState) (left next : List SectionState) (buffer : List ℕ) (items seen : List Item) (count entries sum all : ℕ)
     → s.items ≡ items_of buffer items → left ≡ s ∷ next → seen ≡ items → entries ≡ count_by is_stored_entry seen → sum ≡ min (count + entries) 18446744073709551615
-    → count + length (section_entries left) ≡ all → all < 2 ^ 64 → sum + length (section_entries next) ≡ all
-section_counted s left next buffer items seen count entries sum all stands is lent counted added before fits =
+    → min (count + length (section_entries left)) 18446744073709551615 ≡ all → min (sum + length (section_entries next)) 18446744073709551615 ≡ all
+section_counted s left next buffer items seen count entries sum all stands is lent counted added before =
     let here : entries ≡ length (entries_of s.items) = counted ∙ (ap (count_by is_stored_entry) lent ∙ (entries_counted buffer items ∙ ap (λ is. length (entries_of is)) (sym stands))) in
     let both : length (section_entries left) ≡ length (entries_of s.items) + length (section_entries next) =
     ap (λ ss. length (section_entries ss)) is ∙ length-append (entries_of s.items) (section_entries next) in
-    omega (arith, here, both, added, before, fits)
-
-pub ruleset among = (first_newline-append, line_end_of-first, flat_map-append)
+    omega (arith, here, both, added, before)

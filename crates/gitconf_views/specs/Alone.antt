@@ -1,5 +1,5 @@
 -- A section that stands alone, in a buffer of its own.
-use Rattle.std.specs.Prelude.{◌≡◌, ℕ, ◌<◌, ◌≤◌, ◌+◌, ◌^◌, ◌==◌, Bool, true, List, [], ◌∷◌, length, Option, Result, IfErr, OnErr, OnOk}
+use Rattle.std.specs.Prelude.{◌≡◌, ◌↔◌, ℕ, ◌<◌, ◌≤◌, ◌+◌, ◌^◌, ◌==◌, Bool, false, true, List, [], ◌∷◌, length, Option, Result, IfErr, IsErrAnd, OnErr, OnOk}
 use Rattle.std.specs.List.{list_all, list_any}
 use Rattle.gitconf_text.specs.HeaderErrors.{header_number}
 use Rattle.gitconf_text.specs.Part as parts
@@ -55,11 +55,12 @@ pub record StandsAlone (buffer copies : List ℕ) (s : Own) : Type 0 where
   pub spelled : is_header (header_of buffer s.header) ≡ true
   pub items : list_all is_item (items_of buffer s.items.items) ≡ true
 
--- An editor's edit was done, or refused, and the section is then as it was. No more bytes are put into its buffer than the edit's tokens have;
--- refusal 3 comes only where these would pass the limit, and 6 and 27 are the only others.
-pub record IsEditedAlone {T E : Type 0} (change : List parts.Item → List parts.Item) (bytes : ℕ) (number : E → ℕ) (result : Result T E) (old new : Detached) : Type 0 where
+-- An editor's edit was done, or refused, and the section is then as it was. No more bytes are put into its buffer than are counted. Refusal 6
+-- comes exactly for a name that is none, and else 3 exactly where these bytes would pass the limit; any other is want of memory.
+pub record IsEditedAlone {T E : Type 0} (change : List parts.Item → List parts.Item) (is_named : Bool) (bytes : ℕ) (number : E → ℕ) (result : Result T E) (old new : Detached) : Type 0 where
   pub ok : OnOk result (new.section ≡ with_items change old.section)
   pub err : OnErr result (new.section ≡ old.section)
   pub grown : new.used ≤ old.used + bytes
-  pub too_large : IfErr result (λ e. number e ≡ 3 → 2 ^ 32 ≤ old.used + bytes)
+  pub invalid : IsErrAnd result (λ e. number e ≡ 6) ↔ (is_named ≡ false)
+  pub too_large : IsErrAnd result (λ e. number e ≡ 3) ↔ ((is_named ≡ true) × (2 ^ 32 ≤ old.used + bytes))
   pub known : IfErr result (λ e. list_any (λ refusal. refusal == number e) edit_numbers ≡ true)

@@ -140,6 +140,7 @@ impl SectionRef<'_> {
 impl Section {
     ghost use Rattle.std.specs.Prelude.{◌≡◌, ◌≤◌, ◌^◌, ◌↔◌, true, false, IfErr, IfOk, IsErrOf};
     ghost use Rattle.gitconf_state.specs.Edit.{header_bytes};
+    ghost use Rattle.gitconf_state.specs.State.{HasSectionItems};
     ghost use Rattle.gitconf_views.specs.Alone.{is_refusal_of_header, made_alone};
     ghost use Rattle.gitconf_views.specs.Views.{shown};
 
@@ -183,9 +184,10 @@ impl Section {
         })
     }
 
-    /// A view of it, as of a section of a file. Takes no memory.
+    /// A view of it, as of a section of a file. Its header and its items are such as a text may have, whatever made it. Takes no memory.
     pub fn to_ref(&self) -> SectionRef<'_>
-        ensures { shown result ≡ self.now.section }
+        ensures same { shown result ≡ self.now.section }
+        ensures items { HasSectionItems self.now.section }
     {
         SectionRef {
             alloc: *self.buffer.allocator(),

@@ -1,6 +1,7 @@
 //! Views of sections, of their headers and of their bodies; and sections that stand in no file, with their editor.
 #![tactic(auto)]
 
+mod debug;
 pub mod detached;
 pub mod lists;
 pub mod popped;

@@ -39,11 +39,8 @@ use Rattle.gix_config.specs.SectionEditors.{IsFoundOrMade}
 -- refusals keep their numbers
 pub value_numbers : (e : ValueError) → env_number (env_of_value e) ≡ value_number e
 value_numbers (value.ValueName n) = refl
-value_numbers (value.Span n) = go (n == 27) refl
-  where
-    go : (b : Bool) → (n == 27) ≡ b → env_number (env_of_value (value.Span n)) ≡ n
-    go true is = rw is (sym (eqb-true n 27 is))
-    go false is = rw is refl
+value_numbers (value.Span n) = refl
+value_numbers value.Memory = refl
 
 pub header_numbers : (e : HeaderError) → env_number (env_of_header e) ≡ header_number e
 header_numbers header.InvalidName = refl
@@ -218,11 +215,8 @@ includes_count {T = T} e (Err r) old new err counts = renumbered T T (includes_n
 -- what refusals of an entry tell
 pub value_cause : (index : ℕ) (e : ValueError) → list_any (λ number. number == value_number e) edit_numbers ≡ true → IsEntryCause index (env_of_value e)
 value_cause index (value.ValueName n) is = is
-value_cause index (value.Span n) is = go (n == 27)
-  where
-    go : (b : Bool) → IsEntryCause index (if b then env.Memory else env.SectionValue (value.Span n))
-    go true = tt
-    go false = is
+value_cause index (value.Span n) is = is
+value_cause index value.Memory is = tt
 
 pub header_cause : (index : ℕ) (e : HeaderError) → list_any (λ number. number == header_number e) known_numbers ≡ true → IsEntryCause index (env_of_header e)
 header_cause index header.InvalidName is = is

@@ -8,6 +8,7 @@ use Rattle.gitconf_state.specs.Edits.{Edit, SetValue, apply, change_items, chang
 use Rattle.gitconf_state.specs.Editors.{Editor}
 use Rattle.gitconf_state.specs.State.{SectionState, State}
 use Rattle.gitconf_state.proofs.EditLists.{last_at, last_passing}
+use Rattle.gitconf_views.proofs.AloneEdits.{is_three, no_six, of_three, place_known}
 use Rattle.gitconf_store.specs.Edits.{UsedGrows}
 use Rattle.gitconf_store.specs.Editors.{PutsIn}
 use Rattle.gix_config.specs.Edited.{edit_numbers, has_name, has_number, IsEdited}
@@ -52,24 +53,6 @@ if_numbered {P} id state stands there = go (numbered id state) (numbered_stands 
     go : (o : Option SectionState) → ((s : SectionState) × (o ≡ Some s)) → IfSome o (λ _. P) → P
     go None some there = absurd (let h = some.1 in cc)
     go (Some s) some there = there
-
--- what a place is refused by: 3 or want of memory
-no_six : {T : Type 0} (r : Result T ℕ) → IfErr r (λ e. (e ≡ 3) ⊎ (e ≡ 27)) → IsErrAnd r (λ e. e ≡ 6) → ⊥
-no_six (Ok t) known is = is
-no_six (Err e) (inl three) is = omega (arith, three, is)
-no_six (Err e) (inr memory) is = omega (arith, memory, is)
-
-is_three : {T : Type 0} (r : Result T ℕ) → IsErrAnd r (λ e. e ≡ 3) → IsErrOf r 3
-is_three (Ok t) is = absurd is
-is_three (Err e) is = ap Err is
-
-of_three : {T : Type 0} (r : Result T ℕ) → IsErrOf r 3 → IsErrAnd r (λ e. e ≡ 3)
-of_three r is = subst (λ t. IsErrAnd t (λ e. e ≡ 3)) (sym is) refl
-
-place_known : {T : Type 0} (r : Result T ℕ) → IfErr r (λ e. (e ≡ 3) ⊎ (e ≡ 27)) → IfErr r (λ e. list_any (λ refusal. refusal == e) edit_numbers ≡ true)
-place_known (Ok t) known = tt
-place_known (Err e) (inl three) = rw three refl
-place_known (Err e) (inr memory) = rw memory refl
 
 -- an edit, from what a store says of it
 pub edited_in : {T : Type 0} (edit : Edit) (id : ℕ) (result : Result T ℕ) (count : ℕ) (old new : State) → has_number id old ≡ true → has_name edit ≡ true

@@ -1,4 +1,4 @@
--- What editors put into the buffer is counted by their edits alone, and is no more than the tokens that they make.
+-- What editors put into the buffer is no more than the tokens that they make.
 use Rattle.std.proofs.Common.{◌≡◌, ℕ, ◌+◌, ◌≤◌, Bool, true, false, List, [], ◌∷◌, ◌++◌, length, filter, Option, Some, None, refl, ap, arith}
 use Rattle.std.specs.Prelude.{flat_map, if◌then◌else◌}
 use Rattle.std.specs.List.{last_or}
@@ -11,50 +11,11 @@ use Rattle.gitconf_state.specs.Edits.{Edit, items_of_numbered, new_bytes, value_
 use Rattle.gitconf_state.specs.Editors as states
 use Rattle.gitconf_state.specs.Editors.{comment_made, end_made, entry_made, line_made}
 use Rattle.gitconf_state.specs.State.{State}
-use Rattle.gitconf_lines.specs.declared.editor.Editor.{Editor}
-use Rattle.gitconf_lines.specs.declared.editor.Leading.{Leading}
-use Rattle.gitconf_lines.specs.declared.editor.Leading.TheVariants as leadings
-use Rattle.gitconf_lines.specs.Blanks.{given_editor, IsGiven, IsGivenLeading, PutsAround}
-use Rattle.gitconf_lines.specs.Editors.{changed_put, comment_put, end_put, leading_in, leading_put, line_put, set_put, value_put}
+use Rattle.gitconf_lines.specs.Puts as puts
+use Rattle.gitconf_lines.specs.Puts.{assigned_bytes, changed_bytes, line_bytes, value_set_bytes}
 use Rattle.gitconf_store.proofs.HeaderBytes.{header_tokens}
 use Rattle.gitconf_views.proofs.LineBytes.{both_bytes, comment_within, items_bytes, made_bytes, one_bytes, run_bytes}
-use Rattle.gix_config.specs.Puts as puts
-use Rattle.gix_config.specs.Puts.{assigned_bytes, changed_bytes, line_bytes, put_bytes, value_set_bytes}
-
--- blanks that are bytes are put as they are
-leading_is : (l : Leading) → IsGivenLeading l → leading_put l ≡ puts.run_bytes (leading_in [] l)
-leading_is leadings.Nothing given = refl
-leading_is (leadings.Stored run) given = absurd given
-leading_is (leadings.Given bytes) given = refl
-
-value_is : (e : Editor) (value : Option (List ℕ)) → PutsAround e → value_put e.around value ≡ assigned_bytes (given_editor e).spacing value
-value_is e None around = refl
-value_is e (Some value) around = ap (λ n. n + length (escaped value)) around
-
-pub line_is : (e : Editor) (key : List ℕ) (value comment : Option (List ℕ)) → IsGiven e → PutsAround e
-    → line_put e key value comment ≡ line_bytes (given_editor e) key value comment
-line_is e key value comment given around =
-    λ i. leading_is e.leading given.0 i + (length key + (value_is e value around i + (comment_put comment + end_put e)))
-
-changed_is : (e : Editor) (value : List ℕ) (i : Item) → PutsAround e → changed_put e.around value i ≡ changed_bytes (given_editor e).spacing value i
-changed_is e value (BlanksItem run) around = refl
-changed_is e value (LineEndsItem run) around = refl
-changed_is e value (CommentItem tag text) around = refl
-changed_is e value (EntryItem entry) around = go entry.assigned refl
-  where
-    go : (o : Option Assigned) → entry.assigned ≡ o → changed_put e.around value (EntryItem entry) ≡ changed_bytes (given_editor e).spacing value (EntryItem entry)
-    go (Some a) at = rw at refl
-    go None at = rw at (value_is e (Some value) around)
-
-pub set_is : (e : Editor) (key value : List ℕ) (items : List Item) → IsGiven e → PutsAround e → set_put e key value items ≡ value_set_bytes (given_editor e) key value items
-set_is e key value items given around = go (last_or None (filter (is_entry_of key) items)) refl
-  where
-    go : (o : Option Item) → last_or None (filter (is_entry_of key) items) ≡ o → set_put e key value items ≡ value_set_bytes (given_editor e) key value items
-    go None at = rw (at, set_put, value_set_bytes) (line_is e key (Some value) None given around)
-    go (Some i) at = rw (at, set_put, value_set_bytes) (changed_is e value i around)
-
-pub written_is : (e : Editor) (key value : List ℕ) → PutsAround e → length key + value_put e.around (Some value) ≡ length key + assigned_bytes (given_editor e).spacing (Some value)
-written_is e key value around = ap (λ n. length key + n) (value_is e (Some value) around)
+use Rattle.gix_config.specs.Puts.{put_bytes}
 
 -- The tokens of a line that is pushed have these bytes, and more.
 leading_fits : (o : Option (List ℕ)) → puts.run_bytes o ≤ token_bytes (flat_map item_tokens (leading_item o))

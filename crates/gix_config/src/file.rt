@@ -3,6 +3,7 @@ ghost use Rattle.std.specs.Prelude.{◌≡◌, IfOk};
 
 mod all_values;
 mod appending;
+mod debug;
 mod editing;
 mod existing;
 mod impls;
@@ -11,6 +12,7 @@ mod look_ups;
 pub mod multi_value_mut;
 mod removing;
 mod renaming;
+mod reseeding;
 mod resolving;
 pub mod section;
 pub mod section_mut;
@@ -67,7 +69,7 @@ impl Model for File {
 impl File {
     ghost use Rattle.std.specs.Fn.{ComputesKey};
     ghost use Rattle.std.specs.Option.{option_copied};
-    ghost use Rattle.std.specs.Prelude.{◌≡◌, ◌<◌, ◌^◌, ℕ, Bool, [], List, true, length, map, IfOk, IfErr, IfSome, ◌↔◌, false, IsNone, IsSome, OnErr, OnOk};
+    ghost use Rattle.std.specs.Prelude.{◌≡◌, ◌-◌, ◌<◌, ◌^◌, ℕ, Bool, [], List, true, length, map, min, IfOk, IfErr, IfSome, ◌↔◌, false, IsNone, IsSome, OnErr, OnOk};
     ghost use Rattle.bstr.specs.Owned.{bstring_bytes};
     ghost use Rattle.gitconf_text.specs.Document.{IsText, Reads, unmarked};
     ghost use Rattle.gitconf_text.specs.Part.{Part};
@@ -272,9 +274,10 @@ impl File {
         self.store.is_void()
     }
 
-    /// How many entries the sections have, those of the front not counted. Takes no memory, and a walk over all.
+    /// How many entries the sections have, those of the front not counted; the greatest number where they are more. Takes no memory, and a
+    /// walk over all.
     pub fn num_values(&self) -> usize
-        ensures { let n = length (section_entries self.now.sections) in n < 2 ^ 64 → result ≡ n }
+        ensures { result ≡ min (length (section_entries self.now.sections)) (2 ^ 64 - 1) }
     {
         self.store.num_values()
     }

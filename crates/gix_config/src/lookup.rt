@@ -1,4 +1,6 @@
 //! How look-ups are refused.
+ghost use Rattle.std.specs.Prelude.{◌≡◌};
+
 pub use gitconf_finding::existing;
 use gitconf_text::NoMemory;
 use std::fmt::Display;
@@ -19,8 +21,20 @@ pub enum Error<E> {
     Memory,
 }
 
+impl<E> From<existing::Error> for Error<E> {
+    ghost use Rattle.gix_config.specs.Errors.{lookup_of_existing};
+
+    ghost from_gives = { λ existing e. e ≡ lookup_of_existing existing };
+
+    fn from(existing: existing::Error) -> Error<E> {
+        match existing {
+            existing::Error::Memory => Error::Memory,
+            existing => Error::ValueMissing(existing),
+        }
+    }
+}
+
 impl<E> From<NoMemory> for Error<E> {
-    ghost use Rattle.std.specs.Prelude.{◌≡◌};
     ghost use Rattle.gix_config.specs.declared.lookup.Error.TheVariants.{Memory};
 
     ghost from_gives = { λ _ e. e ≡ Memory };

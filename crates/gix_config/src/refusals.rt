@@ -133,6 +133,7 @@ impl Refusal for section::value::Error {
         match self {
             section::value::Error::ValueName(e) => e.number(),
             section::value::Error::Span(e) => e.number(),
+            section::value::Error::Memory => 27,
         }
     }
 }

@@ -28,23 +28,30 @@ enum Task<'a> {
     Load(&'a str, KeyRef<'a>),
 }
 
+/// What is asked of the entries of a file.
+#[derive(Clone, Copy)]
+enum Query<'a> {
+    /// The last value of a key.
+    Get(KeyRef<'a>),
+    /// All values of a key.
+    All(KeyRef<'a>),
+    /// The boolean of a key.
+    Bool(KeyRef<'a>),
+    /// The integer of a key.
+    Int(KeyRef<'a>),
+    /// The entries of all sections.
+    List,
+}
+
 /// What is to be done with the file that standard input is.
 #[derive(Clone, Copy)]
 enum Command<'a> {
-    /// Prints the last value of a key.
-    Get(KeyRef<'a>),
-    /// Prints all values of a key.
-    All(KeyRef<'a>),
-    /// Prints the boolean of a key.
-    Bool(KeyRef<'a>),
-    /// Prints the integer of a key.
-    Int(KeyRef<'a>),
+    /// Prints what is asked of its entries.
+    Ask(Query<'a>),
     /// Gives a key a value, and prints the file.
     Set(KeyRef<'a>, &'a str),
     /// Takes a key's last entry out of the last section that has one, and prints the file.
     Unset(KeyRef<'a>),
-    /// Prints the entries of all sections.
-    List,
     /// Prints the file.
     Print,
     /// Prints the file, laid out.
@@ -225,15 +232,11 @@ fn work_on<W: Write>(
     out: &mut W,
 ) -> Result<(), Fault> {
     match command {
-        Command::Get(key) => put(&get(&load_entries(alloc, text)?, key)?, out),
-        Command::All(key) => put(&all(alloc, &load_entries(alloc, text)?, key)?, out),
-        Command::Bool(key) => put(boolean(&load_entries(alloc, text)?, key)?, out),
-        Command::Int(key) => put(&integer(alloc, &load_entries(alloc, text)?, key)?, out),
+        Command::Ask(query) => put_asked(alloc, text, query, out),
         Command::Set(key, value) => put_edited(alloc, text, key, value, out),
         Command::Unset(key) => put_without(alloc, text, key, out),
-        Command::List => put(&list(alloc, &load_entries(alloc, text)?)?, out),
-        Command::Print => put_file(alloc, &load(alloc, text)?, out),
-        Command::Fmt => put(&laid_out(alloc, &text)?, out),
+        Command::Print => put_whole(alloc, text, out),
+        Command::Fmt => put_laid_out(alloc, &text, out),
     }
 }
 
@@ -252,7 +255,7 @@ fn command_of<'a>(args: &[&'a str]) -> Result<Command<'a>, Fault> {
     match args {
         [word, key] => key_command(word, key),
         [word, key, value] if *word == "set" => Ok(Command::Set(key_of(key)?, value)),
-        [word] if *word == "list" => Ok(Command::List),
+        [word] if *word == "list" => Ok(Command::Ask(Query::List)),
         [word] if *word == "print" => Ok(Command::Print),
         [word] if *word == "fmt" => Ok(Command::Fmt),
         _ => Err(Fault::Usage),
@@ -262,10 +265,10 @@ fn command_of<'a>(args: &[&'a str]) -> Result<Command<'a>, Fault> {
 /// The command that a word and a key are.
 fn key_command<'a>(word: &str, key: &'a str) -> Result<Command<'a>, Fault> {
     match word {
-        "get" => Ok(Command::Get(key_of(key)?)),
-        "all" => Ok(Command::All(key_of(key)?)),
-        "bool" => Ok(Command::Bool(key_of(key)?)),
-        "int" => Ok(Command::Int(key_of(key)?)),
+        "get" => Ok(Command::Ask(Query::Get(key_of(key)?))),
+        "all" => Ok(Command::Ask(Query::All(key_of(key)?))),
+        "bool" => Ok(Command::Ask(Query::Bool(key_of(key)?))),
+        "int" => Ok(Command::Ask(Query::Int(key_of(key)?))),
         "unset" => Ok(Command::Unset(key_of(key)?)),
         _ => Err(Fault::Usage),
     }
@@ -456,12 +459,85 @@ fn laid_out(alloc: Global, text: &[u8]) -> Result<BString, Fault> {
     Ok(normalize(alloc, text, Options::default())?)
 }
 
+/// Writes the text, laid out by the default options.
+fn put_laid_out<W: Write>(alloc: Global, text: &[u8], out: &mut W) -> Result<(), Fault> {
+    let text = laid_out(alloc, text)?;
+    put(&text, out)
+}
+
+/// Writes what is asked of the entries of a text.
+fn put_asked<W: Write>(
+    alloc: Global,
+    text: Vec<u8>,
+    query: Query<'_>,
+    out: &mut W,
+) -> Result<(), Fault> {
+    let file = load_entries(alloc, text)?;
+    put_answer(alloc, &file, query, out)
+}
+
+/// Writes what is asked of the entries of a file.
+fn put_answer<W: Write>(
+    alloc: Global,
+    file: &File,
+    query: Query<'_>,
+    out: &mut W,
+) -> Result<(), Fault> {
+    match query {
+        Query::Get(key) => put_value(file, key, out),
+        Query::All(key) => put_values(alloc, file, key, out),
+        Query::Bool(key) => put(boolean(file, key)?, out),
+        Query::Int(key) => put_integer(alloc, file, key, out),
+        Query::List => put_list(alloc, file, out),
+    }
+}
+
+/// Writes the last value of a key, on a line.
+fn put_value<W: Write>(file: &File, key: KeyRef<'_>, out: &mut W) -> Result<(), Fault> {
+    let value = get(file, key)?;
+    put(&value, out)
+}
+
+/// Writes all values of a key, each on a line.
+fn put_values<W: Write>(
+    alloc: Global,
+    file: &File,
+    key: KeyRef<'_>,
+    out: &mut W,
+) -> Result<(), Fault> {
+    let lines = all(alloc, file, key)?;
+    put(&lines, out)
+}
+
+/// Writes the integer of a key, on a line.
+fn put_integer<W: Write>(
+    alloc: Global,
+    file: &File,
+    key: KeyRef<'_>,
+    out: &mut W,
+) -> Result<(), Fault> {
+    let line = integer(alloc, file, key)?;
+    put(&line, out)
+}
+
+/// Writes the entries of all sections, each on a line.
+fn put_list<W: Write>(alloc: Global, file: &File, out: &mut W) -> Result<(), Fault> {
+    let lines = list(alloc, file)?;
+    put(&lines, out)
+}
+
 /// Writes an answer that stands in memory.
 fn put<W: Write>(answer: &[u8], out: &mut W) -> Result<(), Fault> {
     match out.write_all(answer) {
         Ok(()) => Ok(()),
         Err(_) => Err(Fault::Output),
     }
+}
+
+/// Writes the text as a file.
+fn put_whole<W: Write>(alloc: Global, text: Vec<u8>, out: &mut W) -> Result<(), Fault> {
+    let file = load(alloc, text)?;
+    put_file(alloc, &file, out)
 }
 
 /// Writes the text as a file in which a key has the value.

@@ -3,7 +3,7 @@ ghost use Rattle.std.specs.Option.{option_copied};
 ghost use Rattle.std.specs.Prelude.{◌≡◌, [], ◌+◌, ◌<◌, ◌≤◌, ◌↔◌, ◌++◌, length, IfErr, IfOk, IsErrOf, OnErr, OnOk};
 ghost use Rattle.gitconf_table.specs.Sections.{edited_at, no_number, with_all, with_last};
 ghost use Rattle.gitconf_sections.specs.Held.{line_end_item};
-ghost use Rattle.gitconf_sections.specs.Section.{all_rebased, holding, last_holding, made, AreListed};
+ghost use Rattle.gitconf_sections.specs.Section.{all_rebased, holding, made, AreListed};
 
 use crate::body::Body;
 use crate::held::Held;
@@ -192,26 +192,5 @@ impl SectionList {
         let row = self.table.at_mut(position);
         row.held.join(line_end, others);
         Ok(())
-    }
-
-    /// [`SectionList::append_held`] at the last section.
-    ///
-    /// # Errors
-    ///
-    /// Those of [`SectionList::append`].
-    pub fn append_behind(
-        &mut self,
-        line_end: Option<Span>,
-        others: &mut FewItems,
-        other: SectionList,
-    ) -> Result<(), span::Error>
-        requires { 0 < length self.old.entries }
-        ensures ok { OnOk result (self.new ≡ with_all (length self.old.entries) other (last_holding (line_end_item line_end ++ others.old.items) self.old)) }
-        ensures used_up { IsErrOf result 3 ↔ (no_number < self.old.next + length other.entries) }
-        ensures memory { IfErr result (λ e. self.old.next + length other.entries ≤ no_number → e ≡ 27) }
-        ensures err { OnErr result (self.new ≡ self.old) }
-    {
-        let last = self.len() - 1;
-        self.append_held(last, line_end, others, other)
     }
 }

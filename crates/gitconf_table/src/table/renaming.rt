@@ -6,7 +6,7 @@ ghost use Rattle.gitconf_table.specs.Renames.{named_each, with_names_at};
 
 use crate::letters::{Names, put_names};
 use crate::table::{Row, SectionTable};
-use crate::word::full_word;
+use crate::word::{full_state, word_of};
 use gitconf_text::NoMemory;
 
 impl<T> SectionTable<T> {
@@ -24,10 +24,10 @@ impl<T> SectionTable<T> {
         ensures ok { OnOk result (self.new ≡ with_names_at self.old places.now name.now (option_copied subsection.entry)) }
         ensures err { OnErr result (self.new ≡ self.old) }
     {
-        let (names, word) = put_names(&mut self.letters, name, subsection)?;
-        self.names.set_each(places, word);
+        let (names, state) = put_names(&mut self.letters, self.seed, name, subsection)?;
+        self.names.set_each(places, word_of(state));
         self.full
-            .set_each(places, full_word(name, word, subsection));
+            .set_each(places, word_of(full_state(state, subsection)));
         name_each(&mut self.rows, places, names);
         Ok(())
     }

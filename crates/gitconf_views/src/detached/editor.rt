@@ -72,16 +72,16 @@ impl Section {
 
 impl<'a> DetachedSectionMut<'a> {
     ghost use Rattle.std.specs.Option.{option_copied};
-    ghost use Rattle.std.specs.Prelude.{◌≡◌, ◌↔◌, ◌+◌, ◌≤◌, ◌^◌, true, false, flat_map, length, IfErr, IfOk, IfSome, IsErrAnd, IsErrOf, IsOk, None, OnErr, OnOk, Some, option_map, string_bytes};
-    ghost use Rattle.gitconf_text.specs.Token.{item_tokens};
+    ghost use Rattle.std.specs.Prelude.{◌≡◌, ◌↔◌, ◌+◌, ◌≤◌, ◌^◌, true, false, length, IfErr, IfOk, IfSome, IsErrOf, IsOk, None, OnErr, OnOk, Some, option_map, string_bytes};
     ghost use Rattle.bstr.specs.Owned.{bstring_bytes};
     ghost use Rattle.std.specs.List.{list_all};
     ghost use Rattle.gitconf_text.specs.Bytes.{is_whitespace};
     ghost use Rattle.gitconf_text.specs.Names.{is_made_name, is_valid_or_none, is_value_name};
     ghost use Rattle.gitconf_text.specs.declared.parse.section.header.Error.TheVariants.{InvalidName, InvalidSubSection, Span};
-    ghost use Rattle.gitconf_state.specs.Edit.{header_bytes, old_value, token_bytes};
-    ghost use Rattle.gitconf_state.specs.Editors.{line_end_pushed, line_made, popped, popped_entry, pushed, removed, value_set};
-    ghost use Rattle.gitconf_state.specs.Edits.{renamed, value_set_tokens, with_trust};
+    ghost use Rattle.gitconf_state.specs.Edit.{header_bytes, old_value};
+    ghost use Rattle.gitconf_state.specs.Editors.{line_end_pushed, popped, popped_entry, pushed, removed, value_set};
+    ghost use Rattle.gitconf_state.specs.Edits.{renamed, with_trust};
+    ghost use Rattle.gitconf_lines.specs.Puts.{line_bytes, value_set_bytes};
     ghost use Rattle.gitconf_views.specs.Alone.{is_refusal_of_header, with_items, IsEditedAlone};
     ghost use Rattle.gitconf_views.specs.AloneEditors.{edited, editor, lent};
     ghost use Rattle.gitconf_views.specs.ValueErrors.{value_number};
@@ -92,14 +92,13 @@ impl<'a> DetachedSectionMut<'a> {
     ///
     /// # Errors
     ///
-    /// Refusal 6 for a name that is none; else 3 where the section would take more than 4294967295 bytes, and 27 for want of memory. The
-    /// section is then as it was.
+    /// Refusal 6 exactly for a name that is none; else 3 exactly where the section's buffer would be longer than 4294967295 bytes, before any
+    /// growth, and 27 for want of memory. The section is then as it was, but that its buffer may have grown.
     pub fn push(&mut self, value_name: &str, value: Option<&[u8]>) -> Result<(), value::Error>
         ensures same_section { lent self.new ≡ lent self.old }
         ensures same_editor { editor self.new ≡ editor self.old }
-        ensures invalid { IsErrAnd result (λ e. value_number e ≡ 6) ↔ (is_value_name value_name.now ≡ false) }
-        ensures done { IsEditedAlone (pushed (editor self.old) value_name.now (option_copied value.entry) None)
-            (token_bytes (flat_map item_tokens (line_made (editor self.old) value_name.now (option_copied value.entry) None))) value_number result (edited self.old) (edited self.new) }
+        ensures done { IsEditedAlone (pushed (editor self.old) value_name.now (option_copied value.entry) None) (is_value_name value_name.now)
+            (line_bytes (editor self.old) value_name.now (option_copied value.entry) None) value_number result (edited self.old) (edited self.new) }
     {
         let editor = self.blanks.editor(self.line_end, self.ends);
         self.section.push_line(&editor, value_name, value, None)
@@ -119,10 +118,8 @@ impl<'a> DetachedSectionMut<'a> {
     ) -> Result<(), value::Error>
         ensures same_section { lent self.new ≡ lent self.old }
         ensures same_editor { editor self.new ≡ editor self.old }
-        ensures invalid { IsErrAnd result (λ e. value_number e ≡ 6) ↔ (is_value_name value_name.now ≡ false) }
-        ensures done { IsEditedAlone (pushed (editor self.old) value_name.now (option_copied value.entry) (Some comment.now))
-            (token_bytes (flat_map item_tokens (line_made (editor self.old) value_name.now (option_copied value.entry) (Some comment.now))))
-            value_number result (edited self.old) (edited self.new) }
+        ensures done { IsEditedAlone (pushed (editor self.old) value_name.now (option_copied value.entry) (Some comment.now)) (is_value_name value_name.now)
+            (line_bytes (editor self.old) value_name.now (option_copied value.entry) (Some comment.now)) value_number result (edited self.old) (edited self.new) }
     {
         let editor = self.blanks.editor(self.line_end, self.ends);
         self.section
@@ -133,11 +130,12 @@ impl<'a> DetachedSectionMut<'a> {
     ///
     /// # Errors
     ///
-    /// Number 3 where the section would take more than 4294967295 bytes, and 27 for want of memory. The section is then as it was.
+    /// Number 3 exactly where the section's buffer would be longer than 4294967295 bytes, and 27 for want of memory. The section is then as
+    /// it was.
     pub fn push_newline(&mut self) -> Result<(), span::Error>
         ensures same_section { lent self.new ≡ lent self.old }
         ensures same_editor { editor self.new ≡ editor self.old }
-        ensures done { IsEditedAlone (line_end_pushed (editor self.old)) (length (editor self.old).line_end) (λ e. e) result (edited self.old) (edited self.new) }
+        ensures done { IsEditedAlone (line_end_pushed (editor self.old)) true (length (editor self.old).line_end) (λ e. e) result (edited self.old) (edited self.new) }
     {
         let editor = self.blanks.editor(self.line_end, self.ends);
         self.section.push_line_end(&editor)
@@ -154,9 +152,8 @@ impl<'a> DetachedSectionMut<'a> {
     pub fn set(&mut self, value_name: &str, value: &[u8]) -> Result<Option<BString>, value::Error>
         ensures same_section { lent self.new ≡ lent self.old }
         ensures same_editor { editor self.new ≡ editor self.old }
-        ensures invalid { IsErrAnd result (λ e. value_number e ≡ 6) ↔ (is_value_name value_name.now ≡ false) }
-        ensures done { IsEditedAlone (value_set (editor self.old) value_name.now value.now)
-            (token_bytes (value_set_tokens (editor self.old) value_name.now value.now (edited self.old).section.items)) value_number result (edited self.old) (edited self.new) }
+        ensures done { IsEditedAlone (value_set (editor self.old) value_name.now value.now) (is_value_name value_name.now)
+            (value_set_bytes (editor self.old) value_name.now value.now (edited self.old).section.items) value_number result (edited self.old) (edited self.new) }
         ensures answer { IfOk result (λ o. option_map bstring_bytes o ≡ old_value value_name.now (edited self.old).section.items) }
     {
         let editor = self.blanks.editor(self.line_end, self.ends);

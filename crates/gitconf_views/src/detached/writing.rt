@@ -22,19 +22,19 @@ pub fn text_of(bytes: Option<Vec<u8>>) -> Option<BString>
 
 impl Section {
     ghost use Rattle.std.specs.Option.{option_copied};
-    ghost use Rattle.std.specs.Prelude.{◌≡◌, ◌↔◌, false, flat_map, length, option_map, IfOk, IsErrAnd};
+    ghost use Rattle.std.specs.Prelude.{◌≡◌, length, option_map, true, IfOk};
     ghost use Rattle.bstr.specs.Owned.{bstring_bytes};
     ghost use Rattle.gitconf_text.specs.Names.{is_value_name};
-    ghost use Rattle.gitconf_text.specs.Token.{item_tokens};
-    ghost use Rattle.gitconf_state.specs.Edit.{old_value, token_bytes};
-    ghost use Rattle.gitconf_state.specs.Editors.{line_end_pushed, line_made, pushed, value_set};
-    ghost use Rattle.gitconf_state.specs.Edits.{value_set_tokens, IsEditor};
+    ghost use Rattle.gitconf_state.specs.Edit.{old_value};
+    ghost use Rattle.gitconf_state.specs.Editors.{line_end_pushed, pushed, value_set};
+    ghost use Rattle.gitconf_state.specs.Edits.{IsEditor};
     ghost use Rattle.gitconf_views.specs.Alone.{IsEditedAlone};
-    ghost use Rattle.gitconf_lines.specs.Blanks.{given_editor, IsGiven};
+    ghost use Rattle.gitconf_lines.specs.Blanks.{given_editor, IsGiven, PutsAround};
+    ghost use Rattle.gitconf_lines.specs.Puts.{line_bytes, value_set_bytes};
     ghost use Rattle.gitconf_views.specs.ValueErrors.{value_number};
 
     /// [`Section::push_entry`], where the name may be none.
-    #[tactic(auto, using(crate::proofs::AloneEdits::done_alone, crate::proofs::LineBytes::line_within))]
+    #[tactic(auto, using(crate::proofs::AloneEdits::done_alone, crate::proofs::AloneEdits::done_with, crate::proofs::AloneEdits::refused_with, crate::proofs::AloneEdits::span_number, crate::proofs::AloneEdits::unnamed, gitconf_lines::proofs::Puts::line_is))]
     pub fn push_line(
         &mut self,
         editor: &Editor<'_>,
@@ -43,11 +43,10 @@ impl Section {
         comment: Option<&[u8]>,
     ) -> Result<(), value::Error>
         requires given { IsGiven editor.now }
+        requires puts { PutsAround editor.now }
         requires editor { IsEditor (given_editor editor.now) }
-        ensures invalid { IsErrAnd result (λ e. value_number e ≡ 6) ↔ (is_value_name value_name.now ≡ false) }
-        ensures done { IsEditedAlone (pushed (given_editor editor.now) value_name.now (option_copied value.entry) (option_copied comment.entry))
-            (token_bytes (flat_map item_tokens (line_made (given_editor editor.now) value_name.now (option_copied value.entry) (option_copied comment.entry))))
-            value_number result self.old self.new }
+        ensures done { IsEditedAlone (pushed (given_editor editor.now) value_name.now (option_copied value.entry) (option_copied comment.entry)) (is_value_name value_name.now)
+            (line_bytes (given_editor editor.now) value_name.now (option_copied value.entry) (option_copied comment.entry)) value_number result self.old self.new }
     {
         let key = value_name.as_bytes();
         if !is_value_name(key) {
@@ -61,13 +60,13 @@ impl Section {
     #[tactic(auto, using(crate::proofs::AloneEdits::done_alone))]
     pub fn push_line_end(&mut self, editor: &Editor<'_>) -> Result<(), span::Error>
         requires editor { IsEditor (given_editor editor.now) }
-        ensures done { IsEditedAlone (line_end_pushed (given_editor editor.now)) (length (given_editor editor.now).line_end) (λ e. e) result self.old self.new }
+        ensures done { IsEditedAlone (line_end_pushed (given_editor editor.now)) true (length (given_editor editor.now).line_end) (λ e. e) result self.old self.new }
     {
         self.push_newline(editor)
     }
 
     /// [`Section::set_entry`], where the name may be none.
-    #[tactic(auto, using(crate::proofs::AloneEdits::done_alone, crate::proofs::LineBytes::set_within))]
+    #[tactic(auto, using(crate::proofs::AloneEdits::done_alone, crate::proofs::AloneEdits::done_with, crate::proofs::AloneEdits::refused_with, crate::proofs::AloneEdits::span_number, crate::proofs::AloneEdits::unnamed, gitconf_lines::proofs::Puts::set_is))]
     pub fn set_line(
         &mut self,
         editor: &Editor<'_>,
@@ -75,10 +74,10 @@ impl Section {
         value: &[u8],
     ) -> Result<Option<BString>, value::Error>
         requires given { IsGiven editor.now }
+        requires puts { PutsAround editor.now }
         requires editor { IsEditor (given_editor editor.now) }
-        ensures invalid { IsErrAnd result (λ e. value_number e ≡ 6) ↔ (is_value_name value_name.now ≡ false) }
-        ensures done { IsEditedAlone (value_set (given_editor editor.now) value_name.now value.now)
-            (token_bytes (value_set_tokens (given_editor editor.now) value_name.now value.now self.old.section.items)) value_number result self.old self.new }
+        ensures done { IsEditedAlone (value_set (given_editor editor.now) value_name.now value.now) (is_value_name value_name.now)
+            (value_set_bytes (given_editor editor.now) value_name.now value.now self.old.section.items) value_number result self.old self.new }
         ensures answer { IfOk result (λ o. option_map bstring_bytes o ≡ old_value value_name.now self.old.section.items) }
     {
         let key = value_name.as_bytes();

@@ -1,5 +1,7 @@
 //! How an editor refuses to write a value.
+ghost use Rattle.std.specs.Prelude.{◌≡◌};
 
+use gitconf_text::NoMemory;
 use gitconf_text::parse::section::ValueNameError;
 use gitconf_text::parse::span;
 use thiserror::Error;
@@ -10,18 +12,48 @@ pub enum Error {
     /// The name of the value is none: refusal 6.
     #[error(transparent)]
     ValueName(ValueNameError),
-    /// The new bytes have no place in the text: refusal 3; or a growth was refused: 27.
+    /// The new bytes have no place in the text: refusal 3.
     #[error(transparent)]
     Span(span::Error),
+    /// A growth was refused: refusal 27.
+    #[error("out of memory")]
+    Memory,
+}
+
+impl From<ValueNameError> for Error {
+    ghost use Rattle.gitconf_views.specs.ValueErrors.{of_name};
+
+    ghost from_gives = { λ name e. e ≡ of_name name };
+
+    fn from(name: ValueNameError) -> Error {
+        if name.number() == 27 {
+            Error::Memory
+        } else {
+            Error::ValueName(name)
+        }
+    }
 }
 
 impl From<span::Error> for Error {
-    ghost use Rattle.std.specs.Prelude.{◌≡◌};
-    ghost use Rattle.gitconf_views.specs.declared.section.value.Error.TheVariants.{Span};
+    ghost use Rattle.gitconf_views.specs.ValueErrors.{of_span};
 
-    ghost from_gives = { λ number e. e ≡ Span number };
+    ghost from_gives = { λ span e. e ≡ of_span span };
 
     fn from(span: span::Error) -> Error {
-        Error::Span(span)
+        if span.is_memory() {
+            Error::Memory
+        } else {
+            Error::Span(span)
+        }
+    }
+}
+
+impl From<NoMemory> for Error {
+    ghost use Rattle.gitconf_views.specs.declared.section.value.Error.TheVariants.{Memory};
+
+    ghost from_gives = { λ _ e. e ≡ Memory };
+
+    fn from(_e: NoMemory) -> Error {
+        Error::Memory
     }
 }

@@ -173,7 +173,7 @@ impl<'a> SectionMut<'a> {
         match self.file.set_entry(self.id, &editor, key, value) {
             Ok(Some(old)) => Ok(Some(BString::new(old))),
             Ok(None) => Ok(None),
-            Err(refusal) => Err(value::Error::Span(refusal)),
+            Err(refusal) => Err(refusal.into()),
         }
     }
 

@@ -1,4 +1,4 @@
-use Rattle.std.proofs.Common.{◌≡◌, ◌+◌, ◌<◌, ◌^◌, length}
+use Rattle.std.proofs.Common.{◌≡◌, ◌+◌, ◌-◌, ◌^◌, ◌≤◌, length, min}
 use Rattle.gitconf_views.specs.Counts.{section_entries}
 use Rattle.gitconf_views.specs.Views.{sections_left}
 use Rattle.gitconf_finding.proofs.tokens.value_count.Given as goal
@@ -8,6 +8,6 @@ abbrev pub invariant-loop-section : goal.invariant-loop-section
 invariant-loop-section l = record {
   can_next : (goal.iterator-loop-section).can_next l.section-iterator;
   is_finite : (goal.iterator-loop-section).is_finite l.section-iterator;
-  counted : length (section_entries (sections_left l.fn.sections)) < 2 ^ 64
-      → l.count + length (section_entries (sections_left l.section-iterator)) ≡ length (section_entries (sections_left l.fn.sections));
+  small : l.count ≤ 2 ^ 64 - 1;
+  counted : min (l.count + length (section_entries (sections_left l.section-iterator))) (2 ^ 64 - 1) ≡ min (length (section_entries (sections_left l.fn.sections))) (2 ^ 64 - 1);
 }

@@ -19,8 +19,8 @@ invariant_of-self-lent g c = λ w.
       table = table_same c.self.inside.next (entries_of letters rows) _ c.self.inside.places.items c.self.inside.names.words c.self.inside.full.words _ _ kept
           (section_numbered letters c.self.inside.next rows at r w c.index_mut-row.ensures.value kept.numbered.once)
           (rw changed (map_unchanged (λ e. e.number) (λ e. record e { section = w }) (λ e. refl) (entries_of letters rows) at))
-          (rw changed (kept.names ∙ sym (map_unchanged word_of_name (λ e. record e { section = w }) (λ e. refl) (entries_of letters rows) at)))
-          (rw changed (kept.full ∙ sym (map_unchanged word_of_names (λ e. record e { section = w }) (λ e. refl) (entries_of letters rows) at)));
+          (rw changed (kept.names ∙ sym (map_unchanged (word_of_name c.self.inside.seed) (λ e. record e { section = w }) (λ e. refl) (entries_of letters rows) at)))
+          (rw changed (kept.full ∙ sym (map_unchanged (word_of_names c.self.inside.seed) (λ e. record e { section = w }) (λ e. refl) (entries_of letters rows) at)));
       fit = fit_section (length letters) rows at r w c.index_mut-row.ensures.value c.self.invariant.fit;
     }
 

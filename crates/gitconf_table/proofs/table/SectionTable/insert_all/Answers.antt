@@ -4,7 +4,7 @@ use Rattle.gitconf_table.specs.Rows.{entries_of, entry_of_row, numbers_in}
 use Rattle.gitconf_table.specs.Tables.{ArePlaced, ArePlacedTo}
 use Rattle.gitconf_table.proofs.SectionLemmas.{all_put_numbered}
 use Rattle.gitconf_table.proofs.RowLemmas.{entries_joined, fit_joined, numbers_shown, rows_apart, rows_fit, rows_placed, rows_within}
-use Rattle.gitconf_table.proofs.TableLemmas.{placed_before, table_joined}
+use Rattle.gitconf_table.proofs.TableLemmas.{placed_before, table_joined, worded}
 use Rattle.gitconf_table.proofs.table.SectionTable.insert_all.Goals as goal
 
 pub relocate-requires-clause-within : goal.relocate-requires-clause-within
@@ -66,10 +66,10 @@ invariant_of-self-2 g c =
     let places : length c.add_places.new.places.items ≡ old.next + c.len-count.result = omega (arith, c.in_ok-add_places.ensures.ok, c.add_places.new.places.ok) in
     record {
       table = table_joined old.next other.next at c.len-count.result (entries_of old.letters.items old.rows.items) (entries_of other.letters.items other.rows.items) _ old.places.items other.places.items c.relocate.new.places.items
-          old.names.words old.full.words other.names.words other.full.words _ _ count entries
-          (c.insert_all.ensures ∙ (λ j. take at (c.reserve-2.ensures.words j) ++ other.names.words ++ drop at (c.reserve-2.ensures.words j)))
-          (c.insert_all-2.ensures ∙ (λ j. take at (c.reserve-3.ensures.words j) ++ other.full.words ++ drop at (c.reserve-3.ensures.words j)))
-          (omega (arith, c.if-self-count.false, c.self.invariant.table.numbered.within)) c.self.invariant.table c.other.invariant.table (c.relocate.ensures.len ∙ places)
+          old.names.words old.full.words c.change_words.new.names.words c.change_words.new.full.words _ _ count entries
+          (c.insert_all.ensures ∙ (λ j. take at (c.reserve-2.ensures.words j) ++ c.change_words.new.names.words ++ drop at (c.reserve-2.ensures.words j)))
+          (c.insert_all-2.ensures ∙ (λ j. take at (c.reserve-3.ensures.words j) ++ c.change_words.new.full.words ++ drop at (c.reserve-3.ensures.words j)))
+          (omega (arith, c.if-self-count.false, c.self.invariant.table.numbered.within)) c.self.invariant.table (worded other.next _ old.seed _ _ other.names.words other.full.words _ _ c.other.invariant.table c.change_words.ensures.names c.change_words.ensures.full) (c.relocate.ensures.len ∙ places)
           (rows_placed c.put-behind.new.letters.items _ _ c.relocate.ensures.placed);
       fit = fit_joined old.letters.items other.letters.items c.put-behind.new.letters.items c.put-behind.result.start letters start at old.next old.rows.items other.rows.items c.renumber.new.rows.items c.put_at.new.list.items c.renumber.ensures.moved rows c.self.invariant.fit c.other.invariant.fit;
     }

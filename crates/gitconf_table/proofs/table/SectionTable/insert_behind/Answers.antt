@@ -2,6 +2,7 @@ use Rattle.std.proofs.Common.{◌≡◌, ◌+◌, [], ◌∷◌, ◌++◌, inser
 use Rattle.std.proofs.lemmas.Grind.{common_steps}
 use Rattle.std.proofs.lemmas.List.{length-append}
 use Rattle.std.specs.Option.{option_copied}
+use Rattle.gitconf_table.specs.Word.{full_state, word_of}
 use Rattle.gitconf_table.specs.Rows.{entries_of}
 use Rattle.gitconf_table.proofs.RowLemmas.{entries_inserted, fit_inserted, rows_apart, rows_placed, rows_within}
 use Rattle.gitconf_table.proofs.SectionLemmas.{tables}
@@ -39,8 +40,8 @@ invariant_of-self-2 g c =
     record {
       table = table_inserted old.next (c.args.position + 1) (entries_of letters old.rows.items) _ old.places.items c.relocate.new.places.items old.names.words _ old.full.words _ c.args.name.now (option_copied c.args.subsection) c.args.section
           entries
-          (c.insert-2.ensures ∙ (λ j. insert (c.reserve_row.ensures.words.0 j) (c.args.position + 1) (c.in_ok-names.ensures.word j)))
-          (c.insert-3.ensures ∙ (λ j. insert (c.reserve_row.ensures.words.1 j) (c.args.position + 1) (c.full_word.ensures j)))
+          (c.insert-2.ensures ∙ (λ j. insert (c.reserve_row.ensures.words.0 j) (c.args.position + 1) ((c.word_of.ensures ∙ ap word_of c.in_ok-names.ensures.state) j)))
+          (c.insert-3.ensures ∙ (λ j. insert (c.reserve_row.ensures.words.1 j) (c.args.position + 1) ((c.word_of-2.ensures ∙ ap word_of (c.full_state.ensures ∙ ap (λ state. full_state state (option_copied c.args.subsection)) c.in_ok-names.ensures.state)) j)))
           (omega (arith, c.if-self.false)) c.self.invariant.table (c.relocate.ensures.len ∙ count) (rows_placed c.put_names.new.letters.items _ _ c.relocate.ensures.placed);
       fit = fit_inserted letters _ c.args.name.now (option_copied c.args.subsection) c.in_ok-names.names c.in_ok-names.ensures.ok (c.args.position + 1) old.rows.items _ old.next c.args.section rows c.self.invariant.fit;
     }

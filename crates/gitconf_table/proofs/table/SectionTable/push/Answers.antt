@@ -2,6 +2,7 @@ use Rattle.std.proofs.Common.{◌≡◌, ◌+◌, [], ◌∷◌, ◌++◌, lengt
 use Rattle.std.proofs.lemmas.Grind.{common_steps}
 use Rattle.std.proofs.lemmas.List.{length-map}
 use Rattle.std.specs.Option.{option_copied}
+use Rattle.gitconf_table.specs.Word.{full_state, word_of}
 use Rattle.gitconf_table.specs.Rows.{entries_of, entry_of_row}
 use Rattle.gitconf_table.proofs.RowLemmas.{entries_pushed, fit_pushed}
 use Rattle.gitconf_table.proofs.SectionLemmas.{tables}
@@ -20,8 +21,8 @@ invariant_of-self-2 g c =
       table = table_pushed old.next (entries_of letters old.rows.items) _ old.places.items _ old.names.words _ old.full.words _ c.args.name.now (option_copied c.args.subsection) c.args.section
           (entries_pushed letters _ c.args.name.now (option_copied c.args.subsection) c.in_ok-names.names put old.rows.items _ old.next c.args.section rows c.self.invariant.fit)
           (places ∙ ap (λ n. old.places.items ++ n ∷ []) at)
-          (c.push.ensures ∙ (λ j. c.reserve_row.ensures.words.0 j ++ c.in_ok-names.ensures.word j ∷ []))
-          (c.push-2.ensures ∙ (λ j. c.reserve_row.ensures.words.1 j ++ c.full_word.ensures j ∷ []))
+          (c.push.ensures.words ∙ (λ j. c.reserve_row.ensures.words.0 j ++ (c.word_of.ensures ∙ ap word_of c.in_ok-names.ensures.state) j ∷ []))
+          (c.push-2.ensures.words ∙ (λ j. c.reserve_row.ensures.words.1 j ++ (c.word_of-2.ensures ∙ ap word_of (c.full_state.ensures ∙ ap (λ state. full_state state (option_copied c.args.subsection)) c.in_ok-names.ensures.state)) j ∷ []))
           (omega (arith, c.if-self.false)) c.self.invariant.table;
       fit = fit_pushed letters _ c.args.name.now (option_copied c.args.subsection) c.in_ok-names.names put old.rows.items _ old.next c.args.section rows c.self.invariant.fit;
     }

@@ -1,6 +1,7 @@
 use Rattle.std.proofs.Common.{ap, ◌∙◌}
 use Rattle.std.specs.Option.{option_copied}
 use Rattle.gitconf_table.specs.Renames.{set_each, named_each}
+use Rattle.gitconf_table.specs.Word.{full_state, word_of}
 use Rattle.gitconf_table.specs.Rows.{entries_of}
 use Rattle.gitconf_table.specs.Tables.{IsKept}
 use Rattle.gitconf_table.proofs.RenamingLemmas.{each_fits, each_kept, each_renamed}
@@ -11,10 +12,10 @@ invariant_of-self-2 g c =
     let old = c.self.inside in
     let letters = old.letters.items in
     let at = c.args.places.now in
-    let kept : IsKept old.next c.put_names.new.letters.items (named_each c.in_ok-names.names old.rows.items at) old.places.items c.set_each.new.self.words c.set_each-2.new.self.words = record {
+    let kept : IsKept old.seed old.next c.put_names.new.letters.items (named_each c.in_ok-names.names old.rows.items at) old.places.items c.set_each.new.self.words c.set_each-2.new.self.words = record {
       table = each_kept letters _ c.args.name.now (option_copied c.args.subsection) c.in_ok-names.names c.in_ok-names.ensures.ok old.next old.rows.items at old.places.items old.names.words _ old.full.words _
-          (c.set_each.ensures ∙ ap (set_each old.names.words at) c.in_ok-names.ensures.word)
-          (c.set_each-2.ensures ∙ ap (set_each old.full.words at) c.full_word.ensures)
+          (c.set_each.ensures ∙ ap (set_each old.names.words at) (c.word_of.ensures ∙ ap word_of c.in_ok-names.ensures.state))
+          (c.set_each-2.ensures ∙ ap (set_each old.full.words at) (c.word_of-2.ensures ∙ ap word_of (c.full_state.ensures ∙ ap (λ state. full_state state (option_copied c.args.subsection)) c.in_ok-names.ensures.state)))
           c.self.invariant.fit c.self.invariant.table;
       fit = each_fits letters _ c.args.name.now (option_copied c.args.subsection) c.in_ok-names.names c.in_ok-names.ensures.ok old.rows.items at c.self.invariant.fit;
     } in

@@ -22,8 +22,8 @@ invariant_of-result g c =
       table = table_same old.next (entries_of letters old.rows.items) (entries_of letters copies) old.places.items old.names.words old.full.words _ _ kept
           (numbered_clones g.T.Clone.is_clone old.next (entries_of letters old.rows.items) (entries_of letters copies) all kept.numbered.once)
           (cloned_map g.T.Clone.is_clone (λ e. e.number) (λ e d k. k.number) (entries_of letters old.rows.items) (entries_of letters copies) all)
-          (c.in_ok-try_clone.ensures ∙ kept.names ∙ sym (cloned_map g.T.Clone.is_clone word_of_name (λ e d k. ap name_word k.name) (entries_of letters old.rows.items) (entries_of letters copies) all))
-          (c.in_ok-try_clone-2.ensures ∙ kept.full ∙ sym (cloned_map g.T.Clone.is_clone word_of_names (λ e d k. λ j. full_word (k.name j) (k.subsection j)) (entries_of letters old.rows.items) (entries_of letters copies) all));
+          (c.in_ok-try_clone.ensures ∙ kept.names ∙ sym (cloned_map g.T.Clone.is_clone (word_of_name old.seed) (λ e d k. ap (name_word old.seed) k.name) (entries_of letters old.rows.items) (entries_of letters copies) all))
+          (c.in_ok-try_clone-2.ensures ∙ kept.full ∙ sym (cloned_map g.T.Clone.is_clone (word_of_names old.seed) (λ e d k. λ j. full_word old.seed (k.name j) (k.subsection j)) (entries_of letters old.rows.items) (entries_of letters copies) all));
       fit = fit_cloned g.T.Clone.is_clone (length letters) old.rows.items copies c.in_ok-clone.ensures.cases.0 c.self.invariant.fit;
     })
 

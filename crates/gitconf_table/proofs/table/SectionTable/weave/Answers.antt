@@ -12,7 +12,7 @@ pub relocate-requires-clause-long : goal.relocate-requires-clause-long
 relocate-requires-clause-long g c =
     let old = c.self.inside in
     let words : length old.names.words ≡ length old.rows.items =
-    ap length c.self.invariant.table.names ∙ length-map (entries_of old.letters.items old.rows.items) word_of_name ∙ length-map old.rows.items (entry_of_row old.letters.items) in
+    ap length c.self.invariant.table.names ∙ length-map (entries_of old.letters.items old.rows.items) (word_of_name old.seed) ∙ length-map old.rows.items (entry_of_row old.letters.items) in
     omega (arith, words, c.weave-2.ensures.fits, c.weave.ensures.room.0, old.rows.ok)
 
 pub relocate-requires-clause-within : goal.relocate-requires-clause-within

@@ -5,7 +5,7 @@ use Rattle.gitconf_state.specs.Editors.{pushed}
 use Rattle.gitconf_lines.specs.Editors.{line_put}
 use Rattle.gitconf_store.specs.Editors.{given_editor}
 use Rattle.gix_config.specs.Edited.{has_number}
-use Rattle.gix_config.proofs.Puts.{line_is}
+use Rattle.gitconf_lines.proofs.Puts.{line_is}
 use Rattle.gix_config.proofs.Numbers.{edited_in, edited_stands, items_keep_numbers}
 use Rattle.gix_config.proofs.file.File.push_entry.Goals as goal
 

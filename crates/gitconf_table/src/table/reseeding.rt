@@ -1,0 +1,71 @@
+//! Words of names that are made from another seed.
+ghost use Rattle.std.specs.Prelude.{◌≡◌, ◌+◌, ◌≤◌, length, map, vec_len};
+ghost use Rattle.gitconf_table.specs.Rows.{entries_of};
+ghost use Rattle.gitconf_table.specs.Tables.{word_of_name, word_of_names};
+
+use crate::index::WordIndex;
+use crate::letters::{name_at, subsection_at};
+use crate::table::{Row, SectionTable};
+use crate::word::{full_state, name_state, word_of};
+
+impl<T> SectionTable<T> {
+    /// Makes the words by which names are found from another seed, in place. Nothing that the table answers rests on the seed;
+    /// what does is the time of a look-up in a table whose names were made to share words or buckets. A table begins with a
+    /// seed that everyone may know. Who reads the text of a stranger draws one that the stranger can't know, where the names
+    /// are in. Takes no memory, and one pass over the sections and the bytes of their names.
+    pub fn reseed(&mut self, seed: u64)
+        ensures { self.new ≡ self.old }
+    {
+        change_words(
+            &self.rows,
+            &self.letters,
+            self.seed,
+            seed,
+            &mut self.names,
+            &mut self.full,
+        );
+        self.seed = seed;
+    }
+}
+
+/// Makes the words of all rows, which were made from one seed, from another one.
+pub(super) fn change_words<T>(
+    rows: &Vec<Row<T>>,
+    letters: &Vec<u8>,
+    from: u64,
+    to: u64,
+    names: &mut WordIndex,
+    full: &mut WordIndex,
+)
+    requires names { names.old.words ≡ map (word_of_name from) (entries_of letters.now.items rows.now.items) }
+    requires full { full.old.words ≡ map (word_of_names from) (entries_of letters.now.items rows.now.items) }
+    ensures names { names.new.words ≡ map (word_of_name to) (entries_of letters.now.items rows.now.items) }
+    ensures full { full.new.words ≡ map (word_of_names to) (entries_of letters.now.items rows.now.items) }
+{
+    if from != to {
+        make_words(rows, letters, to, names, full);
+    }
+}
+
+// Makes the words of all rows from a seed, in indexes with room for them.
+fn make_words<T>(
+    rows: &Vec<Row<T>>,
+    letters: &Vec<u8>,
+    seed: u64,
+    names: &mut WordIndex,
+    full: &mut WordIndex,
+)
+    requires names { vec_len rows.now ≤ length names.old.words + names.old.room }
+    requires full { vec_len rows.now ≤ length full.old.words + full.old.room }
+    ensures names { names.new.words ≡ map (word_of_name seed) (entries_of letters.now.items rows.now.items) }
+    ensures full { full.new.words ≡ map (word_of_names seed) (entries_of letters.now.items rows.now.items) }
+{
+    names.clear();
+    full.clear();
+    for at in 0..rows.len() {
+        let row = &rows[at];
+        let state = name_state(seed, name_at(letters, row.names));
+        names.push(word_of(state));
+        full.push(word_of(full_state(state, subsection_at(letters, row.names))));
+    }
+}
