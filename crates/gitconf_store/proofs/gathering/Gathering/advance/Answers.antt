@@ -1,10 +1,8 @@
 use Rattle.std.proofs.Common.{◌<◌, length, ap, sym, subst, ◌∙◌}
-use Rattle.std.specs.Prelude.{◌||◌, is_some}
-use Rattle.gitconf_text.specs.LineEnds.{bytes_of_line_end}
 use Rattle.gitconf_state.specs.Including.{visited}
 use Rattle.gitconf_views.specs.Views.{shown}
 use Rattle.gitconf_store.specs.Gathering.{Gathered}
-use Rattle.gitconf_store.proofs.Gathered.{rest_then, some_left, some_made, visited_fits, visited_state}
+use Rattle.gitconf_store.proofs.Gathered.{rest_then, some_left, visited_fits, visited_state}
 use Rattle.gitconf_store.proofs.gathering.Gathering.advance.Goals as goal
 
 pub invariant_of-self : goal.invariant_of-self
@@ -12,8 +10,7 @@ invariant_of-self c =
     let g = c.self.inside in
     let s = shown c.section_at-section.result in
     let less = some_left g.count g.at g.ahead g.last g.runs.items g.line_end g.told g.store c.self.invariant (subst (λ (all : Gathered). 0 < length all.rest) (sym c.self.view_is) c.requires) in
-    visited_fits g.count g.at g.ahead g.last g.runs.items g.line_end g.told g.store c.self.invariant s less c.section_at-section.ensures c.is_told-told.result
-    (c.is_told-told.ensures ∙ ap (λ b. g.told || b) (some_made bytes_of_line_end c.first_line_end.result ∙ ap is_some c.first_line_end.ensures))
+    visited_fits g.count g.at g.ahead g.last g.runs.items g.line_end g.told g.store c.self.invariant s less c.section_at-section.ensures c.tells_with-self-inside.result c.tells_with-self-inside.ensures
 
 pub returns : goal.returns
 returns c =
