@@ -1,4 +1,4 @@
-//! The parser's cursor: each function reads at an offset of the text, adds its events, and answers the offset behind what it read.
+//! The parser's cursor: each function reads at an offset of the text, adds its events, and returns the offset after what it read.
 ghost use Rattle.std.specs.Prelude.{◌≡◌, ◌≤◌, ◌<◌, ◌^◌, ◌==◌, List, [], length, take, drop, count_by};
 ghost use Rattle.gitconf_text.specs.Part.{Part};
 ghost use Rattle.gitconf_text.specs.Document.{unmarked, IsText};
@@ -68,8 +68,8 @@ pub fn mark_len(input: &[u8]) -> usize
     }
 }
 
-/// Reads the text into `events`, which hold nothing before: they are its tokens where it has a document, and else the
-/// refusal tells where and why it has none. One pass.
+/// Reads the text into `events`, which are empty before: they are its tokens if it has a document, otherwise the
+/// error says where and why it has none. One pass.
 pub fn read(input: &[u8], events: &mut EventVec) -> Result<(), ReadError>
     requires fits { length input.now < 2 ^ 32 }
     requires empty { events.old ≡ [] }

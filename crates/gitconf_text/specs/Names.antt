@@ -49,7 +49,7 @@ name_order = on fold (slice_cmp nat_cmp)
 abbrev pub name_writes : List ℕ → HashWrites
 name_writes bytes = flat_map u8 (fold bytes)
 
--- the answer of a conversion that takes no memory: the bytes where they are valid, and else refusal 6
+-- the result of a conversion that takes no memory: the bytes where they are valid, otherwise refusal 6
 abbrev pub IsConverted : Bool → List ℕ → Result (List ℕ) ℕ → Type 0
 IsConverted valid bytes (Ok made) = (valid ≡ true) × (made ≡ bytes)
 IsConverted valid bytes (Err number) = (valid ≡ false) × (number ≡ 6)

@@ -6,10 +6,10 @@ ghost use Rattle.gitconf_parse.specs.Reading as spec;
 /// Letters, digits and the dash.
 const NAME: u8 = 1;
 
-/// These and the dot.
+/// Letters, digits, the dash and the dot.
 const HEADER: u8 = 2;
 
-/// What stands for itself in a value, quotes or not: no line feed, mark of a comment, quote, backslash or white space.
+/// Bytes that stand for themselves in a value, quotes or not: all but LF, `;`, `#`, a quote, a backslash and white space.
 const PLAIN: u8 = 4;
 
 // For each byte a digit, whose low three bits are the flags above.
