@@ -2,7 +2,7 @@
 
 use crate::words::NotUnderstood;
 
-// A set of kinds has a bit for each. No filter drops headers, so they have none.
+// A set of kinds has a bit for each kind. No filter drops headers, so headers have none.
 
 pub const NAMES: u8 = 1;
 
