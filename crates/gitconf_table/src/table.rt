@@ -330,7 +330,7 @@ impl<T> SectionTable<T> {
     /// Adds a section at the end, under the next number and `name` in ASCII lower case, and returns that number.
     /// Takes memory for the names, and constant time and memory on average for its place and the indexes.
     ///
-    /// Errors: a [`span::Error`], number 3 if only the greatest number is left, otherwise 27 when out of
+    /// Errors: a [`span::Error`], number 3, if only the greatest number is left, otherwise 27 when out of
     /// memory, or if there are 4294967295 sections. The table is then as it was.
     pub fn push(
         &mut self,
@@ -371,7 +371,7 @@ impl<T> SectionTable<T> {
     /// case, and returns that number. Takes memory for the names, and on average constant memory for its place and the
     /// indexes; moves what follows, and links all sections again.
     ///
-    /// Errors: a [`span::Error`], number 3 if only the greatest number is left, otherwise 27 when out of
+    /// Errors: a [`span::Error`], number 3, if only the greatest number is left, otherwise 27 when out of
     /// memory, or if there are 4294967295 sections. The table is then as it was.
     pub fn insert_behind(
         &mut self,
@@ -417,7 +417,7 @@ impl<T> SectionTable<T> {
     /// follows, and links all sections again; after all others, only those of the other table. A table with another seed gets
     /// new words first, as [`SectionTable::reseed`] makes them.
     ///
-    /// Errors: a [`span::Error`], number 3 if fewer numbers are left than the other has sections, otherwise
+    /// Errors: a [`span::Error`], number 3, if fewer numbers are left than the other has sections, otherwise
     /// 27 when out of memory, or if there would be more than 4294967295 sections. The table is then as it was, and
     /// the other is dropped.
     pub fn insert_all(&mut self, position: usize, other: SectionTable<T>) -> Result<(), span::Error>
