@@ -17,7 +17,7 @@ pub record Key : Type 0 where
 abbrev pub key_of : KeyRef → Key
 key_of key = record { section = key.section_name.now; subsection = option_map (λ s. s.now) key.subsection_name; name = key.value_name.now }
 
--- how many bytes end with the last dot, or 0 where there is none
+-- how many bytes end with the last dot, or 0 if there is none
 abbrev pub behind_last_dot : List ℕ → ℕ
 behind_last_dot bytes = length bytes - suffix_len (λ b. not (is_dot b)) bytes
 

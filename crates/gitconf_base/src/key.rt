@@ -50,7 +50,7 @@ fn first_dot(input: &[u8]) -> Option<usize>
     input.iter().position(|b| *b == b'.')
 }
 
-// The place after the last dot, or 0 where there is none.
+// The place after the last dot, or 0 if there is none.
 fn name_start(input: &[u8]) -> usize
     ensures place { result ≡ behind_last_dot input.now }
     ensures within { result ≤ length input.now }

@@ -8,7 +8,7 @@ ghost use Rattle.gitconf_base.specs.contracts.source.TrustOrd.TheImpl as trust_o
 
 use crate::key::AsKey;
 
-/// Where there is a key, [`AsKey::as_key`] returns what [`AsKey::try_as_key`] returns: whatever their contracts let
+/// If there is a key, [`AsKey::as_key`] returns what [`AsKey::try_as_key`] returns: whatever their contracts let
 /// them return, it is the same key.
 pub fn as_key_is_the_answer<K: AsKey>()
     ensures { AnswersAgree K.key }

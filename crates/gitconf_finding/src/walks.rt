@@ -109,8 +109,8 @@ impl<'a> Iterator for SectionsByName<'a, '_> {
 }
 
 /// The sections of a name in file order whose metadata passes a filter:
-/// `Store::sections_by_name_and_filter`. The filter is asked about each
-/// section when its turn comes.
+/// `Store::sections_by_name_and_filter`. The filter is called for each
+/// section when the walk reaches it.
 #[derive(Drop)]
 pub struct SectionsByNameAndFilter<'a, 'n, F> {
     pub sections: SectionsByName<'a, 'n>,
@@ -131,7 +131,7 @@ impl<'a, F: FnMut(&Metadata) -> bool + Drop> Iterator for SectionsByNameAndFilte
 
     ghost can_next = { λ s. F.IsAlwaysCallable s.filter };
 
-    // For a filter that answers by what it is shown; and whatever it answers.
+    // For a filter whose result depends only on what it is shown; and for any filter.
     ghost next_gives = { λ before item behind. ((keeps : Meta → Bool) → ComputesKey F.FnMut keeps before.filter
         → ComputesKey F.FnMut keeps behind.filter × YieldsFirstBy shown (λ it. passing keeps (by_name_left it.sections)) before item behind)
         × IsBehindSome (by_name_left before.sections) (option_map shown item) (by_name_left behind.sections) };
@@ -228,7 +228,7 @@ impl Iterator for SectionIds<'_> {
     }
 }
 
-/// The sections of a file in order, each with the events of what is held behind it:
+/// The sections of a file in order, each with the events of what is held after it:
 /// `Store::sections_and_postmatter`.
 #[derive(Drop)]
 pub struct SectionsAndPostmatter<'a> {

@@ -58,7 +58,7 @@ written_subsection separator subsection =
     if bytes_eq separator (codes ".") then separator ++ subsection
     else separator ++ (codes "\"" ++ (escaped_subsection subsection ++ codes "\""))
 
--- what follows a header's name: nothing where there is no separator or no subsection
+-- what follows a header's name: nothing if there is no separator or no subsection
 abbrev pub behind_name : (separator subsection : Option (List ℕ)) → List ℕ
 behind_name None subsection = []
 behind_name (Some separator) None = []

@@ -1,4 +1,4 @@
--- How tokens are put together to items, one by one, which only proofs and private functions see: tokens continue as items exactly where
+-- How tokens are put together to items, one by one, which only proofs and private functions see: tokens continue as items if and only if
 -- they are the tokens of some parts.
 use Rattle.std.specs.Prelude.{◌≡◌, ℕ, Bool, true, false, not, ◌&&◌, List, [], ◌∷◌, ◌++◌}
 use Rattle.gitconf_text.specs.Text.{begins}

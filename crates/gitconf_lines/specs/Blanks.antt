@@ -33,7 +33,7 @@ IsGiven e = IsGivenLeading e.leading × IsGivenAround e.around
 abbrev pub given_editor : Editor → states.Editor
 given_editor e = editor_in [] e
 
--- the blanks around `=` are bytes that are put into the buffer
+-- the blanks around `=` are bytes that are added to the buffer
 abbrev pub PutsAround : Editor → Type 0
 PutsAround e = around_put e.around ≡ length (given_editor e).spacing.before + length (given_editor e).spacing.behind
 

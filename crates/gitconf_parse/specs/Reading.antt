@@ -143,7 +143,7 @@ end_of_run test n (b ∷ rest) = elim (test (b ∷ rest)) [
 abbrev pub run_end_at : (input : List ℕ) → Run → (n : ℕ) → ℕ
 run_end_at input run n = end_of_run (run_test run) n (drop n input)
 
--- the events and a blanks token, where there are blanks
+-- the events and a blanks token, if there are blanks
 abbrev pub with_blanks : List Event → (from end : ℕ) → List Event
 with_blanks events from end = if nat_lt from end then events ++ kinds.Whitespace (span from end) ∷ [] else events
 

@@ -74,7 +74,7 @@ fn events_are_cut_at_headers_and_copied(rt: HostRuntime) -> Result<(), Fail> {
     Ok(())
 }
 
-/// What is left without values tells the same of itself as a copy. Which texts lose an entry so is told by rows.
+/// What is left without values says the same of itself as a copy. Which texts lose an entry so is told by rows.
 #[test]
 fn a_copy_of_events_that_are_left(rt: HostRuntime) -> Result<(), Fail> {
     assert!(rt; is_kept_without_values(rt.alloc(), b"[a]\r\nk = v\\\nw")?);
@@ -107,7 +107,7 @@ fn number_of(events: EventIter) -> usize {
     number
 }
 
-/// How many events stand before the first section, how many in all sections, and whether all entries are among them.
+/// How many events come before the first section, how many in all sections, and whether all entries are among them.
 fn counts(events: &Events) -> (usize, usize, bool) {
     let mut in_sections: usize = 0;
     for section in events.sections() {

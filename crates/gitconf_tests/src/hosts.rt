@@ -7,7 +7,7 @@ use gitconf_text::NoMemory;
 use std::alloc::{AllocError, Global};
 use std::test::Fail;
 
-/// A path, whether a file stands there, and its bytes and trust, or the fault of both.
+/// A path, whether a file is there, and its bytes and trust, or the fault of both.
 type Row = (
     &'static str,
     bool,
@@ -59,7 +59,7 @@ static ROWS: [Row; 7] = [
     ),
 ];
 
-/// A file that answers so.
+/// A file that returns so.
 fn file_of(alloc: Global, row: &Row) -> Result<MemFile, AllocError> {
     match row.2 {
         Ok((text, trust)) => Ok(MemFile::Bytes(Vec::from_slice(alloc, text)?, trust)),
@@ -101,7 +101,7 @@ fn has_bytes(read: &Result<Vec<u8>, FileFault>, row: &Row) -> bool {
     }
 }
 
-/// Whether reading answers so.
+/// Whether reading returns so.
 fn is_read<F: Files>(files: &mut F, row: &Row) -> bool {
     has_bytes(&files.read(row.0), row)
 }
@@ -115,7 +115,7 @@ fn is_trusted<F: Files>(files: &mut F, row: &Row) -> bool {
     }
 }
 
-/// Whether all rows are answered so.
+/// Whether all rows are returned so.
 fn are_answered<F: Files>(files: &mut F) -> bool {
     for row in ROWS.iter() {
         let is_file = files.is_file(row.0) == row.1;
@@ -193,7 +193,7 @@ fn names_are_set(alloc: Global) -> Result<bool, NoMemory> {
     are_set(&mut env)
 }
 
-/// Whether a host answers so.
+/// Whether a host returns so.
 fn is_answering(host: &mut Host) -> Result<bool, NoMemory> {
     Ok(are_answered(&mut host.files) && are_set(&mut host.env)?)
 }
@@ -229,7 +229,7 @@ fn a_first_file(alloc: Global) -> Result<Outcome, Fail> {
     Ok(Outcome { refused, fits })
 }
 
-/// Whether these are the bytes of the row, or want of memory where a growth was refused.
+/// Whether these are the bytes of the row, or out of memory where a growth was refused.
 fn is_outcome(read: &Result<Vec<u8>, FileFault>, row: &Row, refused: bool) -> bool {
     match read {
         Ok(_) => has_bytes(read, row),

@@ -171,7 +171,7 @@ fn means(alloc: Global, value: &[u8], meaning: &[u8]) -> bool {
     }
 }
 
-/// A key that is cut, and a meaning that stands in the text, take no memory.
+/// A key that is cut, and a meaning that is in the text, take no memory.
 #[test]
 fn keys_and_plain_values(rt: HostRuntime) -> Result<(), Fail> {
     begin(rt.alloc())?;

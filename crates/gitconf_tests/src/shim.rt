@@ -1,9 +1,9 @@
 //! How a test speaks to the shim that refuses a growth (`tools/refuse.c`): by the sizes of two blocks.
 //!
 //! The shim, where it is loaded, learns by these blocks where a call begins and ends. In a process it refuses the first
-//! growth of the first call; the next one where it refused one in the last call; and the first one again behind a call
+//! growth of the first call; the next one where it refused one in the last call; and the first one again after a call
 //! that it left alone. So each call is made until nothing of it is refused, and then gives its full answer. Before, it
-//! says that memory was wanting, and all is as it was. Without the shim it is made once.
+//! says that memory ran out, and all is as it was. Without the shim it is made once.
 use std::alloc::{AllocError, Global};
 use std::test::Fail;
 
@@ -31,7 +31,7 @@ pub fn was_refused(alloc: Global) -> bool {
 pub struct Outcome {
     /// Whether a growth was refused.
     pub refused: bool,
-    /// Whether the answer is the full one, or else says that memory was wanting and left all as it was.
+    /// Whether the result is the full one, otherwise says that memory ran out and left all as it was.
     pub fits: bool,
 }
 

@@ -29,7 +29,7 @@ const LAST: usize = usize::MAX;
 /// A change of a table; a section is told by its place, or by its number to be removed.
 #[derive(Clone, Copy)]
 enum Step<'a> {
-    /// Behind a section, or last.
+    /// After a section, or last.
     Put(usize, Names<'a>, u8),
     /// Before a section, a whole table.
     PutAll(usize, &'a [(Names<'a>, u8)]),
@@ -96,7 +96,7 @@ fn change(table: &mut SectionTable<u8>, at: usize, content: u8) {
     }
 }
 
-/// Takes the step, and answers what stands under the number that was given, or what was removed.
+/// Takes the step, and returns what is under the number that was given, or what was removed.
 fn take(
     alloc: Global,
     table: &mut SectionTable<u8>,
@@ -136,7 +136,7 @@ fn numbers(alloc: Global) -> Result<[SectionId; 11], span::Error> {
     Ok(numbers)
 }
 
-/// The place behind this letter, where it stands at that place.
+/// The place after this letter, where it is at that place.
 fn behind(told: &[u8], at: usize, letter: u8) -> Option<usize> {
     if told.get(at) == Some(&letter) {
         at.checked_add(1)
@@ -145,7 +145,7 @@ fn behind(told: &[u8], at: usize, letter: u8) -> Option<usize> {
     }
 }
 
-/// The place behind the contents of all sections.
+/// The place after the contents of all sections.
 fn behind_all(table: &SectionTable<u8>, told: &[u8]) -> Option<usize> {
     let mut at = 0;
     for (_, content) in table.iter() {
@@ -154,7 +154,7 @@ fn behind_all(table: &SectionTable<u8>, told: &[u8]) -> Option<usize> {
     Some(at)
 }
 
-/// The place behind a `|` and the contents of the sections of the names.
+/// The place after a `|` and the contents of the sections of the names.
 fn behind_named(table: &SectionTable<u8>, names: &Asked, told: &[u8], at: usize) -> Option<usize> {
     let mut at = behind(told, at, b'|')?;
     for (_, content) in table.named(names.0, names.1) {
@@ -172,7 +172,7 @@ fn behind_name(table: &SectionTable<u8>, told: &[u8], at: usize) -> Option<usize
     Some(at)
 }
 
-/// The same of what stands under each number.
+/// The same of what is under each number.
 fn behind_numbers(
     table: &SectionTable<u8>,
     numbers: &[SectionId],
@@ -196,7 +196,7 @@ static ASKED: [Asked; 4] = [
     ("remote", Some(b"Origin")),
 ];
 
-/// The place behind all that is told of a table.
+/// The place after all that is told of a table.
 fn end(table: &SectionTable<u8>, numbers: &[SectionId], told: &[u8]) -> Option<usize> {
     let mut at = behind_all(table, told)?;
     for names in ASKED.iter() {
@@ -207,7 +207,7 @@ fn end(table: &SectionTable<u8>, numbers: &[SectionId], told: &[u8]) -> Option<u
 }
 
 /// Whether this is told of the table: the contents of all sections, of those of four names, and of those with a name, with
-/// a `|` behind each of these lists; last what stands under each number.
+/// a `|` after each of these lists; last what is under each number.
 fn is_told(table: &SectionTable<u8>, numbers: &[SectionId], told: &[u8]) -> bool {
     end(table, numbers, told) == Some(told.len())
 }
@@ -232,7 +232,7 @@ fn is_taken(
     }
 }
 
-/// Takes the step, with each of its growths refused before, and answers whether the table is then told so.
+/// Takes the step, with each of its growths refused before, and returns whether the table is then told so.
 fn leads_to(
     alloc: Global,
     table: &mut SectionTable<u8>,
@@ -265,7 +265,7 @@ const TEN: [(Names<'static>, u8); 10] = [
     (BRANCH, b'9'),
 ];
 
-/// A step, its answer, and what is told of the table behind it.
+/// A step, its answer, and what is told of the table after it.
 type Row = (Step<'static>, Option<u8>, &'static [u8]);
 
 static ROWS: [Row; 21] = [
@@ -320,7 +320,7 @@ static ROWS: [Row; 21] = [
     ),
 ];
 
-/// What is told before the row of this place: behind the row before it, or of an empty table.
+/// What is told before the row of this place: after the row before it, or of an empty table.
 fn told_before(rows: &[Row], at: usize) -> &'static [u8] {
     if at == 0 || at > rows.len() {
         return b"||||||-----------";
@@ -361,7 +361,7 @@ fn are_told_apart(table: &SectionTable<u8>) -> bool {
         && behind_named(table, &("remote", Some(RIGHT)), b"|b", 0) == Some(2)
 }
 
-/// The same before and behind another seed.
+/// The same before and after another seed.
 fn stay_apart(table: &mut SectionTable<u8>) -> bool {
     if !are_told_apart(table) {
         return false;
@@ -395,7 +395,7 @@ fn names_of_one_word_are_told_apart(rt: HostRuntime) -> Result<(), Fail> {
     each_refused(rt.alloc(), "names of one word", names_told_apart)
 }
 
-/// Puts three sections of one name in, and another one, and answers the numbers of the three.
+/// Puts three sections of one name in, and another one, and returns the numbers of the three.
 fn three_of_one_name(table: &mut SectionTable<char>) -> Result<[SectionId; 3], span::Error> {
     let first = table.push(b"core", None, 'a')?;
     table.push(b"other", None, 'b')?;

@@ -32,7 +32,7 @@ is_value_name_or_empty (b ∷ bs) = is_value_name (b ∷ bs)
 abbrev pub is_valid_subsection : List ℕ → Bool
 is_valid_subsection bytes = list_all (λ b. not (b == 10 || b == 0)) bytes
 
--- the same, where there is a subsection
+-- the same, if there is a subsection
 abbrev pub is_valid_or_none : Option (List ℕ) → Bool
 is_valid_or_none None = true
 is_valid_or_none (Some bytes) = is_valid_subsection bytes

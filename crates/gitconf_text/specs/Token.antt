@@ -28,12 +28,12 @@ spelled_token (ValueDoneToken bytes) = bytes
 spelled_token (WhitespaceToken bytes) = bytes
 spelled_token SeparatorToken = 61 ∷ []
 
--- a token of these bytes; none where there are no bytes
+-- a token of these bytes; none if there are no bytes
 abbrev pub filled : (List ℕ → Token) → List ℕ → List Token
 filled token [] = []
 filled token (b ∷ rest) = token (b ∷ rest) ∷ []
 
--- a piece of a value that goes on, and its line ending, if it has one
+-- a piece of a value that continues, and its line ending, if it has one
 abbrev pub piece_tokens : Piece → List Token
 piece_tokens p = ValueNotDoneToken p.text ∷ filled NewlineToken p.line_end
 

@@ -1,4 +1,4 @@
--- What look-ups of values in a type of the caller's answer.
+-- What lookups of values in a type of the caller's answer.
 use Rattle.std.specs.Prelude.{◌≡◌, ◌≢◌, ◌⊎◌, ℕ, true, List, [], ◌∷◌, map, Option, Some, None, Result, Ok, Err}
 use Rattle.std.specs.Option.{option_map}
 use Rattle.std.specs.declared.vec.Vec.{Vec}
@@ -18,15 +18,15 @@ use Rattle.gix_config.specs.declared.lookup.Error.TheVariants.{ValueMissing, Fai
 abbrev pub IsGiven : {R : Type 0} → (gives : BString → R → Type 0) → Option (List ℕ) → R → Type 0
 IsGiven gives value result = (text : BString) × (value ≡ Some (bstring_bytes text)) × gives text result
 
--- The value is converted, if there is one, or the type refuses it. Where there is none, the refusal tells what is missing; want of memory
--- comes only where there is one.
+-- The value is converted, if there is one, or the type refuses it. If there is none, the refusal says what is missing; out of memory
+-- comes only if there is one.
 abbrev pub IsConverted : {T E : Type 0} → (gives : BString → Result T E → Type 0) → Option (List ℕ) → Miss → Result T (Error E) → Type 0
 IsConverted gives value miss (Ok t) = IsGiven gives value (Ok t)
 IsConverted gives value miss (Err (FailedConversion e)) = IsGiven gives value (Err e)
 IsConverted gives value miss (Err (ValueMissing refusal)) = (value ≡ None) × (refusal ≡ missing miss)
 IsConverted gives value miss (Err Memory) = value ≢ None
 
--- the same, with the section in which the value stands
+-- the same, with the section in which the value is
 abbrev pub IsConvertedWith : {T E : Type 0} → (gives : BString → Result T E → Type 0) → Option (List ℕ × SectionState) → Miss → Result (T × SectionRef) (Error E) → Type 0
 IsConvertedWith gives value miss (Ok found) = IsGiven gives (option_map (λ v. v.0) value) (Ok found.0) × (option_map (λ v. v.1) value ≡ Some (shown found.1))
 IsConvertedWith gives value miss (Err (FailedConversion e)) = IsGiven gives (option_map (λ v. v.0) value) (Err e)
@@ -44,29 +44,29 @@ abbrev pub FirstRefused : {T E : Type 0} → (gives : BString → Result T E →
 FirstRefused gives [] e = ⊥
 FirstRefused {T} gives (value ∷ values) e = IsGiven gives (Some value) (Err e) ⊎ (((t : T) × IsGiven gives (Some value) (Ok t)) × FirstRefused gives values e)
 
--- A list of values is converted, or the type refuses one; or memory was wanting.
+-- A list of values is converted, or the type refuses one; or memory ran out.
 abbrev pub IsListed : {T E Z : Type 0} → (gives : BString → Result T E → Type 0) → List (List ℕ) → Result (Vec T Z) (Error E) → Type 0
 IsListed gives values (Ok ts) = AreGiven gives values ts.items
 IsListed gives values (Err (FailedConversion e)) = FirstRefused gives values e
 IsListed gives values (Err (ValueMissing refusal)) = ⊥
 IsListed gives values (Err Memory) = Unit {0}
 
--- All values are converted, one or more, or the type refuses one. Where there is none, the refusal tells what is missing; want of memory
--- comes only where there are some.
+-- All values are converted, one or more, or the type refuses one. If there is none, the refusal says what is missing; out of memory
+-- comes only if there are some.
 abbrev pub AreConverted : {T E Z : Type 0} → (gives : BString → Result T E → Type 0) → List (List ℕ) → Miss → Result (Vec T Z) (Error E) → Type 0
 AreConverted gives values miss (Ok ts) = (values ≢ []) × AreGiven gives values ts.items
 AreConverted gives values miss (Err (FailedConversion e)) = FirstRefused gives values e
 AreConverted gives values miss (Err (ValueMissing refusal)) = (values ≡ []) × (refusal ≡ missing miss)
 AreConverted gives values miss (Err Memory) = values ≢ []
 
--- A list of values is converted, each beside its section, or the type refuses one; or memory was wanting.
+-- A list of values is converted, each beside its section, or the type refuses one; or memory ran out.
 abbrev pub IsListedWith : {T E Z : Type 0} → (gives : BString → Result T E → Type 0) → List (List ℕ × SectionState) → Result (Vec (T × SectionRef) Z) (Error E) → Type 0
 IsListedWith gives values (Ok found) = AreGiven gives (map (λ v. v.0) values) (map (λ f. f.0) found.items) × (map (λ v. v.1) values ≡ map (λ f. shown f.1) found.items)
 IsListedWith gives values (Err (FailedConversion e)) = FirstRefused gives (map (λ v. v.0) values) e
 IsListedWith gives values (Err (ValueMissing refusal)) = ⊥
 IsListedWith gives values (Err Memory) = Unit {0}
 
--- as `AreConverted`, each value with the section in which it stands
+-- as `AreConverted`, each value with the section in which it is
 abbrev pub AreConvertedWith : {T E Z : Type 0} → (gives : BString → Result T E → Type 0) → List (List ℕ × SectionState) → Miss → Result (Vec (T × SectionRef) Z) (Error E) → Type 0
 AreConvertedWith gives values miss (Ok found) =
     (values ≢ []) × AreGiven gives (map (λ v. v.0) values) (map (λ f. f.0) found.items) × (map (λ v. v.1) values ≡ map (λ f. shown f.1) found.items)

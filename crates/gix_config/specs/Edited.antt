@@ -1,4 +1,4 @@
--- What an edit leaves of a file, and which section an editor stands on.
+-- What an edit leaves of a file, and which section an editor is on.
 use Rattle.std.specs.Prelude.{◌≡◌, ◌==◌, ◌+◌, ◌≤◌, ◌^◌, ◌↔◌, ℕ, Bool, false, true, Result, IfErr, IsErrAnd, OnErr, OnOk}
 use Rattle.std.specs.List.{list_any}
 use Rattle.gitconf_text.specs.Names.{is_value_name}
@@ -19,8 +19,8 @@ has_name (SetValue number editor key value) = is_value_name key
 has_name _ = true
 
 -- The edit was done, or refused, and the file is then as it was but for the bytes of its buffer. No more bytes are put there than the edit
--- puts (`put_bytes`). Refusal 6 comes exactly for a name that is none, and else 3 exactly where these bytes would pass the limit; any other
--- is want of memory.
+-- puts (`put_bytes`). Refusal 6 comes exactly for an invalid name, and otherwise 3 if and only if these bytes would pass the limit; any other
+-- is out of memory.
 pub record IsEdited {T E : Type 0} (edit : Edit) (number : E → ℕ) (result : Result T E) (old new : State) : Type 0 where
   pub ok : OnOk result (new ≡ with_used new.used (apply edit old))
   pub err : OnErr result (new ≡ with_used new.used old)

@@ -25,7 +25,7 @@ use Rattle.gix_config.specs.declared.file.init.repository.Parts.{Parts}
 use Rattle.gix_config.specs.Environment.{IsOverrides, IsOverridesCause}
 use Rattle.gix_config.specs.Typed.{boolean_or_refusal}
 
--- the path of the repository's configuration, and the folder that it stands in
+-- the path of the repository's configuration, and the folder that it is in
 abbrev pub local_path : (dir : List ℕ) → List ℕ
 local_path dir = join dir (codes "config")
 
@@ -45,7 +45,7 @@ worktree_key = record { section = codes "extensions"; subsection = None; name = 
 abbrev pub has_worktree : State → Bool
 has_worktree local = is_told_true (option_map boolean_or_refusal (implicit_at worktree_key (λ _. true) local))
 
--- that of the worktree, where there is one
+-- that of the worktree, if there is one
 abbrev pub worktree_path : (folder : List ℕ) → List ℕ
 worktree_path folder = join folder (codes "config.worktree")
 
@@ -74,18 +74,18 @@ repository_rules places folder real = record {
 abbrev pub IsExpanded : Asks → (file : State) → Result State ℕ → Type 0
 IsExpanded asks file r = MakesOf (λ number. number) asks r (Ok file)
 
--- a file behind another one; memory may be wanting
+-- a file after another one; memory may run out
 abbrev pub IsPutBehind : (target other : State) → Result State ℕ → Type 0
 IsPutBehind target other r = (r ≡ Err 27) ⊎ elim (has_room_behind target other) [
   | true ↦ (now : State) × IsBehind target other now × (r ≡ Ok now)
   | false ↦ r ≡ Err 3
 ]
 
--- a file is expanded, and then put behind another one
+-- a file is expanded, and then put after another one
 abbrev pub IsExpandedBehind : Asks → (target : State) → (file : State) → Result State ℕ → Type 0
 IsExpandedBehind asks target file = Then (IsExpanded asks file) (IsPutBehind target)
 
--- the same of the worktree's, where there is one
+-- the same of the worktree's, if there is one
 abbrev pub IsWorktreeBehind : Asks → (worktree : Option State) → (target : State) → Result State ℕ → Type 0
 IsWorktreeBehind asks None target r = r ≡ Ok target
 IsWorktreeBehind asks (Some worktree) target r = IsExpandedBehind asks target worktree r
@@ -100,26 +100,26 @@ abbrev pub parts_of : Parts → RepositoryFiles
 parts_of parts = record { local = parts.local; worktree = parts.worktree; globals = parts.globals }
 
 module _ (variables : Option (List ℕ → VariableTold)) (places : Places) (table : Option (List ℕ → FileTold)) where
-  -- The files are read: first the repository's, then that of its worktree, then those of the machine and of the user; memory may be wanting.
+  -- The files are read: first the repository's, then that of its worktree, then those of the machine and of the user; memory may run out.
   abbrev pub IsReadOf : (path folder : List ℕ) → Result RepositoryFiles ℕ → Type 0
   IsReadOf path folder r = (r ≡ Err 27) ⊎ Then (IsLoadedFrom table path Local) (λ local. Then (IsWorktree table folder local)
       (λ worktree. Then (IsGlobal variables places table) (λ globals. λ r. r ≡ Ok (record { local = local; worktree = worktree; globals = globals })))) r
 
-  -- the overrides behind a file
+  -- the overrides after a file
   abbrev pub AreOverridesBehind : (target : State) → Result State ℕ → Type 0
   AreOverridesBehind target = Then (IsOverrides variables places table) (IsPutBehind target)
 
-  -- All are expanded, each is put behind those before it, and the overrides come last.
+  -- All are expanded, each is put after those before it, and the overrides come last.
   abbrev pub IsJoined : Asks → RepositoryFiles → Result State ℕ → Type 0
   IsJoined asks parts = Then (IsExpanded asks parts.globals) (λ globals. Then (IsExpandedBehind asks globals parts.local)
       (λ both. Then (IsWorktreeBehind asks parts.worktree both) AreOverridesBehind))
 
-  -- the repository with that folder; memory may be wanting
+  -- the repository with that folder; memory may run out
   abbrev pub IsRepository : (dir : List ℕ) → (real : Option (List ℕ)) → Result State ℕ → Type 0
   IsRepository dir real r = (r ≡ Err 27)
       ⊎ Then (IsReadOf (local_path dir) (folder_of (local_path dir))) (IsJoined (record { rules = repository_rules places (folder_of (local_path dir)) real; table = table })) r
 
--- What refusals tell beside their numbers: of a file that is read, of one that includes, and of the overrides.
+-- What refusals say besides their numbers: of a file that is read, of one that includes, and of the overrides.
 abbrev pub IsReadCause : Places → Option (List ℕ → FileTold) → PathsError → Type 0
 IsReadCause places table e = ((path : List ℕ) × IsFileCause table path e) ⊎ IsGlobalCause places table e
 

@@ -1,4 +1,4 @@
--- Editors of a section: the file, the section's number, and what they write beside names and values.
+-- Editors of a section: the file, the section's number, and what they write besides names and values.
 use Rattle.std.specs.Prelude.{◌≡◌, ◌≢◌, ◌↔◌, ◌==◌, ◌+◌, ◌≤◌, ℕ, Bool, true, false, List, IfErr, IfOk, IsErrAnd, IsErrOf, Option, Some, None, Result, Ok, Err}
 use Rattle.std.specs.List.{list_any}
 use Rattle.std.specs.Option.{option_map}
@@ -48,7 +48,7 @@ editor e = editor_with e.blanks e.line_end e.ends
 abbrev pub with_leading : Option (List ℕ) → Editor → Editor
 with_leading leading e = record { spacing = record { leading = leading; before = e.spacing.before; behind = e.spacing.behind }; line_end = e.line_end; ends = e.ends }
 
--- where it stands, and what it writes
+-- where it is, and what it writes
 abbrev pub told : SectionMut Spacing → ℕ × Editor
 told e = (number_of e, editor e)
 
@@ -60,7 +60,7 @@ editor_at state s = (s.number, editor_of state s)
 abbrev pub blanks_at : SectionState → ℕ × Spacing
 blanks_at s = (s.number, spacing_of s.items)
 
--- What was found of the last section of the name and subsection that passes; it is told where there are some and none passes.
+-- What was found of the last section of the name and subsection that passes; it is told if there are some and none passes.
 abbrev pub IsPickedOf : {T A : Type 0} → (shown : T → A) → (give : SectionState → A)
     → (name : List ℕ) → (subsection : Option (List ℕ)) → State → (found : Option SectionState) → Result T Error → Type 0
 IsPickedOf shown give name subsection state found (Ok t) = option_map give found ≡ Some (shown t)
@@ -72,7 +72,7 @@ abbrev pub IsPassing : {T A : Type 0} → (shown : T → A) → (give : SectionS
     → (name : List ℕ) → (subsection : Option (List ℕ)) → (keeps : Meta → Bool) → State → Result T Error → Type 0
 IsPassing shown give name subsection keeps state result = IsPickedOf shown give name subsection state (picked name subsection keeps state) result
 
--- whatever the filter answers
+-- whatever the filter returns
 abbrev pub IsSomePassing : {T A : Type 0} → (shown : T → A) → (give : SectionState → A)
     → (name : List ℕ) → (subsection : Option (List ℕ)) → State → Result T Error → Type 0
 IsSomePassing shown give name subsection state result =
@@ -103,13 +103,13 @@ abbrev pub IsSomePassingEditorOfKey : Option SectionKey → State → Result (Se
 IsSomePassingEditorOfKey None state result = result ≡ Err (Lookup KeyMissing)
 IsSomePassingEditorOfKey (Some key) state result = IsSomePassing told (editor_at state) key.section key.subsection state result
 
--- What was found, in a state that stays; where nothing was, a section was made, and that is told of it.
+-- What was found, in a state that stays; if nothing was, a section was made, and that is told of it.
 abbrev pub IsFoundOr : {A : Type 0} → (give : SectionState → A) → (name : List ℕ) → (subsection : Option (List ℕ)) → Option SectionState → (old new : State) → A → Type 0
 IsFoundOr give name subsection (Some s) old new told = (new ≡ old) × (told ≡ give s)
 IsFoundOr give name subsection None old new told = (new ≡ with_used new.used (apply (NewSection name subsection) old)) × (told ≡ give (new_section name subsection old))
 
--- What was found of a section that is made where there is none. Refusals 4, 5 and 3 are of a section that has to be made, each with its
--- cause; any other is want of memory.
+-- What was found of a section that is made if there is none. Refusals 4, 5 and 3 are of a section that has to be made, each with its
+-- cause; any other is out of memory.
 pub record IsFoundOrMadeOf {T A : Type 0} (after : T → State) (shown : T → A) (give : SectionState → A) (name : List ℕ) (subsection : Option (List ℕ)) (found : Option SectionState) (old : State) (result : Result T HeaderError) : Type 0 where
   pub ok : IfOk result (λ t. IsFoundOr give name subsection found old (after t) (shown t))
   pub grown : IfOk result (λ t. (after t).used ≤ old.used + put_bytes (NewSection name subsection) old)
@@ -124,16 +124,16 @@ abbrev pub IsFoundOrMade : {T A : Type 0} → (after : T → State) → (shown :
 IsFoundOrMade after shown give name subsection keeps old result =
     IsFoundOrMadeOf after shown give name subsection (picked name subsection keeps old) old result
 
--- whatever the filter answers
+-- whatever the filter returns
 abbrev pub IsSomeFoundOrMade : {T A : Type 0} → (after : T → State) → (shown : T → A) → (give : SectionState → A)
     → (name : List ℕ) → (subsection : Option (List ℕ)) → (old : State) → Result T HeaderError → Type 0
 IsSomeFoundOrMade after shown give name subsection old result =
     WithSome (λ s. IsFoundOrMadeOf after shown give name subsection (picked name subsection (λ _. true) s) old result) old
 
--- The file behind a section that wasn't put into it: as it was but for the bytes of its buffer, no more than these.
+-- The file after a section that wasn't put into it: as it was but for the bytes of its buffer, no more than these.
 abbrev pub IsUnput : (bytes : ℕ) → (old new : State) → Type 0
 IsUnput bytes old new = (new ≡ with_used new.used old) × (new.used ≤ old.used + bytes)
 
--- behind one that wasn't made
+-- after one that wasn't made
 abbrev pub IsUnmade : (name : List ℕ) → (subsection : Option (List ℕ)) → (old new : State) → Type 0
 IsUnmade name subsection old = IsUnput (put_bytes (NewSection name subsection) old) old

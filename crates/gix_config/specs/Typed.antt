@@ -1,4 +1,4 @@
--- What look-ups of paths, booleans and integers answer.
+-- What lookups of paths, booleans and integers answer.
 use Rattle.std.specs.Prelude.{◌≡◌, ◌≢◌, ◌⊎◌, ℕ, ℤ, Bool, true, List, [], ◌∷◌, Option, Some, None, Result, Ok, Err, codes}
 use Rattle.std.specs.Option.{option_map}
 use Rattle.std.specs.declared.vec.Vec.{Vec}
@@ -23,7 +23,7 @@ integers_or_refusal (value ∷ values) = elim (integer_or_refusal value) [
   | Ok n ↦ elim (integers_or_refusal values) [ Err e ↦ Err e | Ok ns ↦ Ok (n ∷ ns) ]
 ]
 
--- What was found is told in its type, if there is something, or refused; or memory was wanting, where there is something.
+-- What was found is told in its type, if there is something, or refused; or memory ran out, if there is something.
 abbrev pub IsTyped : {A B T : Type 0} → (told : A → Result B ValueError) → (shown : T → B) → Option A → Result (Option T) ValueError → Type 0
 IsTyped told shown value (Ok found) = option_map told value ≡ option_map (λ t. Ok (shown t)) found
 IsTyped told shown value (Err e) = (option_map told value ≡ Some (Err e)) ⊎ ((value ≢ None) × (e ≡ wanting))

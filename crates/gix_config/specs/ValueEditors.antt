@@ -1,4 +1,4 @@
--- Editors of a value: the file, the number of its section, its place there, whether it stands, and what they write beside it.
+-- Editors of a value: the file, the number of its section, its place there, whether it is, and what they write beside it.
 use Rattle.std.specs.Prelude.{◌≡◌, ◌≢◌, ℕ, Bool, true, List, Option, None, Result, Ok, Err, if◌then◌else◌}
 use Rattle.std.specs.Borrow.{GName}
 use Rattle.gitconf_base.specs.Key.{Key}
@@ -22,7 +22,7 @@ lent e = e.file.ghost_name
 abbrev pub edited : {S : Type 0} → ValueMut S → State
 edited e = e.file.now
 
--- where the entry stands: the number of its section, and the place among its items
+-- where the entry is: the number of its section, and the place among its items
 abbrev pub place_of : {S : Type 0} → ValueMut S → ℕ × ℕ
 place_of e = (e.id, e.place)
 
@@ -46,11 +46,11 @@ writing e value = WriteAt e.id (editor e) e.place e.stands e.stands (key_of e) v
 abbrev pub without_entry : {S : Type 0} → ValueMut S → State
 without_entry e = if e.stands then apply (DeleteAt e.id e.place) (edited e) else edited e
 
--- what the entry means, where it stands
+-- what the entry means, where it is
 abbrev pub meaning_of : {S : Type 0} → ValueMut S → Option (List ℕ)
 meaning_of e = if e.stands then told_of e.id (meaning_at e.place) (edited e) else None
 
--- where it stands, that it does, the name, and the blanks
+-- where it is, that it does, the name, and the blanks
 abbrev pub told : ValueMut Spelled → ((ℕ × ℕ) × Bool) × (List ℕ × Editor)
 told e = ((place_of e, stands_there e), (key_of e, editor e))
 
@@ -58,7 +58,7 @@ told e = ((place_of e, stands_there e), (key_of e, editor e))
 abbrev pub told_at : (key : List ℕ) → State → (place : ℕ × ℕ) → ((ℕ × ℕ) × Bool) × (List ℕ × Editor)
 told_at key state place = ((place, true), (key, editor_of_numbered place.0 state))
 
--- It was found, and has the blanks that its section has; or the refusal tells why not. Want of memory comes only where there is one.
+-- It was found, and has the blanks that its section has; or the refusal says why not. Out of memory comes only if there is one.
 abbrev pub IsValueEditor : Key → State → Option (ℕ × ℕ) → Result (ValueMut Spelled) Error → Type 0
 IsValueEditor key state place (Ok e) = IsPlace key state place (Ok (place_of e)) × (told e ≡ told_at key.name state (place_of e))
 IsValueEditor key state place (Err Memory) = place ≢ None
@@ -67,6 +67,6 @@ IsValueEditor key state place (Err refusal) = IsPlace key state place (Err refus
 abbrev pub IsEditorOfValue : Key → (keeps : Meta → Bool) → State → Result (ValueMut Spelled) Error → Type 0
 IsEditorOfValue key keeps state result = IsValueEditor key state (value_place key keeps state) result
 
--- whatever the filter answers
+-- whatever the filter returns
 abbrev pub IsEditorOfSomeValue : Key → State → Result (ValueMut Spelled) Error → Type 0
 IsEditorOfSomeValue key state result = WithSome (λ s. IsValueEditor key state (value_place key (λ _. true) s) result) state

@@ -52,7 +52,7 @@ fn shared(alloc: Global, meta: Metadata) -> Result<Rc<Metadata>, NoMemory>
     Ok(Rc::new(alloc, meta)?)
 }
 
-/// A file of git's configuration: what stands before its first section, and its sections in order.
+/// A file of git's configuration: what comes before its first section, and its sections in order.
 #[derive(Drop)]
 pub struct File {
     store: Store,
@@ -111,7 +111,7 @@ impl File {
     ///
     /// # Errors
     ///
-    /// Want of memory.
+    /// Out of memory.
     pub fn try_clone(&self) -> Result<File, NoMemory>
         ensures { IfOk result (λ f. f ≡ self.now) }
     {
@@ -124,8 +124,8 @@ impl File {
     ///
     /// # Errors
     ///
-    /// Refusal 1 where the text has no document, with the line and the data from where it can't be read on; refusal 2
-    /// for more than 4294967295 bytes; refusal 27 for want of memory.
+    /// Refusal 1 if the text has no document, with the line and the data from where it can't be read on; refusal 2
+    /// for more than 4294967295 bytes; refusal 27 when out of memory.
     pub fn try_from_bytes(alloc: Global, input: &[u8]) -> Result<File, Error>
         ensures made { IfOk result (λ f. (parts : List Part) × IsText input.now parts × IsMade (tokens_of parts) api_meta (length input.now) f) }
         ensures document { IfOk result (λ f. Reads input.now (document_of f)) }
@@ -141,7 +141,7 @@ impl File {
     }
 
     /// The same file as [`File::try_from_bytes`] makes it, of the text itself: it is handed over, and no byte of it is copied but the
-    /// names and subsections of sections. An edit that finds no room behind the text makes the buffer larger.
+    /// names and subsections of sections. An edit that finds no room after the text makes the buffer larger.
     ///
     /// # Errors
     ///
@@ -160,8 +160,8 @@ impl File {
         Ok(File { store })
     }
 
-    /// A file to look things up in: the text is handed over, as to [`File::try_from_bytes_owned`], and its blanks, line ends and
-    /// comments are left out, for which no memory is taken. It has the document of the text, and answers each look-up as the whole
+    /// A file to look things up in: the text is handed over, as to [`File::try_from_bytes_owned`], and its blanks, line endings and
+    /// comments are left out, for which no memory is taken. It has the document of the text, and returns each lookup as the whole
     /// file does.
     ///
     /// # Errors
@@ -188,7 +188,7 @@ impl File {
     ///
     /// # Errors
     ///
-    /// Want of memory.
+    /// Out of memory.
     pub fn from_parse_events_no_includes(
         alloc: Global,
         events: Events,
@@ -198,7 +198,7 @@ impl File {
         ensures made { IfOk result (λ f. IsMade events.tokens meta.value events.used f) }
         ensures document { IfOk result (λ f. (text : List ℕ) → IsSelected text events → Reads text (document_of f)) }
         ensures clean { IfOk result (λ f. entries_of f.front ≡ [] → IsClean f) }
-        // Where nothing was dropped it is clean, and its text is the one that was parsed, but for line ends put in.
+        // If nothing was dropped it is clean, and its text is the one that was parsed, but for line endings put in.
         ensures whole_clean { IfOk result (λ f. (text : List ℕ) → IsWhole text events → IsClean f) }
         ensures inserted { IfOk result (λ f. (text : List ℕ) (parts : List Part) → IsWhole text events → IsText text parts
             → Inserted (map spelled_token (tokens_of parts)) (printed f)) }
@@ -227,7 +227,7 @@ impl File {
         self.store.meta_owned()
     }
 
-    /// Says where the file comes from, and each section that is made from now on. Those that stand keep theirs.
+    /// Says where the file comes from, and each section that is made from now on. Those that are keep theirs.
     pub fn set_meta(&mut self, meta: Rc<Metadata>) -> &mut File
         ensures same { result.ghost_name ≡ self.entry.ghost_name }
         ensures value { result.now ≡ record self.old { meta = meta.value } }
@@ -236,7 +236,7 @@ impl File {
         self
     }
 
-    /// The events that stand before the first section, or `None` where there are none. Entries among them are seen by no look-up.
+    /// The events that come before the first section, or `None` if there are none. Entries among them are seen by no lookup.
     /// Takes no memory.
     pub fn frontmatter(&self) -> Option<ItemEvents<'_>>
         ensures none { IsNone result ↔ (tokens_in self.now.front ≡ []) }
@@ -259,8 +259,8 @@ impl File {
         self.store.sections()
     }
 
-    /// The line end that the file uses, LF or CR LF: that of the first newline of its front, or else of its
-    /// sections' bodies in order; LF where there is none. Takes no memory.
+    /// The line ending that the file uses, LF or CR LF: that of the first newline of its front, otherwise of its
+    /// sections' bodies in order; LF if there is none. Takes no memory.
     pub fn detect_newline_style(&self) -> &'static [u8]
         ensures { result.now ≡ file_line_end self.now }
     {
@@ -274,7 +274,7 @@ impl File {
         self.store.is_void()
     }
 
-    /// How many entries the sections have, those of the front not counted; the greatest number where they are more. Takes no memory, and a
+    /// How many entries the sections have, those of the front not counted, or `usize::MAX` if there are more. Takes no memory, and a
     /// walk over all.
     pub fn num_values(&self) -> usize
         ensures { result ≡ min (length (section_entries self.now.sections)) (2 ^ 64 - 1) }
@@ -283,20 +283,20 @@ impl File {
     }
 
     /// Gives a key such as `remote.origin.url` a value: in the last section of the key's name and subsection, whose last entry of the
-    /// name gets it, spelled as a file has it; `=` is put in where the entry has none. A section without such an entry gets one behind
-    /// all others, with the blanks that it uses; where there is no section, one is made behind all others, with the file's line end and
+    /// name gets it, spelled as a file has it; `=` is put in where the entry has none. A section without such an entry gets one after
+    /// all others, with the blanks that it uses; if there is no section, one is made after all others, with the file's line ending and
     /// metadata.
     ///
-    /// Answers the raw text of the value that was there: its pieces joined, not decoded; nothing for an entry without `=`; `None` where
+    /// Returns the raw text of the value that was there: its pieces joined, not decoded; nothing for an entry without `=`; `None` where
     /// there was no entry. All else stays as it is. The section is found by its names: it takes a walk over the sections of the key's name
     /// and subsection alone, from the last one on up to that one, then one over its items and one over the file's up to the first line
     /// end.
     ///
     /// # Errors
     ///
-    /// Refusal 6 for a name of a value that is none, before anything else; 4 and 5 where a section has to be made of a name or a
-    /// subsection that can't be; 3 where the file would take more than 4294967295 bytes, or there is no number for a section; 27 for
-    /// want of memory. The file is then as it was.
+    /// Refusal 6 for an invalid value name, before anything else; 4 and 5 if a section has to be made of a name or a
+    /// subsection that can't be; 3 if the file would take more than 4294967295 bytes, or there is no number for a section; 27 for
+    /// out of memory. The file is then as it was.
     pub fn set_raw_value<K: AsKey>(
         &mut self,
         key: K,
@@ -350,7 +350,7 @@ impl File {
         requires known { IsSome (K.key key) }
         requires callable { F.IsAlwaysCallable filter }
         ensures value_name { IsRefusal result 6 ↔ (is_value_name (the_key (K.key key)).name ≡ false) }
-        // For a filter that answers by what it is shown.
+        // For a filter whose result depends only on what it is shown.
         ensures exact { (keeps : Meta → Bool) → ComputesKey F.FnMut keeps filter
             → IsSetByKey (the_key (K.key key)) keeps new_value.now result self.old self.new }
         // For every filter, also one that changes its mind.
@@ -382,7 +382,7 @@ impl File {
     ) -> Result<Option<BString>, set_raw_value::Error>
         requires { F.IsAlwaysCallable filter }
         ensures value_name { IsRefusal result 6 ↔ (is_value_name value_name.now ≡ false) }
-        // For a filter that answers by what it is shown.
+        // For a filter whose result depends only on what it is shown.
         ensures exact { (keeps : Meta → Bool) → ComputesKey F.FnMut keeps filter
             → IsSet section_name.now (option_copied subsection_name.entry) value_name.now keeps new_value.now result self.old self.new }
         // For every filter, also one that changes its mind.
@@ -398,19 +398,19 @@ impl File {
         )
     }
 
-    /// Writes the front and the sections that `filter` keeps, with line ends put in where parts would else run
+    /// Writes the front and the sections that `filter` keeps, with line endings put in where parts would otherwise run
     /// together. One pass, which takes no memory of its own.
     ///
     /// # Errors
     ///
-    /// A write failed, or took nothing. It is not tried again, and a beginning of the text was written.
+    /// A write failed, or took nothing. It is not tried again, and a beginning of the text may have been written.
     pub fn write_to_filter<W: Sink, F: FnMut(&SectionRef<'_>) -> bool>(
         &self,
         out: &mut W,
         filter: F,
     ) -> Result<(), SinkFault>
         requires { F.IsAlwaysCallable filter }
-        // For a filter that answers by what it is shown.
+        // For a filter whose result depends only on what it is shown.
         ensures exact { (keeps : SectionState → Bool) → ComputesKey F.FnMut (λ r. keeps (shown r)) filter
             → Writes result (printed_kept keeps self.now) (W.told out.old) (W.told out.new) }
         ensures reads { (keeps : SectionState → Bool) → IsClean self.now → Reads (printed_kept keeps self.now) (document_of_kept keeps self.now) }
@@ -442,7 +442,7 @@ impl File {
     ///
     /// # Errors
     ///
-    /// Want of memory.
+    /// Out of memory.
     pub fn to_bstring(&self) -> Result<BString, NoMemory>
         ensures text { IfOk result (λ text. bstring_bytes text ≡ printed self.now) }
         ensures reads { IsClean self.now → IfOk result (λ text. Reads (bstring_bytes text) (document_of self.now)) }

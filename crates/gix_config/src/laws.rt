@@ -23,7 +23,7 @@ pub use gitconf_expansion::laws as includes;
 pub use gitconf_loaders::laws as loaders;
 
 /// A new editor is an editor, as edits ask for one: of a section that is found by its names or its number, of one that is made, and of a
-/// value in the section of a number. It stays one with other blanks before names, and with line ends switched on or off. What it asks of
+/// value in the section of a number. It stays one with other blanks before names, and with line endings switched on or off. What it asks of
 /// the state holds of every file (`state` of [`File::sections`](crate::file::File::sections)).
 pub fn new_editors_are_editors()
     ensures found { (name : List ℕ) (subsection : Option (List ℕ)) (keeps : Meta → Bool) (state : State) (s : SectionState) → HasItems state
@@ -45,12 +45,12 @@ pub fn new_editors_of_clean_files_put_blanks()
         → has_blank_leading (editor_of state (new_section name subsection state)) ≡ true }
 {}
 
-/// What an editor's edit puts into the buffer, and what a new section does, is no longer than the tokens that it makes.
+/// What an editor's edit adds to the buffer, and what a new section does, is no longer than the tokens that it makes.
 pub fn edits_put_no_more_than_their_tokens()
     ensures { (edit : Edit) (state : State) → put_bytes edit state ≤ new_bytes edit state }
 {}
 
-/// The file that variables tell is clean, and that of the overrides, where no key names a section with an empty name and no subsection, and no
+/// The file that variables say is clean, and that of the overrides, if no key names a section with an empty name and no subsection, and no
 /// text that may be included has an entry before its first section.
 pub fn files_of_variables_are_clean()
     ensures made { (variables : List ℕ → VariableTold) (files : List ℕ → FileTold) (asks : Asks) (file : State) → AreNamed variables → asks.table ≡ Some files → AreHeaded files

@@ -1,4 +1,4 @@
-//! The numbers of refusals, E1 to E28, as programs tell them. They stand here alone: no crate below asks for a number.
+//! The numbers of refusals, E1 to E28, as programs say them. They are here alone: no crate below asks for a number.
 ghost use Rattle.std.specs.Prelude.{◌≡◌};
 
 use crate::file::init::{from_env, from_git_dir, from_paths};
@@ -18,7 +18,7 @@ pub trait Refusal {
 
     ghost number_of: { Self → ℕ };
 
-    /// Its number, 1 to 28: the causes are told in docs/refusals.md. 27 is want of memory.
+    /// Its number, 1 to 28: the causes are told in docs/refusals.md. 27 is out of memory.
     fn number(&self) -> u8
         ensures { result ≡ number_of self.now };
 }

@@ -9,7 +9,7 @@ use std::alloc::Global;
 use std::rc::Rc;
 use std::test::Fail;
 
-/// Whether a call's answer is the one that is wanted; `None` where it says that memory was wanting.
+/// Whether a call's answer is the one that is wanted; `None` where it says that memory ran out.
 pub type Told = Option<bool>;
 
 /// The key whose values the file has.
@@ -41,7 +41,7 @@ fn file_of_user(alloc: Global) -> Result<File, Fail> {
     Ok(File::from_bytes_no_includes(alloc, b"[A]\nk = 2\n", meta, init::Options::default())?)
 }
 
-/// The program's section, and the user's behind it.
+/// The program's section, and the user's after it.
 fn appended(alloc: Global, of_user: File) -> Result<File, Fail> {
     let mut file = File::try_from_bytes(alloc, b"[a]\nk = 0\n")?;
     file.append(of_user)?;
@@ -54,7 +54,7 @@ pub fn file_of_two(alloc: Global) -> Result<File, Fail> {
     appended(alloc, of_user)
 }
 
-/// Whether all of them are as wanted; `None` where one says that memory was wanting.
+/// Whether all of them are as wanted; `None` where one says that memory ran out.
 pub fn all(told: &[Told]) -> Told {
     let mut are_wanted = true;
     for one in told {
@@ -64,7 +64,7 @@ pub fn all(told: &[Told]) -> Told {
     Some(are_wanted)
 }
 
-/// Whether it is refused by this number; `None` for want of memory.
+/// Whether it is refused by this number; `None` when out of memory.
 pub fn is_refused<E: Refusal>(refusal: &E, number: u8) -> Told {
     match refusal.number() {
         27 => None,
@@ -81,7 +81,7 @@ pub fn are_texts(found: &[BString], wanted: &[&[u8]]) -> bool {
             .all(|(found, wanted)| found.as_bytes() == *wanted)
 }
 
-/// Whether the text was found, or nothing where none is wanted.
+/// Whether the text was found, or nothing if none is wanted.
 pub fn is_text(found: &Result<Option<BString>, NoMemory>, wanted: Option<&[u8]>) -> Told {
     match (found, wanted) {
         (Ok(Some(text)), Some(wanted)) => Some(text.as_bytes() == wanted),
@@ -90,7 +90,7 @@ pub fn is_text(found: &Result<Option<BString>, NoMemory>, wanted: Option<&[u8]>)
     }
 }
 
-/// One look-up of the file.
+/// One lookup of the file.
 fn looked<F: Fn(&File) -> Told>(alloc: Global, file: &File, look: &F) -> Result<Outcome, Fail>
     requires { F.IsAlwaysCallable look.now }
 {
@@ -103,7 +103,7 @@ fn looked<F: Fn(&File) -> Told>(alloc: Global, file: &File, look: &F) -> Result<
     })
 }
 
-/// A look-up of the file, with each of its growths refused before.
+/// A lookup of the file, with each of its growths refused before.
 pub fn look_up<F: Fn(&File) -> Told>(alloc: Global, what: &str, look: F) -> Result<(), Fail>
     requires { F.IsAlwaysCallable look }
 {
@@ -142,7 +142,7 @@ fn edited<F: Fn(&mut File) -> Told>(alloc: Global, edit: &F, text: &[u8]) -> Res
     is_made(alloc, &mut file, edit, text)
 }
 
-/// An edit of the file, behind which this is printed, with each of its growths refused before.
+/// An edit of the file, after which this is printed, with each of its growths refused before.
 pub fn change<F: Fn(&mut File) -> Told>(
     alloc: Global,
     what: &str,

@@ -1,4 +1,4 @@
-//! Look-ups of texts by a key, with a filter, and with their sections.
+//! Lookups of texts by a key, with a filter, and with their sections.
 
 use crate::calls::{KEY, Told, all, are_texts, is_api, is_local, is_refused, is_user, look_up};
 use bstr::BString;
@@ -7,7 +7,7 @@ use gix_config::lookup::existing;
 use gix_config::{File, NoMemory};
 use std::test::Fail;
 
-/// Whether these texts were found, or nothing where none is wanted.
+/// Whether these texts were found, or nothing if none is wanted.
 fn are_all(found: &Result<Option<Vec<BString>>, NoMemory>, wanted: &[&[u8]]) -> Told {
     match found {
         Ok(Some(found)) => Some(are_texts(found, wanted)),
@@ -68,7 +68,7 @@ fn raws(file: &File) -> Told {
     ])
 }
 
-/// A text, and the section that it stands in.
+/// A text, and the section that it is in.
 type WithSection<'a> = (BString, SectionRef<'a>);
 
 /// Whether this is the text and the name of its section, as it is spelled there.

@@ -52,7 +52,7 @@ fn bytes_of_names(rt: HostRuntime) {
     }
 }
 
-/// What a hasher answers that is fed the name.
+/// What a hasher returns that is fed the name.
 fn hash_of(name: &[u8]) -> u64 {
     let mut state = DefaultHasher::new();
     feed(name, &mut state);

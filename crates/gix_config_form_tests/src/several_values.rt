@@ -6,7 +6,7 @@ use gix_config::file::MultiValueMut;
 use gix_config::parse::span;
 use std::test::Fail;
 
-/// Values that were written; `None` for want of memory.
+/// Values that were written; `None` when out of memory.
 fn are_written(answer: Result<(), span::Error>) -> Told {
     match answer {
         Ok(()) => Some(true),
@@ -51,7 +51,7 @@ fn write_passing_by(file: &mut File) -> Told {
     }
 }
 
-/// There is no editor where no section passes.
+/// There is no editor if no section passes.
 fn write_none(file: &mut File) -> Told {
     match file.raw_values_mut_filter(KEY, is_local) {
         Ok(editor) => is_not_wanted(&editor),
@@ -100,7 +100,7 @@ fn where_a_filter_passes(rt: HostRuntime) -> Result<(), Fail> {
     change(rt.alloc(), "no values by names", write_none_by, TEXT)
 }
 
-/// What the editor has, where it answers.
+/// What the editor has, where it returns.
 fn has_both(editor: &MultiValueMut<'_>) -> Told {
     match editor.get() {
         Ok(found) => Some(are_texts(&found, &[b"0", b"2"])),

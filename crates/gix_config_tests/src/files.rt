@@ -8,7 +8,7 @@ use std::alloc::{AllocError, Global};
 use std::rc::Rc;
 use std::test::Fail;
 
-/// Whether the file tells this metadata, lent and shared.
+/// Whether the file says this metadata, lent and shared.
 fn has_meta(file: &File, meta: &Metadata) -> Result<bool, Fail> {
     Ok(*file.meta() == *meta && *file.meta_owned()? == *meta)
 }
@@ -29,7 +29,7 @@ fn sections_have(file: &File, meta: &Metadata) -> bool {
     true
 }
 
-/// Hands the file to the user, and answers whether it tells that, and its sections keep their metadata.
+/// Hands the file to the user, and returns whether it says that, and its sections keep their metadata.
 fn is_handed_to_user(alloc: Global, file: &mut File) -> Result<bool, Fail> {
     hand_to_user(alloc, file)?;
     let is_told = has_meta(file, &Metadata::from(Source::User))?;
@@ -58,7 +58,7 @@ fn metadata_of_a_file(rt: HostRuntime) -> Result<(), Fail> {
     Ok(())
 }
 
-/// A copy of a file, which is handed to the user behind that.
+/// A copy of a file, which is handed to the user after that.
 fn copied_and_handed(alloc: Global, file: &mut File) -> Result<File, Fail> {
     let copy = file.try_clone()?;
     hand_to_user(alloc, file)?;
@@ -123,7 +123,7 @@ fn is_user(meta: &Metadata) -> bool {
     meta.source == Source::User
 }
 
-/// The answer is this value, or none.
+/// The result is this value, or none.
 fn is_value(found: &Option<BString>, expected: Option<&[u8]>) -> bool {
     match (found, expected) {
         (Some(found), Some(expected)) => found.as_bytes() == expected,
@@ -132,7 +132,7 @@ fn is_value(found: &Option<BString>, expected: Option<&[u8]>) -> bool {
     }
 }
 
-/// Whether the key has this value where all sections pass. Where none does, it has none.
+/// Whether the key has this value where all sections pass. If none does, it has none.
 fn is_found(file: &File, key: &[u8], expected: Option<&[u8]>) -> Result<bool, Fail> {
     Ok(
         is_value(&file.string_filter(key, is_api)?, expected)
@@ -208,7 +208,7 @@ fn a_filter_that_changes_its_mind(rt: HostRuntime) -> Result<(), Fail> {
     Ok(())
 }
 
-/// Sets the value of `a.k` in the sections from there, and answers whether it was this one before.
+/// Sets the value of `a.k` in the sections from there, and returns whether it was this one before.
 fn replaces(
     file: &mut File,
     value: &[u8],
@@ -245,7 +245,7 @@ fn is_printed(file: &File, text: &[u8]) -> Result<bool, Fail> {
     Ok(file.to_bstring()?.as_bytes() == text)
 }
 
-/// A value that is set where no section passes: another section is made.
+/// A value that is set if no section passes: another section is made.
 fn is_set_beside(file: &mut File) -> Result<bool, Fail> {
     Ok(replaces(file, b"2", Source::User, None)? && is_printed(file, b"[a]\nk=1\n[a]\n\tk = 2\n")?)
 }
@@ -264,7 +264,7 @@ fn is_set_beside_by_names(file: &mut File) -> Result<bool, Fail> {
     Ok(replaces_by(file, ("a", "k"), b"5", Source::User, None)? && section_count(file) == 3)
 }
 
-/// All three, one behind the other.
+/// All three, one after the other.
 fn is_set_in_turn(file: &mut File) -> Result<bool, Fail> {
     Ok(is_set_beside(file)? && is_set_in_place(file)? && is_set_beside_by_names(file)?)
 }
@@ -281,7 +281,7 @@ fn values_are_set_where_a_filter_passes(rt: HostRuntime) -> Result<(), Fail> {
     Ok(())
 }
 
-/// What is printed of the section at this place alone, which the filter tells by its number.
+/// What is printed of the section at this place alone, which the filter says by its number.
 fn printed_of(alloc: Global, file: &File, place: usize) -> Result<Vec<u8>, Fail> {
     let Some(kept) = section_at(file, place) else {
         return Err(Fail::new("no such section"));
@@ -338,7 +338,7 @@ fn sections_by_their_source(rt: HostRuntime) -> Result<(), Fail> {
     Ok(())
 }
 
-/// How often a filter is asked that answers always the same.
+/// How often a filter is asked that returns always the same.
 fn times_asked(alloc: Global, file: &File, answer: bool) -> Result<u64, Fail> {
     let mut asked: u64 = 0;
     let mut out = Vec::new(alloc);

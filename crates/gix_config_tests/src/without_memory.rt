@@ -110,7 +110,7 @@ fn is_written(file: &File, out: &mut Vec<u8>) -> bool {
     file.write_to(out).is_ok()
 }
 
-/// Whether the file is written without memory where there is room.
+/// Whether the file is written without memory if there is room.
 fn is_written_to_room(alloc: Global, file: &File) -> Result<bool, Fail> {
     let mut out = Vec::with_capacity(alloc, 100)?;
     begin(alloc)?;

@@ -17,7 +17,7 @@ pub enum Answer<'a> {
     Done,
     /// What was asked for is not there.
     Absent,
-    /// No such command stands.
+    /// No such command is.
     Unknown,
     /// `true` or `false`.
     Flag(bool),
@@ -35,15 +35,15 @@ pub enum Answer<'a> {
     Integers(Vec<i64>),
     /// `true` or `false`, one word each.
     Flags(Vec<bool>),
-    /// Texts, each with the number of a section behind it.
+    /// Texts, each with the number of a section after it.
     TextsAt(Vec<(BString, SectionId)>),
-    /// `true` or `false`, each with the number of a section behind it.
+    /// `true` or `false`, each with the number of a section after it.
     FlagsAt(Vec<(bool, SectionId)>),
     /// Bytes, or none.
     Optional(Option<BString>),
     /// The name of an entry, and what it means.
     Entry(String, BString),
-    /// Words as they are written, each behind a blank.
+    /// Words as they are written, each after a blank.
     Words(String),
     /// The text of a refusal.
     Message(Error),
@@ -55,9 +55,9 @@ pub enum Answer<'a> {
     Front(&'a File),
     /// The events of a section's body.
     Body(SectionRef<'a>),
-    /// The events of what is held behind a section.
+    /// The events of what is held after a section.
     Held(SectionRef<'a>),
-    /// A section that stands alone.
+    /// A section that is in no file.
     Alone(&'a Section),
     /// The number of a section.
     Id(SectionId),

@@ -25,7 +25,7 @@ pub fn owned(alloc: Global, bytes: Option<&[u8]>) -> Result<Option<BString>, Ref
     }
 }
 
-/// The section's number that reads so; that of no section where none does.
+/// The section's number that reads so; that of no section if none does.
 pub fn id_of(alloc: Global, file: &File, number: usize) -> Result<SectionId, Refusal> {
     let wanted = format!(in alloc; "{number}")?;
     for id in file.section_ids() {

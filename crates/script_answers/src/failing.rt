@@ -37,8 +37,8 @@ impl Failure {
     }
 }
 
-/// Files in memory, one read of which and one question of trust may fail, each by its turn. As what stands at a path doesn't
-/// say how a call ends, it tells nothing.
+/// Files in memory, one read of which and one question of trust may fail, each by its turn. As what is at a path doesn't
+/// say how a call ends, it says nothing.
 #[derive(Drop)]
 pub struct TurnFiles {
     files: MemFiles,

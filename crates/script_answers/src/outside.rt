@@ -1,4 +1,4 @@
-//! What a script tells of what lies outside of a file, kept plain. A command that asks for it makes a host of its own of
+//! What a script says of what lies outside of a file, kept plain. A command that asks for it makes a host of its own of
 //! that.
 
 use crate::failing::{Failure, TurnFiles};
@@ -11,7 +11,7 @@ use gix_config::source::Trust;
 use includes::conditional;
 use std::alloc::{AllocError, Global};
 
-/// What stands at a path.
+/// What is at a path.
 #[derive(Drop)]
 pub enum Content {
     /// A file of these bytes, fully trusted.
@@ -32,14 +32,14 @@ impl Content {
     }
 }
 
-/// A path, with what stands there.
+/// A path, with what is there.
 #[derive(Drop)]
 struct FileEntry {
     path: String,
     content: Content,
 }
 
-/// A variable, with its text; none where it is set to what is no text.
+/// A variable, with its text; none where it is set to bytes that aren't UTF-8.
 #[derive(Drop)]
 struct Variable {
     name: String,
@@ -56,7 +56,7 @@ impl Variable {
     }
 }
 
-/// What a script tells: files, which of their calls fail, variables, and how files that include others are expanded. Of two
+/// What a script says: files, which of their calls fail, variables, and how files that include others are expanded. Of two
 /// entries for one path or name the later one counts.
 #[derive(Drop)]
 pub struct Outside {
@@ -87,7 +87,7 @@ impl Outside {
         }
     }
 
-    /// Puts what stands at a path.
+    /// Puts what is at a path.
     pub fn put_file(&mut self, path: String, content: Content) -> Result<(), AllocError> {
         self.files.push(FileEntry { path, content })?;
         Ok(())
@@ -161,7 +161,7 @@ impl Outside {
         self.expansion.options()
     }
 
-    /// The folder of the repository with its symbolic links resolved. It can't be resolved where none is told.
+    /// The folder of the repository with its symbolic links resolved. It can't be resolved if none is told.
     pub fn real_folder(&self) -> Result<&str, FileFault> {
         self.expansion.real_folder()
     }
@@ -207,7 +207,7 @@ impl Expansion {
         }
     }
 
-    /// What the words tell.
+    /// What the words say.
     pub fn of(alloc: Global, words: &words::Expansion<'_>) -> Result<Expansion, AllocError> {
         let told = &words.told;
         Ok(Expansion {
@@ -264,7 +264,7 @@ impl Expansion {
         })
     }
 
-    /// The folder that is resolved. It can't be where none is told.
+    /// The folder that is resolved. It can't be if none is told.
     fn real_folder(&self) -> Result<&str, FileFault> {
         match self.real.as_deref() {
             Some(real) => Ok(real),

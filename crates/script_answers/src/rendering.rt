@@ -87,7 +87,7 @@ fn put_answer(alloc: Global, line: &mut String, answer: &Answer<'_>) -> Result<(
     }
 }
 
-/// Where a section comes from: the path of its file, its source, how many includes stand above it, and how far it is
+/// Where a section comes from: the path of its file, its source, how many includes are above it, and how far it is
 /// trusted.
 fn put_origin(alloc: Global, line: &mut String, meta: &Metadata) -> Result<(), AllocError> {
     match &meta.path {
@@ -99,7 +99,7 @@ fn put_origin(alloc: Global, line: &mut String, meta: &Metadata) -> Result<(), A
     line.push_str(trust_word(meta.trust))
 }
 
-/// A source as a word, behind a blank.
+/// A source as a word, after a blank.
 fn source_word(source: Source) -> &'static str {
     match source {
         Source::GitInstallation => " installation",
@@ -115,7 +115,7 @@ fn source_word(source: Source) -> &'static str {
     }
 }
 
-/// Trust as a word, behind a blank.
+/// Trust as a word, after a blank.
 fn trust_word(trust: Trust) -> &'static str {
     match trust {
         Trust::Reduced => " reduced",
@@ -155,7 +155,7 @@ fn put_flags(line: &mut String, flags: &[bool]) -> Result<(), AllocError> {
     Ok(())
 }
 
-/// Texts, each with the number of a section behind it.
+/// Texts, each with the number of a section after it.
 fn put_texts_at(
     alloc: Global,
     line: &mut String,
@@ -168,7 +168,7 @@ fn put_texts_at(
     Ok(())
 }
 
-/// `true` or `false`, each with the number of a section behind it.
+/// `true` or `false`, each with the number of a section after it.
 fn put_flags_at(
     alloc: Global,
     line: &mut String,
@@ -282,7 +282,7 @@ fn put_value_names(
     Ok(())
 }
 
-/// The text of a section that stands alone.
+/// The text of a section that is in no file.
 fn put_section(alloc: Global, line: &mut String, section: &Section) -> Result<(), AllocError> {
     match section.to_ref().to_bstring() {
         Ok(text) => put_bytes(alloc, line, &text),
@@ -302,7 +302,7 @@ fn put_entries(
     line: &mut String,
     section: &SectionRef<'_>,
 ) -> Result<(), AllocError> {
-    // The pieces of a value so far, and whether a separator stands before them.
+    // The pieces of a value so far, and whether a separator comes before them.
     let mut raw = Vec::new(alloc);
     let mut is_separated = false;
     for event in section.events() {
@@ -324,7 +324,7 @@ fn put_entries(
     Ok(())
 }
 
-/// The meaning of a raw value; none where it stands without `=`.
+/// The meaning of a raw value; none where it is without `=`.
 fn put_value(
     alloc: Global,
     line: &mut String,

@@ -1,4 +1,4 @@
-//! What commands work on: four files, one of which is the current one, two sections that stand alone, and what is told of what
+//! What commands work on: four files, one of which is the current one, two sections that are in no file, and what is told of what
 //! lies outside.
 
 ghost use Rattle.std.specs.Prelude.{◌≡◌, None, OnErr, OnOk};
@@ -16,7 +16,7 @@ use std::rc::Rc;
 #[derive(Drop)]
 pub struct Loaded {
     pub text: Vec<u8>,
-    /// Whether blanks, comments and line ends are left out.
+    /// Whether blanks, comments and line endings are left out.
     pub lossy: bool,
 }
 
@@ -52,7 +52,7 @@ impl Session {
     /// Four empty files, the first of them the current one, and no section.
     pub fn new(alloc: Global) -> Result<Session, AllocError> {
         let meta = Rc::new(alloc, Metadata::api())?;
-        // All shares are taken before a file is made, so that no file stands where one is refused.
+        // All shares are taken before a file is made, so that no file is where one is refused.
         let (f, g, h, i) = (meta.clone()?, meta.clone()?, meta.clone()?, meta.clone()?);
         Ok(Session {
             f: File::new(alloc, f),
@@ -102,7 +102,7 @@ impl Session {
         self.loaded = None;
     }
 
-    /// Puts a file in the place of the current one, with what it was made of.
+    /// Puts a file in place of the current one, with what it was made of.
     pub fn put(&mut self, file: File, loaded: Option<Loaded>)
         ensures { LoadsFile self.old.current self.old self.new }
     {
@@ -110,7 +110,7 @@ impl Session {
         self.loaded = loaded;
     }
 
-    /// Puts a file in the place of the current one, that was made of the same.
+    /// Puts a file in place of the current one, that was made of the same.
     pub fn put_again(&mut self, file: File)
         ensures { ChangesFile self.old.current self.old self.new }
     {
@@ -156,7 +156,7 @@ impl Session {
         }
     }
 
-    /// Puts a section into that place, or empties it; and answers what stood there.
+    /// Puts a section into that place, or empties it; and answers what was there.
     pub fn replace_section(&mut self, place: Place, section: Option<Section>) -> Option<Section> {
         match place {
             Place::S => replace(&mut self.s, section),

@@ -44,7 +44,7 @@ pub fn play_block<R: Read + Drop, W: Write + Drop>(
     played
 }
 
-/// Tells what a command did, behind its bracket.
+/// Says what a command did, after its bracket.
 fn tell<R: Read + Drop, W: Write + Drop>(
     alloc: Global,
     bracket: Bracket,
@@ -56,7 +56,7 @@ fn tell<R: Read + Drop, W: Write + Drop>(
     streams.tell(&line)
 }
 
-/// Tells why there is no editor, and answers the lines of its block.
+/// Says why there is no editor, and answers the lines of its block.
 fn play_without<R: Read + Drop, W: Write + Drop>(
     alloc: Global,
     bracket: Bracket,
@@ -89,7 +89,7 @@ fn edit<R: Read + Drop, W: Write + Drop>(
     }
 }
 
-/// `editnew SEC2`: the same; where there is none, one is made.
+/// `editnew SEC2`: the same; if there is none, one is made.
 fn editnew<R: Read + Drop, W: Write + Drop>(
     alloc: Global,
     file: &mut File,

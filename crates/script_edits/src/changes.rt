@@ -71,7 +71,7 @@ pub fn outside_outcome<'a>(
     }
 }
 
-/// Commands that make a file of what lies outside, and the one that asks where that stands.
+/// Commands that make a file of what lies outside, and the one that asks where that is.
 pub fn loader_outcome<'a>(
     alloc: Global,
     session: &mut Session,

@@ -30,7 +30,7 @@ pub fn setkey<'a>(file: &mut File, words: &[Word<'_>]) -> Outcome<'a> {
     Ok(Answer::Optional(file.set_raw_value(key, value)?))
 }
 
-/// `setexisting KEY3 BYTES`: sets the value of an entry that stands.
+/// `setexisting KEY3 BYTES`: sets the value of an entry that is.
 pub fn setexisting<'a>(file: &mut File, words: &[Word<'_>]) -> Outcome<'a> {
     let (names, value) = names_and_bytes(words)?;
     match file.set_existing_raw_value_by(names.section, names.subsection, names.value, value) {
@@ -39,7 +39,7 @@ pub fn setexisting<'a>(file: &mut File, words: &[Word<'_>]) -> Outcome<'a> {
     }
 }
 
-/// `setmulti KEY3 BYTES..`: sets the values of entries that stand.
+/// `setmulti KEY3 BYTES..`: sets the values of entries that are.
 pub fn setmulti<'a>(alloc: Global, file: &mut File, words: &[Word<'_>]) -> Outcome<'a> {
     let (names, values) = names_and_rest(words)?;
     let values = bytes_of_all(alloc, values)?;
@@ -55,7 +55,7 @@ pub fn setmulti<'a>(alloc: Global, file: &mut File, words: &[Word<'_>]) -> Outco
     }
 }
 
-/// `newsection SEC2`: makes a section behind all others, and answers its number.
+/// `newsection SEC2`: makes a section after all others, and answers its number.
 pub fn newsection<'a>(alloc: Global, file: &mut File, words: &[Word<'_>]) -> Outcome<'a> {
     let names = section_names(words)?;
     let subsection = owned(alloc, names.subsection)?;
@@ -65,7 +65,7 @@ pub fn newsection<'a>(alloc: Global, file: &mut File, words: &[Word<'_>]) -> Out
     }
 }
 
-/// `detached PLACE SEC2`: makes a section that stands alone, and puts it into that place.
+/// `detached PLACE SEC2`: makes a section that is in no file, and puts it into that place.
 pub fn detached<'a>(alloc: Global, session: &mut Session, words: &[Word<'_>]) -> Outcome<'a> {
     let (place, names) = place_and_section_names(words)?;
     let subsection = owned(alloc, names.subsection)?;
@@ -74,7 +74,7 @@ pub fn detached<'a>(alloc: Global, session: &mut Session, words: &[Word<'_>]) ->
     Ok(Answer::Done)
 }
 
-/// `pushsection PLACE`: puts the section of that place behind all others, and answers its number. The place is empty then.
+/// `pushsection PLACE`: puts the section of that place after all others, and answers its number. The place is empty then.
 pub fn pushsection<'a>(session: &mut Session, words: &[Word<'_>]) -> Outcome<'a> {
     let Some(section) = session.replace_section(place(words)?, None) else {
         return Ok(Answer::Absent);
@@ -143,7 +143,7 @@ pub fn renameif<'a>(alloc: Global, file: &mut File, words: &[Word<'_>]) -> Outco
     }
 }
 
-/// Puts a section that was taken out into that place, from where it is shown.
+/// Puts a section that was removed into that place, from where it is shown.
 fn taken_out<'a>(session: &'a mut Session, place: Place, section: Option<Section>) -> Answer<'a> {
     if section.is_none() {
         return Answer::Absent;

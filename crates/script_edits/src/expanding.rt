@@ -1,4 +1,4 @@
-//! Commands that read the files which a file includes, by what the script tells of them.
+//! Commands that read the files which a file includes, by what the script says of them.
 //
 // A host is made in each call that needs one, and lent to no other function of ours: a function that takes one is refused by
 // the check where it could put another box into it.

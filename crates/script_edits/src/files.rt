@@ -24,7 +24,7 @@ pub fn select<'a>(session: &mut Session, words: &[Word<'_>]) -> Outcome<'a>
     Ok(Answer::Done)
 }
 
-/// `load BYTES`, `lossy BYTES`: the current file is that text, all of it, or without blanks, line ends and comments.
+/// `load BYTES`, `lossy BYTES`: the current file is that text, all of it, or without blanks, line endings and comments.
 pub fn load<'a>(
     alloc: Global,
     session: &mut Session,
@@ -86,7 +86,7 @@ pub fn clone<'a>(session: &mut Session, words: &[Word<'_>]) -> Outcome<'a>
     Ok(Answer::Done)
 }
 
-/// `append SLOT`: puts that file behind the current one, and leaves an empty one there, also where the current one refuses it.
+/// `append SLOT`: puts that file after the current one, and leaves an empty one there, also where the current one refuses it.
 pub fn append<'a>(alloc: Global, session: &mut Session, words: &[Word<'_>]) -> Outcome<'a> {
     let slot = slot(words)?;
     let other = session.take(alloc, slot)?;
@@ -103,7 +103,7 @@ pub fn reset<'a>(alloc: Global, session: &mut Session, words: &[Word<'_>]) -> Ou
     Ok(Answer::Done)
 }
 
-/// `refusals on`, `refusals off`: whether answers tell of refused growths.
+/// `refusals on`, `refusals off`: whether answers say of refused growths.
 pub fn refusals<'a>(session: &mut Session, words: &[Word<'_>]) -> Outcome<'a>
     ensures { OnErr result (session.new ≡ session.old) }
 {

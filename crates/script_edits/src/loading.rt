@@ -1,5 +1,5 @@
-//! Commands that make the current file of what lies outside, by what the script tells of that, and the one that asks where it
-//! stands. One that is refused leaves the state of the script as it was, and none changes another file.
+//! Commands that make the current file of what lies outside, by what the script says of that, and the one that asks where it
+//! is. One that is refused leaves the state of the script as it was, and none changes another file.
 //
 // A host is made in each call that needs one, and lent to no other function of ours, as in `expanding`.
 
@@ -37,7 +37,7 @@ fn source_of(word: &[u8]) -> Result<Source, NotUnderstood> {
     }
 }
 
-/// `place SOURCE`: where the configuration of a source stands.
+/// `place SOURCE`: where the configuration of a source is.
 pub fn place<'a>(alloc: Global, outside: &Outside, words: &[Word<'_>]) -> Outcome<'a> {
     let source = source_of(name(words)?)?;
     let mut variables = outside.variables(alloc)?;
@@ -155,7 +155,7 @@ fn meta_of(alloc: Global, path: &Word<'_>) -> Result<Metadata, Refusal> {
     })
 }
 
-/// Puts a file in the place of the current one, if there is one.
+/// Puts a file in place of the current one, if there is one.
 fn put_found<'a>(session: &mut Session, file: Option<File>) -> Answer<'a> {
     match file {
         Some(file) => {
@@ -166,7 +166,7 @@ fn put_found<'a>(session: &mut Session, file: Option<File>) -> Answer<'a> {
     }
 }
 
-/// `globals`: the current file is what stands outside of any repository.
+/// `globals`: the current file is what is outside of any repository.
 pub fn globals<'a>(alloc: Global, session: &mut Session, words: &[Word<'_>]) -> Outcome<'a> {
     no_words(words)?;
     let file = file_of_globals(alloc, session.outside())?;

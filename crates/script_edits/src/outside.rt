@@ -1,4 +1,4 @@
-//! Commands that tell what lies outside of a file: other files, variables, where a file comes from, and how files that
+//! Commands that say what lies outside of a file: other files, variables, where a file comes from, and how files that
 //! include others are expanded.
 ghost use Rattle.std.specs.Prelude.{◌≡◌, OnErr};
 
@@ -17,7 +17,7 @@ use script_answers::session::Session;
 use std::alloc::Global;
 use std::rc::Rc;
 
-/// `file PATH BYTES`: a file of these bytes stands at the path.
+/// `file PATH BYTES`: a file of these bytes is at the path.
 pub fn file<'a>(alloc: Global, session: &mut Session, words: &[Word<'_>]) -> Outcome<'a> {
     let (path, bytes) = text_and_bytes(words)?;
     let content = Content::Bytes(Vec::from_slice(alloc, bytes)?);
@@ -72,7 +72,7 @@ pub fn failtrust<'a>(session: &mut Session, words: &[Word<'_>]) -> Outcome<'a> {
     Ok(Answer::Done)
 }
 
-/// `var BYTES OPT`: a variable is set to a text, or to what is no text.
+/// `var BYTES OPT`: a variable is set to a text, or to bytes that aren't UTF-8.
 pub fn var<'a>(alloc: Global, session: &mut Session, words: &[Word<'_>]) -> Outcome<'a> {
     let (name, text) = variable(words)?;
     let name = String::from_str(alloc, name)?;
@@ -97,7 +97,7 @@ pub fn at<'a>(alloc: Global, session: &mut Session, words: &[Word<'_>]) -> Outco
     Ok(Answer::Done)
 }
 
-/// `level N`: the same of how many includes stand above it.
+/// `level N`: the same of how many includes are above it.
 pub fn set_level<'a>(alloc: Global, session: &mut Session, words: &[Word<'_>]) -> Outcome<'a> {
     let level = level(words)?;
     let path = session.origin().path.clone()?;

@@ -15,7 +15,7 @@ pub fn decode<'a>(alloc: Global, words: &'a [Word<'_>]) -> Outcome<'a> {
     Ok(Answer::Bytes(normalize(alloc, bytes(words)?)?))
 }
 
-/// The text before a value that is set, and the one behind it.
+/// The text before a value that is set, and the one after it.
 const FRAME: (&[u8], &[u8]) = (b"[a]\nk=", b"\n");
 
 /// `escape BYTES`: how a value is written that is set.
@@ -33,7 +33,7 @@ fn text_with(file: &mut File, value: &[u8]) -> Result<BString, Refusal> {
     Ok(file.to_bstring()?)
 }
 
-/// The text between the frame; all of it where it has none, which the answer then shows.
+/// The text between the frame; all of it if it has none, which the answer then shows.
 fn unframed(alloc: Global, text: &[u8]) -> Result<Vec<u8>, AllocError> {
     let value = match text.strip_prefix(FRAME.0) {
         Some(rest) => rest.strip_suffix(FRAME.1),

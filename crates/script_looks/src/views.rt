@@ -112,7 +112,7 @@ pub fn headerof<'a>(file: &'a File, words: &[Word<'_>]) -> Outcome<'a> {
     }
 }
 
-/// The section at the place that the words tell, and the name behind it.
+/// The section at the place that the words say, and the name after it.
 fn section_and_name<'a, 'b>(
     file: &'a File,
     words: &'b [Word<'_>],

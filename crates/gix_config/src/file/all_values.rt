@@ -1,4 +1,4 @@
-//! Look-ups of all values of a key, in types of the caller's.
+//! Lookups of all values of a key, in types of the caller's.
 ghost use Rattle.std.specs.Option.{option_copied};
 ghost use Rattle.std.specs.Prelude.{◌≡◌, ℕ, List, IfOk, IfErr, IsSome, map};
 ghost use Rattle.gitconf_base.specs.Key.{the_key};
@@ -76,7 +76,7 @@ fn converted_with_sections<'a, T: TryFrom<BString> + Drop>(
 
 impl File {
     /// All values of a key in a type, found as by [`File::raw_values`]: one or more. The key has to be one, which
-    /// [`AsKey::try_as_key`] tells.
+    /// [`AsKey::try_as_key`] says.
     ///
     /// # Errors
     ///
@@ -107,8 +107,8 @@ impl File {
     {
         converted(self.raw_values_by(section_name, subsection_name, value_name))
     }
-    /// All values of a key in a type, each with the section in which it stands, found as by [`File::raw_values_with_sections`]: one
-    /// or more. The key has to be one, which [`AsKey::try_as_key`] tells.
+    /// All values of a key in a type, each with the section in which it is, found as by [`File::raw_values_with_sections`]: one
+    /// or more. The key has to be one, which [`AsKey::try_as_key`] says.
     ///
     /// # Errors
     ///

@@ -13,7 +13,7 @@ impl PartialEq for File {
     ghost laws = { same_state_partial };
 
     /// Whether both have the same headers in order, names without ASCII case, with the same keys, without ASCII case, that mean
-    /// the same; an entry without `=` means nothing. What stands before the first section and where sections come from aren't
+    /// the same; an entry without `=` means nothing. What comes before the first section and where sections come from aren't
     /// compared. One walk over both, up to the first difference, which takes no memory.
     fn eq(&self, other: &File) -> bool
         ensures same { result ≡ same_state self.now other.now }
@@ -30,7 +30,7 @@ impl Eq for File {
 }
 
 /// The text of [`File::to_bstring`], with U+FFFD for what is no character. It takes memory for the text; where that is refused
-/// nothing is written, and the answer is an error.
+/// nothing is written, and the result is an error.
 impl fmt::Display for File {
     fn fmt<W: fmt::Write>(&self, f: &mut fmt::Formatter<W>) -> fmt::Result {
         match self.to_bstring() {

@@ -16,13 +16,13 @@ use gitconf_text::line_end::LineEnd;
 use gitconf_text::parse::span;
 use spelling::Spelling;
 
-/// An editor of the value of one entry of a file. It stands on the entry's place in its section. What it writes beside the value stays as
+/// An editor of the value of one entry of a file. It is on the entry's place in its section. What it writes beside the value stays as
 /// it was when the editor was made: the name, as the caller spelled it, and the blanks round `=`, those of the section.
 pub struct ValueMut<'a, S: Drop = Spelling> {
     file: &'a mut File,
     id: SectionId,
     place: usize,
-    /// Whether the entry stands at its place, and wasn't deleted.
+    /// Whether the entry is at its place, and wasn't deleted.
     stands: bool,
     spelling: S,
     line_end: LineEnd,
@@ -65,7 +65,7 @@ impl<'a> ValueMut<'a> {
     ///
     /// # Errors
     ///
-    /// Refusal 9 where the entry was deleted; 27 for want of memory for the answer.
+    /// Refusal 9 if the entry was deleted; 27 when out of memory for the result.
     pub fn get(&self) -> Result<BString, existing::Error>
         ensures { IsExisting bstring_bytes result (meaning_of self.now) KeyMissing }
     {
@@ -79,15 +79,15 @@ impl<'a> ValueMut<'a> {
         }
     }
 
-    /// Gives the entry another value: it is written anew, by the name as the caller spelled it, `=` with the blanks around it, and the value
-    /// as a file spells it. Where the old value ended in an empty last piece and a comment comes next, blanks aside, the last line end of
+    /// Gives the entry another value: it is rewritten, by the name as the caller spelled it, `=` with the blanks around it, and the value
+    /// as a file spells it. Where the old value ended in an empty last piece and a comment comes next, apart from blanks, the last line ending of
     /// the old value stays before it. An entry that was deleted is written at its place.
     ///
-    /// Nothing that grows with the file. Takes memory for what is put into the file's buffer, and for at most one item more.
+    /// Nothing that grows with the file. Takes memory for what is added to the file's buffer, and for at most one more item.
     ///
     /// # Errors
     ///
-    /// Number 3 where the file would take more than 4294967295 bytes, and 27 for want of memory. The file is then as it was.
+    /// Number 3 where the file would take more than 4294967295 bytes, and 27 when out of memory. The file is then as it was.
     pub fn set(&mut self, value: &[u8]) -> Result<(), span::Error>
         ensures same_file { lent self.new ≡ lent self.old }
         ensures same_place { place_of self.new ≡ place_of self.old }
@@ -132,8 +132,8 @@ impl<'a> ValueMut<'a> {
         self.set(value.as_bytes())
     }
 
-    /// Deletes the entry, where it stands: its name, `=` and value, and the blanks between them. What stands around it stays, also the
-    /// blanks before its name and the line end behind its value. Is never refused, and takes no memory.
+    /// Deletes the entry, where it is: its name, `=` and value, and the blanks between them. What is around it stays, also the
+    /// blanks before its name and the line ending after its value. It can't fail, and takes no memory.
     pub fn delete(&mut self)
         ensures same_file { lent self.new ≡ lent self.old }
         ensures same_place { place_of self.new ≡ place_of self.old }
@@ -148,14 +148,14 @@ impl<'a> ValueMut<'a> {
         }
     }
 
-    /// The section as it now stands. Constant time, and no memory.
+    /// The section as it now is. Constant time, and no memory.
     pub fn section(&self) -> SectionRef<'_>
         ensures { numbered (place_of self.now).0 (edited self.now) ≡ Some (shown result) }
     {
         self.file.section_of(self.id)
     }
 
-    /// An editor of the section, which writes the blanks and the line end that the section and the file had when this one was made.
+    /// An editor of the section, which writes the blanks and the line ending that the section and the file had when this one was made.
     pub fn into_section_mut(self) -> SectionMut<'a>
         ensures same_file { sections.lent result ≡ lent self.entry }
         ensures same_state { sections.edited result ≡ edited self.entry }

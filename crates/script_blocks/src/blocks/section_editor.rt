@@ -1,4 +1,4 @@
-//! The editor of a section, which stands in a file or alone.
+//! The editor of a section, which is in a file or alone.
 
 use bstr::BString;
 use gitconf_script::editor_arguments::PushedLine;

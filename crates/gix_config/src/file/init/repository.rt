@@ -35,7 +35,7 @@ struct Parts {
     globals: File,
 }
 
-/// The folder that the repository's configuration stands in.
+/// The folder that the repository's configuration is in.
 fn folder_of(path: &str) -> &str
     ensures { result.now ≡ spec.folder_of path.now }
 {
@@ -49,7 +49,7 @@ fn folder_of(path: &str) -> &str
 ///
 /// # Errors
 ///
-/// Want of memory.
+/// Out of memory.
 fn has_worktree(local: &File) -> Result<bool, NoMemory>
     ensures { IfOk result (λ has. has ≡ spec.has_worktree local.now) }
 {
@@ -103,11 +103,11 @@ fn options<'a>(places: &'a Places, folder: &'a str, real: Result<&'a str, FileFa
     }
 }
 
-/// Expands a file, and puts it behind another one.
+/// Expands a file, and puts it after another one.
 ///
 /// # Errors
 ///
-/// Those of includes; 3 where there is no room; 27 for want of memory.
+/// Those of includes; 3 if there is no room; 27 when out of memory.
 fn put_behind<F: Files>(
     alloc: Global,
     files: &mut F,
@@ -147,11 +147,11 @@ fn put_worktree<F: Files>(
     }
 }
 
-/// Puts the overrides behind a file.
+/// Puts the overrides after a file.
 ///
 /// # Errors
 ///
-/// Those of the overrides; 3 where there is no room; 27 for want of memory.
+/// Those of the overrides; 3 if there is no room; 27 when out of memory.
 fn put_overrides<F: Files, E: Env>(
     alloc: Global,
     files: &mut F,
@@ -169,7 +169,7 @@ fn put_overrides<F: Files, E: Env>(
     Ok(target.append(file)?)
 }
 
-/// Puts the repository's files behind those of the machine and of the user, and the overrides behind all.
+/// Puts the repository's files after those of the machine and of the user, and the overrides after all.
 ///
 /// # Errors
 ///
@@ -269,14 +269,14 @@ impl File {
 
     /// The configuration of the repository whose git folder is `dir`, which is `real` with its symbolic links resolved: of the machine and of
     /// the user ([`File::from_globals`]), of the repository (`config` in the folder), of its worktree (`config.worktree`, where
-    /// `extensions.worktreeConfig` is true), and the overrides ([`File::from_environment_overrides`]), one behind the other as
+    /// `extensions.worktreeConfig` is true), and the overrides ([`File::from_environment_overrides`]), one after the other as
     /// [`File::append`] puts them. Includes of the repository's files go by the home folder of the host's places and by the git folder; as in
     /// the Rust crate those of the machine and of the user are expanded once more by these.
     ///
     /// # Errors
     ///
-    /// 21 where a file can't be opened or read, or its trust can't be told; 18 where a condition asks for the resolved folder and that is a
-    /// fault; else those of the calls that are named.
+    /// 21 where a file can't be opened or read, or its trust can't be told; 18 if a condition asks for the resolved folder and that is a
+    /// fault; otherwise those of the calls that are named.
     pub fn from_git_dir(
         alloc: Global,
         dir: &str,

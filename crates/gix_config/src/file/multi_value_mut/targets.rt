@@ -1,4 +1,4 @@
-//! The entries on which an editor of several values stands.
+//! The entries on which an editor of several values is.
 ghost use Rattle.std.specs.Prelude.{◌≡◌, map};
 ghost use Rattle.gitconf_store.specs.Several as spec;
 
@@ -6,8 +6,8 @@ use crate::file::SectionId;
 use gitconf_text::NoMemory;
 use std::marker::Model;
 
-/// The name of a value as the caller spelled it, and where the entries stand, in order: each by the number of its section, and by its place
-/// among the items of the body, counted in items from the first one, 0.
+/// The name of a value as the caller spelled it, and where the entries are, in order: each by the number of its section, and by its place
+/// among the items of the body, counted in items from 0.
 #[derive(Drop)]
 pub struct Targets {
     key: Vec<u8>,
@@ -63,7 +63,7 @@ impl Targets {
     ///
     /// # Errors
     ///
-    /// Want of memory.
+    /// Out of memory.
     pub(crate) fn new(key: &[u8], places: Vec<(SectionId, usize)>) -> Result<Targets, NoMemory>
         requires { is_value_name key.now ≡ true }
         ensures { IfOk result (λ t. t ≡ record { key = key.now; places = places.items }) }
@@ -81,14 +81,14 @@ impl Targets {
         &self.key
     }
 
-    /// Where the entries stand, in order.
+    /// Where the entries are, in order.
     pub(crate) fn places(&self) -> &[(SectionId, usize)]
         ensures { result.now ≡ self.now.places }
     {
         &self.places
     }
 
-    /// Where one of them stands.
+    /// Where one of them is.
     pub(crate) fn at(&self, index: usize) -> (SectionId, usize)
         requires { index < length self.now.places }
         ensures { result ≡ place_at self.now.places index }
@@ -96,7 +96,7 @@ impl Targets {
         self.places[index]
     }
 
-    /// Takes one of them out, which is gone: those behind it in its section stand one place nearer to the front. Answers where it stood.
+    /// Takes one of them out, which is gone: those after it in its section are one place nearer to the front. Returns where it was.
     pub(crate) fn take(&mut self, index: usize) -> (SectionId, usize)
         requires { index < length self.old.places }
         ensures gone { result ≡ place_at self.old.places index }

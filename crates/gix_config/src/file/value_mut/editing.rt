@@ -1,4 +1,4 @@
-//! Edits of the entry at a place, on which editors of values stand.
+//! Edits of the entry at a place, on which editors of values are.
 use crate::file::value_mut::spelling::Spelling;
 use crate::file::{File, Metadata, SectionId};
 use crate::lookup::existing;

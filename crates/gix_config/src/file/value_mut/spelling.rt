@@ -39,7 +39,7 @@ impl Spelling {
     ///
     /// # Errors
     ///
-    /// Want of memory.
+    /// Out of memory.
     pub(crate) fn new(key: &[u8], blanks: Blanks) -> Result<Spelling, NoMemory>
         requires { is_value_name key.now ≡ true }
         ensures { IfOk result (λ s. s ≡ record { key = key.now; spacing = blanks }) }
