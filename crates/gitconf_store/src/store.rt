@@ -525,7 +525,7 @@ impl Store {
     }
 
     /// Gives a key a value: in the last section that has the name, without ASCII case, and exactly the subsection, and whose metadata
-    /// passes the filter. Its last entry of the key gets the value, spelled as a file has it; `=` is added if the entry has none. A
+    /// passes the filter. Its last entry of the key gets the value, as a file spells it; `=` is added if the entry has none. A
     /// section without an entry of the key gets a new one after all others, with the blanks that it uses. If no section passes, one is made
     /// after all others, with the file's line ending and metadata.
     ///

@@ -7,7 +7,7 @@ use Rattle.gitconf_state.specs.State.{State}
 use Rattle.gitconf_store.specs.declared.set_raw_value.Error.{Error}
 use Rattle.gitconf_store.specs.Edits.{IsSet}
 
--- A lookup by what may be a key: that by the key; nothing is found where it is none.
+-- A lookup by what may be a key: the lookup by that key, or nothing if it is not a key.
 abbrev pub OfKey : {T E : Type 0} → Option Key → (Key → Type 0) → Result (Option T) E → Type 0
 OfKey None found result = result ≡ Ok None
 OfKey (Some key) found result = found key

@@ -110,7 +110,7 @@ fn file_of_paths(
     Ok(File::from_paths_metadata(alloc, metas, options, &mut host)?)
 }
 
-/// Where a file that isn't there is passed over.
+/// Where a file that isn't there is skipped.
 fn file_of_paths_if_any(
     alloc: Global,
     metas: Vec<Metadata>,

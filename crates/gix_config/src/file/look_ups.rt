@@ -15,9 +15,9 @@ use gitconf_base::key::AsKey;
 use gitconf_text::NoMemory;
 
 impl File {
-    /// The meaning of the last value of a key such as `remote.origin.url`, or `None` if there is none or where
-    /// the key can't be parsed: that of the last section of the key's name and subsection whose last entry of the
-    /// name has a value. It walks over the sections of the name from the last one on, up to that one. A miss takes no memory.
+    /// The meaning of the last value of a key such as `remote.origin.url`, or `None` if there is none or
+    /// the key can't be parsed: that of the last section of the key's name and subsection in which the last entry of the
+    /// name has a value. It walks over the sections of the name from the last one up to that one. A miss takes no memory.
     ///
     /// # Errors
     ///
@@ -61,7 +61,7 @@ impl File {
         requires { F.IsAlwaysCallable filter }
         // For a filter whose result depends only on what it is shown.
         ensures exact { (keeps : Meta → Bool) → ComputesKey F.FnMut keeps filter → OfKey (K.key key) (λ key. IsString key keeps self.now result) result }
-        // Whatever the filter returns.
+        // For any filter.
         ensures some { OfKey (K.key key) (λ key. WithSome (λ s. IsString key (λ _. true) s result) self.now) result }
     {
         match key.try_as_key() {
@@ -90,14 +90,14 @@ impl File {
         requires { F.IsAlwaysCallable filter }
         // For a filter whose result depends only on what it is shown.
         ensures exact { (keeps : Meta → Bool) → ComputesKey F.FnMut keeps filter → IsString (key_at section_name.now (option_copied subsection_name.entry) value_name.now) keeps self.now result }
-        // Whatever the filter returns.
+        // For any filter.
         ensures some { WithSome (λ s. IsString (key_at section_name.now (option_copied subsection_name.entry) value_name.now) (λ _. true) s result) self.now }
     {
         self.store
             .string_filter_by(section_name, subsection_name, value_name, filter)
     }
 
-    /// The meanings of all values of a key, in file order, or `None` if there are none or where the key can't be parsed. An entry
+    /// The meanings of all values of a key, in file order, or `None` if there are none or the key can't be parsed. An entry
     /// without `=` counts as empty. It walks over the sections of the name. A miss takes no memory.
     ///
     /// # Errors
@@ -142,7 +142,7 @@ impl File {
         requires { F.IsAlwaysCallable filter }
         // For a filter whose result depends only on what it is shown.
         ensures exact { (keeps : Meta → Bool) → ComputesKey F.FnMut keeps filter → OfKey (K.key key) (λ key. AreStrings key keeps self.now result) result }
-        // Whatever the filter returns.
+        // For any filter.
         ensures some { OfKey (K.key key) (λ key. WithSome (λ s. AreStrings key (λ _. true) s result) self.now) result }
     {
         match key.try_as_key() {
@@ -171,14 +171,14 @@ impl File {
         requires { F.IsAlwaysCallable filter }
         // For a filter whose result depends only on what it is shown.
         ensures exact { (keeps : Meta → Bool) → ComputesKey F.FnMut keeps filter → AreStrings (key_at section_name.now (option_copied subsection_name.entry) value_name.now) keeps self.now result }
-        // Whatever the filter returns.
+        // For any filter.
         ensures some { WithSome (λ s. AreStrings (key_at section_name.now (option_copied subsection_name.entry) value_name.now) (λ _. true) s result) self.now }
     {
         self.store
             .strings_filter_by(section_name, subsection_name, value_name, filter)
     }
 
-    /// The meaning of the last value of a key, found as by [`File::string`]. The key has to be one, which
+    /// The meaning of the last value of a key, found as by [`File::string`]. The key has to be valid, as
     /// [`AsKey::try_as_key`] says.
     ///
     /// # Errors
@@ -224,7 +224,7 @@ impl File {
         requires callable { F.IsAlwaysCallable filter }
         // For a filter whose result depends only on what it is shown.
         ensures exact { (keeps : Meta → Bool) → ComputesKey F.FnMut keeps filter → IsRawValue (the_key (K.key key)) keeps self.now result }
-        // Whatever the filter returns.
+        // For any filter.
         ensures some { IsSomeRawValue (the_key (K.key key)) self.now result }
     {
         let key = key.as_key();
@@ -251,15 +251,15 @@ impl File {
         requires { F.IsAlwaysCallable filter }
         // For a filter whose result depends only on what it is shown.
         ensures exact { (keeps : Meta → Bool) → ComputesKey F.FnMut keeps filter → IsRawValue (key_at section_name.now (option_copied subsection_name.entry) value_name.now) keeps self.now result }
-        // Whatever the filter returns.
+        // For any filter.
         ensures some { IsSomeRawValue (key_at section_name.now (option_copied subsection_name.entry) value_name.now) self.now result }
     {
         self.store
             .raw_value_filter_by(section_name, subsection_name, value_name, filter)
     }
 
-    /// The meaning of the last value of a key, and the section in which it is, found as by [`File::string`]. The key has to be
-    /// one, which [`AsKey::try_as_key`] says.
+    /// The meaning of the last value of a key, and its section, found as by [`File::string`]. The key has to be
+    /// valid, as [`AsKey::try_as_key`] says.
     ///
     /// # Errors
     ///
@@ -307,7 +307,7 @@ impl File {
         requires callable { F.IsAlwaysCallable filter }
         // For a filter whose result depends only on what it is shown.
         ensures exact { (keeps : Meta → Bool) → ComputesKey F.FnMut keeps filter → IsRawValueWithSection (the_key (K.key key)) keeps self.now result }
-        // Whatever the filter returns.
+        // For any filter.
         ensures some { IsSomeRawValueWithSection (the_key (K.key key)) self.now result }
     {
         let key = key.as_key();
@@ -334,14 +334,14 @@ impl File {
         requires { F.IsAlwaysCallable filter }
         // For a filter whose result depends only on what it is shown.
         ensures exact { (keeps : Meta → Bool) → ComputesKey F.FnMut keeps filter → IsRawValueWithSection (key_at section_name.now (option_copied subsection_name.entry) value_name.now) keeps self.now result }
-        // Whatever the filter returns.
+        // For any filter.
         ensures some { IsSomeRawValueWithSection (key_at section_name.now (option_copied subsection_name.entry) value_name.now) self.now result }
     {
         self.store
             .raw_value_with_section_filter_by(section_name, subsection_name, value_name, filter)
     }
 
-    /// The meanings of all values of a key, found as by [`File::strings`]: one or more. The key has to be one, which
+    /// The meanings of all values of a key, found as by [`File::strings`]: one or more. The key has to be valid, as
     /// [`AsKey::try_as_key`] says.
     ///
     /// # Errors
@@ -387,7 +387,7 @@ impl File {
         requires callable { F.IsAlwaysCallable filter }
         // For a filter whose result depends only on what it is shown.
         ensures exact { (keeps : Meta → Bool) → ComputesKey F.FnMut keeps filter → AreRawValues (the_key (K.key key)) keeps self.now result }
-        // Whatever the filter returns.
+        // For any filter.
         ensures some { AreSomeRawValues (the_key (K.key key)) self.now result }
     {
         let key = key.as_key();
@@ -414,15 +414,15 @@ impl File {
         requires { F.IsAlwaysCallable filter }
         // For a filter whose result depends only on what it is shown.
         ensures exact { (keeps : Meta → Bool) → ComputesKey F.FnMut keeps filter → AreRawValues (key_at section_name.now (option_copied subsection_name.entry) value_name.now) keeps self.now result }
-        // Whatever the filter returns.
+        // For any filter.
         ensures some { AreSomeRawValues (key_at section_name.now (option_copied subsection_name.entry) value_name.now) self.now result }
     {
         self.store
             .raw_values_filter_by(section_name, subsection_name, value_name, filter)
     }
 
-    /// The meanings of all values of a key, each with the section in which it is, found as by [`File::strings`]: one or more. The
-    /// key has to be one, which [`AsKey::try_as_key`] says.
+    /// The meanings of all values of a key, each with its section, found as by [`File::strings`]: one or more. The
+    /// key has to be valid, as [`AsKey::try_as_key`] says.
     ///
     /// # Errors
     ///
@@ -470,7 +470,7 @@ impl File {
         requires callable { F.IsAlwaysCallable filter }
         // For a filter whose result depends only on what it is shown.
         ensures exact { (keeps : Meta → Bool) → ComputesKey F.FnMut keeps filter → AreRawValuesWithSections (the_key (K.key key)) keeps self.now result }
-        // Whatever the filter returns.
+        // For any filter.
         ensures some { AreSomeRawValuesWithSections (the_key (K.key key)) self.now result }
     {
         let key = key.as_key();
@@ -497,7 +497,7 @@ impl File {
         requires { F.IsAlwaysCallable filter }
         // For a filter whose result depends only on what it is shown.
         ensures exact { (keeps : Meta → Bool) → ComputesKey F.FnMut keeps filter → AreRawValuesWithSections (key_at section_name.now (option_copied subsection_name.entry) value_name.now) keeps self.now result }
-        // Whatever the filter returns.
+        // For any filter.
         ensures some { AreSomeRawValuesWithSections (key_at section_name.now (option_copied subsection_name.entry) value_name.now) self.now result }
     {
         self.store

@@ -1,4 +1,4 @@
-//! Sections removed of a file.
+//! Sections, removed from a file.
 ghost use Rattle.std.specs.Fn.{ComputesKey};
 ghost use Rattle.std.specs.Option.{option_copied};
 ghost use Rattle.std.specs.Prelude.{◌≡◌, Bool, OnErr, OnOk, true};
@@ -12,9 +12,9 @@ use crate::file::{File, Metadata, Section, SectionId};
 use gitconf_text::NoMemory;
 
 impl File {
-    /// Removes the last section that has the name, without ASCII case, and exactly the subsection, and hands it out, under its number
+    /// Removes the last section that has the name, without ASCII case, and exactly the subsection, and returns it, with its number
     /// and with a buffer of its own; `None` if there is none. What is held after it is dropped. Its bytes and items are copied
-    /// once, and the places of the sections after it are told again.
+    /// once, and the places of the sections after it are updated.
     ///
     /// # Errors
     ///
@@ -46,7 +46,7 @@ impl File {
     }
 
     /// As [`File::remove_section`], the last section whose metadata passes the filter; `None` if none passes. The filter is asked about
-    /// the sections of these names from the last one on, up to that one.
+    /// the sections of these names from the last one up to that one.
     ///
     /// # Errors
     ///
@@ -63,7 +63,7 @@ impl File {
             → OnOk result (self.new ≡ apply (RemoveSection name.now (option_copied subsection_name.entry) keeps) self.old) }
         ensures taken { (keeps : Meta → Bool) → ComputesKey F.FnMut keeps filter
             → IsTakenOut (picked name.now (option_copied subsection_name.entry) keeps self.old) result self.old self.new }
-        // Whatever the filter returns.
+        // For any filter.
         ensures some { WithSome (λ s. IsTakenOut (picked name.now (option_copied subsection_name.entry) (λ _. true) s) result self.old self.new) self.old }
         ensures err { OnErr result (self.new ≡ self.old) }
     {

@@ -1,4 +1,4 @@
-//! The sections of a file, walked over and looked up by name.
+//! The sections of a file, walked over and found by name.
 use crate::file::{File, Metadata, SectionRef};
 use crate::lookup::existing::Error;
 pub use gitconf_finding::walks::{
@@ -37,8 +37,8 @@ impl File {
         self.store.sections_and_ids_by_name(name)
     }
 
-    /// As [`File::sections_by_name`], those alone whose metadata passes the filter. Where sections have the name and none
-    /// passes, the walk is empty. The filter is asked about each section when its turn comes.
+    /// As [`File::sections_by_name`], but only those whose metadata passes the filter. If sections have the name and none
+    /// passes, the walk is empty. The filter is called for each section when the walk reaches it.
     pub fn sections_by_name_and_filter<'a, 'n, F: FnMut(&Metadata) -> bool + Drop>(
         &'a self,
         name: &'n str,
@@ -88,7 +88,7 @@ impl File {
         self.store.section(name, subsection_name)
     }
 
-    /// As [`File::section`], by a key such as `remote.origin`: the name comes before its first dot, and all after it is the
+    /// As [`File::section`], by a key such as `remote.origin`: the name is before its first dot, and all after it is the
     /// subsection; without a dot there is none.
     ///
     /// # Errors
@@ -104,7 +104,7 @@ impl File {
     }
 
     /// As [`File::section`], the last one whose metadata passes the filter; `None` if there are such sections and none passes.
-    /// The filter is asked about them from the last one on, up to that one.
+    /// The filter is called for them from the last one up to that one.
     ///
     /// # Errors
     ///
@@ -120,7 +120,7 @@ impl File {
         // For a filter whose result depends only on what it is shown.
         ensures exact { (keeps : Meta → Bool) → ComputesKey F.FnMut keeps filter
             → IsPassingSection name.now (option_copied subsection_name.entry) keeps self.now result }
-        // Whatever the filter returns.
+        // For any filter.
         ensures some { IsSomeSection name.now (option_copied subsection_name.entry) self.now result }
     {
         self.store.section_filter(name, subsection_name, filter)
@@ -140,7 +140,7 @@ impl File {
         // For a filter whose result depends only on what it is shown.
         ensures exact { (keeps : Meta → Bool) → ComputesKey F.FnMut keeps filter
             → IsPassingSectionOfKey (parsed_section_key section_key.now) keeps self.now result }
-        // Whatever the filter returns.
+        // For any filter.
         ensures some { IsSomeSectionOfKey (parsed_section_key section_key.now) self.now result }
     {
         match KeyRef::parse(section_key) {

@@ -65,12 +65,12 @@ fn tried<T: TryFrom<BString>>(
 }
 
 impl File {
-    /// The last value of a key in a type, found as by [`File::raw_value`]. The key has to be one, which [`AsKey::try_as_key`]
+    /// The last value of a key in a type, found as by [`File::raw_value`]. The key has to be valid, as [`AsKey::try_as_key`]
     /// says.
     ///
     /// # Errors
     ///
-    /// Those of [`File::raw_value`], and refusal 10 where the type refuses the value.
+    /// Those of [`File::raw_value`], and refusal 10 if the type refuses the value.
     pub fn value<T: TryFrom<BString>, K: AsKey>(&self, key: K) -> Result<T, lookup::Error<T::Error>>
         requires { IsSome (K.key key) }
         ensures { IsValue T.try_from_gives (the_key (K.key key)) self.now result }
@@ -95,8 +95,8 @@ impl File {
         converted(self.raw_value_by(section_name, subsection_name, value_name))
     }
 
-    /// The last value of a key in a type, and the section in which it is, found as by [`File::raw_value_with_section`]. The key
-    /// has to be one, which [`AsKey::try_as_key`] says.
+    /// The last value of a key in a type, and its section, found as by [`File::raw_value_with_section`]. The key
+    /// has to be valid, as [`AsKey::try_as_key`] says.
     ///
     /// # Errors
     ///

@@ -187,7 +187,7 @@ fn nl<'a, E: SectionEditor>(editor: &mut E, words: &[Word<'_>]) -> Outcome<'a>
     Ok(Answer::Done)
 }
 
-/// `implicit B`: whether a line ending is put after what is pushed.
+/// `implicit B`: whether a line ending is added after what is pushed.
 fn implicit<'a, E: SectionEditor>(editor: &mut E, words: &[Word<'_>]) -> Outcome<'a>
     ensures { E.held editor.new ≡ E.held editor.old }
 {

@@ -29,9 +29,9 @@ use std::alloc::Global;
 struct Parts {
     /// The repository's own configuration.
     local: File,
-    /// That of its worktree, if it has some.
+    /// The configuration of its worktree, if it has some.
     worktree: Option<File>,
-    /// That of the machine and of the user.
+    /// The configuration of the machine and of the user.
     globals: File,
 }
 
@@ -85,7 +85,7 @@ fn worktree<F: Files>(
     Ok(Some(File { store }))
 }
 
-/// How the repository's files are expanded: by the home folder and the repository's own, and on no branch.
+/// How the repository's files are expanded: with the home folder and the repository's own folder, and no branch.
 fn options<'a>(places: &'a Places, folder: &'a str, real: Result<&'a str, FileFault>) -> Options<'a>
     ensures { rules_of result ≡ repository_rules places.now folder.now (resolved real.entry) }
 {
@@ -103,7 +103,7 @@ fn options<'a>(places: &'a Places, folder: &'a str, real: Result<&'a str, FileFa
     }
 }
 
-/// Expands a file, and puts it after another one.
+/// Expands a file, and appends it to another one.
 ///
 /// # Errors
 ///
@@ -124,7 +124,7 @@ fn put_behind<F: Files>(
     Ok(target.append(file)?)
 }
 
-/// The same of the worktree's configuration, if it has some.
+/// The same for the worktree's configuration, if it has some.
 ///
 /// # Errors
 ///
@@ -147,7 +147,7 @@ fn put_worktree<F: Files>(
     }
 }
 
-/// Puts the overrides after a file.
+/// Appends the overrides to a file.
 ///
 /// # Errors
 ///
@@ -169,7 +169,7 @@ fn put_overrides<F: Files, E: Env>(
     Ok(target.append(file)?)
 }
 
-/// Puts the repository's files after those of the machine and of the user, and the overrides after all.
+/// Appends the repository's files to those of the machine and of the user, and the overrides to all.
 ///
 /// # Errors
 ///
@@ -233,7 +233,7 @@ fn read<F: Files, E: Env>(
     })
 }
 
-/// The configuration of the repository whose folder that is.
+/// The configuration of the repository whose git folder is `dir`.
 ///
 /// # Errors
 ///
@@ -267,16 +267,16 @@ impl File {
     ghost use Rattle.gitconf_loaders.specs.Paths.{CountsLoad, numbered};
     ghost use Rattle.gix_config.specs.Repository.{IsRepository, IsRepositoryCause};
 
-    /// The configuration of the repository whose git folder is `dir`, which is `real` with its symbolic links resolved: of the machine and of
-    /// the user ([`File::from_globals`]), of the repository (`config` in the folder), of its worktree (`config.worktree`, where
+    /// The configuration of the repository whose git folder is `dir`, which is `real` with its symbolic links resolved: that of the machine and of
+    /// the user ([`File::from_globals`]), of the repository (`config` in the folder), of its worktree (`config.worktree`, if
     /// `extensions.worktreeConfig` is true), and the overrides ([`File::from_environment_overrides`]), one after the other as
-    /// [`File::append`] puts them. Includes of the repository's files go by the home folder of the host's places and by the git folder; as in
-    /// the Rust crate those of the machine and of the user are expanded once more by these.
+    /// [`File::append`] puts them. Includes of the repository's files know the home folder of the host's places and the git folder; as in
+    /// the Rust crate, the files of the machine and of the user are expanded once more with these.
     ///
     /// # Errors
     ///
-    /// 21 where a file can't be opened or read, or its trust can't be told; 18 if a condition asks for the resolved folder and that is a
-    /// fault; otherwise those of the calls that are named.
+    /// 21 if a file can't be opened or read, or its trust can't be asked; 18 if a condition asks for the resolved folder and that is a
+    /// fault; otherwise those of the calls named above.
     pub fn from_git_dir(
         alloc: Global,
         dir: &str,

@@ -14,7 +14,7 @@ use thiserror::Error;
 /// Why there is no editor.
 #[derive(Debug, Drop, Error)]
 pub enum Error {
-    /// There are such sections, and none passes the filter; or no section has the number. It has no number among the refusals of its own,
+    /// There are such sections, and none passes the filter; or no section has the number. It has no refusal number of its own,
     /// and counts as 9 ([`Refusal`](crate::refusals::Refusal)).
     #[error("No section passes")]
     NonePasses,
@@ -92,7 +92,7 @@ impl File {
         Ok((id, blanks))
     }
 
-    /// Those of the last one whose metadata passes the filter.
+    /// The same for the last one whose metadata passes the filter.
     fn blanks_of_passing<F: FnMut(&Metadata) -> bool>(
         &self,
         name: &str,
@@ -185,7 +185,7 @@ impl File {
     }
 
     /// An editor of the last section that has the name, without ASCII case, and exactly the subsection. It is found by an index; then one
-    /// walk over its items, and one over the file's up to the first line ending. Takes memory for the blanks that the section has.
+    /// walk over its items, and one over the file's up to the first line ending. Takes memory for the blanks that the section uses.
     ///
     /// # Errors
     ///
@@ -214,7 +214,7 @@ impl File {
         })
     }
 
-    /// As [`File::section_mut`], by a key such as `remote.origin`: the name comes before its first dot, and all after it is the
+    /// As [`File::section_mut`], by a key such as `remote.origin`: the name is before its first dot, and all after it is the
     /// subsection; without a dot there is none.
     ///
     /// # Errors
@@ -235,7 +235,7 @@ impl File {
         self.section_mut(key.section_name, key.subsection_name)
     }
 
-    /// As [`File::section_mut`], the last section whose metadata passes the filter, which is asked from the last one on, up to that one.
+    /// As [`File::section_mut`], for the last section whose metadata passes the filter, which is called from the last one up to that one.
     ///
     /// # Errors
     ///
@@ -252,7 +252,7 @@ impl File {
         // For a filter whose result depends only on what it is shown.
         ensures exact { (keeps : Meta → Bool) → ComputesKey F.FnMut keeps filter
             → IsPassing told (editor_at self.old) name.now (option_copied subsection_name.entry) keeps self.old result }
-        // Whatever the filter returns.
+        // For any filter.
         ensures some { IsSomePassing told (editor_at self.old) name.now (option_copied subsection_name.entry) self.old result }
         ensures* refused { sem 𝓛 (RestsIfErr the_row self.entry lent result (λ n. n ≡ self.old)) }
     {
@@ -283,7 +283,7 @@ impl File {
         // For a filter whose result depends only on what it is shown.
         ensures exact { (keeps : Meta → Bool) → ComputesKey F.FnMut keeps filter
             → IsPassingEditorOfKey (parsed_section_key section_key.now) keeps self.old result }
-        // Whatever the filter returns.
+        // For any filter.
         ensures some { IsSomePassingEditorOfKey (parsed_section_key section_key.now) self.old result }
         ensures* refused { sem 𝓛 (RestsIfErr the_row self.entry lent result (λ n. n ≡ self.old)) }
     {
@@ -315,7 +315,7 @@ impl File {
         })
     }
 
-    /// Makes a section after all others, its body one line ending, the file's, with the file's metadata; and returns an editor of it, which
+    /// Makes a section after all others, whose body is one line ending, the file's, with the file's metadata; and returns an editor of it, which
     /// writes a tab before names and a space on both sides of `=`.
     ///
     /// Three walks over the file's items up to the first line ending. Takes memory for what is added to the buffer, for the items, and for the
@@ -355,8 +355,8 @@ impl File {
         })
     }
 
-    /// Puts a section that is in no file after all others, under the next number, and returns an editor of it, which writes the blanks that
-    /// the section has, and the line ending that the file then uses. Its header, its body and where it comes from stay.
+    /// Adds a section that is in no file after all others, under the next number, and returns an editor of it, which writes the blanks that
+    /// the section uses, and the line ending that the file then uses. Its header, its body and where it comes from stay.
     ///
     /// Its bytes are copied once, and its items are moved in one pass; and a walk over the file's items up to the first line ending. Takes
     /// memory for the bytes, the names, the place, and for the blanks.
@@ -385,11 +385,11 @@ impl File {
         })
     }
 
-    /// As [`File::section_mut`]; if there is no such section one is made, as by [`File::new_section`].
+    /// As [`File::section_mut`]; if there is no such section, one is made as by [`File::new_section`].
     ///
     /// # Errors
     ///
-    /// Where a section is made, those of [`File::new_section`]; otherwise out of memory. The file is then as it was, except that its buffer may
+    /// If a section is made, those of [`File::new_section`]; otherwise out of memory. The file is then as it was, except that its buffer may
     /// have grown.
     pub fn section_mut_or_create_new(
         &mut self,
@@ -411,7 +411,7 @@ impl File {
         })
     }
 
-    /// As [`File::section_mut_filter`]; if no section passes one is made, as by [`File::new_section`], whether or not the filter would
+    /// As [`File::section_mut_filter`]; if no section passes, one is made as by [`File::new_section`], whether or not the filter would
     /// pass it.
     ///
     /// # Errors
@@ -428,7 +428,7 @@ impl File {
         // For a filter whose result depends only on what it is shown.
         ensures exact { (keeps : Meta → Bool) → ComputesKey F.FnMut keeps filter
             → IsFoundOrMade edited told (editor_at self.old) name.now (option_copied subsection_name.entry) keeps self.old result }
-        // Whatever the filter returns.
+        // For any filter.
         ensures some { IsSomeFoundOrMade edited told (editor_at self.old) name.now (option_copied subsection_name.entry) self.old result }
         ensures* refused { sem 𝓛 (RestsIfErr the_row self.entry lent result (IsUnmade name.now (option_copied subsection_name.entry) self.old)) }
     {

@@ -128,7 +128,7 @@ impl<'a> SectionMut<'a> {
         self.body().is_void()
     }
 
-    /// The line ending that the editor writes: the file's, as it was when the editor was made. LF or CR LF.
+    /// The line ending that the editor writes: the file's when the editor was made, LF or CR LF.
     pub fn newline(&self) -> &'static [u8]
         ensures { result.now ≡ (editor self.now).line_end }
     {
@@ -142,7 +142,7 @@ impl<'a> SectionMut<'a> {
         self.blanks.leading()
     }
 
-    /// The blanks that the editor writes before and after `=`; `None` where it writes none there.
+    /// The blanks that the editor writes before and after `=`; `None` if it writes none there.
     pub fn separator_whitespace(&self) -> (Option<&[u8]>, Option<&[u8]>)
         ensures before { option_copied result.0 ≡ unless_empty (editor self.now).spacing.before }
         ensures behind { option_copied result.1 ≡ unless_empty (editor self.now).spacing.behind }

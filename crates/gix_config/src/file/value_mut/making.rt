@@ -16,10 +16,10 @@ impl File {
     ghost use Rattle.gix_config.specs.ValueEditors.{edited, lent, IsEditorOfValue, IsEditorOfSomeValue};
 
     /// An editor of the last entry of a key such as `remote.origin.url`, with `=` or without it, in the last section of the key's name and
-    /// subsection that has one. The key has to be one, which [`AsKey::try_as_key`] says.
+    /// subsection that has one. The key has to be valid, as [`AsKey::try_as_key`] says.
     ///
-    /// It walks over the sections of the key's name and subsection from the last one on, up to that one, over its items, and over the
-    /// file's up to the first line ending. Takes memory for the name and for the blanks that the section has.
+    /// It walks over the sections of the key's name and subsection from the last one up to that one, over its items, and over the
+    /// file's up to the first line ending. Takes memory for the name and for the blanks that the section uses.
     ///
     /// # Errors
     ///
@@ -56,7 +56,7 @@ impl File {
         self.raw_value_mut_filter_by(section_name, subsection_name, value_name, |_| true)
     }
 
-    /// As [`File::raw_value_mut`], in the sections whose metadata passes the filter, which is asked from the last one on, up to the one with
+    /// As [`File::raw_value_mut`], in the sections whose metadata passes the filter, which is called from the last one up to the one with
     /// the entry.
     ///
     /// # Errors
@@ -73,7 +73,7 @@ impl File {
         ensures same_state { IfOk result (λ e. edited e ≡ self.old) }
         // For a filter whose result depends only on what it is shown.
         ensures found { (keeps : Meta → Bool) → ComputesKey F.FnMut keeps filter → IsEditorOfValue (the_key (K.key key)) keeps self.old result }
-        // Whatever the filter returns.
+        // For any filter.
         ensures some { IsEditorOfSomeValue (the_key (K.key key)) self.old result }
         ensures* refused { sem 𝓛 (RestsIfErr the_row self.entry lent result (λ n. n ≡ self.old)) }
     {
@@ -104,7 +104,7 @@ impl File {
         // For a filter whose result depends only on what it is shown.
         ensures found { (keeps : Meta → Bool) → ComputesKey F.FnMut keeps filter
             → IsEditorOfValue (key_at section_name.now (option_copied subsection_name.entry) value_name.now) keeps self.old result }
-        // Whatever the filter returns.
+        // For any filter.
         ensures some { IsEditorOfSomeValue (key_at section_name.now (option_copied subsection_name.entry) value_name.now) self.old result }
         ensures* refused { sem 𝓛 (RestsIfErr the_row self.entry lent result (λ n. n ≡ self.old)) }
     {
