@@ -6,7 +6,7 @@ use gix_config::source::Trust;
 use std::alloc::Global;
 
 /// Files that are made by their paths. At `/DEPTH/SECTIONS/NAME` are that many sections with an entry each, and after
-/// them, where DEPTH is above 0, one that includes `/DEPTH-1/SECTIONS/NAME`. It says nothing of what it has.
+/// them, if DEPTH is above 0, one that includes `/DEPTH-1/SECTIONS/NAME`. It reports no table.
 #[derive(Drop)]
 pub(crate) struct MadeFiles {
     alloc: Global,
@@ -33,7 +33,7 @@ fn wanted_by(path: &str) -> Option<Asked<'_>> {
     })
 }
 
-/// So many sections with an entry each.
+/// That many sections with an entry each.
 fn sections_of(alloc: Global, count: u32) -> Result<String, NoMemory> {
     let mut text = String::new(alloc);
     for n in 0..count {
@@ -66,7 +66,7 @@ impl MadeFiles {
         }
     }
 
-    /// Makes what is at a path, where it wasn't made before.
+    /// Makes what is at a path, unless it was made before.
     fn make(&mut self, path: &str) -> Result<(), NoMemory> {
         if self.made.is_file(path) {
             return Ok(());

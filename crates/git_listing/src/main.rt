@@ -1,4 +1,4 @@
-//! Lists the configuration that is loaded from the disk of the machine, as `git config --list -z --show-origin` lists it, for
+//! Lists the configuration that is loaded from the disk of this machine, as `git config --list -z --show-origin` lists it, for
 //! `tools/against_git`, which compares both.
 #![tactic(auto)]
 
@@ -71,7 +71,7 @@ fn main(rt: HostRuntime) -> ExitCode {
         Err(fault) => fault,
     };
     let status = fault.status();
-    // A failed write to standard error changes no status.
+    // A failed write to standard error doesn't change the status.
     let _ = eprintln!(rt; "E{}", fault.number());
     ExitCode::from(status)
 }

@@ -23,7 +23,7 @@ fn number(refusal: &Error) -> u8 {
 /// A path, and what it stands for, or the number of its refusal.
 type Row = (&'static [u8], Result<&'static str, u8>);
 
-/// Whether the path stands for that, or is refused so.
+/// Whether the path stands for that, or is refused with that number.
 fn is_interpolated(alloc: Global, context: Context<'_>, row: &Row) -> Result<bool, AllocError> {
     let path = Path::from(BString::from_slice(alloc, row.0)?);
     Ok(match path.interpolate(context) {
@@ -55,7 +55,7 @@ static PATHS: [Row; 13] = [
     (b"~\xff/\xff", Err(14)),
 ];
 
-/// Whether all paths stand for that if there are these users.
+/// Whether all paths stand for what the rows say, with these users.
 fn are_interpolated(alloc: Global, homes: &Homes) -> Result<bool, AllocError> {
     let context = Context {
         git_install_dir: Some("/p"),

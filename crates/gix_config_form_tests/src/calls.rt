@@ -9,7 +9,7 @@ use std::alloc::Global;
 use std::rc::Rc;
 use std::test::Fail;
 
-/// Whether a call's answer is the one that is wanted; `None` where it says that memory ran out.
+/// Whether a call's result is the expected one; `None` if it reports that memory ran out.
 pub type Told = Option<bool>;
 
 /// The key whose values the file has.
@@ -30,7 +30,7 @@ pub fn is_user(meta: &Metadata) -> bool {
     meta.source == Source::User
 }
 
-/// No section of the file is told in a repository.
+/// Whether metadata is that of a repository; no section of the file has such metadata.
 pub fn is_local(meta: &Metadata) -> bool {
     meta.source == Source::Local
 }
@@ -54,7 +54,7 @@ pub fn file_of_two(alloc: Global) -> Result<File, Fail> {
     appended(alloc, of_user)
 }
 
-/// Whether all of them are as wanted; `None` where one says that memory ran out.
+/// Whether all of them are as expected; `None` if one reports that memory ran out.
 pub fn all(told: &[Told]) -> Told {
     let mut are_wanted = true;
     for one in told {
@@ -64,7 +64,7 @@ pub fn all(told: &[Told]) -> Told {
     Some(are_wanted)
 }
 
-/// Whether it is refused by this number; `None` when out of memory.
+/// Whether the refusal has this number; `None` when out of memory.
 pub fn is_refused<E: Refusal>(refusal: &E, number: u8) -> Told {
     match refusal.number() {
         27 => None,
@@ -81,7 +81,7 @@ pub fn are_texts(found: &[BString], wanted: &[&[u8]]) -> bool {
             .all(|(found, wanted)| found.as_bytes() == *wanted)
 }
 
-/// Whether the text was found, or nothing if none is wanted.
+/// Whether the text was found, or nothing if none is expected.
 pub fn is_text(found: &Result<Option<BString>, NoMemory>, wanted: Option<&[u8]>) -> Told {
     match (found, wanted) {
         (Ok(Some(text)), Some(wanted)) => Some(text.as_bytes() == wanted),

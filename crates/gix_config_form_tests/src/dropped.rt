@@ -45,12 +45,12 @@ fn write_all(file: &mut File) -> Result<(), Fail> {
     }
 }
 
-/// Whether the file is printed so.
+/// Whether the file is printed as this text.
 fn is_printed(file: &File, text: &[u8]) -> Result<bool, Fail> {
     Ok(file.to_bstring()?.as_bytes() == text)
 }
 
-/// Whether the value is written so by the editor of one value.
+/// Whether the value is written as this text by the editor of one value.
 fn is_written(alloc: Global, text: &[u8]) -> Result<bool, Fail> {
     let Some(mut file) = without_the_last_line_end(alloc)? else {
         return Ok(false);

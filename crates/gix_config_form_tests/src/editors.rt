@@ -1,4 +1,4 @@
-//! The editor of one value, by a key and with a filter, and values that have to be already.
+//! The editor of one value, by a key and with a filter, and values that must exist already.
 
 use crate::calls::{KEY, TEXT, Told, change, is_api, is_local, is_refused, is_user};
 use gix_config::File;
@@ -14,12 +14,12 @@ fn is_set(answer: Result<(), set_raw_value::Error>) -> Told {
     }
 }
 
-/// The last entry of the key, which is written by the name that the key has.
+/// The last entry of the key, which is written with the name that the key has.
 fn set_existing(file: &mut File) -> Told {
     is_set(file.set_existing_raw_value(KEY, b"v"))
 }
 
-/// The first entry of the key, since the list ends after it. Where several are set, those before a refused one are.
+/// The first entry of the key, since the list ends after it. If several are set, those before a refused one are set.
 fn set_first_existing(file: &mut File) -> Told {
     is_set(file.set_existing_raw_multi_value(KEY, &[b"v"]))
 }

@@ -55,7 +55,7 @@ fn by_a_key(rt: HostRuntime) -> Result<(), Fail> {
     )
 }
 
-/// What is left where the program's value is removed.
+/// What is left after the program's value is removed.
 const OF_USER: &[u8] = b"[a]\n[A]\nk = 2\n";
 
 #[test]
@@ -110,7 +110,7 @@ fn open_none(file: &mut File) -> Told {
     }
 }
 
-/// None is opened if none has the subsection, whatever passes.
+/// No section is opened if none has the subsection, whatever passes.
 fn open_none_passing(file: &mut File) -> Told {
     match file.section_mut_filter("a", Some(b""), is_api) {
         Ok(editor) => is_not_wanted(&editor),
@@ -168,7 +168,7 @@ fn trust_last(file: &mut File) -> Told {
     }
 }
 
-/// Where one of two sections is trusted less, the other one keeps its trust.
+/// When one of two sections is trusted less, the other one keeps its trust.
 fn trust_one(file: &mut File) -> Told {
     let is_told = trust_last(file)?;
     Some(is_told && trusted_fully(file) == 1)

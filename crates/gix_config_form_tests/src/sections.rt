@@ -1,4 +1,4 @@
-//! Sections that are found by a key with a filter, and walks over all of them with their numbers and with what is held after.
+//! Sections that are found by a key with a filter, and walks over all of them with their numbers and with what is held after each.
 
 use crate::calls::{Told, all, file_of_two, is_api, is_local, is_refused};
 use gitconf_tests::shim::{begin, was_refused};
@@ -9,7 +9,7 @@ use gix_config::parse::{EventIter, EventRef, Events};
 use std::alloc::Global;
 use std::test::Fail;
 
-/// Whether a section of that name was found, or none if none is wanted, or it is refused by that number.
+/// Whether a section of that name was found, or none if none is expected, or it is refused with that number.
 fn is_found(
     found: &Result<Option<SectionRef<'_>>, existing::Error>,
     wanted: Result<Option<&[u8]>, u8>,
@@ -113,7 +113,7 @@ fn are_held(file: &File) -> bool {
         && sections.next().is_none()
 }
 
-/// Whether this is told without memory.
+/// Whether this takes no memory.
 fn are_held_without_memory(alloc: Global, file: &File) -> Result<bool, Fail> {
     begin(alloc)?;
     let are_held = are_held(file);
@@ -152,7 +152,7 @@ fn are_walked(events: &Events) -> bool {
     }
 }
 
-/// The events of a section that was read, its header among them.
+/// The events of a section that was read, including its header.
 #[test]
 fn events_of_a_section(rt: HostRuntime) -> Result<(), Fail> {
     let events = Events::from_bytes(rt.alloc(), b"# c\n[a]\n[b]", None)?;

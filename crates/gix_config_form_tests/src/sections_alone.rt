@@ -145,7 +145,7 @@ fn are_all(found: Result<Vec<BString>, NoMemory>, wanted: &[&[u8]]) -> Told {
     }
 }
 
-/// Whether the last entry has no value, or there is none where that is wanted.
+/// Whether the last entry has no value, or there is no entry, as expected.
 fn is_implicit(found: Result<Option<Option<BString>>, NoMemory>, stands: bool) -> Told {
     match found {
         Ok(Some(value)) => Some(stands && value.is_none()),

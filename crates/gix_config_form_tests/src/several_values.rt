@@ -14,7 +14,7 @@ fn are_written(answer: Result<(), span::Error>) -> Told {
     }
 }
 
-/// The second of two values, which is written by text.
+/// The second of two values, which is written from a text.
 fn write_second_of(editor: &mut MultiValueMut<'_>) -> Told {
     if editor.len() != 2 {
         return Some(false);
@@ -100,7 +100,7 @@ fn where_a_filter_passes(rt: HostRuntime) -> Result<(), Fail> {
     change(rt.alloc(), "no values by names", write_none_by, TEXT)
 }
 
-/// What the editor has, where it returns.
+/// Whether the editor has both values.
 fn has_both(editor: &MultiValueMut<'_>) -> Told {
     match editor.get() {
         Ok(found) => Some(are_texts(&found, &[b"0", b"2"])),
@@ -108,7 +108,7 @@ fn has_both(editor: &MultiValueMut<'_>) -> Told {
     }
 }
 
-/// Deletes all that the editor has.
+/// Deletes everything that the editor has.
 fn delete_both(editor: &mut MultiValueMut<'_>) -> Told {
     let has_both = has_both(editor)?;
     let was_empty = editor.is_empty();

@@ -1,4 +1,4 @@
-//! What no script reaches of files: texts of errors, filters that are asked, options, writers that fail, and growths that are
+//! What no script reaches of files: texts of errors, filters that are called, options, writers that fail, and growths that are
 //! refused in calls that no command makes. What is below is in `gitconf_tests` and `gitconf_parse_tests`.
 #![tactic(auto)]
 

@@ -1,4 +1,4 @@
-//! Answers as lines.
+//! Results as lines.
 ghost use Rattle.std.specs.Iterator.{IsFinite};
 
 use crate::answer::{Answer, Outcome};
@@ -17,7 +17,7 @@ use gix_config::source::{Source, Trust};
 use gix_config::value::normalize;
 use std::alloc::{AllocError, Global};
 
-/// The line that answers a command, with a first word that says whether a growth was refused, where that is told.
+/// The line that answers a command, with a first word that says whether a growth was refused, if that is known.
 pub fn line_of(
     alloc: Global,
     refused: Option<bool>,
@@ -87,7 +87,7 @@ fn put_answer(alloc: Global, line: &mut String, answer: &Answer<'_>) -> Result<(
     }
 }
 
-/// Where a section comes from: the path of its file, its source, how many includes are above it, and how far it is
+/// Where a section comes from: the path of its file, its source, how many includes led to it, and how far it is
 /// trusted.
 fn put_origin(alloc: Global, line: &mut String, meta: &Metadata) -> Result<(), AllocError> {
     match &meta.path {
@@ -225,7 +225,7 @@ fn put_events<'a, I: Iterator<Item = EventRef<'a>>>(
     Ok(())
 }
 
-/// An event as its letter and its bytes: a header and a comment as they are written, and of others their text.
+/// An event as its letter and its bytes: a header and a comment as they are written, any other event by its text.
 fn put_event(alloc: Global, line: &mut String, event: &EventRef<'_>) -> Result<(), AllocError> {
     put_letter(line, letter_of(event))?;
     match event {
@@ -290,13 +290,13 @@ fn put_section(alloc: Global, line: &mut String, section: &Section) -> Result<()
     }
 }
 
-/// The number of a section. The library shows it by `Debug` alone.
+/// The number of a section, which the library shows only by `Debug`.
 pub fn put_id(alloc: Global, line: &mut String, id: SectionId) -> Result<(), AllocError> {
     let shown = format!(in alloc; "{id:?}")?;
     put_digits_of(line, &shown)
 }
 
-/// Each entry: its name, and its value; none for an entry without `=`.
+/// Each entry: its name, and its value; no value for an entry without `=`.
 fn put_entries(
     alloc: Global,
     line: &mut String,
@@ -324,7 +324,7 @@ fn put_entries(
     Ok(())
 }
 
-/// The meaning of a raw value; none where it is without `=`.
+/// The meaning of a raw value; none if there is no `=`.
 fn put_value(
     alloc: Global,
     line: &mut String,

@@ -1,4 +1,4 @@
-//! Blocks: the lines that work on one editor, from the one that opens it up to `end`. The editor lends the current file for so long.
+//! Blocks: the lines that work on one editor, from the one that opens it up to `end`. The editor borrows the current file for that long.
 
 mod section_editor;
 mod section_lines;
@@ -44,7 +44,7 @@ pub fn play_block<R: Read + Drop, W: Write + Drop>(
     played
 }
 
-/// Says what a command did, after its bracket.
+/// Writes the answer of a command, after its bracket.
 fn tell<R: Read + Drop, W: Write + Drop>(
     alloc: Global,
     bracket: Bracket,
@@ -56,7 +56,7 @@ fn tell<R: Read + Drop, W: Write + Drop>(
     streams.tell(&line)
 }
 
-/// Says why there is no editor, and answers the lines of its block.
+/// Writes why there is no editor, and answers the lines of its block.
 fn play_without<R: Read + Drop, W: Write + Drop>(
     alloc: Global,
     bracket: Bracket,
@@ -132,7 +132,7 @@ fn editid<R: Read + Drop, W: Write + Drop>(
     }
 }
 
-/// `editdetached PLACE`: the section of that place, which stands alone.
+/// `editdetached PLACE`: the section of that place, which is in no file.
 fn editdetached<R: Read + Drop, W: Write + Drop>(
     alloc: Global,
     session: &mut Session,

@@ -1,4 +1,4 @@
-//! Commands that say what lies outside of a file: other files, variables, where a file comes from, and how files that
+//! Commands that set what is outside of a file: other files, variables, where a file comes from, and how files that
 //! include others are expanded.
 ghost use Rattle.std.specs.Prelude.{◌≡◌, OnErr};
 
@@ -58,14 +58,14 @@ fn failure_of(words: &[Word<'_>]) -> Result<Failure, NotUnderstood> {
     }
 }
 
-/// `failread N STAGE`: in each command from now on that reads files, the Nth read fails at that stage.
+/// `failread N STAGE`: from now on, in each command that reads files, the Nth read fails at that stage.
 pub fn failread<'a>(session: &mut Session, words: &[Word<'_>]) -> Outcome<'a> {
     let failure = failure_of(words)?;
     session.outside_mut().fail_read(failure);
     Ok(Answer::Done)
 }
 
-/// `failtrust N STAGE`: the same of the Nth question how far a file is trusted.
+/// `failtrust N STAGE`: the same for the Nth question for the trust of a file.
 pub fn failtrust<'a>(session: &mut Session, words: &[Word<'_>]) -> Outcome<'a> {
     let failure = failure_of(words)?;
     session.outside_mut().fail_trust(failure);
@@ -97,7 +97,7 @@ pub fn at<'a>(alloc: Global, session: &mut Session, words: &[Word<'_>]) -> Outco
     Ok(Answer::Done)
 }
 
-/// `level N`: the same of how many includes are above it.
+/// `level N`: the same for how many includes led to it.
 pub fn set_level<'a>(alloc: Global, session: &mut Session, words: &[Word<'_>]) -> Outcome<'a> {
     let level = level(words)?;
     let path = session.origin().path.clone()?;

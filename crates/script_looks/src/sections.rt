@@ -14,7 +14,7 @@ pub fn dump<'a>(file: &'a File, words: &[Word<'_>]) -> Outcome<'a> {
     Ok(Answer::Dump(file))
 }
 
-/// The section at the place that the words say.
+/// The section at the place that the words give.
 pub(super) fn section_at<'a>(
     file: &'a File,
     words: &[Word<'_>],
@@ -59,7 +59,7 @@ pub fn count<'a>(file: &File, words: &[Word<'_>]) -> Outcome<'a> {
     Ok(Answer::Number(file.num_values()))
 }
 
-/// `void`: whether no section has anything in its body.
+/// `void`: whether all bodies are empty.
 pub fn void<'a>(file: &File, words: &[Word<'_>]) -> Outcome<'a> {
     no_words(words)?;
     Ok(Answer::Flag(file.is_void()))

@@ -1,4 +1,4 @@
-//! Commands that look values of a key up with their sections, or in a type that the caller names: [`Boolean`].
+//! Commands that look up values of a key with their sections, or in a type that the caller names: [`Boolean`].
 
 use bstr::BString;
 use gitconf_script::arguments::names;

@@ -16,7 +16,7 @@ use script_answers::rendering::line_of;
 use std::alloc::{AllocError, Global};
 use std::io::{Read, Write};
 
-/// Says that the editor is, and answers its lines.
+/// Writes that there is an editor, and answers its lines.
 pub fn play<R: Read + Drop, W: Write + Drop>(
     alloc: Global,
     bracket: Bracket,
@@ -68,7 +68,7 @@ fn outcome_of<'a>(
         Some(ValueLine::Get) => get(editor, words),
         Some(ValueLine::Set) => set(editor, words),
         Some(ValueLine::Delete) => delete(editor, words),
-        // It has words after it, which it must not have.
+        // `end` must have no words after it, and here it has some.
         Some(ValueLine::End) => Err(Refusal::Line),
     }
 }

@@ -18,7 +18,7 @@ use script_answers::rendering::line_of;
 use std::alloc::{AllocError, Global};
 use std::io::{Read, Write};
 
-/// Says that the editor is, and answers its lines.
+/// Writes that there is an editor, and answers its lines.
 pub fn play<R: Read + Drop, W: Write + Drop>(
     alloc: Global,
     bracket: Bracket,
@@ -75,7 +75,7 @@ fn outcome_of<'a>(
         Some(ValuesLine::SetAll) => setall(editor, words),
         Some(ValuesLine::DeleteAt) => delete(editor, words),
         Some(ValuesLine::DeleteAll) => deleteall(editor, words),
-        // It has words after it, which it must not have.
+        // `end` must have no words after it, and here it has some.
         Some(ValuesLine::End) => Err(Refusal::Line),
     }
 }
