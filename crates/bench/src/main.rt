@@ -1,9 +1,9 @@
 //! Times what the library does with standard input, as often as asked: `bench WHAT ROUNDS WORD [times]`.
 //!
 //! WHAT is `events`, `load`, `look-up`, `raw`, `boolean`, `by-name`, `values`, `print`, `set`, `push`, `lay-out`, `decode`, `match` or
-//! `include`, or `all` for each of them in turn. WORD is a key, except that for `match` it is a path pattern; what needs neither ignores it. Standard
-//! input is a text, for `decode` a raw value, and for `match` what the pattern is matched against. With `times` each round prints its
-//! nanoseconds. The files that a text includes for `include` are made by their paths, as `made` says.
+//! `include`, or `all` for each of them in turn. WORD is a key, except that for `match` it is a path pattern; what needs neither ignores
+//! it. Standard input is a text, for `decode` a raw value, and for `match` what the pattern is matched against. With `times` each round
+//! prints its nanoseconds. The files that a text includes for `include` are made by their paths, as `made` says.
 #![tactic(auto)]
 
 mod made;

@@ -142,8 +142,8 @@ fn told(alloc: Global, buffer: &[u8], entry: &Entry) -> Result<(Vec<u8>, Vec<u8>
     Ok((name, value))
 }
 
-/// Removes the last entry, whatever its key, with the blanks directly before it and everything after it. Returns its key as it is
-/// spelled, and what its value means; no bytes for an entry without `=`. If there is no entry, all items are removed, and the result is `None`.
+/// Removes the last entry, whatever its key, with the blanks directly before it and everything after it. Returns its key as it is spelled,
+/// and what its value means; no bytes for an entry without `=`. If there is no entry, all items are removed, and the result is `None`.
 ///
 /// One walk over the items. Takes memory for the result, and for the raw text of the value.
 ///

@@ -47,9 +47,9 @@ impl<R: rt::Files + AllocGlobal + Drop> Files for Disk<R> {
     ///
     /// # Errors
     ///
-    /// A fault of opening if nothing is there (only then with `not_found`), if the rights are missing, for a path with a NUL, and for a folder:
-    /// the system opens a folder and refuses to read it, and here that counts as not opened. A fault of reading if
-    /// reading fails for another cause. A fault of memory when out of memory, here or in the system.
+    /// A fault of opening if nothing is there (only then with `not_found`), if the rights are missing, for a path with a NUL, and for a
+    /// folder: the system opens a folder and refuses to read it, and here that counts as not opened. A fault of reading if reading fails
+    /// for another cause. A fault of memory when out of memory, here or in the system.
     fn read(&mut self, path: &str) -> Result<Vec<u8>, FileFault> {
         match fs::open(&self.runtime, path) {
             Ok(file) => all_of(file, Vec::new(self.runtime.alloc())),

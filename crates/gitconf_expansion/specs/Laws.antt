@@ -91,7 +91,8 @@ abbrev pub IsAnswered : Reached → Type 0
 IsAnswered (On done) = Unit {0}
 IsAnswered (Ended number file) = number ≢ 27
 
--- Calls on one file end alike: both leave the same file; or both are refused with one number, and the files that they leave differ only in their buffers.
+-- Calls on one file end alike: both leave the same file; or both are refused with one number, and the files that they leave differ only in
+-- their buffers.
 abbrev pub EndAlike : (one other : Result Unit Error) → (new left : State) → Type 0
 EndAlike (Ok done) (Ok made) new left = new ≡ left
 EndAlike (Ok done) (Err f) new left = ⊥

@@ -31,8 +31,8 @@ pub fn expansions_keep_numbers()
     ensures { (left : ℕ) (asks : Asks) (parent : Option State) (old : State) (r : Reached) → AreNumbered old.next old.sections → Expands left asks parent old r → AreNumbered (file_of r).next (file_of r).sections }
 {}
 
-/// What holds of every file that was loaded or edited also holds of it after an expansion, whatever the outcome: its items are those that a text may have,
-/// no number was given twice, and the greatest was not given.
+/// What holds of every file that was loaded or edited also holds of it after an expansion, whatever the outcome: its items are those that a
+/// text may have, no number was given twice, and the greatest was not given.
 pub fn expansions_keep_states()
     ensures { (left : ℕ) (asks : Asks) (parent : Option State) (old : State) (r : Reached) → IsState old → Expands left asks parent old r → IsState (file_of r) }
 {}
@@ -51,8 +51,8 @@ pub fn nothing_is_included()
     ensures resolved { (asks : Asks) (old new : State) (result : Result Unit Error) → IncludesNothing old → Resolves includes_number asks old result new → IsAsItWas result old new }
 {}
 
-/// A lossy expansion gives what one gives that keeps everything, if neither is refused: for files that say the same, and so for one file. If one is refused
-/// nothing is said, since what is left out takes no room.
+/// A lossy expansion gives what one gives that keeps everything, if neither is refused: for files that say the same, and so for one file.
+/// If one is refused nothing is said, since what is left out takes no room.
 pub fn lossy_expansions_say_the_same()
     ensures same { (rules : Rules) (files : List ℕ → FileTold) (left : ℕ) (parent other_parent : Option State) (old other full lossy : State) → ParentsSayTheSame parent other_parent → SayTheSame old other
         → Expands left (asks_with false rules files) parent old (On full) → Expands left (asks_with true rules files) other_parent other (On lossy) → SayTheSame full lossy }
@@ -60,8 +60,9 @@ pub fn lossy_expansions_say_the_same()
         → Expands left (asks_with false rules files) parent old (On full) → Expands left (asks_with true rules files) parent old (On lossy) → document_of full ≡ document_of lossy }
 {}
 
-/// If the host says what is at each path, an expansion has one outcome, apart from running out of memory, and so has a call: two that are made on one file leave the same
-/// file, or are refused with one number and leave files that differ only in their buffers. A text has one load.
+/// If the host says what is at each path, an expansion has one outcome, apart from running out of memory, and so has a call: two that are
+/// made on one file leave the same file, or are refused with one number and leave files that differ only in their buffers. A text has one
+/// load.
 pub fn expansions_have_one_outcome()
     ensures expanded { (asks : Asks) (files : List ℕ → FileTold) (left : ℕ) (parent : Option State) (old : State) (r s : Reached) → asks.table ≡ Some files → IsAnswered r → IsAnswered s
         → Expands left asks parent old r → Expands left asks parent old s → r ≡ s }

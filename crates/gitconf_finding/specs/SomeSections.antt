@@ -1,4 +1,5 @@
--- Lookups with a filter that may return something else each time it is asked: they return what they would if the state had only some of its sections.
+-- Lookups with a filter that may return something else each time it is asked: they return what they would if the state had only some of its
+-- sections.
 use Rattle.std.specs.Prelude.{◌≡◌, ◌⊎◌, ℕ, true, List, [], ◌∷◌, ◌++◌, map, Option, Some, None, Result, Ok, Err}
 use Rattle.std.specs.Option.{option_map}
 use Rattle.std.specs.declared.vec.Vec.{Vec}

@@ -86,8 +86,8 @@ pub record AreInOrder (places ordered : List (ℕ × ℕ)) : Type 0 where
 abbrev pub key_places : Key → (keeps : Meta → Bool) → State → List (ℕ × ℕ)
 key_places key keeps state = all_value_places key.name keeps (sections_named key.section key.subsection state)
 
--- The places are returned in order, there are some, and the key's name is valid; or the refusal says why not. Out of memory comes only if there
--- are some.
+-- The places are returned in order, there are some, and the key's name is valid; or the refusal says why not. Out of memory comes only if
+-- there are some.
 abbrev pub ArePlaces : {Z : Type 0} → Key → State → List (ℕ × ℕ) → Result (Vec (ℕ × ℕ) Z) Error → Type 0
 ArePlaces key state places (Ok found) = (is_value_name key.name ≡ true) × (places ≢ []) × AreInOrder places found.items
 ArePlaces key state places (Err Memory) = (is_value_name key.name ≡ true) × (places ≢ [])

@@ -108,9 +108,8 @@ impl<'a> Iterator for SectionsByName<'a, '_> {
     }
 }
 
-/// The sections of a name in file order whose metadata passes a filter:
-/// `Store::sections_by_name_and_filter`. The filter is called for each
-/// section when the walk reaches it.
+/// The sections of a name in file order whose metadata passes a filter: `Store::sections_by_name_and_filter`. The
+/// filter is called for each section when the walk reaches it.
 #[derive(Drop)]
 pub struct SectionsByNameAndFilter<'a, 'n, F> {
     pub sections: SectionsByName<'a, 'n>,
@@ -228,8 +227,7 @@ impl Iterator for SectionIds<'_> {
     }
 }
 
-/// The sections of a file in order, each with the events of what is held after it:
-/// `Store::sections_and_postmatter`.
+/// The sections of a file in order, each with the events of what is held after it: `Store::sections_and_postmatter`.
 #[derive(Drop)]
 pub struct SectionsAndPostmatter<'a> {
     pub sections: Sections<'a>,

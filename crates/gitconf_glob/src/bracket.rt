@@ -260,9 +260,8 @@ fn class_length(text: &[u8], close: Option<usize>) -> Option<usize>
     }
 }
 
-/// The member that comes first, and how many bytes it has after its first one. There is none if a byte is
-/// missing, or for an unknown class. `close` is the offset of the first `]`. It takes a step for each byte of
-/// the member.
+/// The member that comes first, and how many bytes it has after its first one. There is none if a byte is missing, or
+/// for an unknown class. `close` is the offset of the first `]`. It takes a step for each byte of the member.
 #[tactic(auto, unfolding(crate::specs::Bracket::member))]
 pub fn read_member(text: &[u8], close: Option<usize>) -> Option<(Member, usize)>
     requires { close ≡ spec.close_from 0 text.now }

@@ -8,8 +8,7 @@ use Rattle.gitconf_host.specs.declared.fault.Stage.TheVariants.{Open, Read, Memo
 use Rattle.gitconf_host.specs.declared.env.EnvVar.{EnvVar}
 use Rattle.gitconf_host.specs.declared.env.EnvVar.TheVariants.{Unset, Text, IllFormed}
 
--- what is at a path: no file, one with these bytes and this trust, one that can't be opened, or one that can't
--- be read
+-- what is at a path: no file, one with these bytes and this trust, one that can't be opened, or one that can't be read
 pub data FileTold : Type 0 where
   NoFile : FileTold
   IsFile : (bytes : List ℕ) (trust : Trust) → FileTold

@@ -26,8 +26,8 @@ replaced rules path = elim (interpolated rules.install rules.home rules.homes pa
   | Err n ↦ if n == 12 && not rules.refuses_shorthand then Ok None else Err n
 ]
 
--- The folder of the file that a section comes from. If the file has no path, what needs it is left out, or refused if the rules ask for that; a path
--- that is in no folder is refused.
+-- The folder of the file that a section comes from. If the file has no path, what needs it is left out, or refused if the rules ask for
+-- that; a path that is in no folder is refused.
 abbrev pub folder : Rules → (from : Meta) → Result (Option (List ℕ)) ℕ
 folder rules from = elim from.path [
   | None ↦ if rules.refuses_no_path then Err 16 else Ok None

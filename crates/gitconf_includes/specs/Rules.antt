@@ -16,11 +16,11 @@ pub record GitFolder : Type 0 where
 pub record Rules : Type 0 where
   -- how many files deep includes are followed
   pub max_depth : ℕ
-  -- deeper ones refuse
+  -- deeper ones are refused
   pub refuses_depth : Bool
-  -- a shorthand that stands for nothing refuses, and so does a condition on a git folder that is not there
+  -- a path whose shorthand stands for nothing is refused, and so is a condition on a git folder if there is none
   pub refuses_shorthand : Bool
-  -- a path that needs the folder of a file refuses where the file has no path
+  -- a path that needs the folder of a file is refused if the file has no path
   pub refuses_no_path : Bool
   -- the folder where git is installed, that of the user who runs the program, and those of users
   pub install : Option (List ℕ)

@@ -18,8 +18,9 @@ pub data Place : Type 0 where
 abbrev pub is_filled : List ℕ → Bool
 is_filled bytes = begins (λ _. true) bytes
 
--- From this place on, the tokens are those of items: between entries come headers, blanks, line endings, comments and names; after a name, blanks,
--- and then an empty value or a separator; after that blanks, and then a value, or pieces, each with its line ending, and the last one.
+-- From this place on, the tokens are those of items: between entries come headers, blanks, line endings, comments and names; after a name,
+-- blanks, and then an empty value or a separator; after that blanks, and then a value, or pieces, each with its line ending, and the last
+-- one.
 abbrev pub are_items : Place → List Token → Bool
 are_items Between [] = true
 are_items Between (HeaderToken h ∷ tokens) = are_items Between tokens

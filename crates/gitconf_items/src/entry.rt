@@ -128,8 +128,8 @@ impl Model for Entry {
 }
 
 impl Entry {
-    /// The entry of these parts. Takes memory if a value has several lines, a name has more than 65535 bytes, blanks have more than 255, or the parts aren't
-    /// one after the other, with one byte for `=`.
+    /// The entry of these parts. Takes memory if a value has several lines, a name has more than 65535 bytes, blanks have more than 255, or
+    /// the parts aren't one after the other, with one byte for `=`.
     ///
     /// # Errors
     ///

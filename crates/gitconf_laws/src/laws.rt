@@ -73,8 +73,8 @@ pub fn comments_are_kept()
         → AllByRecursion (λ s. (parts : List Part) → IsText (printed_section s) parts → comments_of parts ≡ flat_map item_comments s.items) state.sections }
 {}
 
-/// An edit of a state that has items of a text leaves such items, if what it writes may be in a text; and leaves a clean state clean, if its headers have a name or a
-/// subsection and what it puts in is clean. So does a list of edits. Edits give no number twice.
+/// An edit of a state that has items of a text leaves such items, if what it writes may be in a text; and leaves a clean state clean, if
+/// its headers have a name or a subsection and what it puts in is clean. So does a list of edits. Edits give no number twice.
 pub fn edits_keep_states()
     ensures items { (edit : Edit) (state : State) → IsEdit edit state → HasItems state → HasItems (apply edit state) }
     ensures clean { (edit : Edit) (state : State) → IsCleanEdit edit → IsClean state → IsClean (apply edit state) }
@@ -89,9 +89,9 @@ pub fn an_editor_changes_one_section()
     ensures { (edit : Edit) (number : ℕ) (state : State) → edited_number edit ≡ Some number → IsOneChanged number state (apply edit state) }
 {}
 
-/// The text of an edited state reads back: it has the document that the edits leave, for the whole, for the sections that a filter keeps, and for
-/// each section alone, with its comments. So this is a round trip from the bytes of an accepted text, loaded whole, through any list of edits, to the
-/// bytes that are written.
+/// The text of an edited state reads back: it has the document that the edits leave, for the whole, for the sections that a filter keeps,
+/// and for each section alone, with its comments. So this is a round trip from the bytes of an accepted text, loaded whole, through any
+/// list of edits, to the bytes that are written.
 pub fn edited_text_reads_back()
     ensures state { (edits : List Edit) (state : State) → AreEdits edits state → AreCleanEdits edits → HasItems state → IsClean state
         → Reads (printed (apply_all edits state)) (document_of (apply_all edits state)) }
@@ -115,14 +115,15 @@ pub fn used_bytes_are_not_asked()
     ensures document { (used : ℕ) (state : State) → document_of (with_used used state) ≡ document_of state }
 {}
 
-/// An edit leaves what is said of every key that it is not about: so all lookups of these keys, whatever the filter, return what they returned before.
+/// An edit leaves what is said of every key that it is not about: so all lookups of these keys, whatever the filter, return what they
+/// returned before.
 pub fn edits_leave_other_keys()
     ensures { (edit : Edit) (name : List ℕ) (subsection : Option (List ℕ)) (key : List ℕ) (state : State) → IsEdit edit state → is_about edit name subsection key state ≡ false
         → said name subsection key (listed (apply edit state)) ≡ said name subsection key (listed state) }
 {}
 
-/// Lookups depend on the number of each section, where it comes from, and its document: states that agree in these are listed alike, and every
-/// lookup returns the same. So a lossy load of a text returns for each lookup what the full one returns.
+/// Lookups depend on the number of each section, where it comes from, and its document: states that agree in these are listed alike, and
+/// every lookup returns the same. So a lossy load of a text returns for each lookup what the full one returns.
 pub fn look_ups_ask_documents()
     ensures listed { (one other : State) → map section_document one.sections ≡ map section_document other.sections
         → map (λ s. s.number) one.sections ≡ map (λ s. s.number) other.sections → map (λ s. s.meta) one.sections ≡ map (λ s. s.meta) other.sections
@@ -140,7 +141,7 @@ pub fn equality_is_an_equivalence()
     ensures documents { (one other : State) → map section_document one.sections ≡ map section_document other.sections → AreEqual one other }
 {}
 
-/// A value that was set is found by its name, subsection and key, where the lookup keeps the sections that the edit keeps and
+/// A value that was set is found by its name, subsection and key, if the lookup keeps the sections that the edit keeps and
 /// would keep a new one.
 pub fn set_value_is_found()
     ensures found { (name : List ℕ) (subsection : Option (List ℕ)) (key value : List ℕ) (state : State) → finds_or_makes name subsection (λ _. true) state ≡ true

@@ -112,7 +112,8 @@ abbrev pub root_indent : Option Indent → List ℕ
 root_indent None = []
 root_indent (Some indent) = indent_text indent
 
--- What is written before a comment: one blank after other tokens; at the start of a line the indent of names, or before the first header its own.
+-- What is written before a comment: one blank after other tokens; at the start of a line the indent of names, or before the first header
+-- its own.
 abbrev pub before_comment : Options → (in_section : Bool) → Before → List ℕ
 before_comment options in_section Nothing = if in_section then indent_text options.key_value_indent else root_indent options.root_comment_indent
 before_comment options in_section Value = 32 ∷ []

@@ -1,5 +1,5 @@
--- How many bytes editors add to a buffer: for names, values as they are spelled, blanks, comments and line endings. A separator and the mark of a
--- comment are in no buffer.
+-- How many bytes editors add to a buffer: for names, values as they are spelled, blanks, comments and line endings. A separator and the
+-- mark of a comment are in no buffer.
 use Rattle.std.specs.Prelude.{ℕ, ◌+◌, List, length, filter, Option, Some, None, if◌then◌else◌}
 use Rattle.std.specs.List.{last_or}
 use Rattle.gitconf_text.specs.Part.{Item, EntryItem}

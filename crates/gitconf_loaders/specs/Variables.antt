@@ -12,7 +12,8 @@ use Rattle.gitconf_store.specs.Renamings.{header_numbers}
 use Rattle.gitconf_loaders.specs.declared.from_env.Error.{Error}
 use Rattle.gitconf_loaders.specs.declared.from_env.Error.TheVariants as env
 
--- how many entries there are: none if the variable isn't set to a text; otherwise digits, with an optional plus, below 2 to the 64th, or refusal 23
+-- how many entries there are: none if the variable isn't set to a text; otherwise digits, with an optional plus, below 2 to the 64th, or
+-- refusal 23
 abbrev pub IsCountOf : VariableTold → Result ℕ ℕ → Type 0
 IsCountOf NotSet r = r ≡ Ok 0
 IsCountOf NoText r = r ≡ Ok 0
@@ -62,8 +63,8 @@ IsCountCause variables (env.InvalidConfigCount input) = May variables (λ var. H
 IsCountCause variables env.Memory = Unit {0}
 IsCountCause variables e = ⊥
 
--- What refusals of an entry say besides their numbers: which entry it is, which part of it isn't UTF-8, and a key without a dot. No include and no
--- file causes one.
+-- What refusals of an entry say besides their numbers: which entry it is, which part of it isn't UTF-8, and a key without a dot. No include
+-- and no file causes one.
 abbrev pub IsEntryCause : (index : ℕ) → Error → Type 0
 IsEntryCause index (env.IllformedUtf8 at kind) = (at ≡ index) × ((kind.now ≡ codes "key") ⊎ (kind.now ≡ codes "value"))
 IsEntryCause index (env.InvalidKeyId at) = at ≡ index

@@ -12,8 +12,8 @@ ghost use Rattle.gitconf_loaders.specs.Globals.{IsGlobal};
 ghost use Rattle.gitconf_loaders.specs.Paths.{IsLoadedFrom, IsLoadOfPaths};
 
 /// Files that are loaded by their paths are clean, those of the machine and of the user too, and have no entry before their first section;
-/// if no text that may be loaded or included has such an entry. A file that is loaded without includes is clean in any case. So what is written of
-/// them reads back.
+/// if no text that may be loaded or included has such an entry. A file that is loaded without includes is clean in any case. So what is
+/// written of them reads back.
 pub fn loaded_files_are_clean()
     ensures path { (table : Option (List ℕ → FileTold)) (path : List ℕ) (source : Source) (file : State) → IsLoadedFrom table path source (Ok file) → IsClean file }
     ensures paths { (files : List ℕ → FileTold) (must_exist ignores : Bool) (asks : Asks) (metas : List Meta) (file : State) → asks.table ≡ Some files → AreHeaded files

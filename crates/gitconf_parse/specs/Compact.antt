@@ -11,7 +11,7 @@ use Rattle.gitconf_parse.specs.declared.compact.Compact.{Compact}
 use Rattle.gitconf_parse.specs.declared.compact.Compact.TheVariants as kept
 use Rattle.gitconf_parse.specs.declared.compact.EventSlice.{EventSlice}
 
--- the header that is read at a place if there is none
+-- the header that is read at a place that has none
 abbrev pub no_header : Header
 no_header = record { name = record { start = 0; len = 0 }; separator = None; subsection = None; decoded = None }
 

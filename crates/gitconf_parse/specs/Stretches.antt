@@ -54,8 +54,8 @@ pub record IsKeptStretch (keep : Keep) (input : List ℕ) (from : ℕ) (first : 
   pub stretch : IsStretch input from first to last tokens
   pub kept_are : kept ≡ tokens_kept keep tokens
 
--- Between two offsets, of which a header is looked for at the first, are parts; to the tokens handed over before, those that are kept of these parts
--- were added.
+-- Between two offsets, of which a header is looked for at the first, are parts; to the tokens handed over before, those that are kept of
+-- these parts were added.
 pub record IsReadOn (keep : Keep) (input : List ℕ) (from to : ℕ) (last : Expected) (before now : List Token) : Type 0 where
   pub more : List Token
   pub kept : IsKeptStretch keep input from expected.SectionHeader to last more

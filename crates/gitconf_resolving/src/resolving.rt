@@ -25,8 +25,8 @@ pub struct Resolved {
     pub result: Result<(), Error>,
 }
 
-/// Resolves the includes of a store, as many levels deep as the options say. The time is linear in all that is read, except for the order of the
-/// sections, which is made once at the end.
+/// Resolves the includes of a store, as many levels deep as the options say. The time is linear in all that is read, except for the order
+/// of the sections, which is made once at the end.
 pub fn resolve<F: Files>(
     alloc: Global,
     files: &mut F,

@@ -83,7 +83,8 @@ begins_with line_end (LineEndsItem run ∷ items) = starts_with nat_eq run line_
 begins_with line_end (CommentItem tag text ∷ items) = false
 begins_with line_end (EntryItem e ∷ items) = false
 
--- what goes between items and others after them: a line ending, if the items aren't empty and don't end with one and the others don't begin with one
+-- what goes between items and others after them: a line ending, if the items aren't empty and don't end with one and the others don't begin
+-- with one
 abbrev pub between : (line_end : List ℕ) → (items others : List Item) → List Item
 between line_end [] others = []
 between line_end (i ∷ items) others =

@@ -18,7 +18,8 @@ line_after line (LineEndsItem run) = []
 line_after line (EntryItem e) = elim (has_pieces e.assigned) [ true ↦ EntryItem e ∷ [] | false ↦ line ++ EntryItem e ∷ [] ]
 line_after line i = line ++ i ∷ []
 
--- A line ending is inserted before a comment after a comment on its line, and in a body before an entry after a comment or an entry on its line.
+-- A line ending is inserted before a comment after a comment on its line, and in a body before an entry after a comment or an entry on its
+-- line.
 abbrev pub breaks : (in_body : Bool) → (line : List Item) → Item → Bool
 breaks in_body line (CommentItem tag text) = list_any is_comment line
 breaks in_body line (EntryItem e) = in_body && list_any (λ i. is_comment i || is_entry i) line

@@ -49,8 +49,8 @@ pub record IsLastDone (count at : ℕ) (runs : List Run) (last long : ℕ) : Typ
 abbrev pub tells : (front : List parts.Item) → List SectionState → Bool
 tells front sections = is_some (option_or (first_newline (tokens_in front)) (first_newline_of_bodies sections))
 
--- What is kept besides the store is right: the runs take all that were put in, and `ahead` sections were visited after them; the place of the last
--- section that is done; the line ending of the whole file, and whether what is done gives it.
+-- What is kept besides the store is right: the runs take all that were put in, and `ahead` sections were visited after them; the place of
+-- the last section that is done; the line ending of the whole file, and whether what is done gives it.
 pub record GatheringFits (count at ahead last : ℕ) (runs : List Run) (line_end : LineEnd) (told : Bool) (store : State) : Type 0 where
   pub visited : at ≤ count
   pub within : count ≤ length store.sections

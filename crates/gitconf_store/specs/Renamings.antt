@@ -67,8 +67,8 @@ pub record IsHeaderChecked (name : List ℕ) (subsection : Option (List ℕ)) (u
 abbrev pub rename_numbers : List ℕ
 rename_numbers = 3 ∷ 4 ∷ 5 ∷ 7 ∷ 8 ∷ 9 ∷ 27 ∷ []
 
--- How the sections of a name and subsection that pass are renamed: as the edit says. If none passes, the refusal says what is missing, before all
--- others; then come refusals 4, 5 and 3, each with its cause.
+-- How the sections of a name and subsection that pass are renamed: as the edit says. If none passes, the refusal says what is missing,
+-- before all others; then come refusals 4, 5 and 3, each with its cause.
 pub record IsRenamed (name : List ℕ) (subsection : Option (List ℕ)) (keeps : Meta → Bool) (new_name : List ℕ) (new_subsection : Option (List ℕ)) (result : Result (Unit {0}) Error) (old new : State) : Type 0 where
   pub missing_told : list_any (is_target name subsection keeps) old.sections ≡ false → IsErrOf result (Lookup (missing (miss_of name subsection (listed old))))
   pub only_missing : (e : LookupError) → IsErrOf result (Lookup e) → list_any (is_target name subsection keeps) old.sections ≡ false

@@ -12,8 +12,8 @@ use gitconf_views::section::SectionRef;
 use gitconf_write::line_end::first_line_end;
 use std::marker::Model;
 
-/// A file whose sections are visited one by one, with other files put in after each. So what is put in goes after everything that is done, and
-/// the sections that were put in are not visited. Nothing goes into the middle before the end: the sections of the beginning are in a
+/// A file whose sections are visited one by one, with other files put in after each. So what is put in goes after everything that is done,
+/// and the sections that were put in are not visited. Nothing goes into the middle before the end: the sections of the beginning are in a
 /// store, and after them all that were put in, and runs give their order.
 #[derive(Drop)]
 pub struct Gathering {
@@ -115,8 +115,8 @@ impl Gathering {
         self.ahead += 1;
     }
 
-    /// Puts another file after everything that is done, and holds its front after the last section that is done, with a line ending between if
-    /// one is needed. The time is linear in the other file.
+    /// Puts another file after everything that is done, and holds its front after the last section that is done, with a line ending between
+    /// if one is needed. The time is linear in the other file.
     ///
     /// # Errors
     ///

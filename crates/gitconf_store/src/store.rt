@@ -537,9 +537,9 @@ impl Store {
     ///
     /// # Errors
     ///
-    /// Refusal 6 for an invalid value name, before anything else; 4 and 5 if a section has to be made of a name or a
-    /// subsection that can't be one; 3 if the buffer would be longer than 4294967295 bytes, which is checked before any growth, or there is no
-    /// number for a section; 27 when out of memory. The file is then as it was, except that its buffer may have grown.
+    /// Refusal 6 for an invalid value name, before anything else; 4 and 5 if a section has to be made of a name or a subsection that can't
+    /// be one; 3 if the buffer would be longer than 4294967295 bytes, which is checked before any growth, or there is no number for a
+    /// section; 27 when out of memory. The file is then as it was, except that its buffer may have grown.
     pub fn set_raw_value_filter_by<F: FnMut(&Metadata) -> bool>(
         &mut self,
         section_name: &str,

@@ -1,4 +1,4 @@
--- Quotes round a whole value, which can be taken away without a copy.
+-- Quotes around a whole value, which can be removed without a copy.
 use Rattle.std.specs.Prelude.{ℕ, zero, suc, ◌-◌, Bool, not, List, ◌==◌, ◌&&◌, ◌||◌, if◌then◌else◌, length, nat_le, slice_range}
 use Rattle.std.specs.List.{list_any}
 use Rattle.gitconf_text.specs.Text.{begins, ends}

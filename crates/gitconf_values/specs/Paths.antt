@@ -12,8 +12,8 @@ unfoldable pub last_slash : (n : ℕ) (path : List ℕ) → Option ℕ
 last_slash zero path = None
 last_slash (suc n) path = elim (get_or path n 0 == 47) [ true ↦ Some n | false ↦ last_slash n path ]
 
--- How many bytes the folder that a path is in has. There is none for an empty path and for slashes alone. It has no bytes if no slash is before
--- the last name, and is `/` if nothing else is before it.
+-- How many bytes the folder that a path is in has. There is none for an empty path and for slashes alone. It has no bytes if no slash is
+-- before the last name, and is `/` if nothing else is before it.
 abbrev pub parent_length : (path : List ℕ) → Option ℕ
 parent_length path = if trimmed_length (length path) path == 0 then None else
     elim (last_slash (trimmed_length (length path) path) path) [

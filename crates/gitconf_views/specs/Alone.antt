@@ -46,8 +46,8 @@ whole s = record { header = s.header; meta = s.meta; items = record { items = s.
 abbrev pub detached_of : (buffer : List ℕ) → ℕ → Own → Detached
 detached_of buffer number s = record { section = section_under buffer number (whole s); used = length buffer }
 
--- What such a section keeps: its spans are within the buffer, its header is shown as its token is, and its header and items are such as a text
--- may have.
+-- What such a section keeps: its spans are within the buffer, its header is shown as its token is, and its header and items are such as a
+-- text may have.
 pub record StandsAlone (buffer copies : List ℕ) (s : Own) : Type 0 where
   pub room : length buffer < 2 ^ 32
   pub header : IsShown buffer copies (kinds.SectionHeader s.header)

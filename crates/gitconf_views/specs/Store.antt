@@ -39,7 +39,8 @@ state_of buffer front meta sections = record {
   sections = map (section_state buffer) sections.entries;
 }
 
--- A section of a store: its spans are within the buffer, its header is shown as its token is, and the table has it under the names of its header.
+-- A section of a store: its spans are within the buffer, its header is shown as its token is, and the table has it under the names of its
+-- header.
 pub record SectionFits (buffer copies : List ℕ) (e : SectionEntry Section) : Type 0 where
   pub header : IsShown buffer copies (kinds.SectionHeader e.section.header)
   pub items : AreItemsWithin (length buffer) e.section.items.items

@@ -144,9 +144,9 @@ impl Section {
     ghost use Rattle.gitconf_views.specs.Alone.{is_refusal_of_header, made_alone};
     ghost use Rattle.gitconf_views.specs.Views.{shown};
 
-    /// A section of a name and a subsection: its body is empty, without even a line ending, and its number is the greatest, which no file gives. The
-    /// name may be empty. The subsection is written in quotes after a space, with a backslash before each `"` and each backslash. One
-    /// pass over both, which takes memory for their text and for a decoded copy of a subsection that is spelled differently.
+    /// A section of a name and a subsection: its body is empty, without even a line ending, and its number is the greatest, which no file
+    /// gives. The name may be empty. The subsection is written in quotes after a space, with a backslash before each `"` and each
+    /// backslash. One pass over both, which takes memory for their text and for a decoded copy of a subsection that is spelled differently.
     ///
     /// # Errors
     ///

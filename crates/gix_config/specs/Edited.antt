@@ -18,9 +18,9 @@ has_name (Push number editor key value comment) = is_value_name key
 has_name (SetValue number editor key value) = is_value_name key
 has_name _ = true
 
--- The edit was done, or it was refused and the file is as it was, except for the bytes of its buffer. At most the bytes that the edit
--- adds (`put_bytes`) are added there. Refusal 6 comes if and only if the name is invalid, otherwise 3 if and only if these bytes would pass the limit; any other
--- is out of memory.
+-- The edit was done, or it was refused and the file is as it was, except for the bytes of its buffer. At most the bytes that the edit adds
+-- (`put_bytes`) are added there. Refusal 6 comes if and only if the name is invalid, otherwise 3 if and only if these bytes would pass the
+-- limit; any other is out of memory.
 pub record IsEdited {T E : Type 0} (edit : Edit) (number : E → ℕ) (result : Result T E) (old new : State) : Type 0 where
   pub ok : OnOk result (new ≡ with_used new.used (apply edit old))
   pub err : OnErr result (new ≡ with_used new.used old)

@@ -19,8 +19,8 @@ abbrev pub lookup_of_existing : {E : Type 0} → Existing → LookUp E
 lookup_of_existing existing.Memory = look_up.Memory
 lookup_of_existing e = look_up.ValueMissing e
 
--- The number of the reason why there is no editor. That no section passes has no number of its own: it counts as that of a missing key, as when
--- sections are renamed.
+-- The number of the reason why there is no editor. That no section passes has no number of its own: it counts as that of a missing key, as
+-- when sections are renamed.
 abbrev pub section_mut_number : NoEditor → ℕ
 section_mut_number no_editor.NonePasses = 9
 section_mut_number (no_editor.Lookup e) = existing_number e

@@ -1,5 +1,5 @@
--- How many bytes the edits of editors add to the buffer of a file. A separator, the mark of a comment, and the brackets and quotes of a header
--- are in no buffer.
+-- How many bytes the edits of editors add to the buffer of a file. A separator, the mark of a comment, and the brackets and quotes of a
+-- header are in no buffer.
 use Rattle.std.specs.Prelude.{ℕ, ◌+◌, length, Some}
 use Rattle.gitconf_state.specs.Edit.{header_bytes}
 use Rattle.gitconf_state.specs.Edits.{Edit, NewSection, Push, PushLineEnd, Rename, SetValue, WriteAt, items_of_numbered}

@@ -58,7 +58,8 @@ told e = ((place_of e, stands_there e), (key_of e, editor e))
 abbrev pub told_at : (key : List ℕ) → State → (place : ℕ × ℕ) → ((ℕ × ℕ) × Bool) × (List ℕ × Editor)
 told_at key state place = ((place, true), (key, editor_of_numbered place.0 state))
 
--- The entry was found, and the editor has the blanks that its section uses; or the refusal says why not. Out of memory comes only if there is one.
+-- The entry was found, and the editor has the blanks that its section uses; or the refusal says why not. Out of memory comes only if there
+-- is one.
 abbrev pub IsValueEditor : Key → State → Option (ℕ × ℕ) → Result (ValueMut Spelled) Error → Type 0
 IsValueEditor key state place (Ok e) = IsPlace key state place (Ok (place_of e)) × (told e ≡ told_at key.name state (place_of e))
 IsValueEditor key state place (Err Memory) = place ≢ None

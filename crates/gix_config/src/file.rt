@@ -140,8 +140,8 @@ impl File {
         Ok(File { store })
     }
 
-    /// The same file as [`File::try_from_bytes`] makes it, of the text itself: the text becomes the buffer, and no byte of it is copied except the
-    /// names and subsections of sections. An edit that finds no room after the text makes the buffer larger.
+    /// The same file as [`File::try_from_bytes`] makes it, of the text itself: the text becomes the buffer, and no byte of it is copied
+    /// except the names and subsections of sections. An edit that finds no room after the text makes the buffer larger.
     ///
     /// # Errors
     ///

@@ -1,5 +1,4 @@
-//! What a script sets that is outside of a file, as plain data. A command that needs it makes a host of its own of
-//! it.
+//! What a script sets that is outside of a file, as plain data. A command that needs it makes a host of its own of it.
 
 use crate::failing::{Failure, TurnFiles};
 use gitconf_script::outside::{self as words, Fault, Refuses};

@@ -19,8 +19,8 @@ impl Store {
 
     /// Pushes a line after the items of the section of a number: the editor's blanks, the key, and if a value is given `=` with the
     /// editor's blanks around it and the value as a file spells it; then the comment, if one is given, after a space and `#`, with a space
-    /// before a first byte that is not white space, and each LF turned to a space; then the editor's line ending, unless it is switched off. All
-    /// else stays as it is; if no section has the number, everything does.
+    /// before a first byte that is not white space, and each LF turned to a space; then the editor's line ending, unless it is switched
+    /// off. All else stays as it is; if no section has the number, everything does.
     ///
     /// The section is found in constant time. Takes memory for what is added to the buffer, and for the new items.
     ///
@@ -87,7 +87,7 @@ impl Store {
     /// [`Store::push_entry`] does. All else stays as it is; if no section has the number, everything does. Returns the raw text of the old
     /// value: its pieces joined, not decoded; no bytes for an entry without `=`; `None` if there was no entry, or no section.
     ///
-    /// One walk over the section's items, which is found in constant time. Takes memory for the old value, for what is put into the
+    /// The section is found in constant time; one walk over its items. Takes memory for the old value, for what is put into the
     /// buffer, and for new items.
     ///
     /// # Errors
@@ -125,7 +125,7 @@ impl Store {
     /// it. All else stays as it is. Returns the raw text of its value: its pieces joined, not decoded; no bytes for an entry without `=`.
     /// If the section has no entry of the key, or no section has the number, nothing is changed, and the result is `None`.
     ///
-    /// One walk over the section's items, which is found in constant time. Takes memory for the result alone; no byte is put into
+    /// The section is found in constant time; one walk over its items. Takes memory for the result alone; no byte is added to
     /// the buffer.
     ///
     /// # Errors
@@ -157,7 +157,7 @@ impl Store {
     /// entry without `=`. If the section has no entry, or no section has the number, the result is `None`; in the second case nothing is
     /// changed.
     ///
-    /// One walk over the section's items, which is found in constant time. Takes memory for the result and the raw text of the
+    /// The section is found in constant time; one walk over its items. Takes memory for the result and the raw text of the
     /// value; no byte is added to the buffer.
     ///
     /// # Errors

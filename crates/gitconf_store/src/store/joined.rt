@@ -175,13 +175,13 @@ impl Store {
     /// last section, or joins our front if we have no section; a line ending goes between if there are items that don't end with one, and the
     /// other's don't begin with one.
     ///
-    /// The other's bytes are added to the buffer, and its spans are moved in one pass: the time is linear in the other file, except for a walk
-    /// up to our first line ending. Takes memory for the bytes, the names and the places.
+    /// The other's bytes are added to the buffer, and its spans are moved in one pass: the time is linear in the other file, except for a
+    /// walk up to our first line ending. Takes memory for the bytes, the names and the places.
     ///
     /// # Errors
     ///
     /// A [`span::Error`]: number 3 if and only if the buffer would be longer than 4294967295 bytes or fewer numbers are left than the other
-    /// has sections, before any growth, otherwise 27 when out of memory. The other is then dropped, and the file as it was, but that its
+    /// has sections, before any growth, otherwise 27 when out of memory. The other is then dropped, and the file as it was, except that its
     /// buffer may have grown.
     pub fn append(&mut self, other: Store) -> Result<(), span::Error>
         ensures ok { OnOk result (self.new ≡ with_used self.new.used (apply (Append other) self.old)) }

@@ -6,7 +6,8 @@ ghost use Rattle.gitconf_store.specs.LeavingOut.{AreIn};
 use crate::store::Store;
 use gitconf_table::table::SectionId;
 
-/// How many places come before the last run: the last run is of places in the section of the last one, each of which comes before the next one.
+/// How many places come before the last run: the last run is of places in the section of the last one, each of which comes before the next
+/// one.
 pub(crate) fn before_run(before: &[(SectionId, usize)], id: SectionId, last: usize) -> usize
     ensures within { result ≤ length before.now }
     ensures ascend { Ascend 0 (drop result (before.now ++ (id, last) ∷ [])) }

@@ -61,8 +61,8 @@ impl Store {
     ///
     /// # Errors
     ///
-    /// Refusal 4 if and only if a byte of the name is not a letter, digit or dash, otherwise 5 if and only if the subsection has LF or NUL; both
-    /// also if no section has the number. Then 3 if and only if the buffer would be longer than 4294967295 bytes, before any growth;
+    /// Refusal 4 if and only if a byte of the name is not a letter, digit or dash, otherwise 5 if and only if the subsection has LF or NUL;
+    /// both also if no section has the number. Then 3 if and only if the buffer would be longer than 4294967295 bytes, before any growth;
     /// 27 when out of memory. The file is then as it was, except that its buffer may have grown.
     pub fn rename(
         &mut self,

@@ -71,8 +71,8 @@ impl Store {
     /// Deletes the items at places, the last one first, so that those before it keep their places; each alone, as
     /// [`Store::delete_entry_at`] does. It can't fail, and takes no memory.
     ///
-    /// Places of one section that are next to each other in the list, each before the next one in the section, are removed at once: the section
-    /// is found in constant time, and walked over once. So for places in order each section that they are in is walked over once.
+    /// Places of one section that are next to each other in the list, each before the next one in the section, are removed at once: the
+    /// section is found in constant time, and walked over once. So for places in order each section that they are in is walked over once.
     #[tactic(auto, using(crate::proofs::LeavingOut::leaving))]
     pub fn delete_entries_at(&mut self, places: &[(SectionId, usize)])
         ensures { self.new ≡ all_deleted places.now self.old }
@@ -110,19 +110,19 @@ impl Store {
         Ok(texts)
     }
 
-    /// Gives the entries of a key other values, whether they have `=` or not, in the sections that have the name, without ASCII case, and exactly
-    /// the subsection: the first entry gets the first value and so on, up to the end of the shorter list, in the order of
-    /// [`Store::value_places_filter_by`]. Each is rewritten, with the name that is given, the blanks around `=` that its section then
-    /// uses, and the value as a file spells it. All else stays as it is; no entry is made, and none removed.
+    /// Gives the entries of a key other values, whether they have `=` or not, in the sections that have the name, without ASCII case, and
+    /// exactly the subsection: the first entry gets the first value and so on, up to the end of the shorter list, in the order of
+    /// [`Store::value_places_filter_by`]. Each is rewritten, with the name that is given, the blanks around `=` that its section then uses,
+    /// and the value as a file spells it. All else stays as it is; no entry is made, and none removed.
     ///
     /// It walks over the sections of the names and over their items, puts the places in order, and walks over a section once more for each
     /// entry that is written. Takes memory for the places, and for what is added to the buffer.
     ///
     /// # Errors
     ///
-    /// Refusal 7 if no section has the name, 8 if none of these has the subsection; otherwise 6 for an invalid value name; otherwise 9
-    /// if none of these has such an entry; 3 if the buffer would be longer than 4294967295 bytes; 27 when out of memory. After 3 or 27 the entries
-    /// before the one that was refused have their values; all else is as it was, except that the buffer may have grown.
+    /// Refusal 7 if no section has the name, 8 if none of these has the subsection; otherwise 6 for an invalid value name; otherwise 9 if
+    /// none of these has such an entry; 3 if the buffer would be longer than 4294967295 bytes; 27 when out of memory. After 3 or 27 the
+    /// entries before the one that was refused have their values; all else is as it was, except that the buffer may have grown.
     pub fn set_existing_raw_multi_value_by(
         &mut self,
         section_name: &str,

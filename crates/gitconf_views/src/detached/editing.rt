@@ -162,9 +162,9 @@ impl Section {
     ///
     /// # Errors
     ///
-    /// `InvalidName` if a byte of the name is not a letter, digit or dash, otherwise `InvalidSubSection` if the subsection holds LF or
-    /// NUL; otherwise `Span`, number 3, if and only if the buffer would be longer than 4294967295 bytes, before any growth, and `Memory` when out
-    /// of memory. The section is then as it was, except that its buffer may have grown.
+    /// `InvalidName` if a byte of the name is not a letter, digit or dash, otherwise `InvalidSubSection` if the subsection holds LF or NUL;
+    /// otherwise `Span`, number 3, if and only if the buffer would be longer than 4294967295 bytes, before any growth, and `Memory` when
+    /// out of memory. The section is then as it was, except that its buffer may have grown.
     pub fn rename(&mut self, name: &str, subsection: Option<&[u8]>) -> Result<(), header::Error>
         ensures ok { OnOk result (self.new.section ≡ renamed name.now (option_copied subsection.entry) self.old.section) }
         ensures invalid_name { IsErrOf result InvalidName ↔ (is_made_name name.now ≡ false) }

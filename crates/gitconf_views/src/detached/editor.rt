@@ -93,8 +93,8 @@ impl<'a> DetachedSectionMut<'a> {
     ///
     /// # Errors
     ///
-    /// Refusal 6 if and only if the name is invalid; otherwise 3 if and only if the section's buffer would be longer than 4294967295 bytes, before any
-    /// growth, and 27 when out of memory. The section is then as it was, except that its buffer may have grown.
+    /// Refusal 6 if and only if the name is invalid; otherwise 3 if and only if the section's buffer would be longer than 4294967295 bytes,
+    /// before any growth, and 27 when out of memory. The section is then as it was, except that its buffer may have grown.
     pub fn push(&mut self, value_name: &str, value: Option<&[u8]>) -> Result<(), value::Error>
         ensures same_section { lent self.new ≡ lent self.old }
         ensures same_editor { editor self.new ≡ editor self.old }
@@ -236,7 +236,8 @@ impl<'a> DetachedSectionMut<'a> {
         self.section.rename(name, bytes_of(&subsection_name))
     }
 
-    /// Gives the section another trust. All else stays as it is, and so does metadata that was shared with it. Takes memory for metadata of its own.
+    /// Gives the section another trust. All else stays as it is, and so does metadata that was shared with it. Takes memory for metadata of
+    /// its own.
     ///
     /// # Errors
     ///

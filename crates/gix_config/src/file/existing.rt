@@ -59,9 +59,9 @@ impl File {
             .set_existing_raw_value_by(section_name, subsection_name, value_name, new_value)
     }
 
-    /// Gives the entries of a key other values, whether they have `=` or not, in all sections of the key's name and subsection: the first entry
-    /// gets the first value and so on, up to the end of the shorter list. The entries are in the order of their sections' numbers, and in
-    /// a section in that of the text. Each is rewritten, with the name as it is given, the blanks around `=` that its section then
+    /// Gives the entries of a key other values, whether they have `=` or not, in all sections of the key's name and subsection: the first
+    /// entry gets the first value and so on, up to the end of the shorter list. The entries are in the order of their sections' numbers,
+    /// and in a section in that of the text. Each is rewritten, with the name as it is given, the blanks around `=` that its section then
     /// uses, and the value as a file spells it. All else stays as it is; no entry is made, and none removed. The key has to be valid.
     ///
     /// # Errors

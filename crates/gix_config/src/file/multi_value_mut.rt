@@ -70,9 +70,9 @@ impl<'a> MultiValueMut<'a> {
         self.targets.places().is_empty()
     }
 
-    /// Gives the entry at an index, counted from 0, another value: it is rewritten, with the name as the caller spelled it,
-    /// `=` with the blanks around it that its section then uses, and the value as a file spells it. Nothing of its old value stays, not even a
-    /// line ending. All else stays as it is, and so do the places of entries.
+    /// Gives the entry at an index, counted from 0, another value: it is rewritten, with the name as the caller spelled it, `=` with the
+    /// blanks around it that its section then uses, and the value as a file spells it. Nothing of its old value stays, not even a line
+    /// ending. All else stays as it is, and so do the places of entries.
     ///
     /// One walk over the items of the section. Takes memory for what is added to the file's buffer.
     ///
@@ -138,11 +138,12 @@ impl<'a> MultiValueMut<'a> {
             .rewrite_all_entries_at(self.targets.places(), self.targets.key(), value)
     }
 
-    /// Deletes the entry at an index, counted from 0: its name, `=` and value, and the blanks between them. What is around
-    /// it stays, even the blanks before its name and the line ending after its value. The entries after it then have an index that is one less. It
-    /// can't fail, and takes no memory.
+    /// Deletes the entry at an index, counted from 0: its name, `=` and value, and the blanks between them. What is around it stays, even
+    /// the blanks before its name and the line ending after its value. The entries after it then have an index that is one less. It can't
+    /// fail, and takes no memory.
     ///
-    /// The section is found in constant time; what follows the entry there moves up by one, and so do the places of the entries that are left.
+    /// The section is found in constant time; what follows the entry there moves up by one, and so do the places of the entries that are
+    /// left.
     pub fn delete(&mut self, index: usize)
         requires { index < length (places_of self.old) }
         ensures same_file { lent self.new ≡ lent self.old }

@@ -25,14 +25,15 @@ impl File {
     ///
     /// A condition `hasconfig` is judged by the file as it then is; below the first level, by the file that includes.
     ///
-    /// Each included file is read and parsed once for each time that it is included. Besides that the time is linear in the file and in what is
-    /// put in, except for the order of the sections, which is made once, at the end.
+    /// Each included file is read and parsed once for each time that it is included. Besides that the time is linear in the file and in
+    /// what is put in, except for the order of the sections, which is made once, at the end.
     ///
     /// # Errors
     ///
     /// 12 to 18 as the options and [`includes::Error`] say; 19 and 20 if a file can't be opened or read; 1 and 2 if one is refused by the
-    /// parser; 3 if there is no room for one; 27 when out of memory. The file then has everything that was put in before the refusal; a file that
-    /// was refused, or that includes a refused one, is left out whole. With `max_depth` 0 nothing is followed, and nothing refused.
+    /// parser; 3 if there is no room for one; 27 when out of memory. The file then has everything that was put in before the refusal; a
+    /// file that was refused, or that includes a refused one, is left out whole. With `max_depth` 0 nothing is followed, and nothing
+    /// refused.
     pub fn resolve_includes(
         &mut self,
         options: Options<'_>,
@@ -57,8 +58,8 @@ impl File {
     }
 
     /// The file that a text is, with the metadata that it and each of its sections get, and with what it includes as
-    /// [`File::resolve_includes`] puts it in. The text becomes the buffer. A lossy load leaves out blanks, comments and line endings, of included files
-    /// too.
+    /// [`File::resolve_includes`] puts it in. The text becomes the buffer. A lossy load leaves out blanks, comments and line endings, of
+    /// included files too.
     ///
     /// # Errors
     ///

@@ -258,8 +258,8 @@ impl File {
     ///
     /// # Errors
     ///
-    /// Refusal 11 for a value that is not an integer, `not an integer`, or one that 64 bits don't hold, `Integer overflow`, with its bytes. Refusal 27
-    /// when out of memory.
+    /// Refusal 11 for a value that is not an integer, `not an integer`, or one that 64 bits don't hold, `Integer overflow`, with its bytes.
+    /// Refusal 27 when out of memory.
     pub fn integer<K: AsKey>(&self, key: K) -> Result<Option<i64>, value::Error>
         ensures { OfKey (K.key key) (λ key. IsInteger key (λ _. true) self.now result) result }
     {
@@ -342,8 +342,8 @@ impl File {
     ///
     /// # Errors
     ///
-    /// Refusal 11 for the first value that is not an integer, `not an integer`, or that 64 bits don't hold, `Integer overflow`, with its bytes. Refusal
-    /// 27 when out of memory.
+    /// Refusal 11 for the first value that is not an integer, `not an integer`, or that 64 bits don't hold, `Integer overflow`, with its
+    /// bytes. Refusal 27 when out of memory.
     pub fn integers<K: AsKey>(&self, key: K) -> Result<Option<Vec<i64>>, value::Error>
         ensures { OfKey (K.key key) (λ key. AreIntegers key (λ _. true) self.now result) result }
     {

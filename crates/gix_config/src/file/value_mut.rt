@@ -81,8 +81,8 @@ impl<'a> ValueMut<'a> {
     }
 
     /// Gives the entry another value: it is rewritten, with the name as the caller spelled it, `=` with the blanks around it, and the value
-    /// as a file spells it. If the old value ended in an empty last piece and a comment comes next, apart from blanks, the last line ending of
-    /// the old value stays before it. An entry that was deleted is written at its place.
+    /// as a file spells it. If the old value ended in an empty last piece and a comment comes next, apart from blanks, the last line ending
+    /// of the old value stays before it. An entry that was deleted is written at its place.
     ///
     /// Its time doesn't grow with the file. Takes memory for what is added to the file's buffer, and for at most one more item.
     ///
@@ -156,7 +156,8 @@ impl<'a> ValueMut<'a> {
         self.file.section_of(self.id)
     }
 
-    /// An editor of the section, which writes the blanks that the section used, and the file's line ending, as they were when this editor was made.
+    /// An editor of the section, which writes the blanks that the section used, and the file's line ending, as they were when this editor
+    /// was made.
     pub fn into_section_mut(self) -> SectionMut<'a>
         ensures same_file { sections.lent result ≡ lent self.entry }
         ensures same_state { sections.edited result ≡ edited self.entry }

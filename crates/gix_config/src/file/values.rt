@@ -132,8 +132,8 @@ impl File {
         ))
     }
 
-    /// The last value of a key in a type, or `None` if there is none, found as by [`File::string`]. The key has to be one,
-    /// which [`AsKey::try_as_key`] says.
+    /// The last value of a key in a type, or `None` if there is none, found as by [`File::string`]. The key has to be valid,
+    /// as [`AsKey::try_as_key`] says.
     ///
     /// # Errors
     ///

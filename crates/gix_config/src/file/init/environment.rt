@@ -235,18 +235,18 @@ impl File {
     ghost use Rattle.gitconf_loaders.specs.Paths.{CountsLoad, numbered};
     ghost use Rattle.gix_config.specs.Environment.{IsEnvCause, IsFromEnv, IsOverrides, IsOverridesCause};
 
-    /// The file of the entries that variables set, which comes from no path and from the source `Env`, fully trusted, at level 0; with what it includes by
-    /// the options. `GIT_CONFIG_COUNT` says how many entries there are, and the key and the value of each are in `GIT_CONFIG_KEY_0`,
-    /// `GIT_CONFIG_VALUE_0` and so on. Each entry goes into the last section of the key's names, or into a new one. `None` if there is no
-    /// count, or the count is 0 or isn't UTF-8.
+    /// The file of the entries that variables set, which comes from no path and from the source `Env`, fully trusted, at level 0; with what
+    /// it includes by the options. `GIT_CONFIG_COUNT` says how many entries there are, and the key and the value of each are in
+    /// `GIT_CONFIG_KEY_0`, `GIT_CONFIG_VALUE_0` and so on. Each entry goes into the last section of the key's names, or into a new one.
+    /// `None` if there is no count, or the count is 0 or isn't UTF-8.
     ///
     /// At most three variables are asked for an entry, and its section is found by an index.
     ///
     /// # Errors
     ///
-    /// 23 for a count that is not a number below 2 to the 64th. For the first entry that can't be put in, the first of these: 24 for a key that isn't
-    /// set, 22 for one that isn't UTF-8, 26 for a value that isn't set, 25 for a key without a dot, 4 and 5 for names that a section can't be made
-    /// of, 22 for a value that isn't UTF-8, 6 for an invalid name; 3 if there is no room. Then those of
+    /// 23 for a count that is not a number below 2 to the 64th. For the first entry that can't be put in, the first of these: 24 for a key
+    /// that isn't set, 22 for one that isn't UTF-8, 26 for a value that isn't set, 25 for a key without a dot, 4 and 5 for names that a
+    /// section can't be made of, 22 for a value that isn't UTF-8, 6 for an invalid name; 3 if there is no room. Then those of
     /// [`File::resolve_includes`], and 15 also if `max_depth` is 0 and the options ask for it. 27 when out of memory.
     pub fn from_env(
         alloc: Global,

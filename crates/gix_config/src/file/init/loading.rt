@@ -66,8 +66,8 @@ impl File {
         File::from_paths_metadata_buf(alloc, metas, true, options, host)
     }
 
-    /// As [`File::from_paths_metadata`]; a file that isn't there is skipped unless it must exist. The Rust crate also takes a buffer, into which
-    /// texts are read; here each text becomes its file's buffer.
+    /// As [`File::from_paths_metadata`]; a file that isn't there is skipped unless it must exist. The Rust crate also takes a buffer, into
+    /// which texts are read; here each text becomes its file's buffer.
     ///
     /// # Errors
     ///

@@ -267,8 +267,8 @@ impl File {
     ghost use Rattle.gitconf_loaders.specs.Paths.{CountsLoad, numbered};
     ghost use Rattle.gix_config.specs.Repository.{IsRepository, IsRepositoryCause};
 
-    /// The configuration of the repository whose git folder is `dir`, which is `real` with its symbolic links resolved: that of the machine and of
-    /// the user ([`File::from_globals`]), of the repository (`config` in the folder), of its worktree (`config.worktree`, if
+    /// The configuration of the repository whose git folder is `dir`, which is `real` with its symbolic links resolved: that of the machine
+    /// and of the user ([`File::from_globals`]), of the repository (`config` in the folder), of its worktree (`config.worktree`, if
     /// `extensions.worktreeConfig` is true), and the overrides ([`File::from_environment_overrides`]), one after the other as
     /// [`File::append`] puts them. Includes of the repository's files know the home folder of the host's places and the git folder; as in
     /// the Rust crate, the files of the machine and of the user are expanded once more with these.

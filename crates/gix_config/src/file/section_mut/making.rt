@@ -315,17 +315,17 @@ impl File {
         })
     }
 
-    /// Makes a section after all others, whose body is one line ending, the file's, with the file's metadata; and returns an editor of it, which
-    /// writes a tab before names and a space on both sides of `=`.
+    /// Makes a section after all others, whose body is one line ending, the file's, with the file's metadata; and returns an editor of it,
+    /// which writes a tab before names and a space on both sides of `=`.
     ///
-    /// Three walks over the file's items up to the first line ending. Takes memory for what is added to the buffer, for the items, and for the
-    /// section's place.
+    /// Three walks over the file's items up to the first line ending. Takes memory for what is added to the buffer, for the items, and for
+    /// the section's place.
     ///
     /// # Errors
     ///
-    /// Refusal 4 for a name that a section can't be made of, otherwise 5 for a subsection that it can't be made of; otherwise 3 if the file would
-    /// take more than 4294967295 bytes, or there is no number left, before any growth; otherwise 27 when out of memory. The file is then as it
-    /// was, except that its buffer may have grown.
+    /// Refusal 4 for a name that a section can't be made of, otherwise 5 for a subsection that it can't be made of; otherwise 3 if the file
+    /// would take more than 4294967295 bytes, or there is no number left, before any growth; otherwise 27 when out of memory. The file is
+    /// then as it was, except that its buffer may have grown.
     pub fn new_section(
         &mut self,
         name: &str,
