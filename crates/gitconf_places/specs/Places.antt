@@ -1,7 +1,6 @@
 -- Where the configuration of each source is, by the variables of the environment and the places that a program knows.
--- Source: git-config's
--- manual page, under "FILES" and "ENVIRONMENT". That a variable that isn't UTF-8 and an empty XDG_CONFIG_HOME count as unset are this
--- project's own rules.
+-- Source: git-config's manual page, under "FILES" and "ENVIRONMENT". That a variable that isn't UTF-8 and an empty XDG_CONFIG_HOME count
+-- as unset are this project's own rules.
 use Rattle.std.specs.Prelude.{◌≡◌, ℕ, Bool, false, List, [], ◌∷◌, Option, Some, None, codes, if◌then◌else◌, string_bytes}
 use Rattle.std.specs.Option.{option_map, option_or, unwrap_or}
 use Rattle.gitconf_text.specs.Typed.{boolean_of}

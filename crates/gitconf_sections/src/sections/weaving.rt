@@ -6,8 +6,8 @@ use crate::sections::SectionList;
 use gitconf_table::runs::Run;
 
 impl SectionList {
-    /// Weaves the sections from `first` on among those before them, as [`gitconf_table::table::SectionTable::weave`] does: takes no memory, and moves no
-    /// items.
+    /// Weaves the sections from `first` on among those before them, as [`gitconf_table::table::SectionTable::weave`] does:
+    /// takes no memory, and moves no items.
     pub fn weave(&mut self, first: usize, runs: &[Run])
         requires within { first ≤ length self.old.entries }
         requires runs { AreRuns runs.now first (length self.old.entries - first) }
