@@ -36,7 +36,9 @@ pub fn same_view<'a>(section: &SectionRef<'a>) -> SectionRef<'a>
 /// An entry that a lookup found, and its section.
 #[derive(Clone, Copy)]
 pub struct Found<'a> {
+    /// The section of the entry.
     pub section: SectionRef<'a>,
+    /// The entry.
     pub entry: &'a Entry,
 }
 

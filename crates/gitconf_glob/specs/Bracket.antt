@@ -43,7 +43,7 @@ has ignore_case m b = if ignore_case then is_of (to_ascii_lowercase b) m || is_o
 abbrev pub is_of_any : (ignore_case : Bool) → List Member → ℕ → Bool
 is_of_any ignore_case members b = list_any (λ m. has ignore_case m b) members
 
--- What a bracket takes, of which `among` says whether the byte is one of its members: a negated one takes the others; neither takes `/`.
+-- Whether a bracket takes a byte; `among` says that the byte is one of its members. A negated bracket takes the other bytes; neither takes `/`.
 abbrev pub lets_in : (negated among : Bool) (b : ℕ) → Bool
 lets_in negated among b = not (b == 47) && (if negated then not among else among)
 
@@ -72,7 +72,7 @@ abbrev pub begins_close : List ℕ → Bool
 begins_close [] = false
 begins_close (b ∷ p) = b == 93
 
--- where the first `]` is, if n bytes come before this text
+-- the offset of the first `]`, counted from n
 unfoldable pub close_from : (n : ℕ) → List ℕ → Option ℕ
 close_from n [] = None
 close_from n (b ∷ p) = elim (b == 93) [ true ↦ Some n | false ↦ close_from (n + 1) p ]

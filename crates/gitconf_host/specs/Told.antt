@@ -15,7 +15,7 @@ pub data FileTold : Type 0 where
   Unopened : (not_found : Bool) → FileTold
   Unread : FileTold
 
--- whether there is a file, even one that can't be read
+-- whether there is a file, even one that can't be opened or read
 abbrev pub is_there : FileTold → Bool
 is_there NoFile = false
 is_there (IsFile bytes trust) = true

@@ -66,7 +66,7 @@ fn written(alloc: Global, bytes: &[u8]) -> Result<BString, NoMemory>
     Ok(BString::from_slice(alloc, bytes)?)
 }
 
-/// The pattern; if it ends with `/`, it matches everything below. Only then it asks for memory.
+/// The pattern; if it ends with `/`, it matches everything below. Only then does it ask for memory.
 fn deep(pattern: Vec<u8>) -> Result<Vec<u8>, NoMemory>
     ensures { IfOk result (λ all. all.items ≡ spec.deep pattern.items) }
 {
@@ -77,7 +77,7 @@ fn deep(pattern: Vec<u8>) -> Result<Vec<u8>, NoMemory>
     Ok(all)
 }
 
-/// The pattern; if it doesn't begin with `/`, it may match in any folder. Only then it asks for memory, once,
+/// The pattern; if it doesn't begin with `/`, it may match in any folder. Only then does it ask for memory, once,
 /// also for what [`deep`] adds.
 fn anywhere(alloc: Global, pattern: Vec<u8>) -> Result<Vec<u8>, NoMemory>
     ensures { IfOk result (λ all. all.items ≡ spec.anywhere pattern.items) }

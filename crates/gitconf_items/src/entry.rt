@@ -32,13 +32,16 @@ pub struct Piece {
 pub struct Value {
     /// Up to four take no memory of their own.
     pub pieces: SmallVec<Piece, 4>,
+    /// The last piece.
     pub last: Span,
 }
 
 /// A value of more than one line, and the blanks before it.
 #[derive(Clone, Debug, Drop)]
 pub struct Continued {
+    /// The blanks between `=` and the value.
     pub blanks: Span,
+    /// The value, of more than one piece.
     pub value: Value,
 }
 
@@ -83,8 +86,11 @@ pub enum AssignedRef<'a> {
 /// The parts of an entry: a value name, the blanks after it, and what is assigned, if anything.
 #[derive(Clone, Debug, Drop)]
 pub struct EntryParts {
+    /// The value name.
     pub name: Span,
+    /// The blanks after the name.
     pub blanks: Span,
+    /// What is assigned, if anything.
     pub assigned: Assigned,
 }
 

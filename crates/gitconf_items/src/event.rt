@@ -118,6 +118,7 @@ impl Copied {
 /// A section's header, by spans of its text.
 #[derive(Clone, Copy, Debug)]
 pub struct Header {
+    /// The section's name, as spelled.
     pub name: Span,
     /// The dot, or the blanks before the quote.
     pub separator: Option<Span>,

@@ -36,13 +36,15 @@ pub enum Keep {
 /// A header and what follows it.
 #[derive(Debug, Drop)]
 pub struct Section {
+    /// The header.
     pub header: Header,
+    /// The items after it, up to the next header.
     pub items: Vec<Item>,
 }
 
 const NOTHING: Span = Span { start: 0, len: 0 };
 
-/// More items than this are returned in their own list as it is; fewer are copied to a list of just their length.
+/// A list of more items than this is returned as it is; the items of a shorter one are moved to a list of just their length.
 const MANY: usize = 64;
 
 /// The items in a list of just their length, or, if they are many, in the list that they were in. `items` is empty afterwards.

@@ -20,9 +20,11 @@ use std::rc::Rc;
 /// The sections of a text that is being loaded, as far as they were read, all from the same place.
 #[derive(Drop)]
 pub struct Loading {
+    /// Where each of the sections comes from.
     pub meta: Rc<Metadata>,
     /// The decoded subsections of the headers that need one.
     pub copies: Vec<u8>,
+    /// The sections that were read.
     pub sections: SectionList,
 }
 

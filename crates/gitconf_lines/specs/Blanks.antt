@@ -33,7 +33,7 @@ IsGiven e = IsGivenLeading e.leading × IsGivenAround e.around
 abbrev pub given_editor : Editor → states.Editor
 given_editor e = editor_in [] e
 
--- the blanks around `=` are bytes that are added to the buffer
+-- as many bytes are added to the buffer for the blanks around `=` as these have
 abbrev pub PutsAround : Editor → Type 0
 PutsAround e = around_put e.around ≡ length (given_editor e).spacing.before + length (given_editor e).spacing.behind
 

@@ -21,10 +21,13 @@ pub enum Expected {
 /// Where the text was refused.
 #[derive(Clone, Copy, Debug, PartialEq, Eq)]
 pub struct Fault {
+    /// The offset, in bytes, from which on nothing can be read.
     pub at: usize,
+    /// What was looked for there.
     pub expected: Expected,
 }
 
+/// Why a text was not read: a fault of it, or out of memory.
 #[derive(Clone, Copy, Debug, PartialEq, Eq)]
 pub enum ReadError {
     Memory,

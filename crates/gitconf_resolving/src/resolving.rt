@@ -21,7 +21,9 @@ use std::rc::Rc;
 /// A store whose includes were resolved, or were refused; it then has what was put in before.
 #[derive(Drop)]
 pub struct Resolved {
+    /// The store, with everything that was put in.
     pub store: Store,
+    /// Whether all includes were resolved, or why they were refused.
     pub result: Result<(), Error>,
 }
 

@@ -24,9 +24,13 @@ pub(crate) struct Row {
 pub struct Section<'a> {
     /// Where memory for results comes from.
     pub alloc: Global,
+    /// The section's header.
     pub header: &'a Header,
+    /// Where the section comes from.
     pub meta: &'a Rc<Metadata>,
+    /// The items of its body.
     pub items: &'a [Item],
+    /// The items held after it.
     pub held: &'a [Item],
 }
 

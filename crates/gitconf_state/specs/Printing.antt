@@ -7,7 +7,7 @@ use Rattle.gitconf_text.specs.Part.{Assigned, Item, BlanksItem, LineEndsItem, Co
 use Rattle.gitconf_state.specs.State.{SectionState, State, is_comment, is_entry}
 use Rattle.gitconf_state.specs.LineEnds.{section_line_end, file_line_end, ends_line}
 
--- the value has more than one line
+-- the value has more than one piece
 abbrev pub has_pieces : Option Assigned → Bool
 has_pieces None = false
 has_pieces (Some a) = elim a.value.pieces [ [] ↦ false | p ∷ pieces ↦ true ]

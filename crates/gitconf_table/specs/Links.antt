@@ -30,7 +30,7 @@ pub record AreChained (bucket_at first behind next before : ℕ → ℕ) (size c
 abbrev pub link_at : List Link → ℕ → Link
 link_at links k = slice_index_or links k (record { word = 0; next = 0; before = 0 })
 
--- the first and last place of a bucket
+-- the first place of a bucket, and one more than its last one
 abbrev pub ends_of : List Bucket → ℕ → Bucket
 ends_of buckets b = slice_index_or buckets b (record { first = 0; behind = 0 })
 

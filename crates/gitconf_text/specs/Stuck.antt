@@ -8,7 +8,7 @@ use Rattle.gitconf_text.specs.Names.{is_value_name}
 use Rattle.gitconf_text.specs.Part.{Part, ItemPart, HeaderPart, spelled_part, spelled, FitsPart, AreFit}
 use Rattle.gitconf_text.specs.Document.{unmarked}
 
--- a value name, blanks, and the blanks after `=`, as `=` is looked for between them
+-- a value name, the blanks before `=`, and the blanks after it (`behind`)
 pub record IsAssignment (name blanks behind : List ℕ) : Type 0 where
   pub name_is : is_value_name name ≡ true
   pub blanks_are : list_all is_blank blanks ≡ true

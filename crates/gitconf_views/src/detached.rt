@@ -92,10 +92,13 @@ fn owned_section(
 /// A section that is in no file: its header and its body, in a buffer of its own, and the number that it had in a file.
 #[derive(Drop)]
 pub struct Section {
+    /// The buffer that its spans are offsets of.
     pub buffer: Vec<u8>,
     /// The decoded subsection of its header, if it needs one.
     pub copies: Vec<u8>,
+    /// The number that it had in a file; the greatest for one that was in none.
     pub id: SectionId,
+    /// Its header, where it comes from, and its items.
     pub section: section::Section,
 }
 

@@ -27,8 +27,11 @@ use std::rc::Rc;
 /// A section that has a list of its own for its items: its header, where it comes from, and its body.
 #[derive(Clone, Drop)]
 pub struct Section {
+    /// The section's header.
     pub header: Header,
+    /// Where the section comes from.
     pub meta: Rc<Metadata>,
+    /// The items of its body.
     pub items: Vec<Item>,
 }
 
@@ -56,13 +59,19 @@ pub fn trusted(alloc: Global, meta: &Metadata, trust: Trust) -> Result<Rc<Metada
 pub struct SectionRef<'a> {
     /// Where memory for results comes from.
     pub alloc: Global,
+    /// The buffer that its spans are offsets of.
     pub buffer: &'a [u8],
     /// The decoded subsections of the headers that need one.
     pub copies: &'a [u8],
+    /// The section's number in its file.
     pub id: SectionId,
+    /// The section's header.
     pub header: &'a Header,
+    /// Where the section comes from.
     pub meta: &'a Rc<Metadata>,
+    /// The items of its body.
     pub items: &'a [Item],
+    /// The items held after it.
     pub held: &'a [Item],
     ghost viewed: { IsViewed buffer.now copies.now (seen_as header.now meta.now items.now held.now) } by { IsViewed-prop buffer.now copies.now (seen_as header.now meta.now items.now held.now) },
 }
@@ -195,8 +204,11 @@ impl<'a> SectionRef<'a> {
 /// The sections of a file in order: `Store::sections`.
 #[derive(Drop)]
 pub struct Sections<'a> {
+    /// The buffer that all spans are offsets of.
     pub buffer: &'a [u8],
+    /// The decoded subsections of the headers that need one.
     pub copies: &'a [u8],
+    /// What is left of the walk over the table.
     pub sections: Iter<'a>,
     ghost viewed: { AreViewed buffer.now copies.now (walks.sections_left sections) } by { AreViewed-prop buffer.now copies.now (walks.sections_left sections) },
 }

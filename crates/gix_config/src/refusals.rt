@@ -12,7 +12,7 @@ use gitconf_text::parse::span;
 use gitconf_text::{NoMemory, value};
 use gitconf_values::path::interpolate;
 
-/// Why a call was refused, with a number.
+/// An error of a call, with the number of its refusal.
 pub trait Refusal {
     ghost use Rattle.std.specs.Prelude.{ℕ};
 

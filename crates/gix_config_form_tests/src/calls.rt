@@ -22,10 +22,12 @@ pub const KEY: KeyRef<'static> = KeyRef {
 /// What the file has: the first section is a program's, the second one the user's.
 pub const TEXT: &[u8] = b"[a]\nk = 0\n[A]\nk = 2\n";
 
+/// Whether metadata is that of a program.
 pub fn is_api(meta: &Metadata) -> bool {
     meta.source == Source::Api
 }
 
+/// Whether metadata is that of the user.
 pub fn is_user(meta: &Metadata) -> bool {
     meta.source == Source::User
 }

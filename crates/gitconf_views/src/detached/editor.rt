@@ -15,8 +15,11 @@ use gitconf_text::parse::span;
 /// An editor of a section that is in no file. What it writes besides names and values stays as it was when the editor was made, even
 /// while the section changes: the blanks before a name, those around `=`, and the line ending, that of the section's first newline, or LF.
 pub struct DetachedSectionMut<'a, B: Drop = Blanks> {
+    /// The section that is edited.
     pub section: &'a mut Section,
+    /// The blanks that it writes.
     pub blanks: B,
+    /// The line ending that it writes.
     pub line_end: LineEnd,
     /// Whether a line ending is added after what is pushed.
     ends: bool,
