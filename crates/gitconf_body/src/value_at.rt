@@ -37,7 +37,7 @@ pub enum InPlaceOf {
     EntryButLineEnd,
 }
 
-/// The last line ending among the pieces of a value of several lines; no bytes if none of them has one.
+/// The last line ending among the pieces of a value of several pieces; no bytes if none of them has one.
 fn last_line_end(value: &Value) -> Span
     ensures { result ≡ spec.last_end value.now.pieces.items }
 {

@@ -29,11 +29,11 @@ pieces_of buffer pieces = map (piece_of buffer) pieces
 abbrev pub PiecesFit : (limit : ℕ) → List Piece → Type 0
 PiecesFit limit pieces = AllByRecursion (PieceFits limit) pieces
 
--- what a value that continues says, with the blanks before it
+-- what a value of several pieces says, with the blanks before it
 abbrev pub continued_of : (buffer : List ℕ) → Continued → parts.Assigned
 continued_of buffer c = record { blanks = bytes_of buffer c.blanks; value = value_of buffer c.value }
 
--- all spans of a value that continues, and of the blanks before it, end within a buffer of this many bytes
+-- all spans of a value of several pieces, and of the blanks before it, end within a buffer of this many bytes
 abbrev pub ContinuedFits : (limit : ℕ) → Continued → Type 0
 ContinuedFits limit c = SpanFits limit c.blanks × ValueFits limit c.value
 

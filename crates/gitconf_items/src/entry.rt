@@ -18,7 +18,7 @@ use std::marker::Model;
 
 const NOTHING: Span = Span { start: 0, len: 0 };
 
-/// A piece of a value that continues on the next line.
+/// A piece of a value other than the last one.
 #[derive(Clone, Copy, Debug, Default)]
 pub struct Piece {
     /// Its bytes, without the backslash after them.
@@ -27,7 +27,7 @@ pub struct Piece {
     pub line_end: Span,
 }
 
-/// A value: the pieces that continue on the next line, and the last one.
+/// A value: the pieces before the last one, and the last one.
 #[derive(Clone, Debug, Drop)]
 pub struct Value {
     /// Up to four take no memory of their own.
@@ -36,7 +36,7 @@ pub struct Value {
     pub last: Span,
 }
 
-/// A value of more than one line, and the blanks before it.
+/// A value of more than one piece, and the blanks before it.
 #[derive(Clone, Debug, Drop)]
 pub struct Continued {
     /// The blanks between `=` and the value.
@@ -52,7 +52,7 @@ pub enum Assigned {
     Nothing,
     /// A value in one piece, and the blanks between `=` and it.
     Plain { blanks: Span, value: Span },
-    /// A value of more than one line, which few entries have.
+    /// A value of more than one piece, which few entries have.
     Continued(Continued),
 }
 
@@ -79,7 +79,7 @@ pub enum AssignedRef<'a> {
     Nothing,
     /// A value in one piece, and the blanks between `=` and it.
     Plain { blanks: Span, value: Span },
-    /// A value of more than one line.
+    /// A value of more than one piece.
     Continued(&'a Continued),
 }
 
@@ -134,7 +134,7 @@ impl Model for Entry {
 }
 
 impl Entry {
-    /// The entry of these parts. Takes memory if a value has several lines, a name has more than 65535 bytes, blanks have more than 255, or
+    /// The entry of these parts. Takes memory if a value has several pieces, a name has more than 65535 bytes, blanks have more than 255, or
     /// the parts aren't one after the other, with one byte for `=`.
     ///
     /// # Errors

@@ -136,7 +136,7 @@ pub enum Event {
     SectionValueName(Span),
     Value(Span),
     Newline(Span),
-    /// A piece of a value that continues on the next line, without the backslash after it.
+    /// A piece of a value other than the last one, without the backslash after it.
     ValueNotDone(Span),
     ValueDone(Span),
     Whitespace(Span),

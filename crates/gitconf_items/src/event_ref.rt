@@ -35,7 +35,7 @@ pub enum EventRef<'a> {
     Value(&'a [u8]),
     /// One or more line endings.
     Newline(&'a [u8]),
-    /// A piece of a value that continues on the next line, without the backslash after it.
+    /// A piece of a value other than the last one, without the backslash after it.
     ValueNotDone(&'a [u8]),
     /// The last piece of a value of several pieces.
     ValueDone(&'a [u8]),

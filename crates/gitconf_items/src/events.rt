@@ -45,7 +45,7 @@ enum Place<'a> {
 ///
 /// Blanks, line endings and a comment are one event each. An entry is its name, its blanks, and then an empty value
 /// if it has no `=`, otherwise the separator, the blanks after that, and its value: one event, or several if it has
-/// more than one line. Within an entry, empty blanks and line endings have no event.
+/// more than one piece. Within an entry, empty blanks and line endings have no event.
 ///
 /// It takes no memory, and a step takes constant time.
 #[derive(Clone, Copy, Debug)]

@@ -12,7 +12,7 @@ abbrev pub has_pieces : Option Assigned → Bool
 has_pieces None = false
 has_pieces (Some a) = elim a.value.pieces [ [] ↦ false | p ∷ pieces ↦ true ]
 
--- the items since the last line ending, after one more item; an entry whose value has several lines ends on a line of its own
+-- the items since the last line ending, after one more item; an entry whose value has several pieces ends on a line of its own
 abbrev pub line_after : (line : List Item) → Item → List Item
 line_after line (LineEndsItem run) = []
 line_after line (EntryItem e) = elim (has_pieces e.assigned) [ true ↦ EntryItem e ∷ [] | false ↦ line ++ EntryItem e ∷ [] ]

@@ -21,7 +21,7 @@ after_blanks (b ∷ run) OpenKeyAndBlanks = OpenKeyAndBlanks
 after_blanks (b ∷ run) OpenValue = OpenValue
 after_blanks (b ∷ run) OpenComment = OpenComment
 
--- what is open after an entry; the line endings of a value of several lines close a comment before it, but not the value
+-- what is open after an entry; the line endings of a value of several pieces close a comment before it, but not the value
 abbrev pub after_entry : Open → (blanks : List ℕ) → Option Assigned → Open
 after_entry OpenComment blanks None = OpenComment
 after_entry OpenComment blanks (Some a) = elim a.value.pieces [ [] ↦ OpenComment | p ∷ pieces ↦ OpenValue ]

@@ -33,7 +33,7 @@ abbrev pub filled : (List ℕ → Token) → List ℕ → List Token
 filled token [] = []
 filled token (b ∷ rest) = token (b ∷ rest) ∷ []
 
--- a piece of a value that continues, and its line ending, if it has one
+-- a piece of a value other than the last one, and its line ending, if it has one
 abbrev pub piece_tokens : Piece → List Token
 piece_tokens p = ValueNotDoneToken p.text ∷ filled NewlineToken p.line_end
 

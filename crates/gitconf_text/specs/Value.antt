@@ -6,12 +6,12 @@ use Rattle.gitconf_text.specs.Bytes.{is_blank, is_whitespace}
 use Rattle.gitconf_text.specs.Text.{begins, ends, is_line_end}
 use Rattle.gitconf_text.specs.Unit.{LineFeed, Quote, Mark, White, class_of, is_white, is_mark, TextUnit, Escape, OpenEscape, Plain, units_of}
 
--- a piece of a value that continues: its bytes, and the line ending after its backslash
+-- a piece of a value other than the last one: its bytes, and the line ending after its backslash
 pub record Piece : Type 0 where
   pub text : List ℕ
   pub line_end : List ℕ
 
--- the pieces that continue, and the last one
+-- the pieces before the last one, and the last one
 pub record Value : Type 0 where
   pub pieces : List Piece
   pub last : List ℕ

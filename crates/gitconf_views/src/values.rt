@@ -27,7 +27,7 @@ fn decoded(alloc: Global, raw: &[u8]) -> Result<BString, NoMemory>
     Ok(BString::new(meaning.into_owned(alloc)?))
 }
 
-/// What a value of several lines means. Memory is taken for the result, and for the raw text.
+/// What a value of several pieces means. Memory is taken for the result, and for the raw text.
 fn joined(alloc: Global, buffer: &[u8], value: &Value) -> Result<BString, NoMemory>
     ensures { IfOk result (λ text. bstring_bytes text ≡ plain (raw_of (value_of buffer.now value.now))) }
 {
@@ -36,7 +36,7 @@ fn joined(alloc: Global, buffer: &[u8], value: &Value) -> Result<BString, NoMemo
 }
 
 /// What an entry means: an empty text without `=`, which takes no memory. Memory is taken for the result, and for the raw
-/// text of a value of several lines.
+/// text of a value of several pieces.
 pub fn entry_meaning(alloc: Global, buffer: &[u8], entry: &Entry) -> Result<BString, NoMemory>
     ensures { let e = document_entry (entry_of buffer.now entry.now) in MatchResult result (λ text. bstring_bytes text ≡ state.meaning e) (λ _. e.raw ≢ None) }
 {

@@ -56,7 +56,7 @@ impl Open {
         }
     }
 
-    /// The line endings of a value of several lines close a comment before it, but not the value.
+    /// The line endings of a value of several pieces close a comment before it, but not the value.
     fn after_entry(self, buffer: &[u8], entry: &Entry) -> Open
         ensures { open_of result ≡ spec.after_entry (open_of self) (bytes_of buffer.now entry.now.blanks) (assigned_of buffer.now entry.now.assigned) }
     {

@@ -76,7 +76,7 @@ fn value(alloc: Global, input: &[u8], first: usize) -> Result<(Value, usize), Re
     }
 }
 
-/// An entry whose value isn't short, or has several lines.
+/// An entry whose value isn't short, or has several pieces.
 #[cold]
 fn long_entry(
     alloc: Global,
