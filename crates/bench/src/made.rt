@@ -5,8 +5,8 @@ use gix_config::host::{FileFault, Files, MemFile, MemFiles, Stage};
 use gix_config::source::Trust;
 use std::alloc::Global;
 
-/// Files that are made by their paths. At `/DEPTH/SECTIONS/NAME` stand so many sections with an entry each, and behind
-/// them, where DEPTH is above 0, one that includes `/DEPTH-1/SECTIONS/NAME`. It tells nothing of what it has.
+/// Files that are made by their paths. At `/DEPTH/SECTIONS/NAME` are that many sections with an entry each, and after
+/// them, if DEPTH is above 0, one that includes `/DEPTH-1/SECTIONS/NAME`. It reports no table.
 #[derive(Drop)]
 pub(crate) struct MadeFiles {
     alloc: Global,
@@ -22,7 +22,7 @@ struct Asked<'a> {
     name: &'a str,
 }
 
-/// What a path asks for, or `None` where it has another form.
+/// What a path asks for, or `None` if it has another form.
 fn wanted_by(path: &str) -> Option<Asked<'_>> {
     let (depth, path) = path.strip_prefix('/')?.split_once('/')?;
     let (sections, name) = path.split_once('/')?;
@@ -33,7 +33,7 @@ fn wanted_by(path: &str) -> Option<Asked<'_>> {
     })
 }
 
-/// So many sections with an entry each.
+/// That many sections with an entry each.
 fn sections_of(alloc: Global, count: u32) -> Result<String, NoMemory> {
     let mut text = String::new(alloc);
     for n in 0..count {
@@ -66,7 +66,7 @@ impl MadeFiles {
         }
     }
 
-    /// Makes what stands at a path, where it wasn't made before.
+    /// Makes what is at a path, unless it was made before.
     fn make(&mut self, path: &str) -> Result<(), NoMemory> {
         if self.made.is_file(path) {
             return Ok(());

@@ -1,9 +1,9 @@
 //! Times what the library does with standard input, as often as asked: `bench WHAT ROUNDS WORD [times]`.
 //!
 //! WHAT is `events`, `load`, `look-up`, `raw`, `boolean`, `by-name`, `values`, `print`, `set`, `push`, `lay-out`, `decode`, `match` or
-//! `include`, or `all` for each of them in turn. WORD is a key, but for `match` a path pattern; what needs neither passes over it. Standard
-//! input is a text, for `decode` a raw value, and for `match` what the pattern is matched against. With `times` each round tells its
-//! nanoseconds. The files that a text includes for `include` are made by their paths, as `made` tells.
+//! `include`, or `all` for each of them in turn. WORD is a key, except that for `match` it is a path pattern; what needs neither ignores
+//! it. Standard input is a text, for `decode` a raw value, and for `match` what the pattern is matched against. With `times` each round
+//! prints its nanoseconds. The files that a text includes for `include` are made by their paths, as `made` says.
 #![tactic(auto)]
 
 mod made;
@@ -50,17 +50,17 @@ enum LookUp {
 enum Measure {
     /// Reading the events of a text, and counting them.
     Events,
-    /// Loading a file, and letting an earlier one go.
+    /// Loading a file, and dropping an earlier one.
     Load,
-    /// Looking a key up.
+    /// Looking up a key.
     LookUp(LookUp),
-    /// Looking all values of a key up.
+    /// Looking up all values of a key.
     Values,
     /// Printing a file.
     Print,
     /// Setting a value of a file that was not edited before.
     Set,
-    /// Pushing a line to a section, by an editor that pushes many.
+    /// Pushing a line to a section, with an editor that pushes many.
     Push,
     /// Laying a text out.
     LayOut,
@@ -88,7 +88,7 @@ fn input<R: Input + AllocGlobal>(rt: &R) -> io::Result<Vec<u8>> {
     Ok(bytes)
 }
 
-/// Tells the nanoseconds of a round, if they are wanted.
+/// Prints the nanoseconds of a round, if they are asked for.
 fn tell(rt: HostRuntime, task: Task<'_>, nanos: u128) -> io::Result<()> {
     if task.is_timed {
         println!(rt; "{nanos}")?;
@@ -111,7 +111,7 @@ fn count_events(alloc: Global, text: &[u8]) -> Result<usize> {
     Ok(n)
 }
 
-/// How many events the text has, and the nanoseconds that it took to read and to count them, and to let them go.
+/// How many events the text has, and the nanoseconds that it took to read and to count them, and to drop them.
 fn events<R: Clock + AllocGlobal>(rt: &R, text: &[u8]) -> Result<(usize, u128)> {
     let start = Instant::now(rt)?;
     let count = count_events(rt.alloc(), text)?;
@@ -134,7 +134,7 @@ fn load(alloc: Global, text: &[u8]) -> Result<File> {
     Ok(File::try_from_bytes(alloc, text)?)
 }
 
-/// Puts the text in the place of a file, and answers the nanoseconds that this took.
+/// Puts the text in place of a file, and returns the nanoseconds that this took.
 fn reload<R: Clock + AllocGlobal>(rt: &R, file: &mut File, text: &[u8]) -> Result<u128> {
     let start = Instant::now(rt)?;
     let next = load(rt.alloc(), text)?;
@@ -142,7 +142,7 @@ fn reload<R: Clock + AllocGlobal>(rt: &R, file: &mut File, text: &[u8]) -> Resul
     Ok(start.elapsed(rt)?.as_nanos())
 }
 
-/// The rounds of loads. The file is lent, so that no way out of the loop lets it go.
+/// The rounds of loads. The file is borrowed, so that no way out of the loop drops it.
 fn reloads(rt: HostRuntime, task: Task<'_>, file: &mut File) -> Result<()> {
     for _ in 0..task.rounds {
         let nanos = reload(&rt, file, task.text)?;
@@ -157,7 +157,7 @@ fn time_load(rt: HostRuntime, task: Task<'_>) -> Result<()> {
     reloads(rt, task, &mut file)
 }
 
-/// Whether a look-up finds the key.
+/// Whether a lookup finds the key.
 fn is_found(file: &File, key: KeyRef<'_>, what: LookUp) -> bool {
     match what {
         LookUp::Value => matches!(file.string(key), Ok(Some(_))),
@@ -175,7 +175,7 @@ fn has_section(file: &File, name: &str) -> bool {
     }
 }
 
-/// How many of the look-ups find the key.
+/// How many of the lookups find the key.
 fn found(file: &File, key: KeyRef<'_>, what: LookUp) -> u32 {
     let mut n = 0u32;
     for _ in 0..LOOKUPS {
@@ -186,14 +186,14 @@ fn found(file: &File, key: KeyRef<'_>, what: LookUp) -> u32 {
     n
 }
 
-/// How many of the look-ups find the key, and the nanoseconds that they took.
+/// How many of the lookups find the key, and the nanoseconds that they took.
 fn look_up<R: Clock>(rt: &R, file: &File, key: KeyRef<'_>, what: LookUp) -> Result<(u32, u128)> {
     let start = Instant::now(rt)?;
     let hits = found(file, key, what);
     Ok((hits, start.elapsed(rt)?.as_nanos()))
 }
 
-/// The rounds of look-ups in a file.
+/// The rounds of lookups in a file.
 fn look_ups(rt: HostRuntime, task: Task<'_>, file: &File, what: LookUp) -> Result<()> {
     let key = key_of(task.word)?;
     let mut hits = 0;
@@ -211,7 +211,7 @@ fn time_look_up(rt: HostRuntime, task: Task<'_>, what: LookUp) -> Result<()> {
     look_ups(rt, task, &file, what)
 }
 
-/// How many values the key has, and the nanoseconds that it took to find them and to let them go.
+/// How many values the key has, and the nanoseconds that it took to find and to drop them.
 fn values<R: Clock>(rt: &R, file: &File, key: KeyRef<'_>) -> Result<(usize, u128)> {
     let start = Instant::now(rt)?;
     let count = count_values(file, key)?;
@@ -225,7 +225,7 @@ fn count_values(file: &File, key: KeyRef<'_>) -> Result<usize> {
     }
 }
 
-/// The rounds of look-ups of all values.
+/// The rounds of lookups of all values.
 fn all_values(rt: HostRuntime, task: Task<'_>, file: &File) -> Result<()> {
     let key = key_of(task.word)?;
     let mut found = 0;
@@ -267,14 +267,15 @@ fn time_print(rt: HostRuntime, task: Task<'_>) -> Result<()> {
     prints(rt, task, &file)
 }
 
-/// Sets the key's value, and answers the nanoseconds that this took.
+/// Sets the key's value, and returns the nanoseconds that this took.
 fn set<R: Clock>(rt: &R, file: &mut File, key: KeyRef<'_>) -> Result<u128> {
     let start = Instant::now(rt)?;
+    // The old value isn't needed.
     let _ = file.set_raw_value(key, b"a new value")?;
     Ok(start.elapsed(rt)?.as_nanos())
 }
 
-/// Sets the key's value in the text, and answers the nanoseconds of the edit alone.
+/// Sets the key's value in the text, and returns the nanoseconds of the edit alone.
 fn set_in<R: Clock + AllocGlobal>(rt: &R, text: &[u8], key: KeyRef<'_>) -> Result<u128> {
     let mut file = load(rt.alloc(), text)?;
     set(rt, &mut file, key)
@@ -308,14 +309,14 @@ fn push_to(file: &mut File, key: KeyRef<'_>) -> Result<()> {
     }
 }
 
-/// Pushes lines to the key's section, and answers the nanoseconds that this took.
+/// Pushes lines to the key's section, and returns the nanoseconds that this took.
 fn push<R: Clock>(rt: &R, file: &mut File, key: KeyRef<'_>) -> Result<u128> {
     let start = Instant::now(rt)?;
     push_to(file, key)?;
     Ok(start.elapsed(rt)?.as_nanos())
 }
 
-/// Pushes lines to the key's section in the text, and answers the nanoseconds of the edits alone.
+/// Pushes lines to the key's section in the text, and returns the nanoseconds of the edits alone.
 fn push_in<R: Clock + AllocGlobal>(rt: &R, text: &[u8], key: KeyRef<'_>) -> Result<u128> {
     let mut file = load(rt.alloc(), text)?;
     push(rt, &mut file, key)
@@ -349,7 +350,7 @@ fn time_lay_out(rt: HostRuntime, task: Task<'_>) -> Result<()> {
     Ok(())
 }
 
-/// How many bytes the raw value means, and the nanoseconds that it took to find them.
+/// How many bytes the raw value's meaning has, and the nanoseconds that it took to find them.
 fn decode<R: Clock + AllocGlobal>(rt: &R, text: &[u8]) -> Result<(usize, u128)> {
     let start = Instant::now(rt)?;
     let meaning = value::normalize(rt.alloc(), text)?;
@@ -367,7 +368,7 @@ fn time_decode(rt: HostRuntime, task: Task<'_>) -> Result<()> {
     Ok(())
 }
 
-/// Whether the pattern matches the text, and the nanoseconds that it took to tell.
+/// Whether the pattern matches the text, and the nanoseconds that it took to find out.
 fn matched<R: Clock + AllocGlobal>(rt: &R, pattern: &str, text: &[u8]) -> Result<(bool, u128)> {
     let start = Instant::now(rt)?;
     let is_match = wildmatch(rt.alloc(), pattern.as_bytes(), text, false)?;
@@ -483,7 +484,7 @@ const MEASURES: [Measure; 14] = [
     Measure::Include,
 ];
 
-/// What the words behind the program's name ask for: the word of the measure, and the task.
+/// What the words after the program's name ask for: the word of the measure, and the task.
 fn task_of<'a>(words: &'a [String], text: &'a [u8]) -> Result<(&'a str, Task<'a>)> {
     let [_, what, rounds, word, more @ ..] = words else {
         bail!("usage: bench WHAT ROUNDS WORD [times]");

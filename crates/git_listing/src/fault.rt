@@ -11,7 +11,7 @@ use std::alloc::{AllocError, AllocFailed};
 pub enum Fault {
     /// The program was called in a way that isn't understood.
     Usage,
-    /// A load was refused, by that number.
+    /// A load was refused, with that number.
     Refused(u8),
     /// Standard output failed.
     Output,
@@ -26,7 +26,7 @@ impl Fault {
         }
     }
 
-    /// The number of the refusal; 0 for what is none.
+    /// The number of the refusal; 0 for another fault.
     pub fn number(&self) -> u8 {
         match self {
             Fault::Refused(number) => *number,

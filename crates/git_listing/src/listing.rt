@@ -39,7 +39,7 @@ fn add_origin(listing: &mut Vec<u8>, path: Option<&str>) -> Result<(), NoMemory>
     Ok(listing.push(0)?)
 }
 
-/// Adds the names of an entry, with dots between them. Those of the section and of the entry are told in lower case.
+/// Adds the names of an entry, with dots between them. Those of the section and of the entry are in lower case.
 fn add_names(listing: &mut Vec<u8>, section: &SectionRef<'_>, name: &str) -> Result<(), NoMemory> {
     let header = section.header();
     add_in_lower_case(listing, header.name())?;
@@ -51,7 +51,7 @@ fn add_names(listing: &mut Vec<u8>, section: &SectionRef<'_>, name: &str) -> Res
     add_in_lower_case(listing, name.as_bytes())
 }
 
-/// Adds bytes, ASCII letters of them in lower case.
+/// Adds bytes, with ASCII letters in lower case.
 fn add_in_lower_case(listing: &mut Vec<u8>, bytes: &[u8]) -> Result<(), NoMemory> {
     for byte in bytes {
         listing.push(byte.to_ascii_lowercase())?;

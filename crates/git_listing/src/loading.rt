@@ -1,7 +1,7 @@
-//! Files that are loaded from the disk of the machine.
+//! Files that are loaded from the disk of this machine.
 //
-// A host is made in each call that needs one, and lent to no other function of ours: a function that takes one is refused by
-// the check where it could put another box into it.
+// A host is made in each call that needs one, and passed to no other function of ours: the check refuses a function that takes one
+// and could put another box into it.
 
 use crate::fault::Fault;
 use gitconf_disk::{Disk, Process};
@@ -17,9 +17,9 @@ use std::rc::Rc;
 /// A repository as conditions see it.
 #[derive(Clone, Copy)]
 pub struct Repository<'a> {
-    /// Its folder, `.git`, as it is named.
+    /// Its folder, `.git`, as it is given.
     pub git_dir: &'a str,
-    /// The same folder without links.
+    /// The same folder with its symbolic links resolved.
     pub real: &'a str,
     /// The full name of the branch, if there is one.
     pub branch: Option<&'a str>,
@@ -33,7 +33,7 @@ fn home_of(rt: &HostRuntime) -> Result<Option<String>, NoMemory> {
     }
 }
 
-/// The places of this machine. What git was installed with is told by none of them.
+/// The places of this machine, without the configuration that git was installed with.
 fn places(rt: &HostRuntime) -> Result<Places, NoMemory> {
     Ok(Places {
         installation_config: None,
@@ -43,7 +43,7 @@ fn places(rt: &HostRuntime) -> Result<Places, NoMemory> {
     })
 }
 
-/// What git reads outside of a repository: the files of the machine and of the user, and then the variables that override.
+/// What git reads outside of a repository: the files of the machine and of the user, and then the variables that override everything.
 pub fn of_machine(rt: &HostRuntime) -> Result<File, Fault> {
     let alloc = rt.alloc();
     let mut host = Host {
@@ -57,7 +57,7 @@ pub fn of_machine(rt: &HostRuntime) -> Result<File, Fault> {
     Ok(file)
 }
 
-/// The repository of a folder, with all that is read for it.
+/// The repository of a folder, with everything that is read for it.
 pub fn of_folder(rt: &HostRuntime, git_dir: &str, real: &str) -> Result<File, Fault> {
     let alloc = rt.alloc();
     let mut host = Host {
@@ -69,7 +69,7 @@ pub fn of_folder(rt: &HostRuntime, git_dir: &str, real: &str) -> Result<File, Fa
 }
 
 /// What git reads in a repository: the files of the machine, of the user and of the repository, in that order, each with what it includes
-/// under the conditions of the repository, and then the variables that override.
+/// under the conditions of the repository, and then the variables that override everything.
 pub fn of_repository(rt: &HostRuntime, repository: &Repository<'_>) -> Result<File, Fault> {
     let alloc = rt.alloc();
     let mut host = Host {

@@ -1,4 +1,4 @@
-//! Lists the configuration that is loaded from the disk of the machine, as `git config --list -z --show-origin` lists it, for
+//! Lists the configuration that is loaded from the disk of this machine, as `git config --list -z --show-origin` lists it, for
 //! `tools/against_git`, which compares both.
 #![tactic(auto)]
 
@@ -15,7 +15,7 @@ use std::env;
 use std::io::Write;
 use std::process::ExitCode;
 
-/// The words behind the program's name.
+/// The words after the program's name.
 fn words_of(rt: &HostRuntime) -> Result<Vec<String>, Fault> {
     match env::args(rt) {
         Ok(words) => Ok(words.skip(1).collect(rt.alloc())?),
@@ -64,14 +64,14 @@ fn list(rt: &HostRuntime) -> Result<(), Fault> {
     }
 }
 
-/// Ends with status 0, or else 2 where the words aren't understood and 1 for any other fault, whose number stands on standard error.
+/// Ends with status 0, otherwise 2 if the words aren't understood and 1 for any other fault, whose number is on standard error.
 fn main(rt: HostRuntime) -> ExitCode {
     let fault = match list(&rt) {
         Ok(()) => return ExitCode::from(0),
         Err(fault) => fault,
     };
     let status = fault.status();
-    // A failed write to standard error changes no status.
+    // A failed write to standard error doesn't change the status.
     let _ = eprintln!(rt; "E{}", fault.number());
     ExitCode::from(status)
 }

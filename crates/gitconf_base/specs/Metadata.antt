@@ -24,19 +24,19 @@ pub record Meta : Type 0 where
   pub level : ℕ
   pub trust : Trust
 
--- what a calling program hands in
+-- that of what the calling program sets
 abbrev pub api_meta : Meta
 api_meta = record { path = None; source = Api; level = 0; trust = Full }
 
--- that of a file that no other one includes
+-- that of a file that no other file includes
 abbrev pub meta_of_file : List ℕ → Source → Trust → Meta
 meta_of_file path source trust = record { path = Some path; source = source; level = 0; trust = trust }
 
--- that of the calling program, from another source
+-- that of a source without a file: level 0 and full trust
 abbrev pub meta_of_source : Source → Meta
 meta_of_source source = record api_meta { source = source }
 
--- equal in each part, paths byte by byte
+-- equal in each part; paths are compared byte by byte
 abbrev pub same_meta : Meta → Meta → Bool
 same_meta =
     eq_of_both (eq_of_both (eq_of_both (on (λ m. m.path) (option_eq bytes_eq)) (on (λ m. m.source) (source_eq.ghosts).eq)) (on (λ m. m.level) nat_eq))

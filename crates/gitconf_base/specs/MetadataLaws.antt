@@ -22,6 +22,7 @@ same_meta_equiv =
     (and_equiv (and_equiv (on_equiv (λ (m : Meta). m.path) (options_equiv nat_list_eq_equiv)) (on_equiv (λ (m : Meta). m.source) source_eq.laws-law))
     (on_equiv (λ (m : Meta). m.level) nat_eq_equiv)) (on_equiv (λ (m : Meta). m.trust) trust_eq.laws-law)
 
+-- equality is symmetric and transitive
 pub same_meta_partial : IsPartialEquivalence same_meta
 same_meta_partial = partial_equiv_from_equiv same_meta_equiv
 
@@ -46,6 +47,7 @@ meta_ties x y =
     (both_tied _ _ _ _ (both_tied _ _ _ _ (path_ties x.path y.path) (source_ord.matches_eq-law x.source y.source)) (unsigned_ties x.level y.level))
     (trust_ord.matches_eq-law x.trust y.trust)
 
+-- equality and order agree, as a partial order
 pub meta_partial : IsPartialOrder same_meta (as_partial_cmp meta_cmp)
 meta_partial = partial_order_from_own_ties (partial_order_from_total meta_cmp_total) meta_ties
 

@@ -23,7 +23,7 @@ kind_of source.Cli = kind.Override
 kind_of source.Api = kind.Override
 kind_of source.EnvOverride = kind.Override
 
--- the sources of a group, lowest first; what overrides all else stands in no list
+-- the sources of a group, lowest first; what overrides everything is in no list
 abbrev pub sources_of : Kind → List Source
 sources_of kind.GitInstallation = source.GitInstallation ∷ []
 sources_of kind.System = source.System ∷ []
@@ -31,18 +31,20 @@ sources_of kind.Global = source.Git ∷ source.User ∷ []
 sources_of kind.Repository = source.Local ∷ source.Worktree ∷ []
 sources_of kind.Override = source.Env ∷ source.Cli ∷ source.Api ∷ []
 
--- the places in the order in which they are read, lowest first; their groups; and trust
+-- the sources in the order in which they are read, lowest first
 abbrev pub sources_in_order : List Source
 sources_in_order =
     source.GitInstallation ∷ source.System ∷ source.Git ∷ source.User ∷ source.Local ∷ source.Worktree ∷ source.Env ∷ source.Cli ∷ source.Api ∷ source.EnvOverride ∷ []
 
+-- the groups of sources in the order in which they are read, lowest first
 abbrev pub kinds_in_order : List Kind
 kinds_in_order = kind.GitInstallation ∷ kind.System ∷ kind.Global ∷ kind.Repository ∷ kind.Override ∷ []
 
+-- trust, lowest first
 abbrev pub trust_in_order : List Trust
 trust_in_order = Reduced ∷ Full ∷ []
 
--- each comes before all behind it
+-- each element comes before all those after it
 abbrev pub ascends : {A : Type 0} → (A → A → Ordering) → List A → Bool
 ascends cmp [] = true
 ascends cmp (x ∷ xs) = list_all (λ y. is_lt (cmp x y)) xs && ascends cmp xs

@@ -1,4 +1,4 @@
-//! Keys: the three names of a value, written with dots between them, as git-config's manual page has them.
+//! Keys: the three names of a value, written with dots between them, as in git-config's manual page.
 ghost use Rattle.std.specs.Prelude.{◌≡◌, ◌≤◌, length, position, string_bytes, Some};
 ghost use Rattle.std.specs.Option.{option_copied, option_map};
 ghost use Rattle.bstr.specs.Owned.{bstring_bytes};
@@ -19,9 +19,9 @@ pub struct KeyRef<'a> {
 }
 
 impl<'a> KeyRef<'a> {
-    /// The key that is written in `input`, as `remote.origin.url`: its section up to the first dot, its name
-    /// behind the last one, its subsection between where there are two dots or more. `None` without a dot, or
-    /// where the section or the name is not UTF-8. No name is tested further. It takes no memory.
+    /// The key that `input` writes, such as `remote.origin.url`: its section up to the first dot, its name
+    /// after the last one, and its subsection between them if there are two dots or more. `None` without a dot, or
+    /// if the section or the name is not UTF-8. The names are not checked further. It takes no memory.
     #[tactic(auto, unfolding(crate::specs::Key::parsed_key))]
     pub fn parse_unvalidated(input: &'a [u8]) -> Option<KeyRef<'a>>
         ensures { option_map key_of result ≡ parsed_key input.now }
@@ -50,7 +50,7 @@ fn first_dot(input: &[u8]) -> Option<usize>
     input.iter().position(|b| *b == b'.')
 }
 
-// The place behind the last dot, or 0 where there is none.
+// The place after the last dot, or 0 if there is none.
 fn name_start(input: &[u8]) -> usize
     ensures place { result ≡ behind_last_dot input.now }
     ensures within { result ≤ length input.now }
@@ -77,12 +77,12 @@ pub trait AsKey: Copy {
 
     ghost key: { Self → Option Key };
 
-    /// The key; a caller shows first that there is one, as by [`AsKey::try_as_key`]. It takes no memory.
+    /// The key. A caller shows first that there is one, as by [`AsKey::try_as_key`]. It takes no memory.
     fn as_key(&self) -> KeyRef<'_>
         requires { IsSome (key self.now) }
         ensures { key_of result ≡ the_key (key self.now) };
 
-    /// The key, or `None` where the text is none ([`KeyRef::parse_unvalidated`]). It takes no memory.
+    /// The key, or `None` if the text is not one ([`KeyRef::parse_unvalidated`]). It takes no memory.
     fn try_as_key(&self) -> Option<KeyRef<'_>>
         ensures { option_map key_of result ≡ key self.now };
 }

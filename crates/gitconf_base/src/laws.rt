@@ -8,13 +8,13 @@ ghost use Rattle.gitconf_base.specs.contracts.source.TrustOrd.TheImpl as trust_o
 
 use crate::key::AsKey;
 
-/// Where there is a key, [`AsKey::as_key`] is the answer of [`AsKey::try_as_key`]: whatever the two may
-/// answer by their contracts, the one is the other's.
+/// If there is a key, [`AsKey::as_key`] returns what [`AsKey::try_as_key`] returns: whatever their contracts let
+/// them return, it is the same key.
 pub fn as_key_is_the_answer<K: AsKey>()
     ensures { AnswersAgree K.key }
 {}
 
-/// Sources and their groups are ordered as they are read, lowest first, and reduced trust comes before full trust.
+/// Sources and their groups are ordered as they are read, lowest first, and reduced trust is less than full trust.
 pub fn sources_are_ordered_as_read()
     ensures sources { ascends (source_ord.ghosts).cmp sources_in_order ≡ true }
     ensures kinds { ascends (kind_ord.ghosts).cmp kinds_in_order ≡ true }

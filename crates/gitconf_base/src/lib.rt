@@ -1,4 +1,4 @@
-//! What a git configuration stands on below its files: keys, and sources of configuration with their metadata.
+//! What git's configuration needs besides its files: keys, and sources of configuration with their metadata.
 #![tactic(auto)]
 
 pub mod key;

@@ -11,11 +11,11 @@ use std::marker::Model;
 /// Where a section of the configuration comes from.
 #[derive(Debug, Drop)]
 pub struct Metadata {
-    /// The path of its file, or `None` where it comes from no file.
+    /// The path of its file, or `None` if it comes from no file.
     pub path: Option<String>,
     /// The place that it was read from.
     pub source: Source,
-    /// How many includes stand above it: 0 for a file that was not included.
+    /// How many includes led to its file: 0 for a file that was not included.
     pub level: u8,
     /// How far it is trusted.
     pub trust: Trust,
@@ -32,7 +32,7 @@ impl Model for Metadata {
 }
 
 impl Metadata {
-    /// What a calling program hands in: no path, `Source::Api`, level 0 and full trust.
+    /// The metadata of what a calling program sets: no path, `Source::Api`, level 0 and full trust.
     pub fn api() -> Metadata
         ensures { result ≡ api_meta }
     {
@@ -44,7 +44,7 @@ impl Metadata {
         }
     }
 
-    /// The metadata of the file at `path`, at level 0. A fault that the trust was asked with is handed back.
+    /// The metadata of the file at `path`, at level 0. If the trust is an error, returns that error.
     pub fn try_from_path<E>(
         path: String,
         source: Source,
@@ -64,7 +64,7 @@ impl Metadata {
         }
     }
 
-    /// The same with that trust.
+    /// The same with this trust.
     pub fn with(mut self, trust: Trust) -> Metadata
         ensures { result ≡ record self { trust = trust } }
     {
@@ -72,7 +72,7 @@ impl Metadata {
         self
     }
 
-    /// The same with that path.
+    /// The same with this path.
     pub fn at(mut self, path: String) -> Metadata
         ensures { result ≡ record self { path = Some (string_bytes path) } }
     {
@@ -80,7 +80,7 @@ impl Metadata {
         self
     }
 
-    /// A copy, or [`NoMemory`] where there is none for its path.
+    /// A copy, or [`NoMemory`] if there is none for its path.
     pub fn try_clone(&self) -> Result<Metadata, NoMemory>
         ensures { IfOk result (λ copy. copy ≡ self.now) }
     {
@@ -105,7 +105,7 @@ impl Default for Metadata {
 impl From<Source> for Metadata {
     ghost from_gives = { λ source m. m ≡ meta_of_source source };
 
-    /// [`Metadata::api`] with that source.
+    /// [`Metadata::api`] with this source.
     fn from(source: Source) -> Metadata {
         Metadata {
             source,

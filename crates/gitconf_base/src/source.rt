@@ -21,11 +21,11 @@ pub enum Source {
     Worktree,
     /// Variables of the environment.
     Env,
-    /// The command line.
+    /// Options of the command line.
     Cli,
     /// The calling program.
     Api,
-    /// Variables of the environment that override all else.
+    /// Variables of the environment that override everything else.
     EnvOverride,
 }
 
@@ -40,7 +40,7 @@ pub enum Kind {
     Global,
     /// One repository.
     Repository,
-    /// What is handed in for one run.
+    /// What is set for one run.
     Override,
 }
 

@@ -14,7 +14,7 @@ use gitconf_text::line_end::LineEnd;
 use gitconf_text::parse::span;
 use gitconf_text::value::escaped_len;
 
-/// How many bytes a new entry puts into a buffer; the greatest number where they are more.
+/// How many bytes a new entry adds to a buffer, or `usize::MAX` if there are more.
 pub(crate) fn entry_len(blanks: usize, line_end: LineEnd, key: &[u8], value: &[u8]) -> usize
     ensures { result ≡ min (blanks + (length key.now + length (escaped value.now) + length (bytes_of_line_end line_end))) (2 ^ 64 - 1) }
 {
@@ -24,11 +24,11 @@ pub(crate) fn entry_len(blanks: usize, line_end: LineEnd, key: &[u8], value: &[u
         .saturating_add(line_end.as_bytes().len())
 }
 
-/// Asks whether what [`set_value`] puts may be put behind the bytes of a buffer. Two walks over the items. Takes no memory.
+/// Checks that a buffer has room for what [`set_value`] adds to it. Two walks over the items. Takes no memory.
 ///
 /// # Errors
 ///
-/// A [`span::Error`], number 3, where the buffer would be longer than 4294967295 bytes.
+/// A [`span::Error`], number 3, if the buffer would be longer than 4294967295 bytes.
 pub fn check_set_value(
     buffer: &[u8],
     items: &[Item],
@@ -45,16 +45,16 @@ pub fn check_set_value(
     check_set(buffer, items, &editor, key, value)
 }
 
-/// Gives the last entry of a key another value: what stands behind `=` is replaced, and `=` is put in where there is none, with the
-/// blanks that the items use. Where no entry has the key, a new one stands on a line of its own behind the items, with these blanks and
-/// the line end. Answers the raw text of the old value: its pieces joined, not decoded; nothing for an entry without `=`; `None` where
+/// Gives the last entry of a key another value: what follows `=` is replaced, and `=` is added if there is none, with the
+/// blanks that the items use. If no entry has the key, a new one is put on a line of its own after the items, with these blanks and
+/// the line ending. Returns the raw text of the old value: its pieces joined, not decoded; no bytes for an entry without `=`; `None` if
 /// there was no entry.
 ///
-/// One walk over the items. Takes memory for the old value, for what is put into the buffer, and for a new entry.
+/// One walk over the items. Takes memory for the old value, for what is added to the buffer, and for a new entry.
 ///
 /// # Errors
 ///
-/// A [`span::Error`]: number 3 exactly where the buffer would be longer than 4294967295 bytes, before any growth, and else 27 for want of
+/// A [`span::Error`]: number 3 if and only if the buffer would be longer than 4294967295 bytes, before any growth, otherwise 27 when out of
 /// memory. The items are then as they were, and the buffer may have grown.
 pub fn set_value(
     buffer: &mut Vec<u8>,

@@ -13,11 +13,11 @@ use gitconf_items::event::Header;
 use gitconf_lines::buffer::check_room;
 use gitconf_text::parse::span;
 
-/// Asks whether the text of a header may be put behind the bytes of a buffer. Takes no memory.
+/// Checks that a buffer has room for the text of a header. Takes no memory.
 ///
 /// # Errors
 ///
-/// A [`span::Error`], number 3, where the buffer would be longer than 4294967295 bytes.
+/// A [`span::Error`], number 3, if the buffer would be longer than 4294967295 bytes.
 pub fn check_header(
     buffer: &[u8],
     name: &[u8],
@@ -30,11 +30,11 @@ pub fn check_header(
     check_room(buffer, header_len(name, subsection))
 }
 
-/// Puts the text of a header into a buffer, and a copy of its subsection, where that isn't what is spelled, behind the other copies.
+/// Adds the text of a header to a buffer, and a decoded copy of its subsection, if that isn't what is spelled, to the other copies.
 ///
 /// # Errors
 ///
-/// A [`span::Error`]: number 3 exactly where the buffer would be longer than 4294967295 bytes, before any growth, and else 27 for want of
+/// A [`span::Error`]: number 3 if and only if the buffer would be longer than 4294967295 bytes, before any growth, otherwise 27 when out of
 /// memory. The buffer and the copies may have grown.
 pub fn put_header(
     buffer: &mut Vec<u8>,

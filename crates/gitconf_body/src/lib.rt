@@ -1,4 +1,4 @@
-//! How the items of a body are edited in a buffer that only grows: values set and written anew, entries taken out, sections made.
+//! How the items of a body are edited in a buffer that only grows: values set and rewritten, entries removed, sections made.
 #![tactic(auto)]
 
 pub mod entry;

@@ -35,7 +35,7 @@ fn spelled(alloc: Global, subsection: &[u8]) -> Result<Vec<u8>, NoMemory>
     }
 }
 
-/// The copy of a subsection that is spelled otherwise.
+/// The decoded copy of a subsection, if that isn't what is spelled.
 fn copy_of(
     copies: &mut Vec<u8>,
     spelling: &[u8],
@@ -53,7 +53,7 @@ fn copy_of(
     Ok(Some(Copied::behind(copies, start)?))
 }
 
-/// Puts the text of a header without a subsection into the buffer.
+/// Adds the text of a header without a subsection to the buffer.
 #[tactic(auto, using(gitconf_lines::proofs::Buffers::extending, gitconf_lines::proofs::Buffers::put_once, crate::proofs::Headers::plain_shown))]
 fn append_plain(buffer: &mut Vec<u8>, name: &[u8]) -> Result<Header, span::Error>
     requires room { length buffer.old.items < 2 ^ 32 }
@@ -71,7 +71,7 @@ fn append_plain(buffer: &mut Vec<u8>, name: &[u8]) -> Result<Header, span::Error
     })
 }
 
-/// Where the parts of a header with a subsection in quotes stand.
+/// Where the parts of a header with a quoted subsection are.
 #[derive(Clone, Copy)]
 struct Quoted {
     name: Span,
@@ -79,7 +79,7 @@ struct Quoted {
     subsection: Span,
 }
 
-/// Puts the name, the blank and the spelled subsection of a header into the buffer.
+/// Adds the name, the blank and the spelled subsection of a header to the buffer.
 #[tactic(auto, using(gitconf_lines::proofs::Buffers::extending))]
 fn append_quoted(buffer: &mut Vec<u8>, name: &[u8], spelling: &[u8]) -> Result<Quoted, span::Error>
     requires room { length buffer.old.items < 2 ^ 32 }
@@ -97,11 +97,11 @@ fn append_quoted(buffer: &mut Vec<u8>, name: &[u8], spelling: &[u8]) -> Result<Q
     })
 }
 
-/// Puts the text of a header into the buffer, and a copy of its subsection, where that isn't what is spelled, behind the others.
+/// Adds the text of a header to the buffer, and a decoded copy of its subsection, if that isn't what is spelled, to the others.
 ///
 /// # Errors
 ///
-/// A [`span::Error`]: number 3 where the buffer would be longer than 4294967295 bytes, and else 27 for want of memory. The buffer and
+/// A [`span::Error`]: number 3 if the buffer would be longer than 4294967295 bytes, otherwise 27 when out of memory. The buffer and
 /// the copies may have grown.
 #[tactic(auto, using(gitconf_lines::proofs::Buffers::extending))]
 pub(crate) fn append_header(
@@ -132,7 +132,7 @@ pub(crate) fn append_header(
     })
 }
 
-/// The items of a body that is one line end, put into the buffer; with room for an entry.
+/// The items of a body that is one line ending, which is added to the buffer; with room for an entry.
 #[tactic(auto, using(gitconf_lines::proofs::Buffers::extending))]
 fn one_line(buffer: &mut Vec<u8>, line_end: LineEnd) -> Result<Vec<Item>, span::Error>
     requires room { length buffer.old.items < 2 ^ 32 }
@@ -146,7 +146,7 @@ fn one_line(buffer: &mut Vec<u8>, line_end: LineEnd) -> Result<Vec<Item>, span::
     Ok(items)
 }
 
-/// How many bytes the text of a header puts into a buffer; the greatest number where they are more.
+/// How many bytes the text of a header adds to a buffer, or `usize::MAX` if there are more.
 pub(crate) fn header_len(name: &[u8], subsection: Option<&[u8]>) -> usize
     ensures { result ≡ min (header_bytes name.now (option_copied subsection.entry)) (2 ^ 64 - 1) }
 {
@@ -159,7 +159,7 @@ pub(crate) fn header_len(name: &[u8], subsection: Option<&[u8]>) -> usize
     }
 }
 
-/// How many bytes [`section_with`] puts into a buffer; the greatest number where they are more.
+/// How many bytes [`section_with`] adds to a buffer, or `usize::MAX` if there are more.
 fn section_len(
     line_end: LineEnd,
     name: &[u8],
@@ -169,18 +169,18 @@ fn section_len(
 ) -> usize
     ensures { result ≡ min (new_section_bytes (bytes_of_line_end line_end) name.now (option_copied subsection.entry) key.now value.now) (2 ^ 64 - 1) }
 {
-    // A body of one line end has no entry, so a tab and a space are put.
+    // A body of one line ending has no entry, so a tab and a space are added.
     entry_len(2, line_end, key, value)
         .saturating_add(line_end.as_bytes().len())
         .saturating_add(header_len(name, subsection))
 }
 
-/// A section that is made, its body one line end, with one entry behind that. Takes memory for what is put into the buffer, and for
+/// A new section: its body is one line ending, and then one entry. Takes memory for what is added to the buffer, and for
 /// the items.
 ///
 /// # Errors
 ///
-/// A [`span::Error`]: number 3 where the buffer would be longer than 4294967295 bytes, and else 27 for want of memory. The buffer and
+/// A [`span::Error`]: number 3 if the buffer would be longer than 4294967295 bytes, otherwise 27 when out of memory. The buffer and
 /// the copies may have grown.
 #[tactic(auto, using(gitconf_lines::proofs::Buffers::extending))]
 pub fn section_with(
@@ -210,11 +210,11 @@ pub fn section_with(
     Ok(Section { header, items })
 }
 
-/// Asks whether what [`new_section`] puts may be put behind the bytes of a buffer. Takes no memory.
+/// Checks that a buffer has room for what [`new_section`] adds to it. Takes no memory.
 ///
 /// # Errors
 ///
-/// A [`span::Error`], number 3, where the buffer would be longer than 4294967295 bytes.
+/// A [`span::Error`], number 3, if the buffer would be longer than 4294967295 bytes.
 pub fn check_section(
     buffer: &[u8],
     line_end: LineEnd,
@@ -230,7 +230,7 @@ pub fn check_section(
     check_room(buffer, count)
 }
 
-/// A section that is made, its body one line end. Takes memory for what is put into the buffer, and for the items.
+/// A new section, whose body is one line ending. Takes memory for what is added to the buffer, and for the items.
 ///
 /// # Errors
 ///

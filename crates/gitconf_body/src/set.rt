@@ -1,4 +1,4 @@
-//! Values that are set in a body by its editor.
+//! Values that are set in a body with an editor of it.
 ghost use Rattle.std.specs.Prelude.{◌≡◌, ◌↔◌, ℕ, List, ◌+◌, ◌-◌, ◌<◌, ◌≤◌, ◌^◌, min, true, Option, Some, None, ◌∷◌, [], length, IfOk, IfErr, OnOk, OnErr, IsErrOf, option_map};
 ghost use Rattle.gitconf_text.specs.Part as parts;
 ghost use Rattle.gitconf_text.specs.Value.{escaped};
@@ -24,7 +24,7 @@ use gitconf_lines::values::item_text;
 use gitconf_text::parse::span;
 use gitconf_text::value::escaped_len;
 
-/// The blanks before and behind the `=` of an entry; where it has none, those of the editor, put into the buffer where they don't stand
+/// The blanks before and after the `=` of an entry; if it has none, those of the editor, added to the buffer if they aren't
 /// there.
 #[tactic(auto, using(gitconf_lines::proofs::Buffers::extending))]
 fn separator_of(
@@ -46,7 +46,7 @@ fn separator_of(
     }
 }
 
-/// The entry with another value, which is put into the buffer: its own blanks around `=`, or those of the editor where it has none.
+/// The entry with another value, which is added to the buffer: with its own blanks around `=`, or those of the editor if it has none.
 #[tactic(auto, using(gitconf_lines::proofs::Buffers::extending))]
 fn changed_entry(
     buffer: &mut Vec<u8>,
@@ -67,7 +67,7 @@ fn changed_entry(
     Ok(entry_with(*buffer.allocator(), entry.name(), before, behind, value)?)
 }
 
-/// How many bytes an item's entry puts into the buffer, where it gets another value; the greatest number where they are more.
+/// How many bytes an item's entry adds to the buffer when it gets another value, or `usize::MAX` if there are more.
 fn changed_len(around: &Around<'_>, item: &Item, value: &[u8]) -> usize
     ensures { IfEntry item.now (λ e. result ≡ min (spec.separator_put around.now e + length (escaped value.now)) (2 ^ 64 - 1)) }
 {
@@ -80,7 +80,7 @@ fn changed_len(around: &Around<'_>, item: &Item, value: &[u8]) -> usize
     }
 }
 
-/// Asks whether what [`change`] puts may be put behind the bytes of a buffer.
+/// Checks that a buffer has room for what [`change`] adds to it.
 fn check_change(
     buffer: &[u8],
     items: &[Item],
@@ -125,7 +125,7 @@ fn change(
     Ok(())
 }
 
-/// Gives the entry at a place another value, as [`change`], where there is room for it in the buffer. Answers the old value's raw text.
+/// Gives the entry at a place another value, as [`change`] does, if the buffer has room for it. Returns the old value's raw text.
 fn change_checked(
     buffer: &mut Vec<u8>,
     items: &mut Vec<Item>,
@@ -152,11 +152,11 @@ fn change_checked(
     Ok(old)
 }
 
-/// Asks whether what [`set`] puts may be put behind the bytes of a buffer. One walk over the items. Takes no memory.
+/// Checks that a buffer has room for what [`set`] adds to it. One walk over the items. Takes no memory.
 ///
 /// # Errors
 ///
-/// A [`span::Error`], number 3, where the buffer would be longer than 4294967295 bytes.
+/// A [`span::Error`], number 3, if the buffer would be longer than 4294967295 bytes.
 pub fn check_set(
     buffer: &[u8],
     items: &[Item],
@@ -175,15 +175,15 @@ pub fn check_set(
     }
 }
 
-/// Gives the last entry of a key another value: what stands behind `=` is replaced, and `=` is put in where there is none, with the
-/// editor's blanks around it. Where no entry has the key, a line with it is pushed, as [`push`](gitconf_lines::push::push) does. Answers the raw
-/// text of the old value: its pieces joined, not decoded; nothing for an entry without `=`; `None` where there was no entry.
+/// Gives the last entry of a key another value: what follows `=` is replaced, and `=` is added if there is none, with the
+/// editor's blanks around it. If no entry has the key, a line with it is pushed, as [`push`](gitconf_lines::push::push) does. Returns the raw
+/// text of the old value: its pieces joined, not decoded; no bytes for an entry without `=`; `None` if there was no entry.
 ///
-/// One walk over the items. Takes memory for the old value, for what is put into the buffer, and for new items.
+/// One walk over the items. Takes memory for the old value, for what is added to the buffer, and for new items.
 ///
 /// # Errors
 ///
-/// A [`span::Error`]: number 3 exactly where the buffer would be longer than 4294967295 bytes, before any growth, and else 27 for want of
+/// A [`span::Error`]: number 3 if and only if the buffer would be longer than 4294967295 bytes, before any growth, otherwise 27 when out of
 /// memory. The items are then as they were, and the buffer may have grown.
 pub fn set(
     buffer: &mut Vec<u8>,

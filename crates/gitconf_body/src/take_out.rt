@@ -1,4 +1,4 @@
-//! Entries that are taken out of a body.
+//! Entries that are removed from a body.
 ghost use Rattle.std.specs.Prelude.{◌≡◌, ℕ, List, [], false, ◌≤◌, ◌<◌, ◌+◌, ◌++◌, length, take, drop, Some, None, IfOk, OnOk, OnErr, IsOk, option_map};
 ghost use Rattle.gitconf_text.specs.Part as parts;
 ghost use Rattle.gitconf_text.specs.Value.{plain};
@@ -18,14 +18,14 @@ use gitconf_text::NoMemory;
 use gitconf_text::value::normalize;
 use std::alloc::Global;
 
-/// Whether line ends stand first.
+/// Whether line endings come first.
 fn begins_line_ends(items: &[Item]) -> bool
     ensures { result ≡ spec.begins_line_ends items.now }
 {
     matches!(items, [Item::LineEnds(_), ..])
 }
 
-/// Whether blanks stand last.
+/// Whether blanks come last.
 #[tactic(auto, using(crate::proofs::Taken::ends_with))]
 fn ends_blanks(items: &[Item]) -> bool
     ensures { result ≡ spec.ends_blanks items.now }
@@ -36,7 +36,7 @@ fn ends_blanks(items: &[Item]) -> bool
     }
 }
 
-/// Takes out the line ends at a place, where they stand there.
+/// Removes the line endings at a place, if there are any.
 fn drop_line_ends(items: &mut Vec<Item>, at: usize)
     requires within { at ≤ length items.old.items }
     ensures { items.new.items ≡ take at items.old.items ++ spec.behind_line_ends (drop at items.old.items) }
@@ -46,7 +46,7 @@ fn drop_line_ends(items: &mut Vec<Item>, at: usize)
     }
 }
 
-/// Takes out the blanks directly before a place, where they stand there.
+/// Removes the blanks directly before a place, if there are any.
 fn drop_blanks(items: &mut Vec<Item>, at: usize)
     requires within { at ≤ length items.old.items }
     ensures { items.new.items ≡ spec.before_blanks (take at items.old.items) ++ drop at items.old.items }
@@ -56,7 +56,7 @@ fn drop_blanks(items: &mut Vec<Item>, at: usize)
     }
 }
 
-/// Takes out the item at a place, the line ends directly behind it, and the blanks directly before it.
+/// Removes the item at a place, the line endings directly after it, and the blanks directly before it.
 fn take_out(items: &mut Vec<Item>, at: usize)
     requires within { at < length items.old.items }
     ensures { items.new.items ≡ spec.before_blanks (take at items.old.items) ++ spec.behind_line_ends (drop (at + 1) items.old.items) }
@@ -66,7 +66,7 @@ fn take_out(items: &mut Vec<Item>, at: usize)
     drop_blanks(items, at);
 }
 
-/// Whether there is an entry of a key, for [`remove`] to take out. It walks from the end up to that entry. Takes no memory.
+/// Whether there is an entry of a key for [`remove`] to remove. It walks from the end up to that entry. Takes no memory.
 pub fn has_entry(buffer: &[u8], items: &[Item], key: &[u8]) -> bool
     ensures none { result ≡ false → old_value key.now (items_of buffer.now items.now) ≡ None }
     ensures some { old_value key.now (items_of buffer.now items.now) ≡ None → result ≡ false }
@@ -75,15 +75,15 @@ pub fn has_entry(buffer: &[u8], items: &[Item], key: &[u8]) -> bool
     last_place(buffer, items, key).is_some()
 }
 
-/// Takes out the last entry of a key, with the blanks directly before it and the line ends directly behind it. What else stands in the
-/// body stays. Answers the raw text of its value: its pieces joined, not decoded; nothing for an entry without `=`. Where no entry has
-/// the key, nothing is taken out, and the answer is `None`.
+/// Removes the last entry of a key, with the blanks directly before it and the line endings directly after it. All else in the
+/// body stays. Returns the raw text of its value: its pieces joined, not decoded; no bytes for an entry without `=`. If no entry has
+/// the key, nothing is removed, and the result is `None`.
 ///
-/// One walk over the items. Takes memory for the answer alone.
+/// One walk over the items. Takes memory for the result alone.
 ///
 /// # Errors
 ///
-/// Want of memory, only where there is an entry. The items are then as they were.
+/// Out of memory, only if there is an entry. The items are then as they were.
 pub fn remove(buffer: &[u8], items: &mut Vec<Item>, key: &[u8]) -> Result<Option<Vec<u8>>, NoMemory>
     ensures ok { OnOk result (items_of buffer.now items.new.items ≡ removed key.now (items_of buffer.now items.old.items)) }
     ensures answer { IfOk result (λ o. option_map (λ v. v.items) o ≡ old_value key.now (items_of buffer.now items.old.items)) }
@@ -114,7 +114,7 @@ fn last_entry(items: &[Item]) -> Option<usize>
     None
 }
 
-/// Whether there is an entry, for [`pop`] to take out. It walks from the end up to that entry. Takes no memory.
+/// Whether there is an entry for [`pop`] to remove. It walks from the end up to that entry. Takes no memory.
 pub fn has_entries(items: &[Item]) -> bool
     ensures none { (buffer : List ℕ) → result ≡ false → popped_entry (items_of buffer items.now) ≡ None }
     ensures some { (buffer : List ℕ) → popped_entry (items_of buffer items.now) ≡ None → result ≡ false }
@@ -123,7 +123,7 @@ pub fn has_entries(items: &[Item]) -> bool
     last_entry(items).is_some()
 }
 
-/// What a value means. Memory is taken for the answer, and for its raw text.
+/// What a value means. Takes memory for the result, and for its raw text.
 fn meaning(alloc: Global, raw: &[u8]) -> Result<Vec<u8>, NoMemory>
     ensures { IfOk result (λ text. text.items ≡ plain raw.now) }
 {
@@ -142,14 +142,14 @@ fn told(alloc: Global, buffer: &[u8], entry: &Entry) -> Result<(Vec<u8>, Vec<u8>
     Ok((name, value))
 }
 
-/// Takes out the last entry, whatever its key, with the blanks directly before it and all that stands behind it. Answers its key as it is
-/// spelled, and what its value means; no bytes for an entry without `=`. Where there is no entry, all items go, and the answer is `None`.
+/// Removes the last entry, whatever its key, with the blanks directly before it and everything after it. Returns its key as it is spelled,
+/// and what its value means; no bytes for an entry without `=`. If there is no entry, all items are removed, and the result is `None`.
 ///
-/// One walk over the items. Takes memory for the answer, and for the raw text of the value.
+/// One walk over the items. Takes memory for the result, and for the raw text of the value.
 ///
 /// # Errors
 ///
-/// Want of memory, only where there is an entry. The items are then as they were.
+/// Out of memory, only if there is an entry. The items are then as they were.
 pub fn pop(buffer: &[u8], items: &mut Vec<Item>) -> Result<Option<(Vec<u8>, Vec<u8>)>, NoMemory>
     ensures ok { OnOk result (items_of buffer.now items.new.items ≡ popped (items_of buffer.now items.old.items)) }
     ensures answer { IfOk result (λ o. option_map (λ t. (t.0.items, t.1.items)) o ≡ popped_entry (items_of buffer.now items.old.items)) }

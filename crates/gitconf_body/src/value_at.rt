@@ -25,19 +25,19 @@ use gitconf_text::parse::span;
 
 const NOTHING: Span = Span { start: 0, len: 0 };
 
-/// What an entry that is written at a place stands in place of.
+/// What an entry that is written at a place replaces.
 #[derive(Clone, Copy, Debug)]
 pub enum InPlaceOf {
-    /// Of nothing: what stands from the place on stays behind the new entry.
+    /// Nothing: what is there stays after the new entry.
     Nothing,
-    /// Of the entry there, as a whole.
+    /// The whole entry there.
     Entry,
-    /// Of the entry there, but that the last line end of its value stays, where that value ends in an empty last piece and a comment comes
-    /// next, blanks aside: it keeps the comment off the new value.
+    /// The entry there, except that the last line ending of its value stays if that value ends in an empty last piece and a comment comes
+    /// next, apart from blanks: it keeps the comment off the new value.
     EntryButLineEnd,
 }
 
-/// The last line end among the pieces of a value that goes on; no bytes where none of them has one.
+/// The last line ending among the pieces of a value of several pieces; no bytes if none of them has one.
 fn last_line_end(value: &Value) -> Span
     ensures { result ≡ spec.last_end value.now.pieces.items }
 {
@@ -50,7 +50,7 @@ fn last_line_end(value: &Value) -> Span
     last
 }
 
-/// Whether a comment comes next, blanks aside.
+/// Whether a comment comes next, apart from blanks.
 fn is_before_comment(items: &[Item]) -> bool
     ensures { result ≡ spec.is_before_comment items.now }
 {
@@ -64,7 +64,7 @@ fn is_before_comment(items: &[Item]) -> bool
     false
 }
 
-/// The line end of an entry's value that stays where the value is written anew before these items, if one does.
+/// The line ending of an entry's value that stays when the value is rewritten before these items, if one does.
 fn kept_line_end(entry: &Entry, behind: &[Item]) -> Option<Span>
     ensures { result ≡ spec.kept_end entry.now.assigned behind.now }
 {
@@ -85,9 +85,9 @@ fn kept_line_end(entry: &Entry, behind: &[Item]) -> Option<Span>
 /// How an entry is put at a place.
 #[derive(Clone, Copy)]
 enum Way {
-    /// Before what stands there.
+    /// Before what is there.
     Before,
-    /// In place of the item there, and before a line end that stays, if there is one.
+    /// In place of the entry there, and before a line ending that stays, if one does.
     Over(Option<Span>),
 }
 
@@ -123,7 +123,7 @@ fn put(items: &mut Vec<Item>, at: usize, entry: Entry, way: Way) -> Result<(), N
     Ok(())
 }
 
-/// How many bytes an entry that is written puts into the buffer; the greatest number where they are more.
+/// How many bytes an entry that is written adds to the buffer, or `usize::MAX` if there are more.
 fn written_len(editor: &Editor<'_>, key: &[u8], value: &[u8]) -> usize
     ensures { result ≡ min (written_put editor.now key.now value.now) (2 ^ 64 - 1) }
 {
@@ -131,11 +131,11 @@ fn written_len(editor: &Editor<'_>, key: &[u8], value: &[u8]) -> usize
         .saturating_add(value_len(&editor.around, Some(value)))
 }
 
-/// Asks whether what [`write_at`] puts may be put behind the bytes of a buffer. Takes no memory.
+/// Checks that a buffer has room for what [`write_at`] adds to it. Takes no memory.
 ///
 /// # Errors
 ///
-/// A [`span::Error`], number 3, where the buffer would be longer than 4294967295 bytes.
+/// A [`span::Error`], number 3, if the buffer would be longer than 4294967295 bytes.
 pub fn check_write(
     buffer: &[u8],
     editor: &Editor<'_>,
@@ -149,16 +149,16 @@ pub fn check_write(
     check_room(buffer, written_len(editor, key, value))
 }
 
-/// Writes an entry at a place among the items, which is counted in items from the first one, 0; behind all of them where there are fewer.
-/// The entry has the key as it is given, and `=` with the editor's blanks around it and the value as a file spells it. It stands in place
-/// of the entry there, as it is asked for; where no entry stands there, it stands before what does. All other items stay.
+/// Writes an entry at a place among the items, counted in items from 0; after all of them if there are fewer.
+/// The entry has the key as it is given, and `=` with the editor's blanks around it and the value as a file spells it. It replaces
+/// the entry there, as `in_place_of` says; if no entry is there, it comes before what is there. All other items stay.
 ///
-/// It looks at the items from the place on up to the first that is no blanks. Takes memory for what is put into the buffer, and for at
-/// most one item more.
+/// It looks at the items from the place on up to the first that is not blanks. Takes memory for what is added to the buffer, and for at
+/// most one more item.
 ///
 /// # Errors
 ///
-/// A [`span::Error`]: number 3 exactly where the buffer would be longer than 4294967295 bytes, before any growth, and else 27 for want of
+/// A [`span::Error`]: number 3 if and only if the buffer would be longer than 4294967295 bytes, before any growth, otherwise 27 when out of
 /// memory. The items are then as they were, and the buffer may have grown.
 #[tactic(auto, using(gitconf_lines::proofs::Buffers::extending))]
 pub fn write_at(
@@ -188,7 +188,7 @@ pub fn write_at(
     Ok(())
 }
 
-/// Asks whether what [`rewrite_at`] puts may be put behind the bytes of a buffer. One walk over the items. Takes no memory.
+/// Checks that a buffer has room for what [`rewrite_at`] adds to it. One walk over the items. Takes no memory.
 ///
 /// # Errors
 ///
@@ -203,13 +203,13 @@ pub fn check_rewrite(
     ensures too_large { IsErrOf result 3 ↔ (2 ^ 32 ≤ length buffer.now + rewritten_put key.now value.now (items_of buffer.now items.now)) }
     ensures only { IfErr result (λ e. e ≡ 3) }
 {
-    // No line end is written.
+    // No line ending is written, so any will do.
     let editor = editor_of(items, LineEnd::Lf);
     check_write(buffer, &editor, key, value)
 }
 
-/// As [`write_at`], with the blanks around `=` that the items have: those around their first one; none where they have entries, but no `=`;
-/// and a space and a space where they have no entry. One walk over the items more.
+/// As [`write_at`], with the blanks around `=` that the items use: those around their first one; none if they have entries, but no `=`;
+/// and a space and a space if they have no entry. One more walk over the items.
 ///
 /// # Errors
 ///
@@ -232,13 +232,13 @@ pub fn rewrite_at(
     ensures refused { 2 ^ 32 ≤ length buffer.old.items + rewritten_put key.now value.now (items_of buffer.old.items items.old.items) → IsErrOf result 3 }
     ensures err { OnErr result (items.new.items ≡ items.old.items) }
 {
-    // No line end is written.
+    // No line ending is written, so any will do.
     let editor = editor_of(items, LineEnd::Lf);
     write_at(buffer, items, &editor, place, in_place_of, key, value)
 }
 
-/// Deletes the item at a place, which is counted in items from the first one, 0. All other items stay, also the blanks and line ends
-/// around it; where there are fewer items, all do. Is never refused, and takes no memory.
+/// Deletes the item at a place, counted in items from 0. All other items stay, even the blanks and line endings
+/// around it; if there are fewer items, all do. It can't fail, and takes no memory.
 pub fn delete_at(items: &mut Vec<Item>, place: usize)
     ensures deleted { (buffer : List ℕ) → items_of buffer items.new.items ≡ state.deleted_at place (items_of buffer items.old.items) }
     ensures within { StayWithin items.old.items items.new.items }

@@ -1,4 +1,4 @@
-//! Items and headers of one buffer, copied behind what stands in another.
+//! Items and headers of one buffer, copied to another.
 ghost use Rattle.std.specs.Prelude.{◌<◌, ◌^◌, length, map, IfOk, OnOk};
 ghost use Rattle.std.specs.List.{AllByRecursion};
 ghost use Rattle.gitconf_items.specs.Events.{bytes_of, header_of, HeaderFits};
@@ -14,7 +14,7 @@ use gitconf_lines::buffer::append;
 use gitconf_text::parse::span;
 use smallvec::SmallVec;
 
-/// The bytes of a span, copied.
+/// A copy of the bytes of a span.
 #[tactic(auto, using(crate::proofs::Copies::copying))]
 fn copied_span(from: &[u8], to: &mut Vec<u8>, source: Span) -> Result<Span, span::Error>
     requires room { length to.old.items < 2 ^ 32 }
@@ -66,7 +66,7 @@ fn copied_value(from: &[u8], to: &mut Vec<u8>, value: &Value) -> Result<Value, s
     Ok(Value { pieces, last })
 }
 
-/// What is assigned, if anything, copied.
+/// A copy of what is assigned, if anything.
 #[tactic(auto, using(crate::proofs::Copies::copying))]
 fn copied_assigned(
     from: &[u8],
@@ -126,11 +126,11 @@ fn copied_item(from: &[u8], to: &mut Vec<u8>, item: &Item) -> Result<Item, span:
     })
 }
 
-/// Items of one buffer, with their bytes copied behind those of another. One pass, which takes memory for the items and their bytes.
+/// Copies of items of one buffer, with their bytes added to another. One pass, which takes memory for the items and their bytes.
 ///
 /// # Errors
 ///
-/// A [`span::Error`]: number 3 where the other buffer would be longer than 4294967295 bytes, and else 27 for want of memory. It may
+/// A [`span::Error`]: number 3 if the other buffer would be longer than 4294967295 bytes, otherwise 27 when out of memory. It may
 /// have grown.
 #[tactic(auto, using(crate::proofs::Copies::copying))]
 pub fn copied_items(from: &[u8], to: &mut Vec<u8>, items: &[Item]) -> Result<Vec<Item>, span::Error>
@@ -148,7 +148,7 @@ pub fn copied_items(from: &[u8], to: &mut Vec<u8>, items: &[Item]) -> Result<Vec
     Ok(copies)
 }
 
-/// A header of one buffer, with its bytes copied behind those of another, without the decoded copy of its subsection.
+/// A copy of a header of one buffer, with its bytes added to another, without the decoded copy of its subsection.
 ///
 /// # Errors
 ///

@@ -8,11 +8,11 @@ use std::alloc::AllocGlobal;
 use std::io::{ErrorKind, Read};
 use std::{fs, rt};
 
-/// How many bytes of a file are read at most: one more than the parser takes, so that it still refuses a file that is too
-/// long by its number 2, and what has no end, as `/dev/zero`, is met in the same way.
+/// How many bytes of a file are read at most: one more than the parser takes, so that a file that is too long is still
+/// refused by number 2, and so is one without an end, such as `/dev/zero`.
 const MOST: u64 = 4294967296;
 
-/// The files of the system, under their paths; a relative path begins at the working folder. It tells neither a table nor a
+/// The files of the system, by their paths; a relative path begins at the working folder. It reports neither a table nor a
 /// count, since other programs may change any file at any time.
 #[derive(Drop)]
 pub struct Disk<R: rt::Files + AllocGlobal + Drop> {
@@ -20,7 +20,7 @@ pub struct Disk<R: rt::Files + AllocGlobal + Drop> {
 }
 
 impl<R: rt::Files + AllocGlobal + Drop> Disk<R> {
-    /// The files of that runtime: in a program, of the one that `main` is given.
+    /// The files of this runtime: in a program, of the one that `main` is given.
     pub fn new(runtime: R) -> Disk<R> {
         Disk { runtime }
     }
@@ -34,8 +34,8 @@ impl<R: rt::Files + AllocGlobal + Drop> Files for Disk<R> {
 
     ghost failures = { λ _. None };
 
-    /// Whether a regular file stands at the path, also one that can't be opened. A symbolic link counts as what it leads
-    /// to. A folder, a pipe, a device and what the system tells nothing of are no files.
+    /// Whether a regular file is at the path, even one that can't be opened. A symbolic link counts as what it leads
+    /// to. A folder, a pipe, a device and what the system says nothing of don't count.
     fn is_file(&mut self, path: &str) -> bool {
         match fs::metadata(&self.runtime, path) {
             Ok(metadata) => metadata.is_file(),
@@ -43,13 +43,13 @@ impl<R: rt::Files + AllocGlobal + Drop> Files for Disk<R> {
         }
     }
 
-    /// The bytes of what stands at the path, a pipe or a device too, up to its end or to the first 4294967296 of them.
+    /// The bytes of what is at the path, even a pipe or a device, up to its end or to the first 4294967296 of them.
     ///
     /// # Errors
     ///
-    /// At Open for what is missing, alone with `not_found`, what there are no rights for, a path with a NUL, and a folder:
-    /// the system opens a folder and refuses to read it, and here it counts as one that can't be opened. At Read where
-    /// reading fails for another cause. At Memory where memory is wanting, here or in the system.
+    /// A fault of opening if nothing is there (only then with `not_found`), if the rights are missing, for a path with a NUL, and for a
+    /// folder: the system opens a folder and refuses to read it, and here that counts as not opened. A fault of reading if reading fails
+    /// for another cause. A fault of memory when out of memory, here or in the system.
     fn read(&mut self, path: &str) -> Result<Vec<u8>, FileFault> {
         match fs::open(&self.runtime, path) {
             Ok(file) => all_of(file, Vec::new(self.runtime.alloc())),
@@ -57,7 +57,7 @@ impl<R: rt::Files + AllocGlobal + Drop> Files for Disk<R> {
         }
     }
 
-    /// Full trust in each path; nothing is asked of the system.
+    /// Full trust for each path; the system is not asked.
     fn trust(&mut self, _path: &str) -> Result<Trust, FileFault>
         ensures { result ≡ Ok Full }
     {
@@ -65,7 +65,7 @@ impl<R: rt::Files + AllocGlobal + Drop> Files for Disk<R> {
     }
 }
 
-/// Reads a file that was opened, up to its end or to the most that is read.
+/// Reads an open file, up to its end or to the most that is read.
 fn all_of<F: Read + Drop>(file: F, mut bytes: Vec<u8>) -> Result<Vec<u8>, FileFault>
     ensures { IfOk result (λ all. IfSome (F.remaining file) (λ left. all.items ≡ bytes.items ++ take 4294967296 left)) }
 {
@@ -75,7 +75,7 @@ fn all_of<F: Read + Drop>(file: F, mut bytes: Vec<u8>) -> Result<Vec<u8>, FileFa
     }
 }
 
-/// The fault of an error of that kind, met while a file was read: a folder counts as one that can't be opened.
+/// The fault of a system error of this kind while a file was read: a folder counts as one that can't be opened.
 fn unread(kind: ErrorKind) -> FileFault
     ensures { result ≡ read_fault kind }
 {
@@ -85,7 +85,7 @@ fn unread(kind: ErrorKind) -> FileFault
     }
 }
 
-/// The fault of an error of that kind, met at a stage. Want of memory is a stage of its own, wherever it was met.
+/// The fault of a system error of this kind at a stage. Running out of memory is a stage of its own, wherever it happens.
 fn fault_of(stage: Stage, kind: ErrorKind) -> FileFault
     ensures { result ≡ fault_at stage kind }
 {

@@ -1,4 +1,4 @@
-//! What lies outside, as the system has it: files on the disk, variables of the process, and random numbers.
+//! What is outside of the program, on a real system: files on the disk, variables of the process, and random numbers.
 #![tactic(auto)]
 
 mod disk;

@@ -6,14 +6,14 @@ use std::alloc::AllocGlobal;
 use std::env::VarError;
 use std::{env, rt};
 
-/// The variables that the process was started with. It tells none of them, since the system has them.
+/// The variables that the process was started with. It reports no table of them, since the system has them.
 #[derive(Drop)]
 pub struct Process<R: rt::Env + AllocGlobal + Drop> {
     runtime: R,
 }
 
 impl<R: rt::Env + AllocGlobal + Drop> Process<R> {
-    /// The variables of that runtime: in a program, of the one that `main` is given.
+    /// The variables of this runtime: in a program, of the one that `main` is given.
     pub fn new(runtime: R) -> Process<R> {
         Process { runtime }
     }
@@ -24,7 +24,7 @@ impl<R: rt::Env + AllocGlobal + Drop> Env for Process<R> {
 
     ghost variables = { λ _. None };
 
-    /// The variable of that name, copied. No variable has an empty name, or one with `=` or a NUL.
+    /// A copy of the variable of this name. No variable has an empty name, or one with `=` or a NUL.
     fn var(&mut self, name: &str) -> Result<EnvVar, NoMemory> {
         match env::var(&self.runtime, name) {
             Ok(text) => Ok(EnvVar::Text(text)),

@@ -1,4 +1,4 @@
--- Sections that are put in stand behind the own section that includes them.
+-- Sections that are put in follow the own section that includes them.
 use Rattle.std.proofs.Common.{◌≡◌, ℕ, zero, suc, ◌+◌, ◌<◌, ◌≤◌, ltb, Bool, true, false, List, [], ◌∷◌, ◌++◌, Option, Some, None, Ok, refl, sym, subst, ◌∙◌, arith}
 use Rattle.std.specs.List.{AllByRecursion}
 use Rattle.std.proofs.lemmas.Bool.{le-ltb, lt-ltb}
@@ -97,7 +97,7 @@ stand_append below own (s ∷ xs) ys first second = go (ltb s.number below) refl
         let here = rw (e, StandBehind) at first in
         rw (e, StandBehind) (here.0, other here.1 (rw (e, last_own) at second))
 
--- what is held behind the last one is not asked
+-- what is held after the last one is not asked
 last_held : (below : ℕ) (own : Option Meta) (line_end : List ℕ) (front : List Item) (ss : List SectionState) → last_own below own (held_behind_last line_end front ss) ≡ last_own below own ss
 last_held below own line_end front [] = refl
 last_held below own line_end front (s ∷ []) = refl
@@ -179,7 +179,7 @@ behind_kept below = record {
   file = λ rest done kept. stand_append below None done.sections rest kept.done_stand (stand_own below (last_own below None done.sections) rest kept.rest_own);
 }
 
--- Each section that was put in stands behind the own section that includes it.
+-- Each section that was put in follows the own section that includes it.
 pub stand_behind : (left : ℕ) (asks : Asks) (parent : Option State) (old : State) (r : Reached) → AreNumbered old.next old.sections → Expands left asks parent old r → StandBehind old.next None (file_of r).sections
 stand_behind left asks parent old r numbered expands =
     expansion_from (Between old.next) (IsBehindOwn old.next) (λ from other. AreIncludedBy from other.sections) (λ file. StandBehind old.next None file.sections) asks (behind_kept old.next)

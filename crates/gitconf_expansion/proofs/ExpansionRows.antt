@@ -93,7 +93,7 @@ all_urls = refl
 
 -- room
 
--- a comment without a line end is held behind the include, so one goes before a front
+-- a comment without a line ending is held after the include, so one goes before a front
 abbrev holding : SectionState
 holding = record { number = 0; header = PlainHeader (codes "include"); meta = api_meta; items = valued "path" "/x" ∷ []; held = comment " c" ∷ [] }
 
@@ -121,7 +121,7 @@ last_number = refl
 pub number_too_many : has_room one_section [] (including 18446744073709551615 0) ≡ false
 number_too_many = refl
 
--- where included files stand
+-- where included files are
 
 -- a file that includes /x and /y; what is still to be visited
 abbrev both : State
@@ -130,7 +130,7 @@ both = file [] 2 0 (plain "include" (line_end ∷ valued "path" "/x" ∷ line_en
 abbrev rest : List SectionState
 rest = plain "b" [] ∷ []
 
--- what stands there when both are put in, the one and then the other
+-- what is there when both are put in, the one and then the other
 abbrev put_in : (x y : State) → State
 put_in x y = whole (spliced y rest (spliced x rest both)) rest
 
@@ -143,7 +143,7 @@ in_order = refl
 pub new_numbers : map (λ s. s.number) (put_in (of_sections [] (plain "x" [] ∷ plain "x" [] ∷ [])) (of_sections [] (plain "y" [] ∷ []))).sections ≡ 0 ∷ 2 ∷ 3 ∷ 4 ∷ 0 ∷ []
 new_numbers = refl
 
--- fronts are held behind what is done: the including section, or the last one that was put in
+-- fronts are held after what is done: the including section, or the last one that was put in
 pub both_fronts : printed (put_in (of_sections (comment " c" ∷ line_end ∷ []) []) (of_sections (comment " d" ∷ line_end ∷ []) (plain "y" (valued "k" "1" ∷ []) ∷ [])))
     ≡ codes "[include]\npath=/x\npath=/y\n# c\n# d\n[y]\nk=1\n[b]\n"
 both_fronts = refl
@@ -155,7 +155,7 @@ front_without_a_line_end = refl
 pub front_behind_x : map (λ s. s.held) (put_in (of_sections [] (plain "x" [] ∷ [])) (of_sections (comment " d" ∷ line_end ∷ []) [])).sections ≡ [] ∷ (comment " d" ∷ line_end ∷ []) ∷ [] ∷ []
 front_behind_x = refl
 
--- the line end is that of the whole file, which what is still to be visited may tell
+-- the line ending is that of the whole file, which what is still to be visited may say
 pub line_end_of_the_rest : map (λ s. s.held) (spliced (of_sections (comment " d" ∷ []) []) (plain "b" (LineEndsItem (codes "\r\n") ∷ []) ∷ []) (including 1 0)).sections
     ≡ (comment " c" ∷ LineEndsItem (codes "\r\n") ∷ comment " d" ∷ []) ∷ []
 line_end_of_the_rest = refl

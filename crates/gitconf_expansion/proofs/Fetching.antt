@@ -16,11 +16,11 @@ use Rattle.gitconf_state.specs.State.{State}
 use Rattle.gitconf_expansion.specs.Expansion.{Asks, IsFetched, IsLoaded, IsLoadOf, May, fault_number, included_meta}
 use Rattle.gitconf_expansion.specs.Outcomes.{told, IsCause, IsTextOf}
 
--- a call was refused for want of memory, or is what is fetched
+-- a call was refused when out of memory, or is what is fetched
 abbrev pub Fetches : Asks → Meta → (path : List ℕ) → Result State ℕ → Type 0
 Fetches asks from path outcome = (outcome ≡ Err 27) ⊎ IsFetched asks from path outcome
 
--- a fault is answered by the table, or is want of memory
+-- a fault is returned by the table, or is out of memory
 pub faulted : (Z : Type 0) (asks : Asks) (from : Meta) (path : List ℕ) (fault : FileFault) (number : ℕ)
     → IfSome asks.table (λ files. IsReadOf {Z = Z} (Err fault) (files path)) → number ≡ fault_number fault.stage → Fetches asks from path (Err number)
 faulted Z asks from path fault number told is = go asks.table refl told
@@ -30,7 +30,7 @@ faulted Z asks from path fault number told is = go asks.table refl told
     go (Some files) e (inl wanting) = inl (ap Err (is ∙ ap fault_number wanting))
     go (Some files) e (inr read) = inr (Err fault, rw e (sym read), ap Err is)
 
--- a text that is read is answered by the table
+-- a text that is read is returned by the table
 pub answered : {Z : Type 0} (table : Option (List ℕ → FileTold)) (path : List ℕ) (text : Vec ℕ Z)
     → IfSome table (λ files. IsReadOf (Ok text) (files path)) → May table (λ files. ◌≡◌ {A = Result (List ℕ) FileFault} (Ok text.items) (read_of (files path)))
 answered None path text told = tt

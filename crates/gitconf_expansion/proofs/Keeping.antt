@@ -73,7 +73,7 @@ module _ (P : State → List SectionState → Type 0) (At : Meta → State → L
       go (Ok None) left_out = subst (Kept (At from) F rest) (sym left_out) kept
       go (Ok (Some file)) found = there_or_not file found.0 found.2
 
-  -- an outcome that goes on leaves what is behind it, and one that is refused ends all
+  -- an outcome that goes on leaves what is after it, and one that is refused ends all
   goes_on : (Here There : State → List SectionState → Type 0) (behind : State → Reached → Type 0) (rest left : List SectionState) (mid r : Reached) → Kept Here F rest mid
       → ((now : State) → Here now rest → behind now r → Kept There F left r) → GoesOn behind mid r → Kept There F left r
   goes_on Here There behind rest left (On now) r kept later is = later now kept is
@@ -102,7 +102,7 @@ module _ (P : State → List SectionState → Type 0) (At : Meta → State → L
       goes_on (At s.meta) P (Visits deeper asks parent rest) rest [] is.0 r (gives parent s.meta (inclusion s) rest (visited done s) is.0 (keeps.visit s rest done kept) is.1)
       (λ now here later. visits parent rest now r (keeps.leave s.meta rest now here) later) is.2
 
-  -- the file that stands behind an outcome, once all is visited
+  -- the file that follows an outcome, once all is visited
   at_end : (r : Reached) → Kept P F [] r → F (file_of r)
   at_end (On now) kept = subst F (all_done now) (keeps.file [] now kept)
   at_end (Ended number file) kept = kept

@@ -51,7 +51,7 @@ same_numbered first (s ∷ ss) (t ∷ ts) same =
     let later = same_numbered (first + 1) ss ts (listed_behind s t ss ts same) in
     λ i. record { number = first; meta = (here i).meta; document = (here i).document } ∷ later i
 
--- what is held behind the last one is not asked
+-- what is held after the last one is not asked
 listed_held : (line_end : List ℕ) (front : List Item) (ss : List SectionState) → map listing (held_behind_last line_end front ss) ≡ map listing ss
 listed_held line_end front [] = refl
 listed_held line_end front (s ∷ []) = refl
@@ -66,7 +66,7 @@ documents_alike one other same =
     let documents = documents_listed one.sections ∙ ap (map (λ (l : Listed). l.document)) same.sections ∙ sym (documents_listed other.sections) in
     λ i. record { front = same.front i; sections = documents i }
 
--- the file as it stands
+-- the file as it is
 whole_alike : (rest left : List SectionState) (done now : State) → map listing rest ≡ map listing left → SayTheSame done now → SayTheSame (whole done rest) (whole now left)
 whole_alike rest left done now rests same = record {
   front = same.front;

@@ -1,4 +1,4 @@
--- Where no section includes anything, nothing is put in.
+-- If no section includes anything, nothing is put in.
 use Rattle.std.proofs.Common.{◌≡◌, ◌⊎◌, ℕ, zero, suc, ◌==◌, Bool, true, false, List, [], ◌∷◌, Option, None, Result, Ok, Err, inl, inr, refl, sym, ap, subst, ◌∙◌}
 use Rattle.std.specs.List.{AllByRecursion}
 use Rattle.gitconf_base.specs.Metadata.{Meta}

@@ -17,7 +17,7 @@ use Rattle.gitconf_expansion.proofs.States.{fetched_items, items_put_in, items_s
 abbrev LackNumber : ℕ → List SectionState → Type 0
 LackNumber number sections = AllByRecursion (λ t. (t.number == number) ≡ false) sections
 
--- what is held behind the last one is not asked
+-- what is held after the last one is not asked
 lack_held : (number : ℕ) (line_end : List ℕ) (front : List Item) (xs ys : List SectionState) → LackNumber number (xs ++ ys) → LackNumber number (held_behind_last line_end front xs ++ ys)
 lack_held number line_end front [] ys all = all
 lack_held number line_end front (s ∷ []) ys all = all

@@ -1,4 +1,4 @@
--- A text that comes from one place has one load, want of memory aside: one state, or one number that refuses it.
+-- A text that comes from one place has one load, apart from running out of memory: one state, or one number that refuses it.
 use Rattle.std.proofs.Common.{◌≡◌, ◌≢◌, ◌⊎◌, ◌<◌, ◌≤◌, ◌^◌, ℕ, suc, Bool, List, [], ◌∷◌, ◌++◌, length, map, flat_map, Result, Ok, Err, IfErr, inl, inr, refl, sym, ap, subst, ◌∙◌, append-nil, arith}
 use Rattle.std.specs.List.{range_with_len, AllByRecursion}
 use Rattle.gitconf_text.specs.Document.{unmarked}
@@ -14,7 +14,7 @@ use Rattle.gitconf_state.specs.State.{SectionState, State}
 use Rattle.gitconf_state.proofs.LoadingTokens.{own_parts, own_section_parts, own_tokens, same_parts}
 use Rattle.gitconf_expansion.specs.Expansion.{kept_tokens, IsLoaded, IsLoadOf}
 
--- the items before the first header, the headers, and the items behind each
+-- the items before the first header, the headers, and the items after each
 record Cut : Type 0 where
   front : List Item
   headers : List Header
@@ -98,7 +98,7 @@ one_state lossy text place one other is too =
     let tokens : tokens_of is.0 ≡ tokens_of too.0 = one_tokens (unmarked text) is.0 too.0 is.1.spelled_is is.1.fits too.1.spelled_is too.1.fits in
     same_made (kept_tokens lossy (tokens_of too.0)) place (length text) one other (subst (λ t. IsMade (kept_tokens lossy t) place (length text) one) tokens is.2) too.2
 
--- a text that is loaded is refused for want of memory alone
+-- a text that is loaded is refused only when out of memory
 not_refused : (lossy : Bool) (text : List ℕ) (place : Meta) (state : State) (e : Refusal) → IsLoaded lossy text place state → IsRefused text e → e.number ≢ 27 → ⊥
 not_refused lossy text place state e is refused known = go refused.cause
   where
@@ -110,7 +110,7 @@ not_refused lossy text place state e is refused known = go refused.cause
         omega (arith, long, short)
     go (inr (inr memory)) = known memory
 
--- want of memory aside one number refuses a text
+-- apart from running out of memory one number refuses a text
 one_number : (text : List ℕ) (e f : Refusal) → IsRefused text e → IsRefused text f → e.number ≢ 27 → f.number ≢ 27 → e.number ≡ f.number
 one_number text e f refused refused_too known known_too = go refused.cause refused_too.cause
   where
@@ -122,7 +122,7 @@ one_number text e f refused refused_too known known_too = go refused.cause refus
     go (inl stuck) (inr (inl large)) = ap (λ (r : Refusal). r.number) (refused.small (refused_too.large large)) ∙ sym large
     go (inr (inl large)) (inl stuck) = large ∙ sym (ap (λ (r : Refusal). r.number) (refused_too.small (refused.large large)))
 
--- Want of memory aside a text has one load.
+-- Apart from running out of memory, a text has one load.
 pub one_load : (lossy : Bool) (text : List ℕ) (place : Meta) (one other : Result State ℕ) → IfErr one (λ n. n ≢ 27) → IfErr other (λ n. n ≢ 27)
     → IsLoadOf lossy text place one → IsLoadOf lossy text place other → one ≡ other
 one_load lossy text place (Ok state) (Ok other) known known_too is too = ap Ok (one_state lossy text place state other is too)

@@ -1,4 +1,4 @@
--- Over one told table an expansion has one outcome, want of memory aside.
+-- Over one table that is told an expansion has one outcome, apart from running out of memory.
 use Rattle.std.proofs.Common.{◌≡◌, ◌≢◌, ◌⊎◌, ℕ, zero, suc, ◌==◌, Bool, true, false, List, [], ◌∷◌, Option, Some, None, Result, Ok, Err, IfErr, inl, inr, refl, sym, ap, subst, ◌∙◌}
 use Rattle.std.specs.Option.{unwrap_or}
 use Rattle.gitconf_base.specs.Metadata.{Meta}
@@ -20,14 +20,14 @@ use Rattle.gitconf_expansion.proofs.OneLoad.{one_load}
 abbrev over : Rules → (List ℕ → FileTold) → Asks
 over rules files = record { rules = rules; table = Some files }
 
--- an outcome is another one, or is for want of memory
+-- an outcome is another one, or is that memory ran out
 abbrev IsOne : (Reached → Type 0) → Type 0
 IsOne Outcome = (r s : Reached) → IsAnswered r → IsAnswered s → Outcome r → Outcome s → r ≡ s
 
 not_wanting : (file : State) (r : Reached) → IsAnswered r → Wanting file r → ⊥
 not_wanting file r answered wanting = let known : IsAnswered (Ended 27 file) = subst IsAnswered wanting answered in known refl
 
--- an outcome is answered only where what comes before it is
+-- an outcome is returned only if what comes before it is
 
 before_put : (rest : List SectionState) (done : State) (inner r : Reached) → IsAnswered r → IsPutIn rest done inner r → IsAnswered inner
 before_put rest done (On other) r answered is = tt
@@ -41,7 +41,7 @@ before_others : (behind : State → Reached → Type 0) (mid r : Reached) → Is
 before_others behind (On now) r answered is = tt
 before_others behind (Ended number file) r answered is = subst IsAnswered is answered
 
--- what comes behind one outcome
+-- what comes after one outcome
 one_behind : (behind : State → Reached → Type 0) → ((now : State) → IsOne (behind now)) → (mid : Reached) → IsOne (GoesOn behind mid)
 one_behind behind one (On now) r s known known_too is too = one now r s known known_too is too
 one_behind behind one (Ended number file) r s known known_too is too = is ∙ sym too
@@ -94,7 +94,7 @@ module _ (rules : Rules) (files : List ℕ → FileTold) where
         let same : inner ≡ inner_too = one (whole done rest) other inner inner_too (before_put rest done inner r known put) (before_put rest done inner_too s known_too put_too) is too in
         one_put_in rest done inner r s put (subst (λ i. IsPutIn rest done i s) (sym same) put_too)
 
-    -- what a path comes to where a file stands, or none
+    -- what a path comes to where a file is, or none
     abbrev Found : (from : Meta) (rest : List SectionState) (done : State) (file : List ℕ) → (there : Bool) → Reached → Type 0
     Found from rest done file there end = elim there as (λ _. Type 0) [
       | false ↦ end ≡ On done
@@ -170,14 +170,14 @@ module _ (rules : Rules) (files : List ℕ → FileTold) where
   one_expansion (suc left) parent old r s known known_too is too =
       one_level (Expands left (over rules files)) (λ above other. one_expansion left (Some above) other) parent old r s known known_too is too
 
--- Over one told table two outcomes of one expansion, neither for want of memory, are equal.
+-- Over one table that is told two outcomes of one expansion, neither for running out of memory, are equal.
 pub one_outcome : (asks : Asks) (files : List ℕ → FileTold) (left : ℕ) (parent : Option State) (old : State) (r s : Reached) → asks.table ≡ Some files → IsAnswered r → IsAnswered s
     → Expands left asks parent old r → Expands left asks parent old s → r ≡ s
 one_outcome asks files left parent old r s tells known known_too is too =
     let told : asks ≡ over asks.rules files = (λ i. record { rules = asks.rules; table = tells i }) in
     one_expansion asks.rules files left parent old r s known known_too (subst (λ a. Expands left a parent old r) told is) (subst (λ a. Expands left a parent old s) told too)
 
--- a call that answers leaves an outcome that is answered
+-- a call that returns leaves an outcome that is returned
 left_answered : (result : Result Unit Error) (new : State) (r : Reached) → IfErr result (λ e. includes_number e ≢ 27) → Leaves includes_number result new r → IsAnswered r
 left_answered (Ok done) new r known leaves = subst IsAnswered (sym leaves) tt
 left_answered (Err e) new (On done) known leaves = absurd leaves
@@ -191,7 +191,7 @@ left_alike (Err e) (Ok made) new left r is too = subst (Leaves includes_number (
 left_alike (Err e) (Err f) new left (On done) is too = absurd is
 left_alike (Err e) (Err f) new left (Ended n file) is too = (sym is.0 ∙ too.0, is.1 ∙ sym (ap (with_used new.used) too.1))
 
--- So two calls on one file, neither refused for want of memory, end alike.
+-- So two calls on one file, neither refused when out of memory, end alike.
 pub one_resolution : (asks : Asks) (files : List ℕ → FileTold) (old new left : State) (one other : Result Unit Error) → asks.table ≡ Some files
     → IfErr one (λ e. includes_number e ≢ 27) → IfErr other (λ e. includes_number e ≢ 27) → Resolves includes_number asks old one new → Resolves includes_number asks old other left → EndAlike one other new left
 one_resolution asks files old new left one other tells known known_too (r, is, leaves) (s, too, leaves_too) =

@@ -19,7 +19,7 @@ module _ (deeper : Deeper) (asks : Asks) (from : Meta) (path : List ℕ) (rest :
   abbrev pub FollowsTo : Result Unit Error → (left : List SectionState) → (now : State) → Type 0
   FollowsTo result left now = (r : Reached) × Follows deeper asks from path rest done r × LeavesDone result left now r
 
-  -- a refusal of a path, or want of memory, leaves all as it is
+  -- a refusal of a path, or out of memory, leaves all as it is
   pub ended : (e : Error) (result : Result Unit Error) → (includes_number e ≡ 27) ⊎ (file_named asks.rules from path ≡ Err (includes_number e))
       → IsErrAnd result (λ r. r ≡ e) → FollowsTo result rest done
   ended e (Ok made) why err = absurd err
@@ -48,7 +48,7 @@ module _ (deeper : Deeper) (asks : Asks) (from : Meta) (path : List ℕ) (rest :
   pub left_out : file_named asks.rules from path ≡ Ok None → FollowsTo (Ok tt) rest done
   left_out is = (On done, inr (rw is refl), refl)
 
-  -- what a call of the host tells, the table may tell
+  -- what a call of the host says, the table may say
   pub may : {T : Type 0} (P : T → Type 0) (table : Option T) → IfSome table P → May table P
   may P None told = tt
   may P (Some t) told = told
@@ -104,7 +104,7 @@ module _ (deeper : Deeper) (asks : Asks) (from : Meta) (path : List ℕ) (rest :
       go true is = rw is (sym (eqb-true n 27 is))
       go false is = rw is refl
 
-  -- one for which there is no room, or for which memory was wanting
+  -- one for which there is no room, or for which memory ran out
   pub not_put : (file : List ℕ) (other full now : State) (n : ℕ) (result : Result Unit Error) → file_named asks.rules from path ≡ Ok (Some file) → IfSome asks.table (λ files. true ≡ is_there (files file))
       → IsFetched asks from file (Ok other) → (inner : Reached) → deeper (Some (whole done rest)) other inner → inner ≡ On full
       → (n ≡ 3 → has_room full rest done ≡ false) → (n ≡ 3) ⊎ (n ≡ 27) → now ≡ with_used now.used done → IsErrAnd result (λ r. r ≡ include_of_span n) → FollowsTo result rest now

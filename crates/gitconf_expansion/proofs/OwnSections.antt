@@ -16,7 +16,7 @@ use Rattle.gitconf_expansion.proofs.Keeping.{expansion}
 own_append : (below : ℕ) (xs ys : List SectionState) → own_sections below (xs ++ ys) ≡ own_sections below xs ++ own_sections below ys
 own_append below xs ys = ap (map unheld) (filter-append (λ s. ltb s.number below) xs ys) ∙ map-append unheld (filter (λ s. ltb s.number below) xs) (filter (λ s. ltb s.number below) ys)
 
--- what is held behind the last one is not asked
+-- what is held after the last one is not asked
 own_held : (below : ℕ) (line_end : List ℕ) (front : List Item) (ss : List SectionState) → own_sections below (held_behind_last line_end front ss) ≡ own_sections below ss
 own_held below line_end front [] = refl
 own_held below line_end front (s ∷ []) = go (ltb s.number below) refl

@@ -91,7 +91,7 @@ loaded_headed true text place state none is =
     let front = ap (λ d. d.front) (document.lossy_document is.0 state load) ∙ none is.0 is.1 in
     record { clean = lossy_is_clean is.0 state is.1.fits load front; front = front }
 
--- what is fetched was loaded, of a text that the table tells
+-- what is fetched was loaded, of a text that the table says
 pub fetched_load : (asks : Asks) (from : Meta) (path : List ℕ) (other : State) → IsFetched asks from path (Ok other)
     → (text : List ℕ) × May asks.table (λ told. ◌≡◌ {A = Result (List ℕ) FileFault} (Ok text) (read_of (told path))) × IsLoaded asks.rules.lossy text (included_meta from path) other
 fetched_load asks from path other (Err fault, told, is) = absurd (cc)
@@ -111,7 +111,7 @@ items_stay left asks parent old r has expands =
     whole_expansion HasItems asks (λ other rest done room here more. items_put_in other rest done here more)
     (fetched_items asks) left parent old r has expands
 
--- what is fetched is clean and has no entry before its first section, where no text that may be included has one
+-- what is fetched is clean and has no entry before its first section, if no text that may be included has one
 fetched_headed : (files : List ℕ → FileTold) (asks : Asks) → asks.table ≡ Some files → AreHeaded files → (from : Meta) (path : List ℕ) (other : State) → IsFetched asks from path (Ok other) → IsHeaded other
 fetched_headed files asks tells headed from path other fetched =
     let load = fetched_load asks from path other fetched in
@@ -125,7 +125,7 @@ headed_stays files left asks parent old r tells headed is expands =
     whole_expansion IsHeaded asks (λ another rest done room here more. record { clean = clean_put_in another rest done here.clean more; front = here.front })
     (fetched_headed files asks tells headed) left parent old r is expands
 
--- A clean file stays clean, where no text that may be included has an entry before its first section.
+-- A clean file stays clean, if no text that may be included has an entry before its first section.
 pub clean_stays : (files : List ℕ → FileTold) (left : ℕ) (asks : Asks) (parent : Option State) (old : State) (r : Reached) → asks.table ≡ Some files → AreHeaded files → IsClean old
     → Expands left asks parent old r → IsClean (file_of r)
 clean_stays files left asks parent old r tells headed clean expands =

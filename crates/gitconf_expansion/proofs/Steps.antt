@@ -57,7 +57,7 @@ abbrev pub Suffices : Deeper → Asks → (parent : Option State) → (rest : Li
 Suffices deeper asks parent rest done left now = (r : Reached) → Visits deeper asks parent left now r → Visits deeper asks parent rest done r
 
 module _ (deeper : Deeper) (asks : Asks) (parent : Option State) where
-  -- memory was wanting where a section was to be visited
+  -- memory ran out where a section was to be visited
   pub visits_wanting : (rest : List SectionState) (done : State) → 0 < length rest → Visits deeper asks parent rest done (Ended 27 (whole done rest))
   visits_wanting [] done some = absurd (omega (arith, some))
   visits_wanting (s ∷ rest) done some = (Ended 27 (whole done (s ∷ rest)), inl (ap (λ f. Ended 27 f) (sym (whole_visited done s rest))), refl)
@@ -133,7 +133,7 @@ one_deeper (suc left) asks parent old r some is = subst (λ n. Wanting old r ⊎
     one : suc left - 1 ≡ left
     one = omega arith
 
--- memory was wanting before anything was visited
+-- memory ran out before anything was visited
 pub expands_wanting : (left : ℕ) (asks : Asks) (parent : Option State) (old : State) → left ≢ 0 → Expands left asks parent old (Ended 27 old)
 expands_wanting left asks parent old some = one_deeper left asks parent old (Ended 27 old) some (inl refl)
 

@@ -16,15 +16,17 @@ pub data Inclusion : Type 0 where
   NoInclude : Inclusion
   Includes : (condition : Option (List ℕ)) (paths : List (List ℕ)) → Inclusion
 
--- the meanings of all values of `path`, in order; one without `=` is empty
+-- the meanings of all values of `path`, in order; an entry without `=` counts as empty
 abbrev pub paths_of : SectionState → List (List ℕ)
 paths_of s = map meaning (entries_of_key (codes "path") (listing s))
 
--- of a name and a subsection: `include` has none, `includeIf` has one, the condition; both names exactly so spelled
+-- what a section includes, by its names: `include` has no subsection, that of `includeIf` is the condition; both names in exactly this
+-- spelling
 abbrev pub inclusion_by : (name : List ℕ) → (subsection : Option (List ℕ)) → (paths : List (List ℕ)) → Inclusion
 inclusion_by name None paths = if bytes_eq name (codes "include") then Includes None paths else NoInclude
 inclusion_by name (Some condition) paths = if bytes_eq name (codes "includeIf") then Includes (Some condition) paths else NoInclude
 
+-- what a section includes, by its name, its subsection and its paths
 abbrev pub inclusion : SectionState → Inclusion
 inclusion s = inclusion_by (name_of s.header) (subsection_of s.header) (paths_of s)
 
@@ -36,13 +38,13 @@ urls state = map meaning (flat_map (entries_of_key (codes "url")) (filter (has_n
 abbrev pub has_url : State → (pattern : List ℕ) → Bool
 has_url state pattern = list_any (matches false 0 true pattern) (urls state)
 
--- whether a section's paths are followed: without a condition, or where that holds by where the section comes from and by the file that
--- is searched
+-- whether a section's paths are followed: without a condition, or if the condition holds, by where the section comes from and by the file
+-- that is searched
 abbrev pub is_followed : Rules → (from : Meta) → (searched : State) → (condition : Option (List ℕ)) → Result Bool ℕ
 is_followed rules from searched None = Ok true
 is_followed rules from searched (Some condition) = holds rules from (has_url searched) condition
 
--- the paths that are followed
+-- the paths of a section that are followed: all of them, or none
 abbrev pub followed : Rules → (from : Meta) → (searched : State) → Inclusion → Result (List (List ℕ)) ℕ
 followed rules from searched NoInclude = Ok []
 followed rules from searched (Includes condition paths) = elim (is_followed rules from searched condition) [

@@ -15,38 +15,39 @@ use Rattle.gitconf_state.specs.State.{entries_of, SectionState, State}
 use Rattle.gitconf_expansion.specs.Expansion.{Asks, Reached, On, Ended}
 use Rattle.gitconf_expansion.specs.Inclusion.{inclusion, NoInclude}
 
--- the file that stands behind an outcome
+-- the file that an outcome leaves
 abbrev pub file_of : Reached → State
 file_of (On done) = done
 file_of (Ended number file) = file
 
--- a section without what is held behind it
+-- a section without what is held after it
 abbrev pub unheld : SectionState → SectionState
 unheld s = record { number = s.number; header = s.header; meta = s.meta; items = s.items; held = [] }
 
--- the sections with numbers below that, in order, without what is held behind them
+-- the sections with numbers below `below`, in order, without what is held after them
 abbrev pub own_sections : (below : ℕ) → List SectionState → List SectionState
 own_sections below sections = map unheld (filter (λ s. ltb s.number below) sections)
 
--- a file's own sections stay, in order, but for what is held behind them; and so do its front and where it comes from
+-- a file's own sections stay, in order, except for what is held after them; and so do its front and where it comes from
 pub record IsKept (old new : State) : Type 0 where
   pub front : new.front ≡ old.front
   pub meta : new.meta ≡ old.meta
   pub sections : own_sections old.next new.sections ≡ map unheld old.sections
 
--- Where a section comes from that an include of a section from there put in, itself or further down: of the same source and trust, and of a
+-- Where the sections come from that an include of a section from `from` put in, directly or further down: the same source and trust, and a
 -- greater level.
 pub record IsIncludedBy (from meta : Meta) : Type 0 where
   pub source : meta.source ≡ from.source
   pub trust : meta.trust ≡ from.trust
   pub level : from.level < meta.level
 
+-- a section that was put in follows an own section, whose include put it in
 abbrev pub IsBehind : (own : Option Meta) → (meta : Meta) → Type 0
 IsBehind None meta = ⊥
 IsBehind (Some from) meta = IsIncludedBy from meta
 
--- Sections with numbers below that are a file's own. Each other one was put in: it stands behind an own one, and an include of the nearest own
--- one before it put it in. The last own one before all these comes from there, if there is one.
+-- Sections with numbers below `below` are a file's own. Each other one was put in: it follows an own one, and an include of the nearest own
+-- one before it put it in. `own` is where the last own section before all these comes from, if there is one.
 abbrev pub StandBehind : (below : ℕ) → (own : Option Meta) → List SectionState → Type 0
 StandBehind below own [] = Unit {0}
 StandBehind below own (s ∷ sections) = elim (ltb s.number below) [
@@ -54,16 +55,16 @@ StandBehind below own (s ∷ sections) = elim (ltb s.number below) [
   | false ↦ IsBehind own s.meta × StandBehind below own sections
 ]
 
--- no section includes anything
+-- none of the sections includes anything
 abbrev pub IncludesNothing : State → Type 0
 IncludesNothing state = AllByRecursion (λ s. inclusion s ≡ NoInclude) state.sections
 
--- a file is as it was; or memory was wanting, and its buffer may have grown
+-- a file is as it was; or memory ran out, and its buffer may have grown
 abbrev pub IsAsItWas : Result Unit Error → (old new : State) → Type 0
 IsAsItWas (Ok done) old new = new ≡ old
 IsAsItWas (Err e) old new = (includes_number e ≡ 27) × (new ≡ with_used new.used old)
 
--- no text that stands at a path has an entry before its first section
+-- none of the texts at the paths has an entry before its first section
 abbrev pub AreHeaded : (files : List ℕ → FileTold) → Type 0
 AreHeaded files = (path text : List ℕ) (parts : List Part) → ◌≡◌ {A = Result (List ℕ) FileFault} (read_of (files path)) (Ok text) → IsText text parts → (gathered parts).front ≡ []
 
@@ -74,23 +75,24 @@ pub record SayTheSame (one other : State) : Type 0 where
   pub sections : listed one ≡ listed other
   pub next : one.next ≡ other.next
 
--- the same of files that include others, or of none
+-- the same of the files that include others, or there are none
 abbrev pub ParentsSayTheSame : (one other : Option State) → Type 0
 ParentsSayTheSame None None = Unit {0}
 ParentsSayTheSame None (Some other) = ⊥
 ParentsSayTheSame (Some one) None = ⊥
 ParentsSayTheSame (Some one) (Some other) = SayTheSame one other
 
--- by these rules and files, with all of each included file, or with what has a meaning alone
+-- an expansion by these rules and files, which keeps everything of each included file, or only what has a meaning
 abbrev pub asks_with : (lossy : Bool) → Rules → (files : List ℕ → FileTold) → Asks
 asks_with lossy rules files = record { rules = record rules { lossy = lossy }; table = Some files }
 
--- an outcome that is not for want of memory
+-- an outcome other than running out of memory
 abbrev pub IsAnswered : Reached → Type 0
 IsAnswered (On done) = Unit {0}
 IsAnswered (Ended number file) = number ≢ 27
 
--- Calls on one file end alike: both leave the same file; or one number refuses both, and the files that are left differ in their buffers alone.
+-- Calls on one file end alike: both leave the same file; or both are refused with one number, and the files that they leave differ only in
+-- their buffers.
 abbrev pub EndAlike : (one other : Result Unit Error) → (new left : State) → Type 0
 EndAlike (Ok done) (Ok made) new left = new ≡ left
 EndAlike (Ok done) (Err f) new left = ⊥

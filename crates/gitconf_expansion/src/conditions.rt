@@ -16,11 +16,11 @@ use gitconf_includes::init::Options;
 use gitconf_text::NoMemory;
 use std::alloc::Global;
 
-/// Whether a remote's url matches the pattern in the file that includes this one, or, where none does, in this one.
+/// Whether a remote's url matches the pattern, in the file that includes this one or, if none does, in this one.
 ///
 /// # Errors
 ///
-/// Want of memory.
+/// Out of memory.
 fn has_url<S: ConfigFile>(parent: Option<&S>, file: &S, pattern: &[u8]) -> Result<bool, NoMemory>
     ensures { IfOk result (λ found. found ≡ has_url
         (unwrap_or (option_map (λ s. whole (S.done s) (S.rest s)) (option_copied parent.entry)) (whole (S.done file.now) (S.rest file.now))) pattern.now) }
@@ -31,7 +31,7 @@ fn has_url<S: ConfigFile>(parent: Option<&S>, file: &S, pattern: &[u8]) -> Resul
     }
 }
 
-/// Whether the condition of a section from there, of this file, holds.
+/// Whether the condition of a section of this file holds; `from` is where the section comes from.
 ///
 /// # Errors
 ///
@@ -54,7 +54,7 @@ fn holds<S: ConfigFile>(
     }
 }
 
-/// Whether the paths of a section of this file are followed: without a condition, or where it holds.
+/// Whether the paths of a section of this file are followed: without a condition, or if it holds.
 ///
 /// # Errors
 ///

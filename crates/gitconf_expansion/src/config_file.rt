@@ -13,7 +13,7 @@ use std::rc::Rc;
 pub struct Directive {
     /// The subsection of an `includeIf`; an `include` has none.
     pub condition: Option<BString>,
-    /// The values of `path`, in order; one without `=` is empty.
+    /// The values of `path`, in order; an entry without `=` counts as empty.
     pub paths: Vec<BString>,
     /// Where the section comes from.
     pub meta: Rc<Metadata>,
@@ -28,7 +28,7 @@ pub enum Visited {
     Includes(Directive),
 }
 
-/// A file under expansion: the sections that were visited, with what was put in behind each, are done; the rest is to be
+/// A file under expansion: the sections that were visited, with what was put in after each, are done; the rest is still to be
 /// visited. Both are in file order.
 pub trait ConfigFile: Drop {
     ghost use Rattle.std.specs.Prelude.{◌≡◌, ◌↔◌, ◌⊎◌, List, [], ◌<◌, length, false, IfErr, IfOk, IsErrOf, OnErr, OnOk};
@@ -44,7 +44,7 @@ pub trait ConfigFile: Drop {
 
     ghost rest: { Self → List SectionState };
 
-    /// A file of a text, all of it or what has a meaning, with nothing done.
+    /// A file loaded from a text, all of it or only what has a meaning, with nothing done.
     ///
     /// # Errors
     ///
@@ -59,31 +59,31 @@ pub trait ConfigFile: Drop {
         ensures fresh { IfOk result (λ file. (done file).sections ≡ []) }
         ensures refused { IfErr result (IsRefused text.items) };
 
-    /// Visits the next section, which then is done, and tells what it includes; `None` where no section is left.
+    /// Visits the next section, which is then done, and returns what it includes; `None` if no section is left.
     ///
     /// # Errors
     ///
-    /// Want of memory, where a section is left. The file is then as it was.
+    /// Out of memory, only if a section is left. The file is then as it was.
     fn visit(&mut self) -> Result<Option<Visited>, NoMemory>
         ensures visited { IfOk result (λ section. IsVisited section (done self.old) (rest self.old) (done self.new) (rest self.new)) }
         ensures err { OnErr result (done self.new ≡ done self.old) }
         ensures err_rest { OnErr result (rest self.new ≡ rest self.old) }
         ensures more { OnErr result (0 < length (rest self.old)) };
 
-    /// Whether a value of `url` in some section named `remote`, with whatever subsection, matches the pattern.
+    /// Whether a value of `url` in some section named `remote`, with any subsection, matches the pattern.
     ///
     /// # Errors
     ///
-    /// Want of memory.
+    /// Out of memory.
     fn has_url(&self, pattern: &[u8]) -> Result<bool, NoMemory>
         ensures { IfOk result (λ found. found ≡ has_url (whole (done self.now) (rest self.now)) pattern.now) };
 
-    /// Puts another file, all of it, behind all that is done: its sections under the next numbers, and its front behind the last section
+    /// Puts all of another file after everything that is done: its sections under the next numbers, and its front after the last section
     /// that is done.
     ///
     /// # Errors
     ///
-    /// A [`span::Error`]: number 3 exactly where there is no room, and else 27 for want of memory. The file is then as it was, but that
+    /// A [`span::Error`]: number 3 if and only if there is no room, otherwise 27 when out of memory. The file is then as it was, except that
     /// its buffer may have grown, and the other is dropped.
     fn include(&mut self, other: Self) -> Result<(), span::Error>
         requires { 0 < length (done self.old).sections }

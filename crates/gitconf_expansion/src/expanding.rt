@@ -1,4 +1,4 @@
-//! Files that are expanded.
+//! The expansion of files.
 ghost use Rattle.std.specs.Option.{option_copied, option_map};
 ghost use Rattle.std.specs.Prelude.{◌≡◌, ◌-◌, ◌<◌, [], if◌then◌else◌, length, map, Err, IfErr, None, Ok, OnOk};
 ghost use Rattle.bstr.specs.Owned.{bstring_bytes};
@@ -21,7 +21,7 @@ use gitconf_includes::init::Options;
 use gitconf_includes::paths::file_named;
 use std::alloc::Global;
 
-/// A file at the last level: it is refused where the options ask for that.
+/// A file at the last level: it is refused if the options ask for that.
 fn at_the_limit(options: &Options<'_>) -> Result<(), Error>
     ensures says { told (λ done. done) result ≡ (if options.now.includes.err_on_max_depth_exceeded then Err 15 else Ok (tt {0})) }
     ensures cause { IfErr result (λ e. e ≡ IncludeDepthExceeded options.now.includes.max_depth) }
@@ -34,7 +34,7 @@ fn at_the_limit(options: &Options<'_>) -> Result<(), Error>
     Ok(())
 }
 
-/// Puts the file that a path of a section from there names behind all that is done, itself expanded one level deeper.
+/// Puts the file that a path of a section names, itself expanded one level deeper, after everything that is done.
 ///
 /// # Errors
 ///
@@ -70,7 +70,7 @@ fn follow<F: Files, S: ConfigFile>(
     Ok(file.include(other)?)
 }
 
-/// Follows all paths of a section from there, in order.
+/// Follows all paths of a section, in order.
 ///
 /// # Errors
 ///
@@ -100,7 +100,7 @@ fn follow_all<F: Files, S: ConfigFile>(
     Ok(())
 }
 
-/// Follows what a section that was visited includes, where its condition holds.
+/// Follows what a visited section includes, if its condition holds.
 ///
 /// # Errors
 ///
@@ -136,8 +136,8 @@ fn obey<'a, 'b, F: Files, S: ConfigFile>(
     follow_all(alloc, files, options, &meta, paths, file, left)
 }
 
-/// Expands a file, so many levels deep: each section that stands in it at the beginning is visited, in order, and what its paths give is put
-/// behind it. `parent` is the file that includes it, if one does.
+/// Expands a file, `left` levels deep: each section that is in it at the beginning is visited, in order, and what its paths give is put
+/// after it. `parent` is the file that includes it, if one does.
 ///
 /// # Errors
 ///
@@ -170,11 +170,11 @@ fn expand<'a, F: Files, S: ConfigFile>(
     Ok(())
 }
 
-/// Expands a file that no other one includes, as many levels deep as the options say.
+/// Expands a file that no other file includes, as many levels deep as the options say.
 ///
 /// # Errors
 ///
-/// An [`Error`], with the file as it then stands: all files that were put in before stay, and one that was under way is left out.
+/// An [`Error`], with the file as it then is: all files that were put in before stay, and one that was not yet put in is left out.
 pub fn expand_file<F: Files, S: ConfigFile>(
     alloc: Global,
     files: &mut F,

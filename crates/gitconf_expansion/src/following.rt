@@ -14,7 +14,7 @@ use gitconf_text::NoMemory;
 use std::alloc::Global;
 use std::rc::Rc;
 
-/// How a fault of the file at that path refuses.
+/// The refusal for a fault of the file at that path.
 fn refusal(fault: FileFault, path: String) -> Error
     ensures number { includes_number result ≡ fault_number fault.stage }
     ensures is { result ≡ fault_refusal fault path }
@@ -33,14 +33,14 @@ fn refusal(fault: FileFault, path: String) -> Error
 ///
 /// # Errors
 ///
-/// Want of memory.
+/// Out of memory.
 fn shared(alloc: Global, meta: Metadata) -> Result<Rc<Metadata>, NoMemory>
     ensures { IfOk result (λ shared. shared.value ≡ meta) }
 {
     Ok(Rc::new(alloc, meta)?)
 }
 
-/// Where the sections of the file at that path come from, which a section from there includes.
+/// Where the sections of the file at that path come from, if a section from `from` includes it.
 fn included_meta(from: &Metadata, path: String) -> Metadata
     requires { from.now.level < 255 }
     ensures { result ≡ included_meta from.now (string_bytes path) }
@@ -53,11 +53,11 @@ fn included_meta(from: &Metadata, path: String) -> Metadata
     }
 }
 
-/// The file at that path, which a section from there includes: it is read, and loaded one level further.
+/// The file at that path, which a section from `from` includes: it is read, and loaded with the next level.
 ///
 /// # Errors
 ///
-/// Number 19 where it can't be opened, 20 where it can't be read, 15 where the level is past 255, those of the parser, and 27 for want of
+/// Number 19 if it can't be opened, 20 if it can't be read, 15 if the level is past 255, those of the parser, and 27 when out of
 /// memory.
 pub(crate) fn fetch<F: Files, S: ConfigFile>(
     alloc: Global,

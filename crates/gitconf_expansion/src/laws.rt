@@ -10,18 +10,18 @@ ghost use Rattle.gitconf_state.specs.State.{document_of, AreNumbered, HasItems, 
 ghost use Rattle.gitconf_expansion.specs.Expansion.{Asks, Ended, Expands, IsLoadOf, On, Reached, Resolves};
 ghost use Rattle.gitconf_expansion.specs.Laws.{file_of, AreHeaded, EndAlike, IncludesNothing, asks_with, IsAnswered, IsAsItWas, IsKept, ParentsSayTheSame, SayTheSame, StandBehind};
 
-/// Whatever the outcome, a file's own sections stay in their order, under their numbers and from where they came, and so do its front and
-/// where it comes from itself; only items held behind sections may be more.
+/// Whatever the outcome, a file's own sections stay in their order, with their numbers and with where they come from, and so do its front and
+/// where it comes from itself; only the items held after sections may be more.
 pub fn own_sections_stay()
     ensures { (left : ℕ) (asks : Asks) (parent : Option State) (old : State) (r : Reached) → AreNumbered old.next old.sections → Expands left asks parent old r → IsKept old (file_of r) }
 {}
 
-/// Each section that was put in stands behind one of the file's own, whose source and trust it has, with a greater level.
+/// Each section that was put in follows one of the file's own, whose source and trust it has, with a greater level.
 pub fn included_sections_stand_behind()
     ensures { (left : ℕ) (asks : Asks) (parent : Option State) (old : State) (r : Reached) → AreNumbered old.next old.sections → Expands left asks parent old r → StandBehind old.next None (file_of r).sections }
 {}
 
-/// An expansion of a file whose items are such as a text may have has such items, whatever the outcome.
+/// The expansion of a file whose items are those that a text may have has such items too, whatever the outcome.
 pub fn expansions_keep_items()
     ensures { (left : ℕ) (asks : Asks) (parent : Option State) (old : State) (r : Reached) → HasItems old → Expands left asks parent old r → HasItems (file_of r) }
 {}
@@ -31,28 +31,28 @@ pub fn expansions_keep_numbers()
     ensures { (left : ℕ) (asks : Asks) (parent : Option State) (old : State) (r : Reached) → AreNumbered old.next old.sections → Expands left asks parent old r → AreNumbered (file_of r).next (file_of r).sections }
 {}
 
-/// What holds of every file that was loaded or edited holds of it expanded too, whatever the outcome: its items are such as a text may have,
-/// no number was given twice, and the greatest was not given.
+/// What holds of every file that was loaded or edited also holds of it after an expansion, whatever the outcome: its items are those that a
+/// text may have, no number was given twice, and the greatest was not given.
 pub fn expansions_keep_states()
     ensures { (left : ℕ) (asks : Asks) (parent : Option State) (old : State) (r : Reached) → IsState old → Expands left asks parent old r → IsState (file_of r) }
 {}
 
-/// A clean file stays clean, whatever the outcome, where no text that may be included has an entry before its first section: so what is
+/// A clean file stays clean, whatever the outcome, if no text that may be included has an entry before its first section: so what is
 /// written of it reads back.
 pub fn expansions_stay_clean()
     ensures { (files : List ℕ → FileTold) (left : ℕ) (asks : Asks) (parent : Option State) (old : State) (r : Reached) → asks.table ≡ Some files → AreHeaded files → IsClean old
         → Expands left asks parent old r → IsClean (file_of r) }
 {}
 
-/// A file none of whose sections includes anything is left as it is, or memory was wanting. An expansion that may go no level deep is not
+/// A file whose sections include nothing is left as it is, or memory ran out. An expansion with no level left is not
 /// meant: it may be refused.
 pub fn nothing_is_included()
     ensures expanded { (left : ℕ) (asks : Asks) (parent : Option State) (old : State) (r : Reached) → IncludesNothing old → Expands (suc left) asks parent old r → (r ≡ On old) ⊎ (r ≡ Ended 27 old) }
     ensures resolved { (asks : Asks) (old new : State) (result : Result Unit Error) → IncludesNothing old → Resolves includes_number asks old result new → IsAsItWas result old new }
 {}
 
-/// A lossy expansion says what one does that keeps all, where both go on: of files that say the same, and so of one file. Where one is refused
-/// nothing is said, since what is left out takes no room.
+/// A lossy expansion gives what one gives that keeps everything, if neither is refused: for files that say the same, and so for one file.
+/// If one is refused nothing is said, since what is left out takes no room.
 pub fn lossy_expansions_say_the_same()
     ensures same { (rules : Rules) (files : List ℕ → FileTold) (left : ℕ) (parent other_parent : Option State) (old other full lossy : State) → ParentsSayTheSame parent other_parent → SayTheSame old other
         → Expands left (asks_with false rules files) parent old (On full) → Expands left (asks_with true rules files) other_parent other (On lossy) → SayTheSame full lossy }
@@ -60,8 +60,9 @@ pub fn lossy_expansions_say_the_same()
         → Expands left (asks_with false rules files) parent old (On full) → Expands left (asks_with true rules files) parent old (On lossy) → document_of full ≡ document_of lossy }
 {}
 
-/// Over files that are told, an expansion has one outcome, want of memory aside, and so has a call: two that are made on one file leave the same
-/// file, or are refused by one number and leave files that differ in their buffers alone. A text has one load.
+/// If the host says what is at each path, an expansion has one outcome, apart from running out of memory, and so has a call: two that are
+/// made on one file leave the same file, or are refused with one number and leave files that differ only in their buffers. A text has one
+/// load.
 pub fn expansions_have_one_outcome()
     ensures expanded { (asks : Asks) (files : List ℕ → FileTold) (left : ℕ) (parent : Option State) (old : State) (r s : Reached) → asks.table ≡ Some files → IsAnswered r → IsAnswered s
         → Expands left asks parent old r → Expands left asks parent old s → r ≡ s }

@@ -1,4 +1,4 @@
-//! Files that include others: each is read in the place of its include, behind the section that names it.
+//! Files that include others: each is read in place of its include, after the section that names it.
 #![tactic(auto)]
 
 mod conditions;

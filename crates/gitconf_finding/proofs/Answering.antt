@@ -1,4 +1,4 @@
--- What the places that were found tell, by the sections of the state.
+-- What the places that were found say, by the sections of the state.
 use Rattle.std.proofs.Common.{◌≡◌, ℕ, Bool, true, false, List, [], ◌∷◌, ◌++◌, map, Option, Some, None, Result, Ok, Err, refl, ap, sym, subst, ◌∙◌}
 use Rattle.std.specs.Prelude.{◌≢◌, ◌==◌, filter, flat_map, if◌then◌else◌, length, IsErr}
 use Rattle.std.specs.List.{cons_option, last_or, filter_map}
@@ -22,7 +22,7 @@ use Rattle.gitconf_finding.specs.Finding.{AreFound, Place, all_places, decides, 
 use Rattle.gitconf_finding.specs.Misses.{IsExisting, existing_or, missing}
 use Rattle.gitconf_finding.specs.Lookups.{AreStrings, IsFound, IsImplicit, IsString, implicit_at, sections_named, sections_passing, shown_with, texts_of, unless_empty, value_at, value_in, values_at, values_in}
 
--- what is told of the last one is what is told of each
+-- what is known of the last one is what is known of each
 map_last : {A B C : Type 0} (g : B → C) (f : A → Option B) (h : A → Option C) → ((x : A) → option_map g (f x) ≡ h x) → (o : Option B) (xs : List A)
     → option_map g (last_or o (filter_map f xs)) ≡ last_or (option_map g o) (filter_map h xs)
 map_last g f h same o [] = refl
@@ -46,7 +46,7 @@ map_flat : {A B C : Type 0} (f : B → C) (g : A → List B) (xs : List A) → m
 map_flat f g [] = refl
 map_flat f g (x ∷ xs) = map-append f (g x) (flat_map g xs) ∙ ap (λ ys. map f (g x) ++ ys) (map_flat f g xs)
 
--- the sections of a name that pass, as look-ups see them
+-- the sections of a name that pass, as lookups see them
 listed_passing : (name : List ℕ) (subsection : Option (List ℕ)) (keeps : Meta → Bool) (ss : List SectionState)
     → filter (λ s. keeps s.meta) (named name subsection (map listing ss)) ≡ map listing (filter (λ s. keeps s.meta) (filter (λ s. is_named name subsection (listing s)) ss))
 listed_passing name subsection keeps [] = refl
@@ -96,7 +96,7 @@ said_all key keeps (s ∷ sections) = go (keeps s.meta) (entries_of_key key s) r
     go false (e ∷ es) kept is later = rw (is, kept) later
     go true (e ∷ es) kept is later = rw (is, kept) (ap (λ more. (e ∷ es) ++ more) later ∙ ap (λ es. es ++ rest) (sym is))
 
--- the raw text of an entry; nothing where it has no value
+-- the raw text of an entry; nothing if it has no value
 abbrev raw_text : DocumentEntry → List ℕ
 raw_text e = elim e.raw [ None ↦ [] | Some raw ↦ raw ]
 
@@ -179,7 +179,7 @@ implicit_found key keeps state =
     ∙ ap (filter_map (λ s. last_or None (entries_of_key key.name s))) (sym (listed_passing key.section key.subsection keeps state.sections))
     ∙ sym (said_given (last_or None) refl key.name keeps (named key.section key.subsection (listed state))))
 
--- what is told of all places
+-- what is known of all places
 told_all : {C : Type 0} (tell : DocumentEntry → SectionState → C) (key : List ℕ) (ss : List SectionState)
     → map (λ (p : Place). tell p.1 p.0) (flat_map (places_in key) ss) ≡ flat_map (λ s. map (λ e. tell e s) (entries_of_key key (listing s))) ss
 told_all tell key [] = refl
@@ -240,7 +240,7 @@ texts_with_sections_told {Y = Y} key keeps state found result told are =
     subst (IsFound (λ (texts : Vec (BString × SectionRef) Y). map shown_with texts.items) result) (ap unless_empty (values_in_found key keeps state))
     (told (all_places key.name keeps (sections_named key.section key.subsection state)) are)
 
--- what was found, as it is told by the look-ups that refuse what is missing
+-- what was found, as it is told by the lookups that refuse what is missing
 pub existing_told : {T A E : Type 0} (shown : T → A) (found : Result (Option T) E) (value : Option A) (miss : Miss) → IsFound shown found value → IsExisting shown (existing_or (missing miss) found) value miss
 existing_told shown (Ok (Some found)) value miss is = sym is
 existing_told shown (Ok None) value SectionMissing is = (sym is, refl)
@@ -248,13 +248,13 @@ existing_told shown (Ok None) value SubSectionMissing is = (sym is, refl)
 existing_told shown (Ok None) value KeyMissing is = (sym is, refl)
 existing_told shown (Err refusal) value miss some = some
 
--- a refusal where there are some
+-- a refusal, only if there are some
 pub refused_some : {T A B E : Type 0} (shown : T → List B) (result : Result (Option T) E) (tell : A → B) (xs : List A) → IsErr result → xs ≢ [] → IsFound shown result (unless_empty (map tell xs))
 refused_some shown (Ok found) tell xs fault some = absurd (cc)
 refused_some shown (Err refusal) tell [] fault some = absurd (some refl)
 refused_some shown (Err refusal) tell (x ∷ xs) fault some = λ none. absurd (cc)
 
--- what is told where there are some
+-- what is returned if there are some
 pub some_told : {A B P : Type 0} (place : A → P) (tell : P → B) (xs : List A) (texts : List B) (places : List P)
     → (length xs == 0) ≡ false → texts ≡ map (λ x. tell (place x)) xs → map place xs ≡ places → Some texts ≡ unless_empty (map tell places)
 some_told place tell [] texts places some told are = absurd (cc)

@@ -1,4 +1,4 @@
--- The line end that a front and sections tell.
+-- The line ending that a front and sections say.
 use Rattle.std.proofs.Common.{◌≡◌, List, [], ◌∷◌, Option, Some, None, refl, sym}
 use Rattle.std.specs.Option.{option_map, option_or, unwrap_or}
 use Rattle.gitconf_text.specs.LineEnds.{bytes_of_line_end}

@@ -22,11 +22,11 @@ plain_other all rest b is no_slash no_quote = ap plain is ∙ meaning_of_other b
 pub plain_quote : (all rest : List ℕ) (b : ℕ) → all ≡ b ∷ rest → (b == 34) ≡ true → plain all ≡ plain rest
 plain_quote all rest b is quote = ap plain is ∙ meaning_of_quote b rest quote
 
--- a byte behind a backslash
+-- a byte after a backslash
 pub plain_escaped : (all more rest : List ℕ) (b c : ℕ) → all ≡ b ∷ more → (b == 92) ≡ true → more ≡ c ∷ rest → plain all ≡ escape_meaning c ∷ plain rest
 plain_escaped all more rest b c is slash behind = ap plain (is ∙ ap (λ t. b ∷ t) behind) ∙ meaning_of_backslash b (c ∷ rest) slash
 
--- a backslash with nothing behind it
+-- a backslash with nothing after it
 pub plain_open : (all more : List ℕ) (b : ℕ) → all ≡ b ∷ more → (b == 92) ≡ true → more ≡ [] → plain all ≡ []
 plain_open all more b is slash behind = ap plain (is ∙ ap (λ t. b ∷ t) behind) ∙ meaning_of_backslash b [] slash
 

@@ -1,4 +1,4 @@
--- The test of equality passes exactly where states are equal.
+-- The test of equality passes if and only if states are equal.
 use Rattle.std.proofs.Common.{◌≡◌, ℕ, Bool, true, List, [], ◌∷◌, map, Option, Some, None, refl, ap}
 use Rattle.std.specs.Prelude.{◌↔◌}
 use Rattle.std.specs.Option.{option_eq}

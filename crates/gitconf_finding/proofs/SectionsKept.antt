@@ -58,7 +58,7 @@ module _ (buffer copies : List ℕ) (test : SectionEntry Section → Bool) (othe
       → list_any test sections.entries ≡ list_any other all.sections
   any_kept front meta sections all fits state = any_shown sections.entries fits ∙ ap (λ (s : State). list_any other s.sections) state
 
--- where none passes, none is left
+-- if none passes, none is left
 pub none_kept : {A : Type 0} (test : A → Bool) (xs : List A) → list_any test xs ≡ false → filter test xs ≡ []
 none_kept test [] none = refl
 none_kept test (x ∷ xs) none = let parts = or_parts (test x) (list_any test xs) none in rw parts.0 (none_kept test xs parts.1)
@@ -86,7 +86,7 @@ any_of_some {A} test xs ys y some = go (list_any test xs) refl
     go true any = any
     go false any = absurd (let none = none_kept test xs any in let apart : y ∷ ys ≡ [] = sym some ∙ none in cc)
 
--- of sections as look-ups see them
+-- of sections as lookups see them
 pub any_listed : (test : state.Listed → Bool) (sections : List SectionState) → list_any test (map state.listing sections) ≡ list_any (λ s. test (state.listing s)) sections
 any_listed test [] = refl
 any_listed test (s ∷ sections) = let later = any_listed test sections in λ i. test (state.listing s) || later i

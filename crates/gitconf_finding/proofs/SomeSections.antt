@@ -18,7 +18,7 @@ pub one_of : {A : Type 0} (before behind : List A) (x : A) → AreSome (before +
 one_of [] behind x = inl ([], refl, none_of behind)
 one_of (y ∷ before) behind x = inr (one_of before behind x)
 
--- the next one, and some of those behind it
+-- the next one, and some of those after it
 pub next_of : {A : Type 0} (x : A) (xs some : List A) → AreSome xs some → AreSome (x ∷ xs) (x ∷ some)
 next_of x xs some are = inl (some, refl, are)
 

@@ -1,4 +1,4 @@
--- A text of some of the sections, whatever a filter answers.
+-- A text of some of the sections, whatever a filter returns.
 use Rattle.std.proofs.Common.{◌≡◌, ℕ, Bool, true, false, List, [], ◌∷◌, ◌++◌, Option, Result, refl, ap, sym, subst, ◌∙◌, append_assoc}
 use Rattle.std.specs.Prelude.{IsErr}
 use Rattle.gitconf_text.specs.Part.{Item}
@@ -18,7 +18,7 @@ pub record IsSomeLeft (line_end : List ℕ) (ended : Bool) (all left : List Sect
 pub some_all : (line_end : List ℕ) (all : List SectionState) (old : Option (List ℕ)) → IsSomeLeft line_end true all all old old
 some_all line_end all old = record { done = []; told = sym (with_text-empty old); rest = λ text h. h }
 
--- behind the next section, kept or not
+-- after the next section, kept or not
 pub some_next : (line_end : List ℕ) (ended next : Bool) (all left : List SectionState) (s : SectionState) (sections : List SectionState) (kept : Bool) (old mid new : Option (List ℕ))
     → IsSomeLeft line_end ended all left old mid → left ≡ s ∷ sections → new ≡ with_text (next_text (λ _. kept) line_end ended s) mid
     → next ≡ ended_behind (λ _. kept) line_end ended s → IsSomeLeft line_end next all sections old new
@@ -55,7 +55,7 @@ some_fault r line_end ended all left s sections kept old mid new fault i is begu
       left_fault r whole (part ++ others.0) part others.0 old mid new fault (record { done = i.done; whole = refl; told = i.told }) refl begun,
     )
 
--- behind the last section
+-- after the last section
 pub some_last : {T E : Type 0} (r : Result T E) (line_end : List ℕ) (ended : Bool) (all left : List SectionState) (old mid new : Option (List ℕ))
     → IsSomeLeft line_end ended all left old mid → left ≡ [] → Writes r (line_end_unless ended line_end) mid new → Told r line_end all old new
 some_last r line_end ended all left old mid new i is written =
@@ -70,7 +70,7 @@ some_last r line_end ended all left old mid new i is written =
 abbrev pub ToldWhole : {T E : Type 0} → Result T E → State → (old new : Option (List ℕ)) → Type 0
 ToldWhole r state old new = (text : List ℕ) × IsTextOfSomeSections state text × Writes r text old new
 
--- whether a line end may be missing behind the front, for the same line end, front and sections
+-- whether a line ending may be missing after the front, for the same line ending, front and sections
 pub ended_so : (line_end other : List ℕ) (front items : List Item) (left sections : List SectionState) (ended : Bool) → line_end ≡ other → front ≡ items → left ≡ sections
     → (is_front_ended (λ _. true) line_end front left ≡ true → ended ≡ true) → is_front_ended (λ _. true) other items sections ≡ true → ended ≡ true
 ended_so line_end other front items left sections ended e f g told h =
@@ -89,7 +89,7 @@ some_front_fault r state front old new fault same begun =
       left_fault r text text (front_text state) behind old old new fault (left_all text old) refl (subst (λ t. is_begun t old new ≡ true) same begun),
     )
 
--- a fault behind the front
+-- a fault after the front
 pub some_behind_fault : {T E : Type 0} (r : Result T E) (state : State) (front line_end : List ℕ) (ended : Bool) (old mid new : Option (List ℕ))
     → IsErr r → (is_front_ended (λ _. true) (file_line_end state) state.front state.sections ≡ true → ended ≡ true) → line_end ≡ file_line_end state
     → front ≡ front_text state → mid ≡ with_text front old → is_begun (line_end_unless ended line_end) mid new ≡ true → ToldWhole r state old new
@@ -103,7 +103,7 @@ some_behind_fault r state front line_end ended old mid new fault ends same_end s
           (subst (λ l. is_begun (line_end_unless ended l) mid new ≡ true) same_end begun),
     )
 
--- behind the front
+-- after the front
 pub some_sections : {T E : Type 0} (r : Result T E) (state : State) (front line_end : List ℕ) (ended : Bool) (left : List SectionState) (old mid behind new : Option (List ℕ))
     → (is_front_ended (λ _. true) (file_line_end state) state.front state.sections ≡ true → ended ≡ true) → line_end ≡ file_line_end state → left ≡ state.sections
     → front ≡ front_text state → mid ≡ with_text front old → behind ≡ with_text (line_end_unless ended line_end) mid → Told r line_end left behind new → ToldWhole r state old new

@@ -1,4 +1,4 @@
--- Where the entries of a key stand, and what entries mean.
+-- Where the entries of a key are, and what entries mean.
 use Rattle.std.proofs.Common.{◌≡◌, ℕ, zero, suc, ◌+◌, Bool, true, false, List, [], ◌∷◌, ◌++◌, ◌≤◌, length, map, take, Option, Some, None, Result, Ok, Err, refl, ap, sym, subst, ◌∙◌, arith, append-nil, append_assoc, inl, inr}
 use Rattle.std.specs.Prelude.{◌≢◌, ◌⊎◌, ◌==◌, ◌||◌, filter, flat_map, not, IfErr, IfSome, IsErr, OnErr}
 use Rattle.std.specs.List.{AllByRecursion, enumerate_from, last_or, list_all, list_any, slice_get}
@@ -59,12 +59,12 @@ placed_other buffer key number from all behind i is other = ap (λ (is : List It
 pub same_taken : {A : Type 0} (before found left next all : List A) → IsTaken before found left all → left ≡ next → IsTaken before found next all
 same_taken before found left next all t is = subst (λ xs. IsTaken before found xs all) is t
 
--- whatever was answered
+-- whatever was returned
 pub err_always : {T E P : Type 0} (r : Result T E) → P → OnErr r P
 err_always (Ok t) p = tt
 err_always (Err e) p = p
 
--- a refusal where there are some
+-- a refusal, only if there are some
 pub refused_all : {Z E : Type 0} (result : Result (Vec (ℕ × ℕ) Z) E) (places : List (ℕ × ℕ)) → IsErr result → places ≢ [] → AreAll result places
 refused_all (Ok found) places fault some = absurd (cc)
 refused_all (Err refusal) places fault some = some
@@ -74,7 +74,7 @@ pub first_placed : (key : List ℕ) (keeps : Meta → Bool) (all behind : List S
     → all ≡ s ∷ behind → keeps s.meta ≡ true → all_value_places key keeps all ≡ value_places key s ++ all_value_places key keeps behind
 first_placed key keeps all behind s is kept = ap (all_value_places key keeps) is ∙ rw kept refl
 
--- where none is an entry of the key
+-- if none is an entry of the key
 none_from : (key : List ℕ) (from : ℕ) (items : List parts.Item) → list_any (is_entry_of key) items ≡ false → places_from key from items ≡ []
 none_from key from [] none = refl
 none_from key from (i ∷ items) none = go (is_entry_of key i) refl (none_from key (from + 1) items)
@@ -126,7 +126,7 @@ last_both : {A : Type 0} (o : Option A) (xs ys : List A) → last_or o (xs ++ ys
 last_both o [] ys = refl
 last_both o (x ∷ xs) ys = last_both (Some x) xs ys
 
--- where there is one, what stands before doesn't count
+-- if there is one, what comes before doesn't count
 last_some : {A : Type 0} (o : Option A) (xs : List A) (x : A) → last_or None xs ≡ Some x → last_or o xs ≡ Some x
 last_some o [] x is = absurd (cc)
 last_some o (y ∷ xs) x is = is
@@ -148,7 +148,7 @@ passing_both keeps (x ∷ xs) ys = go (keeps x.meta) refl (passing_both keeps xs
     go true is later = rw is (ap (λ t. x ∷ t) later)
     go false is later = rw is later
 
--- the places in one section more, behind the others
+-- the places in one more section, after the others
 last_more : (key : List ℕ) (keeps : Meta → Bool) (all before : List SectionState) (s : SectionState) → all ≡ before ++ s ∷ []
     → last_value_place key keeps all ≡ last_or (last_value_place key keeps before) (flat_map (value_places key) (passing keeps (s ∷ [])))
 last_more key keeps all before s is =
@@ -179,7 +179,7 @@ place_skipped key keeps all before s is skipped =
     let none : passing keeps (s ∷ []) ≡ [] = rw skipped refl in
     last_more key keeps all before s is ∙ ap (λ ss. last_or (last_value_place key keeps before) (flat_map (value_places key) ss)) none
 
--- The items of the section of a number are such as a text may have, and stay such where an entry is written anew.
+-- The items of the section of a number are such as a text may have, and stay such where an entry is rewritten.
 last_holds : (P : SectionState → Type 0) (test : SectionState → Bool) (o : Option SectionState) (ss : List SectionState) → IfSome o P → AllByRecursion P ss
     → IfSome (last_or o (filter test ss)) P
 last_holds P test o [] first all = first
@@ -200,11 +200,11 @@ pub rewritten_items : (id place : ℕ) (stands keeps : Bool) (key value : List �
     → HasItems (apply (WriteAt id (editor_of_numbered id state) place stands keeps key value) state)
 rewritten_items id place stands keeps key value state named has =
     let fits = spacing_fits (items_of_numbered id state) (numbered_are_items id state has) in
-    -- an edit that writes an entry writes no line end
+    -- an edit that writes an entry writes no line ending
     let editor : Editor = record { spacing = spacing_of (items_of_numbered id state); line_end = 10 ∷ []; ends = true } in
     apply_items (WriteAt id editor place stands keeps key value) state (record { before = fits.before; behind = fits.behind; line_end = refl }, named) has
 
--- A place that was found is in a section that stands.
+-- A place that was found is in a section that is.
 one_of_places : (place : ℕ × ℕ) (n : ℕ) (o : Option (ℕ × ℕ)) (ats : List ℕ) → last_or o (map (λ at. (n, at)) ats) ≡ Some place → (o ≡ Some place) ⊎ ((n == place.0) ≡ true)
 one_of_places place n o [] is = inl is
 one_of_places place n o (at ∷ ats) is = inr (elim (one_of_places place n (Some (n, at)) ats is) [
@@ -246,7 +246,7 @@ any_of_some {A} test (x ∷ xs) some (inl l) h = go (test x) refl (ap (list_any 
     go true at h later = or_left (test x) (list_any test xs) at
     go false at h later = or_right (test x) (list_any test xs) (later (rw at at h))
 
--- whatever the filter answers
+-- whatever the filter returns
 pub place_stands : (name : List ℕ) (subsection : Option (List ℕ)) (key : List ℕ) (state : State) (left some : List SectionState) (number at : ℕ)
     → left ≡ sections_named name subsection state → AreSome left some → Some (number, at) ≡ last_value_place key (λ _. true) some
     → list_any (λ (s : SectionState). s.number == number) state.sections ≡ true
@@ -258,7 +258,7 @@ place_stands name subsection key state left some number at is are found =
           (any_of_kept (λ (s : SectionState). s.number == number) (λ s. true) some here))
     ]
 
--- Where the sections are missing, no place is found, and the refusal is that of the look-up.
+-- Where the sections are missing, no place is found, and the refusal is that of the lookup.
 pub none_named : (key : Key) (keeps : Meta → Bool) (state : State) → list_any (is_named key.section key.subsection) (listed state) ≡ false → value_place key keeps state ≡ None
 none_named key keeps state none =
     ap (last_value_place key.name keeps) (none_kept (λ s. is_named key.section key.subsection (listing s)) state.sections (sym (any_listed (is_named key.section key.subsection) state.sections) ∙ none))
@@ -288,7 +288,7 @@ only_key_missing name subsection sections some = go (list_any (has_name name) se
     go false is = absurd (let no = sym (not_named name subsection sections is) ∙ some in cc)
     go true is = rw (is, some) refl
 
--- Where they stand, it is that of a name that is none, or of an entry that is missing.
+-- Where they are, it is that of a name that is none, or of an entry that is missing.
 pub invalid_refused : (key : Key) (state : State) (nothing : Type 0) (number : ℕ) → HasSection key.section key.subsection state → is_value_name key.name ≡ false → number ≡ 6
     → IsRefused key state nothing (errors.ValueName number)
 invalid_refused key state nothing number has invalid six =
@@ -307,7 +307,7 @@ pub absent_placed : (key : Key) (state : State) (place : Option (ℕ × ℕ)) �
     → IsPlace key state place (Err errors.KeyMissing)
 absent_placed key state place has valid none = absent_refused key state (place ≡ None) has valid none
 
--- a refusal of the look-up of the section
+-- a refusal of the lookup of the section
 pub refused_placed : (key : Key) (keeps : Meta → Bool) (state : State) (result : Result (ℕ × ℕ) Error) → IsErr result → IfErr result (IsMissing key.section key.subsection state)
     → IsPlace key state (value_place key keeps state) result
 refused_placed key keeps state (Ok place) fault m = absurd (cc)
@@ -323,7 +323,7 @@ none_placed : (key : Key) (keeps : Meta → Bool) (state : State) → list_any (
 none_placed key keeps state none =
     ap (all_value_places key.name keeps) (none_kept (λ s. is_named key.section key.subsection (listing s)) state.sections (sym (any_listed (is_named key.section key.subsection) state.sections) ∙ none))
 
--- A refusal of a look-up that is none for want of memory.
+-- A refusal of a lookup other than out of memory.
 no_memory : (miss : Miss) (is_name : Bool) → errors.Memory ≢ refusal_of miss is_name
 no_memory lookup.SectionMissing is_name is = absurd (cc)
 no_memory lookup.SubSectionMissing is_name is = absurd (cc)
@@ -338,7 +338,7 @@ refused_places Z key state places errors.KeyMissing r = r
 refused_places Z key state places (errors.ValueName number) r = r
 refused_places Z key state places errors.Memory r = absurd (no_memory (miss_at key state) (is_value_name key.name) r.1)
 
--- a refusal of the look-up of the sections
+-- a refusal of the lookup of the sections
 pub missing_places : {Z : Type 0} (key : Key) (keeps : Meta → Bool) (state : State) (result : Result (Vec (ℕ × ℕ) Z) Error) → IsErr result
     → IfErr result (IsMissing key.section key.subsection state) → AreValuePlaces key keeps state result
 missing_places {Z} key keeps state (Ok places) fault m = absurd (cc)
@@ -366,7 +366,7 @@ pub none_long : {A : Type 0} (xs : List A) → length xs ≡ 0 → xs ≡ []
 none_long [] none = refl
 none_long (x ∷ xs) none = absurd (omega (arith, none))
 
--- The sections of places stand: of those that are found in some of them, in whatever order.
+-- The sections of places are: of those that are found in some of them, in whatever order.
 all_filtered : {A : Type 0} (p test : A → Bool) (xs : List A) → list_all p xs ≡ true → list_all p (filter test xs) ≡ true
 all_filtered p test [] all = refl
 all_filtered {A} p test (x ∷ xs) all = go (test x) refl (all_filtered p test xs)

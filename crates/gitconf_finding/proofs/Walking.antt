@@ -78,12 +78,12 @@ some_left {A} found here behind all is some none = go found here some (is ∙ no
     go [] (y ∷ ys) some' e = absurd (cc)
     go (x ∷ xs) ys some' e = absurd (cc)
 
--- a refusal where there are some
+-- a refusal, only if there are some
 pub refused_found : {Z E : Type 0} (result : Result (Vec Found Z) E) (places : List Place) → IsErr result → places ≢ [] → AreFound result places
 refused_found (Ok found) places fault some = absurd (cc)
 refused_found (Err refusal) places fault some = some
 
--- sections behind those that are left: one more, where the last of these was taken
+-- sections after those that are left: one more, where the last of these was taken
 pub behind_last : {A : Type 0} (all left next : List A) (x : A) → left ≡ next ++ x ∷ [] → (behind : List A) × (all ≡ left ++ behind) → (behind : List A) × (all ≡ next ++ behind)
 behind_last all left next x is h = (x ∷ h.0, h.1 ∙ ap (λ xs. xs ++ h.0) is ∙ append_assoc next (x ∷ []) h.0)
 
@@ -107,7 +107,7 @@ pub record AreSomeFound {A : Type 0} (f : SectionState → List A) (all left : L
 pub some_begun : {A : Type 0} (f : SectionState → List A) (all : List SectionState) → AreSomeFound f all all []
 some_begun f all = record { kept = []; rest = λ some h. h; told = refl }
 
--- behind a section that was kept
+-- after a section that was kept
 pub some_added : {A : Type 0} (f : SectionState → List A) (all left next : List SectionState) (s : SectionState) (places more : List A)
     → left ≡ s ∷ next → more ≡ places ++ f s → AreSomeFound f all left places → AreSomeFound f all next more
 some_added f all left next s places more is added h = record {
@@ -117,7 +117,7 @@ some_added f all left next s places more is added h = record {
   told = added ∙ ap (λ ps. ps ++ f s) h.told ∙ sym (gives_more f h.kept s);
 }
 
--- behind one that was not
+-- after one that was not
 pub some_skipped : {A : Type 0} (f : SectionState → List A) (all left next : List SectionState) (s : SectionState) (places : List A)
     → left ≡ s ∷ next → AreSomeFound f all left places → AreSomeFound f all next places
 some_skipped f all left next s places is h = record {
@@ -126,7 +126,7 @@ some_skipped f all left next s places is h = record {
   told = h.told;
 }
 
--- behind the last one
+-- after the last one
 pub some_found : {A : Type 0} (f : SectionState → List A) (all left : List SectionState) (places : List A)
     → AreSomeFound f all left places → (some : List SectionState) × AreSome all some × (places ≡ flat_map f (passing (λ _. true) some))
 some_found f all left places h = (h.kept, subst (AreSome all) (append-nil h.kept) (h.rest [] (none_of left)), h.told)

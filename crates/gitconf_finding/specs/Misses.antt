@@ -1,4 +1,4 @@
--- How look-ups refuse what is missing.
+-- How lookups report what is missing.
 use Rattle.std.specs.Prelude.{◌≡◌, ◌≢◌, ℕ, Option, Some, None, Result, Ok, Err}
 use Rattle.gitconf_state.specs.Lookup as state
 use Rattle.gitconf_state.specs.Lookup.{Miss}
@@ -13,20 +13,20 @@ existing_number KeyMissing = 9
 existing_number (ValueName number) = number
 existing_number Memory = 27
 
--- the refusal of what a look-up misses
+-- the refusal for what a lookup misses
 abbrev pub missing : Miss → Error
 missing state.SectionMissing = SectionMissing
 missing state.SubSectionMissing = SubSectionMissing
 missing state.KeyMissing = KeyMissing
 
--- What was found is shown, if there is something. A refusal tells what is missing where there is nothing; want of memory comes only where
+-- The result is what was found, if there is something. If there is nothing, the refusal says what is missing; out of memory comes only if
 -- there is something.
 abbrev pub IsExisting : {T A : Type 0} → (shown : T → A) → Result T Error → Option A → Miss → Type 0
 IsExisting shown (Ok found) value miss = value ≡ Some (shown found)
 IsExisting shown (Err Memory) value miss = value ≢ None
 IsExisting shown (Err refusal) value miss = (value ≡ None) × (refusal ≡ missing miss)
 
--- what was found; the refusal where nothing was
+-- what was found, or the refusal if nothing was
 abbrev pub existing_or : {T E : Type 0} → (miss : Error) → Result (Option T) E → Result T Error
 existing_or miss (Ok (Some found)) = Ok found
 existing_or miss (Ok None) = Err miss

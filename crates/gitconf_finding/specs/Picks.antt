@@ -1,4 +1,4 @@
--- Which section a look-up by name and subsection takes, and what it answers.
+-- Which section a lookup by name and subsection takes, and what it returns.
 use Rattle.std.specs.Prelude.{◌≡◌, ℕ, Bool, true, false, List, Option, Some, None, Result, Ok, Err}
 use Rattle.std.specs.List.{last_or, list_any}
 use Rattle.std.specs.Option.{option_map}
@@ -14,7 +14,7 @@ use Rattle.gitconf_finding.specs.Misses.{missing}
 use Rattle.gitconf_views.specs.Views.{shown}
 use Rattle.gitconf_finding.specs.Walks.{passing}
 
--- the last of them whose metadata passes
+-- the last section of the name and subsection whose metadata passes
 abbrev pub picked : (name : List ℕ) → (subsection : Option (List ℕ)) → (keeps : Meta → Bool) → State → Option SectionState
 picked name subsection keeps state = last_or None (passing keeps (sections_named name subsection state))
 
@@ -22,7 +22,7 @@ picked name subsection keeps state = last_or None (passing keeps (sections_named
 abbrev pub HasSection : (name : List ℕ) → (subsection : Option (List ℕ)) → State → Type 0
 HasSection name subsection state = list_any (is_named name subsection) (listed state) ≡ true
 
--- there is none, and the refusal tells what is missing
+-- there is no section of the name and subsection, and the refusal says what is missing
 abbrev pub IsMissing : (name : List ℕ) → (subsection : Option (List ℕ)) → State → Error → Type 0
 IsMissing name subsection state refusal = (list_any (is_named name subsection) (listed state) ≡ false) × (refusal ≡ missing (miss_of name subsection (listed state)))
 
@@ -31,16 +31,17 @@ abbrev pub IsSection : (name : List ℕ) → (subsection : Option (List ℕ)) �
 IsSection name subsection state (Ok found) = picked name subsection (λ _. true) state ≡ Some (shown found)
 IsSection name subsection state (Err refusal) = IsMissing name subsection state refusal
 
--- the last one that passes, nothing where there are some and none passes, or what is missing
+-- the last section that passes, nothing if there are some and none passes, or what is missing
 abbrev pub IsPassingSection : (name : List ℕ) → (subsection : Option (List ℕ)) → (keeps : Meta → Bool) → State → Result (Option SectionRef) Error → Type 0
 IsPassingSection name subsection keeps state (Ok found) = HasSection name subsection state × (option_map shown found ≡ picked name subsection keeps state)
 IsPassingSection name subsection keeps state (Err refusal) = IsMissing name subsection state refusal
 
--- the same by a section's key; refusal 9 for what is no key
+-- the same by a section's key; refusal 9 for a text that is not a key
 abbrev pub IsSectionOfKey : Option SectionKey → State → Result SectionRef Error → Type 0
 IsSectionOfKey None state result = result ≡ Err KeyMissing
 IsSectionOfKey (Some key) state result = IsSection key.section key.subsection state result
 
+-- the same with a filter; refusal 9 for a text that is not a key
 abbrev pub IsPassingSectionOfKey : Option SectionKey → (keeps : Meta → Bool) → State → Result (Option SectionRef) Error → Type 0
 IsPassingSectionOfKey None keeps state result = result ≡ Err KeyMissing
 IsPassingSectionOfKey (Some key) keeps state result = IsPassingSection key.section key.subsection keeps state result

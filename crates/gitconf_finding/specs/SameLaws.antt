@@ -21,8 +21,10 @@ same_section_equiv =
     (and_equiv (on_equiv (λ (s : SectionState). name_of s.header) same_name_equiv) (on_equiv (λ (s : SectionState). subsection_of s.header) (options_equiv nat_list_eq_equiv)))
     (on_equiv (λ (s : SectionState). entries_of s.items) (lists_equiv same_entry_equiv))
 
+-- the test is reflexive, symmetric and transitive
 pub same_state_equiv : IsEquivalence same_state
 same_state_equiv = on_equiv (λ (state : State). state.sections) (lists_equiv same_section_equiv)
 
+-- the test is symmetric and transitive
 pub same_state_partial : IsPartialEquivalence same_state
 same_state_partial = partial_equiv_from_equiv same_state_equiv

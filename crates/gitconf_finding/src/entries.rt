@@ -15,7 +15,7 @@ use gitconf_views::lists::put;
 use gitconf_views::section::SectionRef;
 use gitconf_views::values::last_entry;
 
-/// The last entry of a key in a section, where it decides.
+/// The last entry of a key in a section, if it decides.
 pub fn deciding_entry<'a>(
     section: &SectionRef<'a>,
     key: &[u8],
@@ -31,7 +31,7 @@ pub fn deciding_entry<'a>(
     }
 }
 
-/// Puts the entries of a key in a section behind those that were found, in order.
+/// Adds the entries of a key in a section to those that were found, in order.
 pub fn push_entries<'a>(
     found: &mut Vec<Found<'a>>,
     section: &SectionRef<'a>,

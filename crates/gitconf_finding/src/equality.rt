@@ -1,4 +1,4 @@
-//! Whether sections say the same. No memory is taken: meanings are compared byte by byte, as they are decoded.
+//! Whether sections have the same contents. No memory is taken: meanings are compared byte by byte, as they are decoded.
 ghost use Rattle.std.specs.Prelude.{◌≡◌, ◌<◌, ◌&&◌, [], ◌∷◌, Bool, true, false, length, MatchOption, IfSome};
 ghost use Rattle.std.specs.Option.{option_copied, option_eq};
 ghost use Rattle.std.specs.Str.{bytes_eq};
@@ -21,7 +21,7 @@ use gitconf_text::parse::section::bytes::is_same_name;
 use gitconf_views::section::{SectionRef, Sections};
 use gitconf_views::views::{HeaderRef, next_entry};
 
-/// The bytes of a raw text that are left: those of the piece that a walk stands in, of the pieces behind it, and the last ones.
+/// The bytes of a raw text that are left: those of the current piece, of the pieces after it, and of the last piece.
 #[derive(Clone, Copy)]
 struct RawBytes<'a> {
     buffer: &'a [u8],
@@ -43,7 +43,7 @@ fn value_bytes<'a>(buffer: &'a [u8], value: &'a Value) -> RawBytes<'a>
     }
 }
 
-/// The raw text of an entry; no bytes where it has no value.
+/// The raw text of an entry; no bytes if it has no value.
 fn raw_bytes<'a>(buffer: &'a [u8], entry: &'a Entry) -> RawBytes<'a>
     ensures { plain (raw_left result) ≡ state.meaning (document_entry (entry_of buffer.now entry.now)) }
 {
@@ -64,7 +64,7 @@ fn raw_bytes<'a>(buffer: &'a [u8], entry: &'a Entry) -> RawBytes<'a>
     }
 }
 
-/// The next byte of a raw text, and those behind it.
+/// The next byte of a raw text, and those after it.
 fn next_raw(bytes: RawBytes<'_>) -> Option<(u8, RawBytes<'_>)>
     ensures { MatchOption result (raw_left bytes.entry ≡ []) (λ r. raw_left bytes.entry ≡ r.0 ∷ raw_left r.1) }
 {
@@ -86,7 +86,7 @@ fn next_raw(bytes: RawBytes<'_>) -> Option<(u8, RawBytes<'_>)>
     }
 }
 
-/// What the byte behind a backslash stands for.
+/// What the byte after a backslash stands for.
 fn escape_meaning(byte: u8) -> u8
     ensures { result ≡ grammar.escape_meaning byte }
 {
@@ -98,7 +98,7 @@ fn escape_meaning(byte: u8) -> u8
     }
 }
 
-/// The next byte of what a raw text means, and the raw bytes behind it.
+/// The next byte of what a raw text means, and the raw bytes after it.
 #[tactic(auto, using(crate::proofs::Meanings::byte_by_byte))]
 fn next_meaning(bytes: RawBytes<'_>) -> Option<(u8, RawBytes<'_>)>
     ensures { MatchOption result (plain (raw_left bytes.entry) ≡ []) (λ r. plain (raw_left bytes.entry) ≡ r.0 ∷ plain (raw_left r.1)) }
@@ -169,7 +169,7 @@ fn same_entries(buffer: &[u8], items: &[Item], other_buffer: &[u8], others: &[It
     }
 }
 
-/// Whether both are none, or the same bytes.
+/// Whether both are `None`, or the same bytes.
 fn same_subsection(one: Option<&[u8]>, other: Option<&[u8]>) -> bool
     ensures { result ≡ option_eq bytes_eq (option_copied one.entry) (option_copied other.entry) }
 {
@@ -180,7 +180,7 @@ fn same_subsection(one: Option<&[u8]>, other: Option<&[u8]>) -> bool
     }
 }
 
-/// Whether two headers say the same name, without ASCII case, and the same subsection.
+/// Whether two headers have the same name, without ASCII case, and the same subsection.
 fn same_header(one: &HeaderRef<'_>, other: &HeaderRef<'_>) -> bool
     ensures { result ≡ (is_same_name (name_of (shown_header one.now)) (name_of (shown_header other.now))
         && option_eq bytes_eq (subsection_of (shown_header one.now)) (subsection_of (shown_header other.now))) }
@@ -199,7 +199,7 @@ fn same_section(one: &SectionRef<'_>, other: &SectionRef<'_>) -> bool
     same_entries(one.buffer, one.items, other.buffer, other.items)
 }
 
-/// Whether all sections are the same, one by one.
+/// Whether all sections are the same, in order.
 pub fn same_sections(one: Sections<'_>, other: Sections<'_>) -> bool
     ensures { result ≡ pointwise spec.same_section (sections_left one.entry) (sections_left other.entry) }
 {

@@ -1,11 +1,11 @@
-//! Why that is missing which a look-up asks for.
+//! Why something is missing that a lookup asks for.
 ghost use Rattle.std.specs.Prelude.{◌≡◌};
 
 use gitconf_text::NoMemory;
 use gitconf_text::parse::section::ValueNameError;
 use thiserror::Error;
 
-/// Why that is missing which a look-up asks for, or an edit.
+/// Why something is missing that a lookup or an edit asks for.
 #[derive(Debug, Drop, Error)]
 pub enum Error {
     /// No section has the name: refusal 7.
@@ -17,7 +17,7 @@ pub enum Error {
     /// No section of the name and subsection has such a value: refusal 9.
     #[error("The key does not exist in the requested section")]
     KeyMissing,
-    /// The name of a value that is to be written is none: refusal 6. Look-ups don't answer it.
+    /// The name of a value that is to be written is invalid: refusal 6. Lookups don't return it.
     #[error(transparent)]
     ValueName(ValueNameError),
     /// A growth was refused: refusal 27.

@@ -1,4 +1,4 @@
-//! Filters that are asked about metadata, and the last section that passes one.
+//! Filters of metadata, and the last section that passes one.
 ghost use Rattle.std.specs.Fn.{ComputesKey};
 ghost use Rattle.std.specs.List.{last_or};
 ghost use Rattle.std.specs.Option.{option_map};
@@ -13,7 +13,7 @@ use crate::walks::SectionsNamed;
 use gitconf_base::meta::Metadata;
 use gitconf_views::section::SectionRef;
 
-/// Whether the metadata passes the filter. It is asked here alone.
+/// Whether the metadata passes the filter. Only this function calls the filter.
 pub fn passes<F: FnMut(&Metadata) -> bool>(filter: &mut F, meta: &Metadata) -> bool
     requires { F.IsAlwaysCallable filter.old }
     ensures callable { F.IsAlwaysCallable filter.new }
@@ -23,7 +23,7 @@ pub fn passes<F: FnMut(&Metadata) -> bool>(filter: &mut F, meta: &Metadata) -> b
     filter(meta)
 }
 
-/// The last of the sections whose metadata passes the filter, which is asked from the last section on, up to that one.
+/// The last of the sections whose metadata passes the filter, which is called for the sections from the last one up to that one.
 pub fn last_passing<'a, F: FnMut(&Metadata) -> bool>(
     sections: SectionsNamed<'a, '_, '_>,
     filter: F,
@@ -31,7 +31,7 @@ pub fn last_passing<'a, F: FnMut(&Metadata) -> bool>(
     requires { F.IsAlwaysCallable filter }
     ensures exact { (keeps : Meta → Bool) → ComputesKey F.FnMut keeps filter
         → option_map shown result ≡ last_or None (passing keeps (named_left sections.entry)) }
-    // Whatever the filter answers.
+    // For any filter.
     ensures some { (some : List SectionState) × AreSome (named_left sections.entry) some
         × (option_map shown result ≡ last_or None (passing (λ _. true) some)) }
 {

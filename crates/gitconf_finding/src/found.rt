@@ -1,4 +1,4 @@
-//! A place that a look-up found, and what stands there.
+//! A place that a lookup found, and what is there.
 ghost use Rattle.std.specs.Prelude.{◌≡◌, IfOk};
 
 use bstr::BString;
@@ -8,16 +8,16 @@ use gitconf_views::section::SectionRef;
 use gitconf_views::values::{entry_meaning, entry_value};
 use std::alloc::Global;
 
-/// Which entries decide in their section, where they are the last one of the key.
+/// Which entries decide in their section, if they are the last of the key there.
 #[derive(Clone, Copy)]
 pub enum Deciding {
-    /// Each.
+    /// Every entry.
     Entry,
-    /// One with a value. Behind one without, a look-up goes on to an earlier section.
+    /// An entry with a value. After one without, a lookup continues with an earlier section.
     Value,
 }
 
-/// The same view again.
+/// A copy of the view.
 pub fn same_view<'a>(section: &SectionRef<'a>) -> SectionRef<'a>
     ensures { result ≡ section.now }
 {
@@ -33,10 +33,12 @@ pub fn same_view<'a>(section: &SectionRef<'a>) -> SectionRef<'a>
     }
 }
 
-/// An entry that a look-up found, and the section in which it stands.
+/// An entry that a lookup found, and its section.
 #[derive(Clone, Copy)]
 pub struct Found<'a> {
+    /// The section of the entry.
     pub section: SectionRef<'a>,
+    /// The entry.
     pub entry: &'a Entry,
 }
 
@@ -48,14 +50,14 @@ impl<'a> Found<'a> {
     ghost use Rattle.gitconf_finding.specs.Finding.{place_of};
     ghost use Rattle.gitconf_views.specs.Views.{shown};
 
-    /// The section in which the entry stands.
+    /// The section of the entry.
     pub fn section(&self) -> SectionRef<'a>
         ensures { shown result ≡ (place_of self.now).0 }
     {
         same_view(&self.section)
     }
 
-    /// What the entry means; without a value it is empty. Memory is taken for the answer, where there is a value.
+    /// What the entry means; without a value it is empty. Memory is taken for the result, if there is a value.
     pub fn meaning(&self, alloc: Global) -> Result<BString, NoMemory>
         ensures { IfOk result (λ text. bstring_bytes text ≡ meant (place_of self.now).1) }
     {

@@ -1,4 +1,4 @@
-//! Walks over the sections of a file, what look-ups find in them, whether those of two files say the same, and how they are written.
+//! Walks over the sections of a file, what lookups find in them, whether two files have the same sections, and how sections are written.
 #![tactic(auto)]
 
 pub mod entries;

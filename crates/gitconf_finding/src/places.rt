@@ -1,4 +1,4 @@
-//! Where the entries of a key stand: each in the section of a number, at a place among its items.
+//! Where the entries of a key are: each by the number of its section and its place among the items there.
 ghost use Rattle.std.specs.Fn.{ComputesKey};
 ghost use Rattle.std.specs.List.{last_or};
 ghost use Rattle.std.specs.Prelude.{◌≡◌, ◌≢◌, ◌++◌, [], Bool, List, None, true, OnOk, OnErr};
@@ -20,7 +20,7 @@ use gitconf_views::lists::put;
 use gitconf_views::section::SectionRef;
 use std::alloc::Global;
 
-/// Where the last entry of a key stands in a section.
+/// The place of the last entry of a key in a section.
 fn last_place_in(section: &SectionRef<'_>, key: &[u8]) -> Option<(SectionId, usize)>
     ensures { result ≡ last_or None (value_places key.now (shown section.now)) }
 {
@@ -30,7 +30,7 @@ fn last_place_in(section: &SectionRef<'_>, key: &[u8]) -> Option<(SectionId, usi
     }
 }
 
-/// Puts where the entries of a key stand in a section behind those that were found, in order.
+/// Adds the places of the entries of a key in a section to those that were found, in order.
 fn push_places(
     found: &mut Vec<(SectionId, usize)>,
     section: &SectionRef<'_>,
@@ -51,7 +51,7 @@ fn push_places(
     Ok(())
 }
 
-/// Where the entries of a key stand in the passing sections, with `=` or without it, in file order. Takes memory for the places alone.
+/// The places of the entries of a key in the passing sections, with `=` or without it, in file order. Takes memory for the places alone.
 pub fn all_value_places<F: FnMut(&Metadata) -> bool>(
     alloc: Global,
     sections: SectionsNamed<'_, '_, '_>,
@@ -61,7 +61,7 @@ pub fn all_value_places<F: FnMut(&Metadata) -> bool>(
     requires { F.IsAlwaysCallable filter }
     ensures exact { (keeps : Meta → Bool) → ComputesKey F.FnMut keeps filter
         → AreAll result (all_value_places key.now keeps (named_left sections.entry)) }
-    // Whatever the filter answers.
+    // For any filter.
     ensures some { (some : List SectionState) × AreSome (named_left sections.entry) some
         × AreAll result (all_value_places key.now (λ _. true) some) }
 {
@@ -76,14 +76,14 @@ pub fn all_value_places<F: FnMut(&Metadata) -> bool>(
     Ok(found)
 }
 
-/// Puts places in order: by the numbers of their sections, then by the places in these. Takes no memory.
+/// Sorts places by the numbers of their sections, then by the places there. Takes no memory.
 pub fn put_in_order(places: &mut Vec<(SectionId, usize)>)
     ensures { AreInOrder places.old.items places.new.items }
 {
     places.sort_unstable();
 }
 
-/// Where the last entry of a key stands in the last of the passing sections that has one, with `=` or without it. Takes no memory.
+/// The place of the last entry of a key in the last of the passing sections that has one, with `=` or without it. Takes no memory.
 pub fn last_value_place<F: FnMut(&Metadata) -> bool>(
     sections: SectionsNamed<'_, '_, '_>,
     key: &[u8],
@@ -92,7 +92,7 @@ pub fn last_value_place<F: FnMut(&Metadata) -> bool>(
     requires { F.IsAlwaysCallable filter }
     ensures exact { (keeps : Meta → Bool) → ComputesKey F.FnMut keeps filter
         → result ≡ last_value_place key.now keeps (named_left sections.entry) }
-    // Whatever the filter answers.
+    // For any filter.
     ensures some { (some : List SectionState) × AreSome (named_left sections.entry) some
         × (result ≡ last_value_place key.now (λ _. true) some) }
 {

@@ -16,7 +16,7 @@ use gitconf_views::section::{SectionRef, Sections};
 use gitconf_write::line_end::ends_line;
 use gitconf_write::sections::write_line_end_unless;
 
-/// Whether the filter keeps a section. It is asked here alone.
+/// Whether the filter keeps a section. Only this function calls the filter.
 fn is_kept<F: FnMut(&SectionRef<'_>) -> bool>(filter: &mut F, section: &SectionRef<'_>) -> bool
     requires { F.IsAlwaysCallable filter.old }
     ensures callable { F.IsAlwaysCallable filter.new }
@@ -26,7 +26,7 @@ fn is_kept<F: FnMut(&SectionRef<'_>) -> bool>(filter: &mut F, section: &SectionR
     filter(section)
 }
 
-/// Whether the filter keeps one of the sections. It is asked up to the first that it keeps.
+/// Whether the filter keeps one of the sections. It is called up to the first that it keeps.
 fn is_any_kept<F: FnMut(&SectionRef<'_>) -> bool>(filter: &mut F, sections: Sections<'_>) -> bool
     requires { F.IsAlwaysCallable filter.old }
     ensures callable { F.IsAlwaysCallable filter.new }
@@ -42,7 +42,7 @@ fn is_any_kept<F: FnMut(&SectionRef<'_>) -> bool>(filter: &mut F, sections: Sect
     false
 }
 
-/// Whether no line end is missing behind a front: it is empty, or ends with one, or no section is kept.
+/// Whether no line ending is missing after a front: it is empty, or ends with one, or no section is kept.
 pub fn front_is_ended<F: FnMut(&SectionRef<'_>) -> bool>(
     buffer: &[u8],
     front: &[Item],
@@ -60,8 +60,8 @@ pub fn front_is_ended<F: FnMut(&SectionRef<'_>) -> bool>(
     front.is_empty() || ends_line(buffer, front, line_end) || !is_any_kept(filter, sections)
 }
 
-/// Writes a section that the filter keeps, behind a line end where the last one ended without. Answers whether a line
-/// end stands behind the last section that was written.
+/// Writes a section that the filter keeps, after a line ending if the last one ended without. Returns whether the last section
+/// that was written ended with a line ending.
 fn write_next<W: Sink, F: FnMut(&SectionRef<'_>) -> bool>(
     out: &mut W,
     ended: bool,
@@ -87,7 +87,7 @@ fn write_next<W: Sink, F: FnMut(&SectionRef<'_>) -> bool>(
     Ok(section.ends_with_line(line_end))
 }
 
-/// Writes the sections that the filter keeps, and the line ends between them.
+/// Writes the sections that the filter keeps, and the line endings between them.
 pub fn write_sections<W: Sink, F: FnMut(&SectionRef<'_>) -> bool>(
     out: &mut W,
     sections: Sections<'_>,

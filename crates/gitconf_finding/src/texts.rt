@@ -20,7 +20,7 @@ pub fn text(alloc: Global, found: &Option<Found<'_>>) -> Result<Option<BString>,
     ensures { IsFound bstring_bytes result (option_map (λ (p : Place). meant p.1) (option_map place_of found.now)) }
 {
     match found {
-        // Not `meaning` of the place: for that the view of its section would be put into memory.
+        // Not `meaning` of the place: it would put the view of the section into memory.
         Some(place) => Ok(Some(entry_meaning(alloc, place.section.buffer, place.entry)?)),
         None => Ok(None),
     }

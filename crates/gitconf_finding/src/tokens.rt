@@ -1,4 +1,4 @@
-//! What the tokens of a file tell: its line end, whether there are any, and how many entries.
+//! What is found in the tokens of a file: its line ending, whether there are any, and how many entries.
 ghost use Rattle.std.specs.Prelude.{◌≡◌, ◌-◌, ◌^◌, ◌++◌, length, flat_map, min, option_map, true};
 ghost use Rattle.std.specs.List.{count_by};
 ghost use Rattle.gitconf_text.specs.Token.{item_tokens};
@@ -17,7 +17,7 @@ use gitconf_views::section::Sections;
 use gitconf_views::views::entry_count;
 use gitconf_write::line_end::first_line_end;
 
-/// The line end of the first newline of the sections' bodies, if there is one.
+/// The line ending of the first newline of the sections' bodies, if there is one.
 pub fn bodies_line_end(sections: Sections<'_>) -> Option<LineEnd>
     ensures { option_map bytes_of_line_end result ≡ first_newline_of_bodies (sections_left sections.entry) }
 {
@@ -29,7 +29,7 @@ pub fn bodies_line_end(sections: Sections<'_>) -> Option<LineEnd>
     None
 }
 
-/// The line end of the first newline of a front and of the sections' bodies; LF where there is none.
+/// The line ending of the first newline of a front and of the sections' bodies; LF if there is none.
 pub fn file_line_end(buffer: &[u8], front: &[Item], sections: Sections<'_>) -> LineEnd
     ensures { bytes_of_line_end result ≡ line_end_of (flat_map item_tokens (items_of buffer.now front.now ++ flat_map (λ s. s.items) (sections_left sections.entry))) }
 {
@@ -39,7 +39,7 @@ pub fn file_line_end(buffer: &[u8], front: &[Item], sections: Sections<'_>) -> L
     bodies_line_end(sections).unwrap_or(LineEnd::Lf)
 }
 
-/// Whether no section has anything in its body.
+/// Whether all bodies are empty.
 pub fn are_void(sections: Sections<'_>) -> bool
     ensures { result ≡ are_void (sections_left sections.entry) }
 {
@@ -51,7 +51,7 @@ pub fn are_void(sections: Sections<'_>) -> bool
     true
 }
 
-/// How many entries the sections have; the greatest number where they are more.
+/// How many entries the sections have, or `usize::MAX` if there are more.
 pub fn value_count(sections: Sections<'_>) -> usize
     ensures { result ≡ min (length (section_entries (sections_left sections.entry))) (2 ^ 64 - 1) }
 {

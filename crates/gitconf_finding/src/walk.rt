@@ -1,4 +1,4 @@
-//! The walks of all look-ups of a key: over the sections of a name and subsection, from the last one on, or from the first.
+//! The walks of all lookups of a key: over the sections of a name and subsection, from the last one or from the first.
 ghost use Rattle.std.specs.Fn.{ComputesKey};
 ghost use Rattle.std.specs.Option.{option_map};
 ghost use Rattle.std.specs.Prelude.{◌≡◌, Bool, List, true};
@@ -16,7 +16,7 @@ use gitconf_base::meta::Metadata;
 use gitconf_text::NoMemory;
 use std::alloc::Global;
 
-/// The entry that decides in the last of the passing sections where one does. Takes no memory.
+/// The entry that decides in the last of the passing sections in which one does. Takes no memory.
 pub fn last_found<'a, F: FnMut(&Metadata) -> bool>(
     sections: SectionsNamed<'a, '_, '_>,
     key: &[u8],
@@ -26,7 +26,7 @@ pub fn last_found<'a, F: FnMut(&Metadata) -> bool>(
     requires { F.IsAlwaysCallable filter }
     ensures exact { (keeps : Meta → Bool) → ComputesKey F.FnMut keeps filter
         → option_map place_of result ≡ last_place deciding key.now keeps (named_left sections.entry) }
-    // Whatever the filter answers.
+    // For any filter.
     ensures some { (some : List SectionState) × AreSome (named_left sections.entry) some
         × (option_map place_of result ≡ last_place deciding key.now (λ _. true) some) }
 {
@@ -52,7 +52,7 @@ pub fn all_found<'a, F: FnMut(&Metadata) -> bool>(
     requires { F.IsAlwaysCallable filter }
     ensures exact { (keeps : Meta → Bool) → ComputesKey F.FnMut keeps filter
         → AreFound result (all_places key.now keeps (named_left sections.entry)) }
-    // Whatever the filter answers.
+    // For any filter.
     ensures some { (some : List SectionState) × AreSome (named_left sections.entry) some
         × AreFound result (all_places key.now (λ _. true) some) }
 {

@@ -12,8 +12,11 @@ use gitconf_views::section::{SectionRef, Sections};
 /// The sections of a name and subsection in file order, from either end.
 #[derive(Drop)]
 pub struct SectionsNamed<'a, 'n, 's> {
+    /// The buffer that all spans are offsets of.
     pub buffer: &'a [u8],
+    /// The decoded subsections of the headers that need one.
     pub copies: &'a [u8],
+    /// What is left of the walk over the table.
     pub sections: Named<'a, 'n, 's>,
     ghost viewed: { AreViewed buffer.now copies.now (walks.named_left sections) } by { AreViewed-prop buffer.now copies.now (walks.named_left sections) },
 }
@@ -74,8 +77,11 @@ impl<'a> DoubleEndedIterator for SectionsNamed<'a, '_, '_> {
 /// `Store::sections_by_name`.
 #[derive(Drop)]
 pub struct SectionsByName<'a, 'n> {
+    /// The buffer that all spans are offsets of.
     pub buffer: &'a [u8],
+    /// The decoded subsections of the headers that need one.
     pub copies: &'a [u8],
+    /// What is left of the walk over the table.
     pub sections: WithName<'a, 'n>,
     ghost viewed: { AreViewed buffer.now copies.now (walks.with_name_left sections) } by { AreViewed-prop buffer.now copies.now (walks.with_name_left sections) },
 }
@@ -108,12 +114,13 @@ impl<'a> Iterator for SectionsByName<'a, '_> {
     }
 }
 
-/// The sections of a name in file order whose metadata passes a filter:
-/// `Store::sections_by_name_and_filter`. The filter is asked about each
-/// section when its turn comes.
+/// The sections of a name in file order whose metadata passes a filter: `Store::sections_by_name_and_filter`. The
+/// filter is called for each section when the walk reaches it.
 #[derive(Drop)]
 pub struct SectionsByNameAndFilter<'a, 'n, F> {
+    /// What is left of the walk without the filter.
     pub sections: SectionsByName<'a, 'n>,
+    /// The filter.
     pub filter: F,
 }
 
@@ -131,7 +138,7 @@ impl<'a, F: FnMut(&Metadata) -> bool + Drop> Iterator for SectionsByNameAndFilte
 
     ghost can_next = { λ s. F.IsAlwaysCallable s.filter };
 
-    // For a filter that answers by what it is shown; and whatever it answers.
+    // For a filter whose result depends only on what it is shown; and for any filter.
     ghost next_gives = { λ before item behind. ((keeps : Meta → Bool) → ComputesKey F.FnMut keeps before.filter
         → ComputesKey F.FnMut keeps behind.filter × YieldsFirstBy shown (λ it. passing keeps (by_name_left it.sections)) before item behind)
         × IsBehindSome (by_name_left before.sections) (option_map shown item) (by_name_left behind.sections) };
@@ -152,6 +159,7 @@ impl<'a, F: FnMut(&Metadata) -> bool + Drop> Iterator for SectionsByNameAndFilte
 /// `Store::sections_and_ids`.
 #[derive(Drop)]
 pub struct SectionsAndIds<'a> {
+    /// The sections that are left.
     pub sections: Sections<'a>,
 }
 
@@ -180,6 +188,7 @@ impl<'a> Iterator for SectionsAndIds<'a> {
 /// `Store::sections_and_ids_by_name`.
 #[derive(Drop)]
 pub struct SectionsAndIdsByName<'a, 'n> {
+    /// The sections that are left.
     pub sections: SectionsByName<'a, 'n>,
 }
 
@@ -207,6 +216,7 @@ impl<'a> Iterator for SectionsAndIdsByName<'a, '_> {
 /// The numbers of the sections of a file, in order: `Store::section_ids`.
 #[derive(Drop)]
 pub struct SectionIds<'a> {
+    /// The sections that are left.
     pub sections: Sections<'a>,
 }
 
@@ -228,10 +238,10 @@ impl Iterator for SectionIds<'_> {
     }
 }
 
-/// The sections of a file in order, each with the events of what is held behind it:
-/// `Store::sections_and_postmatter`.
+/// The sections of a file in order, each with the events of what is held after it: `Store::sections_and_postmatter`.
 #[derive(Drop)]
 pub struct SectionsAndPostmatter<'a> {
+    /// The sections that are left.
     pub sections: Sections<'a>,
 }
 

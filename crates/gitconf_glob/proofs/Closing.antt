@@ -1,4 +1,4 @@
--- Where the first `]` of a text stands.
+-- Where the first `]` of a text is.
 use Rattle.std.proofs.Common.{◌≡◌, ◌≢◌, ℕ, zero, suc, ◌+◌, ◌-◌, ◌≤◌, ◌<◌, Bool, true, false, get_or, Option, Some, None, List, [], ◌∷◌, length, drop, refl, ap, ◌∙◌, arith}
 use Rattle.std.specs.Prelude.{◌==◌}
 use Rattle.std.specs.Option.{option_map}
@@ -24,7 +24,7 @@ counted_from n k (b ∷ p) = go (b == 93) refl (counted_from n (k + 1) p)
     go true e later = rw (e, close_from) refl
     go false e later = rw (e, close_from) (ap (λ m. close_from m p) (omega arith) ∙ later)
 
--- it stands within the text
+-- it is within the text
 pub close_within : (n : ℕ) (p : List ℕ) (m : ℕ) → close_from n p ≡ Some m → m < n + length p
 unfolding close_from
 close_within n [] m is = absurd (cc)
@@ -34,7 +34,7 @@ close_within n (b ∷ p) m is = go (b == 93) refl (λ e. close_within (n + 1) p 
     go true e later = let h = rw (e, close_from) at is in let same : n ≡ m = cc in omega (arith, same)
     go false e later = let h = later (rw (e, close_from) at is) in omega (arith, h)
 
--- behind bytes that it doesn't stand in, it is the same one
+-- after bytes that it isn't in, it is the same one
 pub close_behind : (more n : ℕ) (p : List ℕ) (m : ℕ) → close_from n p ≡ Some m → n + more ≤ m → close_from (n + more) (drop more p) ≡ Some m
 unfolding close_from
 close_behind zero n p m is past = ap (λ k. close_from k p) (omega arith) ∙ is
@@ -46,7 +46,7 @@ close_behind (suc more) n (b ∷ p) m is past = go (b == 93) refl (λ e h. close
     go true e later = absurd (let h = rw (e, close_from) at is in let same : n ≡ m = cc in omega (arith, same, past))
     go false e later = ap (λ k. close_from k (drop more p)) (omega arith) ∙ later (rw (e, close_from) at is) (omega (arith, past))
 
--- where none stands, none does behind some bytes
+-- if none is, none does after some bytes
 pub none_behind : (more n k : ℕ) (p : List ℕ) → close_from n p ≡ None → close_from k (drop more p) ≡ None
 unfolding close_from
 none_behind zero n k [] is = refl
@@ -58,7 +58,7 @@ none_behind more n k (b ∷ p) is = go more (b == 93) refl (λ m k. none_behind 
     go zero false e later = rw (e, close_from) (later 0 (k + 1) (rw (e, close_from) at is))
     go (suc more) false e later = later more k (rw (e, close_from) at is)
 
--- the one behind `[:`
+-- the one after `[:`
 pub close_of_name : (p : List ℕ) → 2 ≤ length p → get_or p 0 0 ≡ 91 → get_or p 1 0 ≡ 58 → close_from 0 p ≡ close_from 2 (drop 2 p)
 unfolding close_from
 close_of_name [] long first second = absurd (let h = long in omega arith)
@@ -73,7 +73,7 @@ anew passed n p is = go (close_from 0 p) refl (ap (λ k. close_from k p) (omega 
     go None e counted = absurd (let h = rw e at counted in cc)
     go (Some m) e counted = let h = rw e at counted in let same : passed + m ≡ n = cc in (omega (arith, same), e ∙ ap Some (omega (arith, same)))
 
--- one byte more stands before it
+-- one byte more comes before it
 pub one_before : (b : ℕ) (p : List ℕ) (n : ℕ) → b ≢ 93 → close_from 0 p ≡ Some n → close_from 0 (b ∷ p) ≡ Some (n + 1)
 unfolding close_from
 one_before b p n differs is = rw (other_byte b 93 differs, close_from) (counted_from 1 0 p ∙ ap (option_map (λ m. 1 + m)) is ∙ ap Some (omega arith))

@@ -5,7 +5,7 @@ use Rattle.std.proofs.lemmas.List.{drop-set, drop_more, get_or-drop}
 use Rattle.gitconf_glob.specs.Bracket.{lets_in}
 use Rattle.gitconf_glob.specs.Cells.{one_cells, taken_cells, run_cells, folder_cells, last_cells}
 
--- the cell at i is set, and those behind it stay
+-- the cell at i is set, and those after it stay
 set_at : (row : List Bool) (i : ℕ) (cell : Bool) (cells : List Bool) → i < length row → drop (i + 1) row ≡ cells → drop i (set row i cell) ≡ cell ∷ cells
 set_at row i cell cells within same = drop-set row i cell within ∙ ap (λ cs. cell ∷ cs) same
 
@@ -49,7 +49,7 @@ run_step slashes text below row i j cell next within row_long below_long same is
     later : drop (i + 1) row ≡ run_cells slashes (drop (i + 1) text) (drop (i + 1) below)
     later = ap (λ k. drop k row) (sym next) ∙ same ∙ ap (λ k. run_cells slashes (drop k text) (drop k below)) next
 
--- what is reached from i: what stands behind the run is there, or it is reached from the next place
+-- what is reached from i: what follows the run is there, or it is reached from the next place
 pub reached_step : (text : List ℕ) (below : List Bool) (i j : ℕ) (reached cell : Bool) → j ≡ i + 1 → i < length text → length below ≡ length text + 1
     → reached ≡ get_or (run_cells true (drop j text) (drop j below)) 0 false → cell ≡ (get_or below i false || (true || not (get_or text i 0 == 47)) && reached)
     → cell ≡ get_or (run_cells true (drop i text) (drop i below)) 0 false

@@ -53,7 +53,7 @@ member_passed first (b ∷ p) m more some open_still is fits = rw (open_still, i
         one_more : (n : ℕ) → suc n ≡ n + 1
         one_more n = omega arith
 
--- where there is no member, a bracket takes nothing
+-- if there is no member, a bracket takes nothing
 pub no_member : (first : Bool) (p : List ℕ) → (get_or p 0 0 == 93 && not first) ≡ false → member p ≡ None → members first 0 p ≡ None
 unfolding members
 no_member first [] open_still is = refl
@@ -87,7 +87,7 @@ members_within first zero (b ∷ p) ms n is = go (b == 93 && not first) refl (λ
     go true e later = let h = rw (e, members) at is in let same : 1 ≡ n = ap count_of h in omega (arith, same)
     go false e later = one (member (b ∷ p)) refl e later
 
--- what is told of the members, behind bytes of which it is told already
+-- what is known of the members, after bytes of which it is told already
 abbrev pub among_so_far : (so_far : Bool) (n : ℕ) → Option (Bool × ℕ) → Option (Bool × ℕ)
 among_so_far so_far n told = option_map (λ (t : Bool × ℕ). (so_far || t.0, n + t.1)) told
 

@@ -75,7 +75,7 @@ goes_on ignore_case (Run slashes n) slash p text c more some within = absurd (cc
 goes_on ignore_case Rest slash p text c more some within = absurd (cc)
 goes_on ignore_case (Folders n) slash p text c more some within = absurd (cc)
 
--- the mark of a place behind the front
+-- the mark of a place after the front
 fresh_behind : (p : List ℕ) (i more : ℕ) → is_fresh_at (get_or p i 0 == 47) more (drop (i + 1) p) ≡ is_fresh_at true (i + (1 + more)) p
 fresh_behind p i zero = ap (λ n. is_fresh_at true n p) one_more
   where

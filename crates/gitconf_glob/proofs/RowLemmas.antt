@@ -77,7 +77,7 @@ nth_row ignore_case fresh zero (b ∷ p) text within = refl
 nth_row ignore_case fresh (suc k) [] text within = absurd (let h = within in omega arith)
 nth_row ignore_case fresh (suc k) (b ∷ p) text within = nth_row ignore_case (b == 47) k p text (omega arith)
 
--- what a front matches, with the rest of the pattern behind its first byte
+-- what a front matches, with the rest of the pattern after its first byte
 abbrev pub matched : (ignore_case : Bool) → Front → (slash : Bool) (p text : List ℕ) → Bool
 matched ignore_case f slash p text = elim f [
   | Nothing ↦ false
@@ -194,7 +194,7 @@ last_filled shown rows row ignore_case fresh p text count is =
     ∙ (λ i. (is ∙ last_row_is ignore_case fresh text) i ∷ map shown (drop_all (length p + 1) rows (omega (arith, count)) i))
     ∙ sym (ap (λ q. rows_of ignore_case fresh q text) (drop-length p))
 
--- a row is filled over those behind it
+-- a row is filled over those after it
 pub row_filled : {X : Type 0} (shown : X → List Bool) (rows : List X) (row : X) (ignore_case fresh here : Bool) (p rest text : List ℕ) (k j : ℕ) → j ≡ k + 1 → k < length p
     → length rows ≡ length p + 1 → map shown (drop j rows) ≡ rows_of ignore_case (is_fresh_at fresh j p) (drop j p) text
     → here ≡ is_fresh_at fresh k p → rest ≡ drop (k + 1) p → shown row ≡ cells ignore_case here (get_or p k 0 ∷ rest) text
@@ -210,7 +210,7 @@ row_filled shown rows row ignore_case fresh here p rest text k j next within cou
     later : map shown (drop (k + 1) rows) ≡ rows_of ignore_case (get_or p k 0 == 47) (drop (k + 1) p) text
     later = ap (λ n. map shown (drop n rows)) (sym next) ∙ same ∙ (λ i. rows_of ignore_case (is_fresh_at fresh (one_more i) p) (drop (next i) p) text)
 
--- behind the whole pattern the text has to end
+-- after the whole pattern the text has to end
 pub at_end : (ignore_case : Bool) (p text : List ℕ) (i j : ℕ) → length p ≤ i → i ≤ length p → j ≤ length text
     → (j == length text) ≡ matches ignore_case 0 (is_fresh_at true i p) (drop i p) (drop j text)
 unfolding matches

@@ -14,13 +14,13 @@ use Rattle.gitconf_glob.specs.Places.{told, all_told, told_behind, with_member, 
 use Rattle.gitconf_glob.proofs.RowLemmas.{tails_count}
 use Rattle.gitconf_glob.proofs.Members.{member_passed, no_member, members_within, behind_member, count_of}
 
--- a member with nothing behind it
+-- a member with nothing after it
 joined_alone : (ignore_case : Bool) (m : Member) (text : List ℕ) → joined ignore_case m text [] ≡ map (is_of_any ignore_case (m ∷ [])) text
 unfolding joined
 joined_alone ignore_case m [] = refl
 joined_alone ignore_case m (b ∷ text) = λ i. (has ignore_case m b || false) ∷ joined_alone ignore_case m text i
 
--- a member with others behind it
+-- a member with others after it
 joined_more : (ignore_case : Bool) (m : Member) (ms : List Member) (text : List ℕ) → joined ignore_case m text (map (is_of_any ignore_case ms) text) ≡ map (is_of_any ignore_case (m ∷ ms)) text
 unfolding joined
 joined_more ignore_case m ms [] = refl
@@ -41,7 +41,7 @@ member_told ignore_case text p (c ∷ q) m more is = go (c == 93) refl
     go true e = rw (is, e, members) (λ i. Some (sym (joined_alone ignore_case m text) i, 1 + (more + 1)))
     go false e = rw e (others (members true 0 (c ∷ q)) refl (rw (e, members) refl))
 
--- a member stands first
+-- a member comes first
 pub place_told : (ignore_case : Bool) (text p : List ℕ) (m : Member) (more : ℕ) → member p ≡ Some (m, more) → more < length p
     → told ignore_case text p ≡ with_member ignore_case text m more (told_behind ignore_case text (drop (more + 1) p))
 place_told ignore_case text p m more is fits =
@@ -51,7 +51,7 @@ place_told ignore_case text p m more is fits =
     never_closes true = refl
     never_closes false = refl
 
--- no member stands first
+-- no member comes first
 pub nothing_told : (ignore_case : Bool) (text p : List ℕ) → member p ≡ None → told ignore_case text p ≡ None
 nothing_told ignore_case text p is = ap (option_map (λ (r : List Member × ℕ). (map (is_of_any ignore_case r.0) text, r.1))) (no_member true p (never_closes (get_or p 0 0 == 93)) is)
   where
@@ -63,7 +63,7 @@ nothing_told ignore_case text p is = ap (option_map (λ (r : List Member × ℕ)
 pub told_count : (ignore_case : Bool) (text p : List ℕ) → length (all_told ignore_case text p) ≡ length p + 1
 told_count ignore_case text p = length-map (tails p) (told ignore_case text) ∙ tails_count p
 
--- what is told of the place k
+-- what is known of the place k
 pub nth_told : {X : Type 0} (f : List ℕ → X) (p : List ℕ) (k : ℕ) (d : X) → k ≤ length p → get_or (map f (tails p)) k d ≡ f (drop k p)
 unfolding tails
 nth_told f [] zero d within = refl
@@ -71,7 +71,7 @@ nth_told f [] (suc k) d within = absurd (let h = within in omega arith)
 nth_told f (b ∷ p) zero d within = refl
 nth_told f (b ∷ p) (suc k) d within = nth_told f p k d (omega arith)
 
--- all that is told of the places from one on: of itself, and of those behind it
+-- all that is known of the places from one on: of itself, and of those after it
 pub told_step : (ignore_case : Bool) (text p : List ℕ) (i : ℕ) → i < length p
     → all_told ignore_case text (drop i p) ≡ told ignore_case text (drop i p) ∷ all_told ignore_case text (drop (i + 1) p)
 unfolding tails
@@ -88,7 +88,7 @@ told_within ignore_case text p cells n is = go (members true 0 p) refl
     go None e = absurd (let h = rw e at is in cc)
     go (Some r) e = let h = rw e at is in let same : r.1 ≡ n = ap count_of h in let small = members_within true 0 p r.0 r.1 e in omega (arith, same, small)
 
--- no more bytes are told of behind a member than there are
+-- no more bytes are known after a member than there are
 behind_within : (ignore_case : Bool) (text q : List ℕ) (t : List Bool × ℕ) → told_behind ignore_case text q ≡ Some t → t.1 ≤ length q
 behind_within ignore_case text [] t is = told_within ignore_case text [] t.0 t.1 is
 behind_within ignore_case text (c ∷ q) t is = go (c == 93) refl
@@ -97,7 +97,7 @@ behind_within ignore_case text (c ∷ q) t is = go (c == 93) refl
     go true e = let h = rw e at is in let same : 1 ≡ t.1 = ap count_of h in omega (arith, same)
     go false e = let h = rw e at is in told_within ignore_case text (c ∷ q) t.0 t.1 h
 
--- what is told behind a member is told of a place below
+-- what is known after a member is known of a place below
 pub place_behind : {X : Type 0} (shown : X → Option (List Bool × ℕ)) (below : List X) (ignore_case : Bool) (text p : List ℕ) (more : ℕ)
     → map shown below ≡ all_told ignore_case text (drop 1 p) → more < length p → get_or (map shown below) more None ≡ told ignore_case text (drop (more + 1) p)
 place_behind shown below ignore_case text p more is fits =
@@ -125,7 +125,7 @@ last_told shown ignore_case text (b ∷ p) is = rw (long_more (length p)) (last_
     long_more : (n : ℕ) → suc n + 1 ≡ suc (n + 1)
     long_more n = omega arith
 
--- a place is told of, over those behind it
+-- a place is known, from those after it
 pub told_filled : {X : Type 0} (shown : X → Option (List Bool × ℕ)) (places : List X) (place : X) (ignore_case : Bool) (text p : List ℕ) (k j : ℕ) → j ≡ k + 1 → k < length p
     → length places ≡ length p + 1 → map shown (drop j places) ≡ all_told ignore_case text (drop j p) → shown place ≡ told ignore_case text (drop k p)
     → map shown (drop k (set places k place)) ≡ all_told ignore_case text (drop k p)
@@ -153,7 +153,7 @@ told_long ignore_case text p cells n is = go (members true 0 p) refl
     go None e = absurd (let h = rw e at is in cc)
     go (Some r) e = let h = rw e at is in sym (ap (λ t. length (cells_of t)) h) ∙ length-map text (is_of_any ignore_case r.0)
 
--- the row of a bracket, by what is told of its members
+-- the row of a bracket, by what is known of its members
 taken_is : (ignore_case negated : Bool) (ms : List Member) (text : List ℕ) (below : List Bool)
     → taken_cells negated text (map (is_of_any ignore_case ms) text) below ≡ one_cells (takes ignore_case (OneOf negated ms)) text below
 unfolding taken_cells one_cells
@@ -194,7 +194,7 @@ no_bracket_cells ignore_case text p below is = go (members true 0 (drop (members
     go None e = sym (ap (λ f. cells_at ignore_case f text below) (one_of_is p None e))
     go (Some r) e = absurd (let h = rw e at is in cc)
 
--- what is told of the places from one on
+-- what is known of the places from one on
 pub places_from : {X : Type 0} (shown : X → Option (List Bool × ℕ)) (places : List X) (ignore_case : Bool) (text p : List ℕ) (k : ℕ) → k ≤ length p
     → map shown places ≡ all_told ignore_case text p → map shown (drop k places) ≡ all_told ignore_case text (drop k p)
 unfolding tails
@@ -203,7 +203,7 @@ places_from shown places ignore_case text [] (suc k) within is = absurd (let h =
 places_from shown [] ignore_case text (b ∷ p) (suc k) within is = absurd (cc)
 places_from shown (x ∷ places) ignore_case text (b ∷ p) (suc k) within is = places_from shown places ignore_case text p k (omega arith) (ap (drop 1) is)
 
--- a bracket stands first
+-- a bracket comes first
 pub bracket_front : (fresh : Bool) (b : ℕ) (p : List ℕ) → b ≡ 91 → one_of p ≡ front fresh b p
 unfolding front
 bracket_front fresh b p is = rw is refl
@@ -230,7 +230,7 @@ bracket_fits p = go (members true 0 (drop (members_begin p) p)) refl
         let within : members_begin p + r.1 < length p + 1 = omega (arith, small, long, begin) in
         subst (FitsIn (length p + 1)) (sym (one_of_is p (Some r) e)) within
 
--- what is told of a place
+-- what is known of a place
 pub told_at : {X : Type 0} (shown : X → Option (List Bool × ℕ)) (places : List X) (ignore_case : Bool) (text p : List ℕ) (k : ℕ) → map shown places ≡ all_told ignore_case text p → k ≤ length p
     → get_or (map shown places) k None ≡ told ignore_case text (drop k p)
 told_at shown places ignore_case text p k is within = ap (λ ts. get_or ts k None) is ∙ nth_told (told ignore_case text) p k None within

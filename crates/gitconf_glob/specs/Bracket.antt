@@ -1,5 +1,5 @@
--- What stands behind a `[` of a pattern: members up to a `]`, and the bytes that they take.
--- Source: the wildmatch of Git; which texts are members is this project's own rule.
+-- What follows a `[` of a pattern: members up to a `]`, and the bytes that they take.
+-- Source: Git's wildmatch; which texts are members is this project's own rule.
 use Rattle.std.specs.Prelude.{ℕ, zero, suc, pred, leb, ltb, ◌+◌, Bool, true, false, not, if◌then◌else◌, List, [], ◌∷◌, ◌&&◌, ◌||◌, ◌==◌, Option, Some, None, take, drop, get_or, codes}
 use Rattle.std.specs.List.{list_any}
 use Rattle.std.specs.Option.{option_map}
@@ -10,7 +10,7 @@ use Rattle.gitconf_glob.specs.declared.bracket.Class.TheVariants as class
 use Rattle.gitconf_glob.specs.declared.bracket.Member.{Member}
 use Rattle.gitconf_glob.specs.declared.bracket.Member.TheVariants.{Byte, Range, Named}
 
--- a byte from one to another, both counted in
+-- a byte from one to another, both included
 abbrev pub is_between : (low high b : ℕ) → Bool
 is_between low high b = leb low b && leb b high
 
@@ -29,13 +29,13 @@ is_in_class class.Space b = is_between 9 13 b || b == 32
 is_in_class class.Upper b = is_ascii_uppercase b
 is_in_class class.Xdigit b = is_ascii_hexdigit b
 
--- the bytes of a member
+-- the byte is the member, or in its range or class
 abbrev pub is_of : (b : ℕ) → Member → Bool
 is_of b (Byte m) = b == m
 is_of b (Range low high) = is_between low high b
 is_of b (Named c) = is_in_class c b
 
--- the member takes the byte; without case, its lower or its upper form
+-- the member takes the byte, or, without case, its lower or its upper form
 abbrev pub has : (ignore_case : Bool) → Member → ℕ → Bool
 has ignore_case m b = if ignore_case then is_of (to_ascii_lowercase b) m || is_of (to_ascii_uppercase b) m else is_of b m
 
@@ -43,7 +43,7 @@ has ignore_case m b = if ignore_case then is_of (to_ascii_lowercase b) m || is_o
 abbrev pub is_of_any : (ignore_case : Bool) → List Member → ℕ → Bool
 is_of_any ignore_case members b = list_any (λ m. has ignore_case m b) members
 
--- What a bracket takes whose members take the byte or don't: a negated one the other way round, neither `/`.
+-- Whether a bracket takes a byte; `among` says that the byte is one of its members. A negated bracket takes the other bytes; neither takes `/`.
 abbrev pub lets_in : (negated among : Bool) (b : ℕ) → Bool
 lets_in negated among b = not (b == 47) && (if negated then not among else among)
 
@@ -67,29 +67,29 @@ class_named name =
     if bytes_eq name (codes "upper") then Some class.Upper else
     if bytes_eq name (codes "xdigit") then Some class.Xdigit else None
 
--- `]` stands first
+-- `]` comes first
 abbrev pub begins_close : List ℕ → Bool
 begins_close [] = false
 begins_close (b ∷ p) = b == 93
 
--- where the first `]` stands, n bytes being passed
+-- the offset of the first `]`, counted from n
 unfoldable pub close_from : (n : ℕ) → List ℕ → Option ℕ
 close_from n [] = None
 close_from n (b ∷ p) = elim (b == 93) [ true ↦ Some n | false ↦ close_from (n + 1) p ]
 
--- how many bytes the name has that stands between `[:` and `:]`, read behind `[:`: a `:` stands before the first `]`
+-- how many bytes the name between `[:` and `:]` has, read after `[:`; a `:` directly before the first `]` is needed
 abbrev pub name_length : List ℕ → Option ℕ
 name_length p = elim (close_from 0 p) [
   | None ↦ None
   | Some n ↦ if ltb 0 n && get_or p (pred n) 0 == 58 then Some (pred n) else None
 ]
 
--- the byte that stands first, or the one behind a backslash; and how many bytes it has behind its first one
+-- the byte that comes first, or the one after a backslash; and how many bytes it has after its first one
 abbrev pub literal : List ℕ → Option (ℕ × ℕ)
 literal [] = None
 literal (b ∷ p) = if b == 92 then elim p [ [] ↦ None | c ∷ q ↦ Some (c, 1) ] else Some (b, 0)
 
--- a `-` and a byte other than `]`: a range goes on
+-- a `-` and a byte other than `]`: a range continues
 abbrev pub goes_on : List ℕ → Bool
 goes_on [] = false
 goes_on (b ∷ []) = false
@@ -104,20 +104,20 @@ byte_or_range p = elim (literal p) [
       else Some (Byte low.0, low.1)
 ]
 
--- how many bytes the name of a class has, where one stands first
+-- how many bytes the name of a class has, if a class comes first
 abbrev pub class_length : List ℕ → Option ℕ
 class_length [] = None
 class_length (b ∷ []) = None
 class_length (b ∷ c ∷ p) = if b == 91 && c == 58 then name_length p else None
 
--- A member, and how many bytes it has behind its first one. There is none where a byte is missing, or for a class that isn't known.
+-- A member, and how many bytes it has after its first one. There is none if a byte is missing, or for an unknown class.
 unfoldable pub member : List ℕ → Option (Member × ℕ)
 member p = elim (class_length p) [
   | None ↦ byte_or_range p
   | Some n ↦ option_map (λ (c : Class). (Named c, n + 3)) (class_named (take n (drop 2 p)))
 ]
 
--- Members up to the `]`, and how many bytes they have with it, the first `skip` being passed. Where the first member is looked for,
+-- Members up to the `]`, and how many bytes they have with it, after the first `skip` bytes. While the first member is looked for,
 -- a `]` is a member.
 unfoldable pub members : (first : Bool) (skip : ℕ) → List ℕ → Option (List Member × ℕ)
 members first skip [] = None
@@ -135,14 +135,14 @@ abbrev pub negates : List ℕ → Bool
 negates [] = false
 negates (b ∷ p) = b == 33 || b == 94
 
--- where the members begin
+-- how many bytes come before the members: 1 after `!` or `^`, otherwise 0
 abbrev pub members_begin : List ℕ → ℕ
 members_begin p = if negates p then 1 else 0
 
--- the members of a bracket, read behind its `[`, and how many bytes it has there; none where it takes nothing
+-- the members of a bracket, read after its `[`, and how many bytes it has there; none if it takes nothing
 abbrev pub bracket : List ℕ → Option (List Member × ℕ)
 bracket p = option_map (λ (r : List Member × ℕ). (r.0, members_begin p + r.1)) (members true 0 (drop (members_begin p) p))
 
--- whether the byte is of the members that were read, and how many bytes they have
+-- whether the byte is one of the members that were read, and how many bytes they have
 abbrev pub among : (ignore_case : Bool) (b : ℕ) → Option (List Member × ℕ) → Option (Bool × ℕ)
 among ignore_case b read = option_map (λ (r : List Member × ℕ). (is_of_any ignore_case r.0 b, r.1)) read

@@ -1,4 +1,4 @@
--- What the code has read of a pattern's front, as the definition has it.
+-- What the code has read of a pattern's front, as the definitions have it.
 use Rattle.std.specs.Prelude.{ℕ, ◌+◌, ◌<◌}
 use Rattle.gitconf_glob.specs.declared.front.Element.{Element as Taker}
 use Rattle.gitconf_glob.specs.declared.front.Element.TheVariants as taker
@@ -6,10 +6,12 @@ use Rattle.gitconf_glob.specs.declared.front.Front.{Front as Shape}
 use Rattle.gitconf_glob.specs.declared.front.Front.TheVariants as shape
 use Rattle.gitconf_glob.specs.Pattern.{Element, Literal, AnyByte, Front, Nothing, One, Run, Rest, Folders}
 
+-- the element that the code has read
 abbrev pub element_of : Taker → Element
 element_of (taker.Literal b) = Literal b
 element_of taker.AnyByte = AnyByte
 
+-- the front that the code has read
 abbrev pub front_of : Shape → Front
 front_of shape.Nothing = Nothing
 front_of (shape.One element more) = One (element_of element) more
@@ -17,7 +19,7 @@ front_of (shape.Run slashes more) = Run slashes more
 front_of shape.Rest = Rest
 front_of (shape.Folders more) = Folders more
 
--- with n rows below the front's own, those that it is filled from are there
+-- the rows that the front's own row is filled from are among the n rows below it
 abbrev pub FitsIn : ℕ → Front → Type 0
 FitsIn n Nothing = Unit {0}
 FitsIn n (One element more) = more < n

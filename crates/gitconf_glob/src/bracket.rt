@@ -4,7 +4,7 @@ ghost use Rattle.gitconf_glob.specs.Bracket as spec;
 ghost use Rattle.gitconf_glob.specs.Bracket.{among};
 ghost use Rattle.gitconf_glob.specs.Pattern.{passed, one_of};
 
-/// A class of bytes that a bracket names, as `[:alpha:]`.
+/// A class of bytes that a bracket names, such as `[:alpha:]`.
 #[derive(Clone, Copy, Debug, PartialEq, Eq)]
 pub enum Class {
     Alnum,
@@ -87,14 +87,14 @@ impl Class {
     }
 }
 
-/// Whether one of two holds.
+/// Whether at least one of two is true.
 pub(crate) fn either(a: bool, b: bool) -> bool
     ensures { result ≡ (a || b) }
 {
     a || b
 }
 
-/// Whether the byte lies between two others, both counted in.
+/// Whether the byte is from one to another, both included.
 fn is_between(low: u8, high: u8, b: u8) -> bool
     ensures { result ≡ spec.is_between low high b }
 {
@@ -105,7 +105,7 @@ impl Member {
     ghost use Rattle.std.specs.Prelude.{◌≡◌};
     ghost use Rattle.gitconf_glob.specs.Bracket as spec;
 
-    /// Whether the byte is of the member.
+    /// Whether the byte is the member, or in its range or class.
     fn is_of(self, b: u8) -> bool
         ensures { result ≡ spec.is_of b self }
     {
@@ -116,7 +116,7 @@ impl Member {
         }
     }
 
-    /// Whether the member takes the byte, or its lower or upper form where case is ignored.
+    /// Whether the member takes the byte, or its lower or upper form if case is ignored.
     pub fn has(self, ignore_case: bool, b: u8) -> bool
         ensures { result ≡ spec.has ignore_case self b }
     {
@@ -128,14 +128,14 @@ impl Member {
     }
 }
 
-/// Whether a bracket takes the byte, of which is told whether it is `among` the members.
+/// Whether a bracket takes the byte; `among` says whether the byte is one of its members.
 pub fn lets_in(negated: bool, among: bool, b: u8) -> bool
     ensures { result ≡ spec.lets_in negated among b }
 {
     b != b'/' && if negated { !among } else { among }
 }
 
-/// Where the first `]` stands.
+/// The offset of the first `]`.
 #[tactic(auto, unfolding(crate::specs::Bracket::close_from))]
 fn find_close(text: &[u8]) -> Option<usize>
     ensures { result ≡ spec.close_from 0 text.now }
@@ -150,7 +150,7 @@ fn find_close(text: &[u8]) -> Option<usize>
     None
 }
 
-/// Where the first `]` stands, of which is told where it does with `passed` bytes before the text.
+/// The offset of the first `]`, given its offset when `passed` bytes come before the text.
 fn count_anew(passed: usize, text: &[u8], close: Option<usize>) -> Option<usize>
     requires { close ≡ spec.close_from passed text.now }
     ensures { result ≡ spec.close_from 0 text.now }
@@ -161,7 +161,7 @@ fn count_anew(passed: usize, text: &[u8], close: Option<usize>) -> Option<usize>
     }
 }
 
-/// Where the first `]` stands of a byte and a text, of which is told where it does in the text alone.
+/// The offset of the first `]` of a byte and a text, given its offset in the text alone.
 pub fn close_with(first: u8, rest: &[u8], behind: Option<usize>) -> Option<usize>
     requires { behind ≡ spec.close_from 0 rest.now }
     ensures { result ≡ spec.close_from 0 (first ∷ rest.now) }
@@ -175,8 +175,8 @@ pub fn close_with(first: u8, rest: &[u8], behind: Option<usize>) -> Option<usize
     }
 }
 
-/// Where the first `]` stands behind the first `more` bytes, of which is told where the first of all stands. It looks
-/// for one only where that one is passed.
+/// The offset of the first `]` after the first `more` bytes, given the offset of the first one of all. It searches
+/// only if that one is among those bytes.
 fn close_past(text: &[u8], more: usize, close: Option<usize>) -> Option<usize>
     requires within { more ≤ length text.now }
     requires close { close ≡ spec.close_from 0 text.now }
@@ -195,7 +195,7 @@ fn close_past(text: &[u8], more: usize, close: Option<usize>) -> Option<usize>
     }
 }
 
-/// How many bytes the name has that stands between `[:` and `:]`, read behind `[:`: a `:` stands before the first `]`.
+/// How many bytes the name between `[:` and `:]` has, read after `[:`; a `:` directly before the first `]` is needed.
 fn name_length(text: &[u8], close: Option<usize>) -> Option<usize>
     requires { close ≡ spec.close_from 0 text.now }
     ensures value { result ≡ spec.name_length text.now }
@@ -213,7 +213,7 @@ fn name_length(text: &[u8], close: Option<usize>) -> Option<usize>
     }
 }
 
-/// The byte that stands first, or the one behind a backslash; and how many bytes it has behind its first one.
+/// The byte that comes first, or the one after a backslash; and how many bytes it has after its first one.
 fn literal(text: &[u8]) -> Option<(u8, usize)>
     ensures value { result ≡ spec.literal text.now }
     ensures within { IfSome result (λ r. r.1 < length text.now) }
@@ -225,7 +225,7 @@ fn literal(text: &[u8]) -> Option<(u8, usize)>
     }
 }
 
-/// Whether a `-` stands first, and behind it a byte other than `]`.
+/// Whether a `-` comes first, and after it a byte other than `]`.
 fn goes_on(text: &[u8]) -> bool
     ensures value { result ≡ spec.goes_on text.now }
 {
@@ -235,7 +235,7 @@ fn goes_on(text: &[u8]) -> bool
     }
 }
 
-/// A byte or a range, and how many bytes it has behind its first one.
+/// A byte or a range, and how many bytes it has after its first one.
 fn byte_or_range(text: &[u8]) -> Option<(Member, usize)>
     ensures value { result ≡ spec.byte_or_range text.now }
     ensures within { IfSome result (λ r. r.1 < length text.now) }
@@ -248,7 +248,7 @@ fn byte_or_range(text: &[u8]) -> Option<(Member, usize)>
     Some((Member::Range(low, high), more + 2 + rest))
 }
 
-/// How many bytes the name of a class has, where one stands first.
+/// How many bytes the name of a class has, if a class comes first.
 fn class_length(text: &[u8], close: Option<usize>) -> Option<usize>
     requires { close ≡ spec.close_from 0 text.now }
     ensures value { result ≡ spec.class_length text.now }
@@ -260,9 +260,8 @@ fn class_length(text: &[u8], close: Option<usize>) -> Option<usize>
     }
 }
 
-/// The member that stands first, and how many bytes it has behind its first one. There is none where a byte is
-/// missing, or for a class that isn't known. It is told where the first `]` stands, and takes a step for each byte of
-/// the member.
+/// The member that comes first, and how many bytes it has after its first one. There is none if a byte is missing, or
+/// for an unknown class. `close` is the offset of the first `]`. It takes a step for each byte of the member.
 #[tactic(auto, unfolding(crate::specs::Bracket::member))]
 pub fn read_member(text: &[u8], close: Option<usize>) -> Option<(Member, usize)>
     requires { close ≡ spec.close_from 0 text.now }
@@ -278,7 +277,7 @@ pub fn read_member(text: &[u8], close: Option<usize>) -> Option<(Member, usize)>
     }
 }
 
-/// Whether `]` stands first.
+/// Whether `]` comes first.
 pub fn begins_close(text: &[u8]) -> bool
     ensures { result ≡ spec.begins_close text.now }
 {
@@ -288,16 +287,15 @@ pub fn begins_close(text: &[u8]) -> bool
     }
 }
 
-/// Whether a byte ends the bracket: a `]` that isn't its first member.
+/// Whether a byte ends the bracket: a `]` that is not its first member.
 fn closes(b: u8, first: bool) -> bool
     ensures { result ≡ (b == 93 && not first) }
 {
     b == b']' && !first
 }
 
-/// Whether the byte is of the members that stand first, and how many bytes they have with their `]`. There are none
-/// where the bracket takes nothing. Each byte is read once, and looked at once more where the `]` behind a class is
-/// looked for.
+/// Whether the byte is one of the members that come first, and how many bytes they have with their `]`. There are none
+/// if the bracket takes nothing. Each byte is read once, and once more in the search for the `]` after a class.
 #[tactic(auto, unfolding(crate::specs::Bracket::members))]
 fn find_among(ignore_case: bool, text: &[u8], b: u8) -> Option<(bool, usize)>
     ensures value { result ≡ among ignore_case b (spec.members true 0 text.now) }
@@ -319,7 +317,7 @@ fn find_among(ignore_case: bool, text: &[u8], b: u8) -> Option<(bool, usize)>
     None
 }
 
-/// Whether `!` or `^` stands first.
+/// Whether `!` or `^` comes first.
 pub fn negates(text: &[u8]) -> bool
     ensures { result ≡ spec.negates text.now }
 {
@@ -329,7 +327,7 @@ pub fn negates(text: &[u8]) -> bool
     }
 }
 
-/// Where the members of a bracket begin.
+/// How many bytes come before the members of a bracket: 1 after `!` or `^`, otherwise 0.
 pub fn members_begin(text: &[u8]) -> usize
     ensures value { result ≡ spec.members_begin text.now }
     ensures within { result ≤ length text.now }
@@ -337,7 +335,7 @@ pub fn members_begin(text: &[u8]) -> usize
     if negates(text) { 1 } else { 0 }
 }
 
-/// How many bytes a bracket has behind its `[`, where it takes the byte. It takes no memory, and a few steps for each
+/// How many bytes a bracket has after its `[`, if it takes the byte. It takes no memory, and a few steps for each
 /// of its bytes.
 pub fn bracket_passed(ignore_case: bool, text: &[u8], b: u8) -> Option<usize>
     ensures value { result ≡ passed ignore_case (one_of text.now) b }

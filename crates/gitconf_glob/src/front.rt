@@ -1,19 +1,19 @@
-//! What stands at a pattern's front.
+//! What is at a pattern's front.
 ghost use Rattle.std.specs.Prelude.{◌≡◌, ◌+◌, ◌≤◌, ◌==◌, false, length, IfSome};
 ghost use Rattle.gitconf_glob.specs.Pattern as spec;
 ghost use Rattle.gitconf_glob.specs.Shapes.{element_of, front_of, FitsIn};
 
 use crate::bracket::bracket_passed;
 
-/// What takes one byte of the text. Brackets stand apart (`bracket`, `places`).
+/// What takes one byte of the text. Brackets are separate (`bracket`, `places`).
 #[derive(Clone, Copy, Debug, PartialEq, Eq)]
 pub enum Element {
     Literal(u8),
-    /// Any byte but `/`.
+    /// Any byte except `/`.
     AnyByte,
 }
 
-/// What stands at a pattern's front. A number counts the bytes behind the first one that belong to it.
+/// What is at a pattern's front. A number counts the bytes after the first one that belong to it.
 #[derive(Clone, Copy, Debug, PartialEq, Eq)]
 pub enum Front {
     /// What no text matches.
@@ -49,7 +49,7 @@ impl Element {
     }
 }
 
-/// How many stars stand first.
+/// How many stars come first.
 #[tactic(auto, unfolding(crate::specs::Pattern::stars_from))]
 fn count_stars(text: &[u8]) -> usize
     ensures value { result ≡ spec.stars_from 0 text.now }
@@ -62,7 +62,7 @@ fn count_stars(text: &[u8]) -> usize
     i
 }
 
-/// Several stars at the pattern's start or behind `/`, with `more` of them behind the first one, before `text`.
+/// Several stars at the pattern's start or after `/`, with `more` of them after the first one, before `text`.
 fn wide(more: usize, text: &[u8]) -> Front
     ensures { front_of result ≡ spec.wide more text.now }
 {
@@ -74,7 +74,7 @@ fn wide(more: usize, text: &[u8]) -> Front
     }
 }
 
-/// Stars, with `text` behind the first one.
+/// Stars, with `text` after the first one.
 fn stars(fresh: bool, text: &[u8]) -> Front
     ensures value { front_of result ≡ spec.stars fresh text.now }
     ensures within { FitsIn (length text.now + 1) (front_of result) }
@@ -87,7 +87,7 @@ fn stars(fresh: bool, text: &[u8]) -> Front
     }
 }
 
-/// What a backslash makes of the text behind it: the byte there itself.
+/// What a backslash makes of the text after it: the next byte stands for itself.
 fn escape(text: &[u8]) -> Front
     ensures value { front_of result ≡ spec.escape text.now }
     ensures within { FitsIn (length text.now + 1) (front_of result) }
@@ -98,8 +98,8 @@ fn escape(text: &[u8]) -> Front
     }
 }
 
-/// What stands at the front of a pattern, if that is no bracket: its first byte with the rest behind it, `fresh` at the
-/// start of all or behind `/`.
+/// What is at the front of a pattern, unless that is a bracket. The pattern is its first byte and the rest; `fresh` says that it is at the
+/// start of the whole pattern or after `/`.
 #[tactic(auto, unfolding(crate::specs::Pattern::front))]
 pub fn read_front(fresh: bool, first: u8, rest: &[u8]) -> Front
     requires { (first == 91) ≡ false }
@@ -114,7 +114,7 @@ pub fn read_front(fresh: bool, first: u8, rest: &[u8]) -> Front
     }
 }
 
-/// How many bytes the front of a pattern has behind its first one, where it takes that one byte of the text. It takes
+/// How many bytes the front of a pattern has after its first one, if it takes this one byte of the text. It takes
 /// no memory.
 #[tactic(auto, unfolding(crate::specs::Pattern::front))]
 pub fn front_passed(ignore_case: bool, first: u8, rest: &[u8], b: u8) -> Option<usize>

@@ -1,4 +1,4 @@
-//! Path patterns, as git's configuration has them in conditions on includes: Git's wildmatch in path mode.
+//! Path patterns, as in the conditions of includes: Git's wildmatch in path mode.
 #![tactic(auto)]
 
 pub mod bracket;

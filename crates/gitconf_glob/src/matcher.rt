@@ -7,7 +7,7 @@ use crate::table::{first_cell, is_fresh_at, rows_of};
 use gitconf_text::NoMemory;
 use std::alloc::Global;
 
-/// Whether the text matches the rest of a pattern, by the table of the two.
+/// Whether the text matches the rest of a pattern, by a table of both.
 fn matches_by_rows(
     alloc: Global,
     fresh: bool,
@@ -21,16 +21,16 @@ fn matches_by_rows(
     Ok(first_cell(&rows))
 }
 
-/// Whether the path pattern matches the text, where letters are compared without ASCII case if `ignore_case` is set.
+/// Whether the path pattern matches the text. Letters are compared without ASCII case if `ignore_case` is set.
 ///
-/// What stands in front of the pattern's first `*` is passed front by front, each with one byte of the text: a few steps
-/// for each byte of the pattern, and no memory. So a pattern without `*` takes time linear in what is passed of the two,
-/// and is never refused. From the first `*` on the whole table of what is left of both is filled, at the cost of
-/// `Table::fill`: a row is filled from any row below it, so two rows at a time would not do.
+/// What is before the pattern's first `*` is compared front by front, each with one byte of the text: a few steps
+/// for each byte of the pattern, and no memory. So a pattern without `*` takes time linear in what is compared of both,
+/// and never fails. From the first `*` on, the whole table of what is left of both is filled, at the cost of
+/// `Table::fill`: a row may need any row below it, so keeping two rows at a time would not be enough.
 ///
 /// # Errors
 ///
-/// Only where memory is wanting.
+/// Only when out of memory.
 pub fn wildmatch(
     alloc: Global,
     pattern: &[u8],

@@ -1,4 +1,4 @@
-//! What brackets take of a text, told for each place of a pattern from the last one to the first.
+//! What brackets take of a text, for each place of a pattern, from the last place to the first.
 ghost use Rattle.std.specs.Prelude.{◌≡◌, ◌+◌, ◌<◌, ◌^◌, ℕ, Bool, List, false, None, length, drop, get_or, map, replicate, IfOk, IfSome};
 ghost use Rattle.gitconf_glob.specs.Bracket as spec;
 ghost use Rattle.gitconf_glob.specs.Places.{told, all_told, told_behind, with_member, joined, shown, lent};
@@ -7,16 +7,16 @@ use crate::bracket::{Member, begins_close, close_with, either, read_member};
 use gitconf_text::NoMemory;
 use std::alloc::Global;
 
-/// What the members take that stand from a place of a pattern on, up to their `]`.
+/// What the members take that begin at a place of a pattern, up to their `]`.
 #[derive(Drop)]
 pub struct Place {
-    /// Of each byte of the text, whether it is among them.
+    /// For each byte of the text, whether it is one of them.
     pub(crate) among: Vec<bool>,
-    /// How many bytes of the pattern they have, the `]` counted in.
+    /// How many bytes of the pattern they have, including the `]`.
     pub(crate) length: usize,
 }
 
-/// Whether a cell is there, and set.
+/// Whether there is such a cell, and it is set.
 fn is_set(cells: &[bool], j: usize) -> bool
     ensures { result ≡ get_or (drop j cells.now) 0 false }
 {
@@ -26,7 +26,7 @@ fn is_set(cells: &[bool], j: usize) -> bool
     }
 }
 
-/// Which bytes of the text a member takes, or those behind it.
+/// Which bytes of the text a member takes, or the members after it.
 #[tactic(auto, unfolding(crate::specs::Places::joined))]
 fn join(
     alloc: Global,
@@ -46,7 +46,7 @@ fn join(
     Ok(cells)
 }
 
-/// What is told behind a member, from what is told of the place there: a `]` ends the bracket, and takes nothing.
+/// What is known after a member, from what is known of the place there: if `]` is there, the bracket ends and takes nothing more.
 fn told_behind<'a>(pattern: &[u8], place: &'a Option<Place>) -> Option<(&'a [bool], usize)>
     ensures { (ignore_case : Bool) (text : List ℕ) → shown place.now ≡ told ignore_case text pattern.now → lent result ≡ told_behind ignore_case text pattern.now }
 {
@@ -59,7 +59,7 @@ fn told_behind<'a>(pattern: &[u8], place: &'a Option<Place>) -> Option<(&'a [boo
     }
 }
 
-/// What is told of a place.
+/// What is known of a place.
 pub(crate) fn place_at(places: &[Option<Place>], k: usize) -> &Option<Place>
     requires { k < length places.now }
     ensures { shown result.now ≡ get_or (map shown places.now) k None }
@@ -67,7 +67,7 @@ pub(crate) fn place_at(places: &[Option<Place>], k: usize) -> &Option<Place>
     &places[k]
 }
 
-/// What is told where a member stands that has `more` bytes behind its first one, from what is told behind it.
+/// What is known at a member that has `more` bytes after its first one, from what is known after it.
 fn with_member(
     alloc: Global,
     ignore_case: bool,
@@ -89,8 +89,8 @@ fn with_member(
     }
 }
 
-/// What is told of a pattern's first place, from what is told of those behind it. It takes a step for each byte of the
-/// text, and a cell.
+/// What is known of a pattern's first place, from what is known of those after it. It takes a step for each byte of the
+/// text, and memory for a cell for each.
 fn tell_place(
     alloc: Global,
     ignore_case: bool,
@@ -112,7 +112,7 @@ fn tell_place(
     }
 }
 
-/// As many places as asked for, of which nothing is told.
+/// As many places as asked for, with nothing known of them.
 fn untold(alloc: Global, count: usize) -> Result<Vec<Option<Place>>, NoMemory>
     ensures { IfOk result (λ places. places.items ≡ replicate count None) }
 {
@@ -123,8 +123,8 @@ fn untold(alloc: Global, count: usize) -> Result<Vec<Option<Place>>, NoMemory>
     Ok(places)
 }
 
-/// What is told of each place of a pattern, and of its end. The places are told from the last one to the first, each
-/// from those behind it: a step for each byte of the text, and a cell, where a `]` comes later.
+/// What is known of each place of a pattern, and of its end, from the last place to the first, each
+/// from those after it: if a `]` comes later, a step for each byte of the text, and memory for a cell for each.
 pub fn tell_places(
     alloc: Global,
     ignore_case: bool,

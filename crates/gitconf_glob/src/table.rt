@@ -1,4 +1,4 @@
-//! The table of a matcher: for each end of a pattern and each end of a text whether the one matches the other.
+//! The table of a matcher: for each suffix of a pattern and each suffix of a text, whether the one matches the other.
 ghost use Rattle.std.specs.Prelude.{◌≡◌, ◌+◌, ◌≤◌, ◌<◌, ◌==◌, ◌&&◌, ◌||◌, not, false, [], ◌∷◌, length, replicate, map, vec_items, get_or, IfOk};
 ghost use Rattle.gitconf_glob.specs.Pattern as spec;
 ghost use Rattle.gitconf_glob.specs.Rows.{cells, rows_of, is_fresh_at, IsTable};
@@ -14,21 +14,21 @@ use gitconf_text::NoMemory;
 use std::alloc::Global;
 use std::marker::Model;
 
-/// The cell of what takes one byte, from the cell behind it.
+/// The cell of an element, which takes one byte, from the cell after it.
 fn one_cell(behind: bool, element: Element, ignore_case: bool, b: u8) -> bool
     ensures { result ≡ (behind && spec.takes ignore_case (element_of element) b) }
 {
     behind && element.takes(ignore_case, b)
 }
 
-/// The cell of a run, from the cell of what stands behind the run, and the run's own for the text behind the byte.
+/// The cell of a run, from the cell of what follows the run, and the run's own for the text after the byte.
 fn run_cell(below: bool, slashes: bool, b: u8, later: bool) -> bool
     ensures { result ≡ (below || (slashes || not (b == 47)) && later) }
 {
     below || (slashes || b != b'/') && later
 }
 
-/// Fills the row of what takes one byte, from the row behind it.
+/// Fills the row of an element, which takes one byte, from the row after it.
 #[tactic(auto, unfolding(crate::specs::Cells::one_cells))]
 fn fill_one(row: &mut [bool], text: &[u8], below: &[bool], element: Element, ignore_case: bool)
     requires row { length row.old ≡ length text.now + 1 }
@@ -43,14 +43,14 @@ fn fill_one(row: &mut [bool], text: &[u8], below: &[bool], element: Element, ign
     }
 }
 
-/// The cell of a bracket, from the cell behind it, and whether the byte is among its members.
+/// The cell of a bracket, from the cell after it, and whether the byte is among its members.
 fn taken_cell(behind: bool, negated: bool, among: bool, b: u8) -> bool
     ensures { result ≡ (behind && lets_in negated among b) }
 {
     behind && lets_in(negated, among, b)
 }
 
-/// Fills the row of a bracket, from the row behind it, and which bytes of the text are among its members.
+/// Fills the row of a bracket, from the row after it, and which bytes of the text are among its members.
 #[tactic(auto, unfolding(crate::specs::Cells::taken_cells))]
 fn fill_taken(row: &mut [bool], text: &[u8], negated: bool, among: &[bool], below: &[bool])
     requires row { length row.old ≡ length text.now + 1 }
@@ -66,7 +66,7 @@ fn fill_taken(row: &mut [bool], text: &[u8], negated: bool, among: &[bool], belo
     }
 }
 
-/// Fills the row of a run, from the row behind it.
+/// Fills the row of a run, from the row after it.
 #[tactic(auto, unfolding(crate::specs::Cells::run_cells))]
 fn fill_run(row: &mut [bool], text: &[u8], below: &[bool], slashes: bool)
     requires row { length row.old ≡ length text.now + 1 }
@@ -81,7 +81,7 @@ fn fill_run(row: &mut [bool], text: &[u8], below: &[bool], slashes: bool)
     }
 }
 
-/// Fills the row of a run before a `/`, from the row of the `/` and the one behind it.
+/// Fills the row of a run before a `/`, from the row of the `/` and the one after it.
 #[tactic(auto, unfolding(crate::specs::Cells::run_cells, crate::specs::Cells::folder_cells))]
 fn fill_folders(row: &mut [bool], text: &[u8], below: &[bool], behind: &[bool])
     requires row { length row.old ≡ length text.now + 1 }
@@ -99,7 +99,7 @@ fn fill_folders(row: &mut [bool], text: &[u8], below: &[bool], behind: &[bool])
     }
 }
 
-/// A row of those below.
+/// The row `k` of those below.
 fn row_at(rows: &[Vec<bool>], k: usize) -> &[bool]
     requires { k < length rows.now }
     ensures { result.now ≡ get_or (map vec_items rows.now) k [] }
@@ -147,7 +147,7 @@ fn row_of(
     Ok(row)
 }
 
-/// The row behind the whole pattern: it matches the empty text alone.
+/// The row after the whole pattern, which matches only the empty text.
 #[tactic(auto, using(crate::proofs::Filling::last_is))]
 fn last_row(alloc: Global, text: &[u8]) -> Result<Vec<bool>, NoMemory>
     ensures { IfOk result (λ row. row.items ≡ last_cells text.now) }
@@ -157,14 +157,14 @@ fn last_row(alloc: Global, text: &[u8]) -> Result<Vec<bool>, NoMemory>
     Ok(row)
 }
 
-/// The row of what no text matches.
+/// The row of a front that no text matches.
 fn no_cells(alloc: Global, text: &[u8]) -> Result<Vec<bool>, NoMemory>
     ensures { IfOk result (λ row. row.items ≡ replicate (length text.now + 1) false) }
 {
     Ok(vec![in alloc; false; text.len() + 1]?)
 }
 
-/// The row of a bracket, from the row behind it, and which bytes of the text are among its members.
+/// The row of a bracket, from the row after it, and which bytes of the text are among its members.
 fn taken_row(
     alloc: Global,
     text: &[u8],
@@ -181,7 +181,7 @@ fn taken_row(
     Ok(row)
 }
 
-/// The row of a bracket, from what is told of the places behind its `[`, and the rows there.
+/// The row of a bracket, from what is known of the places after its `[`, and the rows there.
 fn bracket_row(
     alloc: Global,
     ignore_case: bool,
@@ -205,7 +205,7 @@ fn bracket_row(
     }
 }
 
-/// The row of a pattern: its first byte with the rest behind it, `fresh` at the start of all or behind `/`.
+/// The row of a pattern. The pattern is its first byte and the rest; `fresh` says that it is at the start of the whole pattern or after `/`.
 fn pattern_row(
     alloc: Global,
     ignore_case: bool,
@@ -228,7 +228,7 @@ fn pattern_row(
     }
 }
 
-/// Whether a place of a pattern stands behind `/`; `fresh` tells it of its start.
+/// Whether a place of a pattern follows `/`; for its start, `fresh` says it.
 pub(crate) fn is_fresh_at(fresh: bool, i: usize, pattern: &[u8]) -> bool
     requires { i ≤ length pattern.now }
     ensures { result ≡ is_fresh_at fresh i pattern.now }
@@ -251,7 +251,7 @@ fn empty_rows(alloc: Global, count: usize) -> Result<Vec<Vec<bool>>, NoMemory>
     Ok(rows)
 }
 
-/// Fills the rows of a pattern's ends, its own first, from the last one to the first.
+/// Fills the rows of a pattern's suffixes, from the last one to the first.
 fn fill_rows(
     alloc: Global,
     fresh: bool,
@@ -285,7 +285,7 @@ fn fill_rows(
     Ok(rows)
 }
 
-/// The rows of a pattern's ends, its own first.
+/// The rows of a pattern's suffixes, the whole pattern's first.
 pub(crate) fn rows_of(
     alloc: Global,
     fresh: bool,
@@ -300,7 +300,7 @@ pub(crate) fn rows_of(
 }
 
 /// The table of a pattern and a text: a row for each place of the pattern and one for its end, each with a cell for
-/// each place of the text and one for its end. A cell tells whether the pattern from its place on matches the text
+/// each place of the text and one for its end. A cell says whether the pattern from its place on matches the text
 /// from its place on.
 #[derive(Drop)]
 pub struct Table {
@@ -319,18 +319,18 @@ impl Table {
     ghost use Rattle.std.specs.Prelude.{◌≡◌, IfOk, map, vec_items};
     ghost use Rattle.gitconf_glob.specs.Rows.{IsTable};
 
-    /// The table of a pattern and a text, where letters are compared without ASCII case if `ignore_case` is set.
+    /// The table of a pattern and a text. Letters are compared without ASCII case if `ignore_case` is set.
     ///
-    /// It takes memory for `pattern.len() + 1` rows of `text.len() + 1` cells, a growth for each row, and for a few
-    /// words for each place of the pattern; for each place behind which a `]` ends members that stand there, also for
-    /// `text.len()` cells of what they take, while the rows are filled. No product of the two lengths is computed.
+    /// It takes memory for `pattern.len() + 1` rows of `text.len() + 1` cells, with one growth for each row, and for a few
+    /// words for each place of the pattern; for each place with members that a `]` ends, also for
+    /// `text.len()` cells of what they take, while the rows are filled. The product of the two lengths is never computed.
     ///
-    /// The time is that of a few steps for each cell, also of brackets that stand in one another: what the members take
-    /// that stand from a place on is told once for each place, from those behind it.
+    /// The time is a few steps for each cell, even for nested brackets: what the members take
+    /// that begin at a place is computed once for each place, from those after it.
     ///
     /// # Errors
     ///
-    /// Only where memory is wanting.
+    /// Only when out of memory.
     pub fn fill(
         alloc: Global,
         pattern: &[u8],
@@ -343,7 +343,7 @@ impl Table {
         Ok(Table { rows })
     }
 
-    /// The rows, that of the whole pattern first.
+    /// The rows, the whole pattern's first.
     pub fn rows(&self) -> &[Vec<bool>]
         ensures { map vec_items result.now ≡ self.now }
     {

@@ -18,12 +18,12 @@ use Rattle.gitconf_host.specs.InMemory.{told_entries, with_entry, entry_at, file
 use Rattle.gitconf_host.specs.declared.mem_files.MemFile.{MemFile}
 use Rattle.gitconf_host.specs.declared.mem_files.MemFile.TheVariants.{Bytes, OpenFault, ReadFault}
 
--- what is told behind a test
+-- what is told after a test
 mapped : {A B : Type 0} (f : A → B) (b : Bool) (x y : Option A) → option_map f (cond b x y) ≡ cond b (option_map f x) (option_map f y)
 mapped f true x y = refl
 mapped f false x y = refl
 
--- a default behind a test
+-- a default after a test
 unwrapped : {A : Type 0} (b : Bool) (x d : A) (o : Option A) → unwrap_or (cond b (Some x) o) d ≡ cond b x (unwrap_or o d)
 unwrapped true x d o = refl
 unwrapped false x d o = refl
@@ -36,7 +36,7 @@ found_entry told key (e ∷ entries) =
     mapped told (is_eq (slice_cmp nat_cmp key (string_bytes e.0))) _ _
     ∙ (λ j. cond (is_eq-slice_cmp key (string_bytes e.0) j) (Some (told e.1)) (found_entry told key entries j))
 
--- what was found in the tree, or a default, is what the table tells
+-- what was found in the tree, or a default, is what the table says
 pub told_at : {V W : Type 0} (told : V → W) (absent : W) (key : List ℕ) (entries : List (String Global × V)) (found : Option V)
     → found ≡ lookup (is_at (λ k. slice_cmp nat_cmp key (string_bytes k))) entries
     → unwrap_or (option_map told found) absent ≡ entry_at absent (told_entries told entries) key
@@ -57,7 +57,7 @@ put_entry told key value (e ∷ entries) = go (string_cmp key e.0) (put_entry to
     go Equal later = refl
     go Greater later = ap (λ es. (string_bytes e.0, told e.1) ∷ es) later
 
--- behind a change at one key each other has the entry that it had
+-- after a change at one key each other has the entry that it had
 pub last_entry : {V W : Type 0} (told : V → W) (absent : W) (key : List ℕ) (old new : BTreeMap (String Global) V) (value : V)
     → UpdatesBy string_cmp (λ k. slice_cmp nat_cmp key (string_bytes k)) old new (Some value)
     → (asked : List ℕ) → entry_at absent (told_entries told new.entries) asked

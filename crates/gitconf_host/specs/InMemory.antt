@@ -15,47 +15,51 @@ use Rattle.gitconf_host.specs.declared.env.EnvVar.{EnvVar}
 use Rattle.gitconf_host.specs.declared.mem_files.MemFile.{MemFile}
 use Rattle.gitconf_host.specs.declared.mem_files.MemFile.TheVariants.{Bytes, OpenFault, ReadFault}
 
--- entries as they are told, each under its bytes
+-- the entries as a list, each under the bytes of its text
 abbrev pub told_entries : {V W : Type 0} → (V → W) → List (String Global × V) → List (List ℕ × W)
 told_entries told entries = map (λ e. (string_bytes e.0, told e.1)) entries
 
--- the table with this entry in place of one of the same key, or else at its place in the order
+-- the table with this entry in place of one with the same key, otherwise at its place in the order
 abbrev pub with_entry : {W : Type 0} → (key : List ℕ) → W → List (List ℕ × W) → List (List ℕ × W)
 with_entry key told entries = insert_entry (slice_cmp nat_cmp) entries key told
 
--- the entry of a key, or what a key without one tells
+-- the entry of a key, or what holds for a key without one
 abbrev pub entry_at : {W : Type 0} → W → List (List ℕ × W) → (key : List ℕ) → W
 entry_at absent entries key = unwrap_or (lookup (bytes_eq key) entries) absent
 
--- what a file in memory tells
+-- what is known of a file in memory
 abbrev pub file_told : MemFile → FileTold
 file_told (Bytes bytes trust) = IsFile bytes.items trust
 file_told (OpenFault not_found) = Unopened not_found
 file_told ReadFault = Unread
 
+-- the files of a tree as a list, each under the bytes of its path
 abbrev pub file_entries : List (String Global × MemFile) → List (List ℕ × FileTold)
 file_entries entries = told_entries file_told entries
 
--- what stands at a path
+-- what is at a path
 abbrev pub file_at : List (List ℕ × FileTold) → (path : List ℕ) → FileTold
 file_at files path = entry_at NoFile files path
 
--- files by their paths, and how many faults were answered
+-- files by their paths, and how many faults were returned
 pub record FileTable : Type 0 where
   pub files : List (List ℕ × FileTold)
   pub failures : ℕ
 
+-- these files, and this many faults returned so far
 abbrev pub file_table : List (List ℕ × FileTold) → ℕ → FileTable
 file_table files failures = record { files = files; failures = failures }
 
+-- no files, and no fault so far
 abbrev pub no_files : FileTable
 no_files = file_table [] 0
 
--- a copy of the bytes, or want of memory
+-- a copy of the bytes, or out of memory
 abbrev pub IsCopyOf : {Z : Type 0} → Result (Vec ℕ Z) FileFault → (bytes : List ℕ) → Type 0
 IsCopyOf (Ok copy) bytes = copy.items ≡ bytes
 IsCopyOf (Err fault) bytes = fault.stage ≡ Memory
 
+-- the variables of a tree as a list, each under the bytes of its name
 abbrev pub variable_entries : List (String Global × EnvVar) → List (List ℕ × VariableTold)
 variable_entries entries = told_entries variable_told entries
 

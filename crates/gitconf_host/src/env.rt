@@ -5,17 +5,17 @@ use gitconf_text::NoMemory;
 /// What a variable of the environment is.
 #[derive(Debug, Drop)]
 pub enum EnvVar {
-    /// It isn't set.
+    /// It is not set.
     Unset,
     /// It is set to this text.
     Text(String),
-    /// It is set to bytes that are no UTF-8.
+    /// It is set to bytes that aren't UTF-8.
     IllFormed,
 }
 
-/// A source of variables, by their names. It is asked in place of the process, whose variables the Rust crate reads itself.
+/// A source of variables, by their names. It is asked instead of the process, whose variables the Rust crate reads itself.
 ///
-/// A source tells in `variables` what each name is set to, or `None`; where it tells them, each call answers by them,
+/// A source says in `variables` what each name is set to, or `None` if it doesn't say; if it does, that decides what each call returns,
 /// and no call changes them, whatever its outcome.
 pub trait Env: Drop {
     ghost use Rattle.std.specs.Prelude.{◌≡◌, ℕ, List, Option, IfOk, IfSome};
@@ -23,17 +23,17 @@ pub trait Env: Drop {
 
     ghost variables: { Self → Option (List ℕ → VariableTold) };
 
-    /// The variable of that name.
+    /// The variable of this name.
     ///
     /// # Errors
     ///
-    /// Only where memory is wanting.
+    /// Only when out of memory.
     fn var(&mut self, name: &str) -> Result<EnvVar, NoMemory>
         ensures told { IfSome (variables self.old) (λ told. IfOk result (λ variable. variable_told variable ≡ told name.now)) }
         ensures stays { variables self.new ≡ variables self.old };
 }
 
-/// A boxed source is the source in the box.
+/// A boxed source does what the source in the box does.
 impl Env for Box<dyn Env> {
     ghost variables = { λ b. (Env-box b).variables b.value };
 
@@ -46,7 +46,7 @@ impl EnvVar {
     ghost use Rattle.std.specs.Prelude.{◌≡◌, IfOk};
     ghost use Rattle.gitconf_host.specs.Told.{variable_told};
 
-    /// A copy, or [`NoMemory`] where there is none for its text.
+    /// A copy, or [`NoMemory`] if there is none for its text.
     pub(crate) fn try_clone(&self) -> Result<EnvVar, NoMemory>
         ensures { IfOk result (λ copy. variable_told copy ≡ variable_told self.now) }
     {

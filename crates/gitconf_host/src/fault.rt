@@ -1,5 +1,5 @@
 //! Faults of files.
-/// Where a file's reading failed: as it was opened, as it was read, or for want of memory.
+/// Where reading a file failed: when it was opened, when it was read, or when memory ran out.
 #[derive(Clone, Copy, PartialEq, Eq, PartialOrd, Ord, Hash, Debug)]
 pub enum Stage {
     Open,
@@ -7,11 +7,11 @@ pub enum Stage {
     Memory,
 }
 
-/// A source of files could not hand out a file.
+/// Why a source of files couldn't give a file.
 #[derive(Clone, Copy, PartialEq, Eq, PartialOrd, Ord, Hash, Debug)]
 pub struct FileFault {
     /// Where it failed.
     pub stage: Stage,
-    /// Whether there is no such file.
+    /// Whether it failed because there is no such file.
     pub not_found: bool,
 }

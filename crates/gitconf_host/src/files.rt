@@ -3,12 +3,12 @@
 use crate::fault::FileFault;
 use gitconf_base::source::Trust;
 
-/// A source of files, by their paths. It is asked in place of the disk, which the Rust crate reads itself.
+/// A source of files, by their paths. It is asked instead of the disk, which the Rust crate reads itself.
 ///
-/// A source tells in `table` what stands at each path, or `None`; where it tells a table, each call answers by it, and
-/// no call changes it, whatever its outcome. It tells in `failures` how many faults it has answered, or `None` where it
-/// keeps no count or the count is past its end, and then goes on with `None`: a call that answers a fault counts one, and
-/// each other call none. So a fault of a source that counts comes from that source alone.
+/// A source says in `table` what is at each path, or `None` if it doesn't say; if it does, that decides what each call returns, and
+/// no call changes it, whatever its outcome. It says in `failures` how many faults it has returned, or `None` if it
+/// keeps no count or the count is past its end, and from then on it stays `None`. A call that returns a fault counts one, and
+/// any other call none. So a fault of a source that counts comes from that source alone.
 pub trait Files: Drop {
     ghost use Rattle.std.specs.Prelude.{◌≡◌, ℕ, List, Option, IfSome};
     ghost use Rattle.gitconf_host.specs.Told.{FileTold, is_there, IsReadOf, IsTrustOf, IsCounted};
@@ -17,8 +17,8 @@ pub trait Files: Drop {
 
     ghost failures: { Self → Option ℕ };
 
-    /// Whether a file stands at the path, also one that can't be opened or read. What is no file, as a folder, isn't
-    /// there. It answers no fault.
+    /// Whether a file is at the path, even one that can't be opened or read. A folder, or anything else that is not a file, doesn't
+    /// count. It can't fail.
     fn is_file(&mut self, path: &str) -> bool
         ensures told { IfSome (table self.old) (λ files. result ≡ is_there (files path.now)) }
         ensures stays { table self.new ≡ table self.old }
@@ -28,7 +28,7 @@ pub trait Files: Drop {
     ///
     /// # Errors
     ///
-    /// The file can't be opened, as where there is none, or can't be read, or memory is wanting.
+    /// The file can't be opened (also if there is none), it can't be read, or memory runs out.
     fn read(&mut self, path: &str) -> Result<Vec<u8>, FileFault>
         ensures told { IfSome (table self.old) (λ files. IsReadOf result (files path.now)) }
         ensures stays { table self.new ≡ table self.old }
@@ -45,7 +45,7 @@ pub trait Files: Drop {
         ensures counted { IsCounted result (failures self.old) (failures self.new) };
 }
 
-/// A boxed source is the source in the box.
+/// A boxed source does what the source in the box does.
 impl Files for Box<dyn Files> {
     ghost table = { λ b. (Files-box b).table b.value };
 

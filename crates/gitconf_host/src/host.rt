@@ -1,15 +1,15 @@
-//! All that lies outside, in one value.
+//! Everything outside of the program that calls may ask, in one value.
 
 use crate::env::Env;
 use crate::files::Files;
 use gitconf_values::Homes;
 
-/// The places of configuration that a program knows. The Rust crate finds them itself, and here they are handed in.
+/// The places of configuration that a program knows. The Rust crate finds them itself; here the program sets them.
 #[derive(Drop)]
 pub struct Places {
-    /// The path of the configuration that was installed with Git, or `None` where there is none.
+    /// The path of the configuration that was installed with Git, or `None` if there is none.
     pub installation_config: Option<String>,
-    /// The folder that the configuration of the whole machine stands below, as `etc/gitconfig`.
+    /// The folder that the configuration of the whole machine is below, such as `etc/gitconfig`.
     pub system_prefix: String,
     /// The home folder of the user who runs the program, for `~/`.
     pub home: Option<String>,
@@ -17,8 +17,8 @@ pub struct Places {
     pub homes: Option<Homes>,
 }
 
-/// What a call may ask beside its arguments: files, variables of the environment, and places. A program makes one, and
-/// lends it to each call that reads a file or asks for a variable.
+/// What a call may ask besides its arguments: files, variables of the environment, and places. A program makes one, and
+/// passes it to each call that reads a file or asks for a variable.
 #[derive(Drop)]
 pub struct Host {
     /// Where files come from.

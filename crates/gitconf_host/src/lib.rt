@@ -1,5 +1,5 @@
-//! What lies outside: files, variables of the environment, and the places where configuration stands. A program hands
-//! them in, so nothing here opens a file or asks the system.
+//! What is outside of the program: files, variables of the environment, and the places where configuration is. A program
+//! passes them in, so nothing here opens a file or asks the system.
 #![tactic(auto)]
 
 mod env;

@@ -1,4 +1,4 @@
-//! Variables that stand in memory.
+//! Variables in memory.
 ghost use Rattle.std.specs.Prelude.{◌≡◌, ℕ, List, IfOk, OnOk, OnErr, None, cond, string_bytes};
 ghost use Rattle.std.specs.Map.{lookup};
 ghost use Rattle.std.specs.Str.{bytes_eq};
@@ -11,7 +11,7 @@ use std::alloc::Global;
 use std::collections::BTreeMap;
 use std::marker::Model;
 
-/// Variables of the environment by their names, in memory. It tells them all; a name without an entry isn't set.
+/// Variables of the environment by their names, in memory. It reports them all; a name without an entry is not set.
 #[derive(Drop)]
 pub struct MemEnv {
     variables: BTreeMap<String, EnvVar>,
@@ -43,11 +43,11 @@ impl MemEnv {
         }
     }
 
-    /// Sets a name to that variable, in place of the one that it was set to before. Takes a walk down a tree of the names.
+    /// Sets a name to this variable, in place of what it was set to. Takes a walk down a tree of the names.
     ///
     /// # Errors
     ///
-    /// Want of memory, which comes for a new name alone. The variables then are as they were.
+    /// Out of memory, only for a new name. The variables are then as they were.
     pub fn insert(&mut self, name: String, variable: EnvVar) -> Result<(), NoMemory>
         ensures ok { OnOk result (self.new ≡ with_entry (string_bytes name) (variable_told variable) self.old) }
         ensures err { OnErr result (self.new ≡ self.old) }
@@ -66,7 +66,7 @@ impl Env for MemEnv {
 
     ghost variables = { λ e. Some (variable_at e) };
 
-    /// The variable of that name, copied. Takes a walk down a tree of the names, and memory for its text alone.
+    /// A copy of the variable of this name. Takes a walk down a tree of the names, and memory for its text alone.
     fn var(&mut self, name: &str) -> Result<EnvVar, NoMemory> {
         variable_of(&self.variables, name)
     }
@@ -88,7 +88,7 @@ fn put_variable(
     Ok(())
 }
 
-/// The variable of a name in a tree of the names, copied.
+/// A copy of the variable of a name in a tree of the names.
 fn variable_of(variables: &BTreeMap<String, EnvVar>, name: &str) -> Result<EnvVar, NoMemory>
     ensures { IfOk result (λ copy. variable_told copy ≡ variable_at (variable_entries variables.now.entries) name.now) }
 {

@@ -1,4 +1,4 @@
-//! Files that stand in memory.
+//! Files in memory.
 ghost use Rattle.std.specs.Prelude.{◌≡◌, ℕ, List, OnOk, OnErr, None, cond, string_bytes};
 ghost use Rattle.std.specs.Map.{lookup};
 ghost use Rattle.std.specs.Str.{bytes_eq};
@@ -13,14 +13,14 @@ use std::alloc::Global;
 use std::collections::BTreeMap;
 use std::marker::Model;
 
-/// What stands at a path.
+/// What is at a path.
 #[derive(Debug, Drop)]
 pub enum MemFile {
-    /// A file of these bytes, so far trusted.
+    /// A file of these bytes, with this trust.
     Bytes(Vec<u8>, Trust),
-    /// A file that can't be opened; the fault tells whether it was found.
+    /// A file that can't be opened; the fault says whether it was found.
     OpenFault { not_found: bool },
-    /// A file that is opened and can't be read.
+    /// A file that can be opened but not read.
     ReadFault,
 }
 
@@ -77,8 +77,8 @@ fn copied(alloc: Global, bytes: &[u8]) -> Result<Vec<u8>, FileFault>
     }
 }
 
-/// Files by their paths, in memory. It tells its table: a path without an entry is no file, and the fault of such a path
-/// is one at Open that wasn't found. It counts the faults that it answers; a count past 64 bits tells nothing.
+/// Files by their paths, in memory. It reports its table: a path without an entry has no file, and the fault of such a path
+/// is one of opening, that it wasn't found. It counts the faults that it returns; past 64 bits it reports no count.
 #[derive(Drop)]
 pub struct MemFiles {
     files: BTreeMap<String, MemFile>,
@@ -109,16 +109,16 @@ impl MemFiles {
         }
     }
 
-    /// Puts a file at a path, in place of the one that stood there. Takes a walk down a tree of the paths.
+    /// Puts a file at a path, in place of the one that was there. Takes a walk down a tree of the paths.
     ///
     /// # Errors
     ///
-    /// Want of memory, which comes for a new path alone. The files then are as they were. It counts as no fault.
+    /// Out of memory, only for a new path. The files are then as they were. It doesn't count as a fault.
     pub fn insert(&mut self, path: String, file: MemFile) -> Result<(), NoMemory>
         ensures ok { OnOk result (self.new ≡ record self.old { files = with_entry (string_bytes path) (file_told file) self.old.files }) }
         ensures err { OnErr result (self.new ≡ self.old) }
         ensures absent { OnErr result (lookup (bytes_eq (string_bytes path)) self.old.files ≡ None) }
-        // The file stands at the path, and at each other path what stood there.
+        // The file is at the path, and at each other path what was there.
         ensures last { OnOk result ((asked : List ℕ) → file_at self.new.files asked
             ≡ cond (bytes_eq (string_bytes path) asked) (file_told file) (file_at self.old.files asked)) }
     {
@@ -140,7 +140,7 @@ impl Files for MemFiles {
         is_entry(&self.files, path)
     }
 
-    /// The bytes at the path, copied. Takes a walk down a tree of the paths, and memory for the copy.
+    /// A copy of the bytes at the path. Takes a walk down a tree of the paths, and memory for the copy.
     fn read(&mut self, path: &str) -> Result<Vec<u8>, FileFault> {
         match bytes_of(&self.files, path) {
             Ok(bytes) => Ok(bytes),
@@ -151,7 +151,7 @@ impl Files for MemFiles {
         }
     }
 
-    /// The trust at the path. Takes a walk down a tree of the paths, and no memory, so memory is never wanting.
+    /// The trust at the path. Takes a walk down a tree of the paths, and no memory, so it can't run out of memory.
     fn trust(&mut self, path: &str) -> Result<Trust, FileFault>
         ensures exact { result ≡ trust_of (file_at self.old.files path.now) }
         ensures told { IsTrustOf result (file_at self.old.files path.now) }
@@ -191,7 +191,7 @@ fn is_entry(files: &BTreeMap<String, MemFile>, path: &str) -> bool
     files.contains_key(path)
 }
 
-/// The bytes at a path of a tree of the paths, copied.
+/// A copy of the bytes at a path of a tree of the paths.
 fn bytes_of(files: &BTreeMap<String, MemFile>, path: &str) -> Result<Vec<u8>, FileFault>
     ensures { IsReadOf result (file_at (file_entries files.now.entries) path.now) }
 {

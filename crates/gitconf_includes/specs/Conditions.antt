@@ -20,26 +20,26 @@ use Rattle.gitconf_includes.specs.declared.includes.conditional.GitDir.{GitDir}
 use Rattle.gitconf_includes.specs.declared.includes.Error.{Error}
 use Rattle.gitconf_includes.specs.declared.includes.Error.TheVariants.{MissingGitDir, Realpath, Memory}
 
--- what stands before and behind the first colon
+-- what comes before and after the first colon
 abbrev pub cut_colon : (text : List ℕ) → Option (List ℕ × List ℕ)
 cut_colon text = elim (position (λ b. b == 58) text) [ None ↦ None | Some n ↦ Some (take n text, drop (n + 1) text) ]
 
--- a pattern that ends with `/` takes all that stands below
+-- a pattern that ends with `/` matches everything below
 abbrev pub deep : (pattern : List ℕ) → List ℕ
 deep pattern = if ends_with nat_eq pattern (codes "/") then pattern ++ codes "**" else pattern
 
--- a pattern that doesn't begin with `/` may begin in any folder
+-- a pattern that doesn't begin with `/` may match in any folder
 abbrev pub anywhere : (pattern : List ℕ) → List ℕ
 anywhere pattern = if begins_slash pattern then pattern else codes "**/" ++ pattern
 
--- a pattern that begins with `./` is told by the folder of the section's file
+-- a pattern that begins with `./` is relative to the folder of the section's file
 abbrev pub based : Rules → (from : Meta) → (pattern : List ℕ) → Result (Option (List ℕ)) ℕ
 based rules from pattern = elim (behind (codes "./") pattern) [
   | None ↦ Ok (Some pattern)
   | Some rest ↦ found (folder rules from) (λ above. Ok (Some (above ++ codes "/" ++ rest)))
 ]
 
--- the pattern of a text whose shorthands are replaced
+-- the pattern of a text, after its shorthands are replaced
 abbrev pub pattern_of : Rules → (from : Meta) → (text : List ℕ) → Result (Option (List ℕ)) ℕ
 pattern_of rules from text = found (based rules from text) (λ p. Ok (Some (deep (anywhere p))))
 
@@ -47,16 +47,16 @@ pattern_of rules from text = found (based rules from text) (λ p. Ok (Some (deep
 abbrev pub gitdir_pattern : Rules → (from : Meta) → (pattern : List ℕ) → Result (Option (List ℕ)) ℕ
 gitdir_pattern rules from pattern = found (replaced rules pattern) (pattern_of rules from)
 
--- an outcome is that pattern, or memory was wanting
+-- a call gives that pattern, or memory ran out
 abbrev pub IsPattern : Result (Option (Vec ℕ Global)) Error → Result (Option (List ℕ)) ℕ → Type 0
 IsPattern = Tells (λ pattern. pattern.items)
 
--- the folder matches as it is given, or with its symbolic links resolved
+-- the folder matches as it is given, or else with its symbolic links resolved
 abbrev pub matches_folder : (ignore_case : Bool) → (pattern : List ℕ) → GitFolder → Result Bool ℕ
 matches_folder ignore_case pattern git = if matches ignore_case 0 true pattern git.path then Ok true else
     elim git.real [ None ↦ Err 18 | Some real ↦ Ok (matches ignore_case 0 true pattern real) ]
 
--- a folder that is there is matched, unless the pattern is left out
+-- whether the folder matches, unless the pattern is left out
 abbrev pub holds_in : (ignore_case : Bool) → GitFolder → Result (Option (List ℕ)) ℕ → Result Bool ℕ
 holds_in ignore_case git (Ok None) = Ok false
 holds_in ignore_case git (Ok (Some pattern)) = matches_folder ignore_case pattern git
@@ -69,21 +69,21 @@ holds_gitdir ignore_case rules from pattern = elim rules.git_dir [
   | Some git ↦ holds_in ignore_case git (gitdir_pattern rules from pattern)
 ]
 
--- the condition on the branch, whose name is matched behind `refs/heads/`
+-- the condition on the branch, whose name is matched after `refs/heads/`
 abbrev pub holds_branch : Rules → (pattern : List ℕ) → Bool
 holds_branch rules pattern = elim (option_and_then (behind (codes "refs/heads/")) rules.branch) [
   | None ↦ false
   | Some short ↦ matches false 0 true (deep pattern) short
 ]
 
--- the condition on the urls of remotes, where `has_url` tells whether some matches a pattern
+-- the condition on the urls of remotes; `has_url` says whether some url matches a pattern
 abbrev pub holds_config : (has_url : List ℕ → Bool) → (rest : List ℕ) → Bool
 holds_config has_url rest = elim (cut_colon rest) [
   | None ↦ false
   | Some cut ↦ if bytes_eq cut.0 (codes "remote.*.url") then has_url cut.1 else false
 ]
 
--- a condition of that kind, with what stands behind its colon
+-- a condition of this kind, with what follows its colon
 abbrev pub holds_kind : Rules → (from : Meta) → (has_url : List ℕ → Bool) → (kind rest : List ℕ) → Result Bool ℕ
 holds_kind rules from has_url kind rest =
     if bytes_eq kind (codes "gitdir") then holds_gitdir false rules from rest else
@@ -91,30 +91,30 @@ holds_kind rules from has_url kind rest =
     if bytes_eq kind (codes "onbranch") then Ok (holds_branch rules rest) else
     if bytes_eq kind (codes "hasconfig") then Ok (holds_config has_url rest) else Ok false
 
--- Whether a condition holds, or the number of its refusal. `from` is where its section comes from, and `has_url` tells whether the url of
--- some remote matches a pattern. A condition of no known kind doesn't hold.
+-- Whether a condition holds, or the number of its refusal. `from` is where its section comes from, and `has_url` says whether the url of
+-- some remote matches a pattern. A condition of an unknown kind doesn't hold.
 abbrev pub holds : Rules → (from : Meta) → (has_url : List ℕ → Bool) → (condition : List ℕ) → Result Bool ℕ
 holds rules from has_url condition = elim (cut_colon condition) [
   | None ↦ Ok false
   | Some cut ↦ holds_kind rules from has_url cut.0 cut.1
 ]
 
--- what a judgement says once it is known which patterns match the url of some remote
+-- what a judgment says, once it is known which patterns match the url of some remote
 abbrev pub judged : (has_url : List ℕ → Bool) → Judged → Bool
 judged has_url (Holds it) = it
 judged has_url (IfUrl pattern) = has_url pattern.now
 
--- an outcome says that, or memory was wanting
+-- a call says that, or memory ran out
 abbrev pub Says : {T : Type 0} → (T → Bool) → Result T Error → Result Bool ℕ → Type 0
 Says says (Ok it) answer = answer ≡ Ok (says it)
 Says says (Err Memory) answer = Unit {0}
 Says says (Err e) answer = answer ≡ Err (includes_number e)
 
--- the git folder could not be resolved for that fault
+-- the git folder could not be resolved because of this fault
 abbrev pub IsUnresolved : FileFault → Option GitDir → Type 0
 IsUnresolved fault git_dir = option_map (λ g. g.real) git_dir ≡ Some (Err fault)
 
--- the refusals that a condition may have: those of a path, a git folder that is not there, and one that could not be resolved
+-- the refusals that a condition may have: those of a path, no git folder, and a git folder that could not be resolved
 abbrev pub IsOfCondition : Option GitDir → Error → Type 0
 IsOfCondition git_dir MissingGitDir = git_dir ≡ None
 IsOfCondition git_dir (Realpath fault) = IsUnresolved fault git_dir

@@ -1,4 +1,4 @@
--- The refusals of files and of includes, of what they come from; want of memory has one case in each.
+-- The refusals of files and of includes, made of what caused them; running out of memory has one case in each.
 use Rattle.std.specs.Prelude.{ℕ, ◌==◌, if◌then◌else◌}
 use Rattle.gitconf_values.specs.declared.path.interpolate.Error.{Error as Interpolate}
 use Rattle.gitconf_values.specs.declared.path.interpolate.Error.TheVariants as interpolate
@@ -9,7 +9,7 @@ use Rattle.gitconf_includes.specs.declared.includes.Error.TheVariants as include
 use Rattle.gitconf_includes.specs.declared.init.Error.{Error as Init}
 use Rattle.gitconf_includes.specs.declared.init.Error.TheVariants as init
 
--- the number of a refused include
+-- the number of a refusal of includes
 abbrev pub includes_number : Includes → ℕ
 includes_number (includes.Io path fault) = 19
 includes_number (includes.CopyBuffer fault) = 20
@@ -22,7 +22,7 @@ includes_number includes.MissingGitDir = 17
 includes_number (includes.Realpath fault) = 18
 includes_number includes.Memory = 27
 
--- the number of a refused file
+-- the number of a refusal of a file
 abbrev pub init_number : Init → ℕ
 init_number (init.Parse e) = e.number
 init_number (init.Interpolate e) = interpolate_number e
@@ -30,26 +30,33 @@ init_number (init.Includes e) = includes_number e
 init_number (init.Span e) = e
 init_number init.Memory = 27
 
+-- the refusal of an include whose file the parser refuses
 abbrev pub include_of_parse : Refusal → Includes
 include_of_parse e = if e.number == 27 then includes.Memory else includes.Parse e
 
+-- the refusal of an include for which there is no room
 abbrev pub include_of_span : (number : ℕ) → Includes
 include_of_span number = if number == 27 then includes.Memory else includes.Span number
 
+-- the refusal of an include whose path can't be interpolated
 abbrev pub include_of_interpolate : Interpolate → Includes
 include_of_interpolate interpolate.Memory = includes.Memory
 include_of_interpolate e = includes.Interpolate e
 
+-- the refusal of a file that the parser refuses
 abbrev pub init_of_parse : Refusal → Init
 init_of_parse e = if e.number == 27 then init.Memory else init.Parse e
 
+-- the refusal of a file for which there is no room
 abbrev pub init_of_span : (number : ℕ) → Init
 init_of_span number = if number == 27 then init.Memory else init.Span number
 
+-- the refusal of a file because a path can't be interpolated
 abbrev pub init_of_interpolate : Interpolate → Init
 init_of_interpolate interpolate.Memory = init.Memory
 init_of_interpolate e = init.Interpolate e
 
+-- the refusal of a file because its includes are refused
 abbrev pub init_of_includes : Includes → Init
 init_of_includes includes.Memory = init.Memory
 init_of_includes e = init.Includes e

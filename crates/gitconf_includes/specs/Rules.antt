@@ -1,4 +1,4 @@
--- What an expansion goes by: the options of includes, in plain bytes.
+-- What an expansion depends on: the options of includes, in plain bytes.
 use Rattle.std.specs.Prelude.{ℕ, Bool, false, List, Option, Some, None, Result, Ok, Err}
 use Rattle.std.specs.Option.{option_copied, option_map}
 use Rattle.std.specs.Borrow.{Bor}
@@ -7,19 +7,20 @@ use Rattle.gitconf_includes.specs.declared.includes.conditional.GitDir.{GitDir}
 use Rattle.gitconf_includes.specs.declared.includes.Options.{Options as Includes}
 use Rattle.gitconf_includes.specs.declared.init.Options.{Options as Init}
 
--- The folder of a repository: the path as it is given, and the one with its symbolic links resolved, where that was no fault.
+-- The folder of a repository: the path as it is given, and the one with its symbolic links resolved, if there was no fault.
 pub record GitFolder : Type 0 where
   pub path : List ℕ
   pub real : Option (List ℕ)
 
+-- the rules of an expansion: how deep it goes, what it refuses, what shorthands and conditions mean, and what a load keeps
 pub record Rules : Type 0 where
   -- how many files deep includes are followed
   pub max_depth : ℕ
-  -- deeper ones refuse
+  -- deeper ones are refused
   pub refuses_depth : Bool
-  -- a shorthand that stands for nothing refuses, and so does a condition on a git folder that is not there
+  -- a path whose shorthand stands for nothing is refused, and so is a condition on a git folder if there is none
   pub refuses_shorthand : Bool
-  -- a path that needs the folder of a file refuses where the file has no path
+  -- a path that needs the folder of a file is refused if the file has no path
   pub refuses_no_path : Bool
   -- the folder where git is installed, that of the user who runs the program, and those of users
   pub install : Option (List ℕ)
@@ -28,18 +29,19 @@ pub record Rules : Type 0 where
   -- what conditions are about: the folder of the repository, and the full name of the branch
   pub git_dir : Option GitFolder
   pub branch : Option (List ℕ)
-  -- blanks, comments and line ends are left out
+  -- blanks, comments and line endings are left out
   pub lossy : Bool
 
--- the resolved folder, where it could be resolved
+-- the resolved folder, if it could be resolved
 abbrev pub resolved : Result (Bor (List ℕ)) FileFault → Option (List ℕ)
 resolved (Ok folder) = Some folder.now
 resolved (Err fault) = None
 
+-- the folder of a repository as options give it: its path, and the resolved one if there is one
 abbrev pub git_folder : GitDir → GitFolder
 git_folder g = record { path = g.path.now; real = resolved g.real }
 
--- the rules of options of includes; what a load keeps is not among these, and is all
+-- the rules of the options of includes, which don't say what a load keeps: everything
 abbrev pub rules_of_includes : Includes → Rules
 rules_of_includes o = record {
   max_depth = o.max_depth;
@@ -54,5 +56,6 @@ rules_of_includes o = record {
   lossy = false;
 }
 
+-- the rules of the options of a file: those of its includes, and whether loads are lossy
 abbrev pub rules_of : Init → Rules
 rules_of o = record (rules_of_includes o.includes) { lossy = o.lossy }

@@ -19,23 +19,23 @@ use gitconf_glob::wildmatch;
 use gitconf_text::NoMemory;
 use std::alloc::Global;
 
-/// What is known of a condition without a look at any section.
+/// What is known of a condition without looking at any section.
 #[derive(Clone, Copy, Debug)]
 pub enum Judged<'a> {
     /// It holds, or it doesn't.
     Holds(bool),
-    /// It holds exactly if the url of some remote matches this pattern.
+    /// It holds if and only if the url of some remote matches this pattern.
     IfUrl(&'a [u8]),
 }
 
-/// Where the first colon stands.
+/// The place of the first colon.
 fn first_colon(text: &[u8]) -> Option<usize>
     ensures { result ≡ position (λ b. b == 58) text.now }
 {
     text.iter().position(|b| *b == b':')
 }
 
-/// What stands before and behind the first colon.
+/// What comes before and after the first colon.
 fn cut_colon(text: &[u8]) -> Option<(&[u8], &[u8])>
     ensures { option_map (λ c. (c.0.now, c.1.now)) result ≡ spec.cut_colon text.now }
 {
@@ -45,28 +45,28 @@ fn cut_colon(text: &[u8]) -> Option<(&[u8], &[u8])>
     }
 }
 
-/// What stands behind a beginning.
+/// What follows a beginning of the text, if the text begins with it.
 fn behind<'a>(beginning: &[u8], text: &'a [u8]) -> Option<&'a [u8]>
     ensures { option_copied result ≡ behind_of beginning.now text.now }
 {
     text.strip_prefix(beginning)
 }
 
-/// Whether a slash stands last.
+/// Whether the last byte is a slash.
 fn ends_slash(text: &[u8]) -> bool
     ensures { result ≡ ends_with nat_eq text.now (codes "/") }
 {
     text.ends_with(b"/".as_slice())
 }
 
-/// The bytes, as they are written.
+/// A copy of the bytes.
 fn written(alloc: Global, bytes: &[u8]) -> Result<BString, NoMemory>
     ensures { IfOk result (λ copy. bstring_bytes copy ≡ bytes.now) }
 {
     Ok(BString::from_slice(alloc, bytes)?)
 }
 
-/// The pattern, that takes all below where it ends with `/`. It asks for memory there alone.
+/// The pattern; if it ends with `/`, it matches everything below. Only then does it ask for memory.
 fn deep(pattern: Vec<u8>) -> Result<Vec<u8>, NoMemory>
     ensures { IfOk result (λ all. all.items ≡ spec.deep pattern.items) }
 {
@@ -77,7 +77,7 @@ fn deep(pattern: Vec<u8>) -> Result<Vec<u8>, NoMemory>
     Ok(all)
 }
 
-/// The pattern, that may begin in any folder where it doesn't begin with `/`. It asks for memory there alone, and once:
+/// The pattern; if it doesn't begin with `/`, it may match in any folder. Only then does it ask for memory, once,
 /// also for what [`deep`] adds.
 fn anywhere(alloc: Global, pattern: Vec<u8>) -> Result<Vec<u8>, NoMemory>
     ensures { IfOk result (λ all. all.items ≡ spec.anywhere pattern.items) }
@@ -91,7 +91,7 @@ fn anywhere(alloc: Global, pattern: Vec<u8>) -> Result<Vec<u8>, NoMemory>
     Ok(all)
 }
 
-/// A folder, a slash, and what is left of a pattern.
+/// A folder, a slash, and the rest of a pattern.
 fn below(alloc: Global, folder: &[u8], rest: &[u8]) -> Result<Vec<u8>, NoMemory>
     ensures { IfOk result (λ all. all.items ≡ folder.now ++ (codes "/" ++ rest.now)) }
 {
@@ -101,7 +101,7 @@ fn below(alloc: Global, folder: &[u8], rest: &[u8]) -> Result<Vec<u8>, NoMemory>
     Ok(all)
 }
 
-/// A pattern whose `./` at the front stands for the folder of the section's file, or `None` where the file has no path
+/// A pattern with `./` at its front replaced by the folder of the section's file, or `None` if the file has no path
 /// and what needs one is left out.
 fn based(
     alloc: Global,
@@ -121,14 +121,14 @@ fn based(
     }
 }
 
-/// The pattern, anywhere and deep.
+/// The pattern, after `anywhere` and `deep`.
 fn spread(alloc: Global, pattern: Vec<u8>) -> Result<Vec<u8>, NoMemory>
     ensures { IfOk result (λ all. all.items ≡ spec.deep (spec.anywhere pattern.items)) }
 {
     deep(anywhere(alloc, pattern)?)
 }
 
-/// The pattern of a text whose shorthands are replaced, or `None` where it is left out.
+/// The pattern of a text after its shorthands are replaced, or `None` if it is left out.
 fn pattern_of(
     alloc: Global,
     options: &Options<'_>,
@@ -144,7 +144,7 @@ fn pattern_of(
     }
 }
 
-/// The pattern that the folder of the repository is matched with, or `None` where it is left out.
+/// The pattern that the folder of the repository is matched with, or `None` if it is left out.
 fn gitdir_pattern(
     alloc: Global,
     options: &Options<'_>,
@@ -206,7 +206,7 @@ fn holds_gitdir(
     }
 }
 
-/// Whether a branch matches, told by its name behind `refs/heads/`.
+/// Whether a branch matches, by its name after `refs/heads/`.
 fn matches_branch(alloc: Global, pattern: &[u8], short: &[u8]) -> Result<bool, NoMemory>
     ensures { IfOk result (λ it. it ≡ matches false 0 true (spec.deep pattern.now) short.now) }
 {
@@ -217,7 +217,7 @@ fn matches_branch(alloc: Global, pattern: &[u8], short: &[u8]) -> Result<bool, N
     wildmatch(alloc, &pattern, short, false)
 }
 
-/// What stands behind `refs/heads/` in the full name of the branch.
+/// What follows `refs/heads/` in the full name of the branch.
 fn short_name<'a>(options: &Options<'a>) -> Option<&'a [u8]>
     ensures { option_copied result ≡ option_and_then (behind_of (codes "refs/heads/")) (option_copied options.now.conditional.branch_name) }
 {
@@ -253,7 +253,7 @@ fn judge_config(rest: &[u8]) -> Judged<'_>
     }
 }
 
-/// A condition of that kind, with what stands behind its colon.
+/// A condition of this kind, with what follows its colon.
 fn judge_kind<'a>(
     alloc: Global,
     options: &Options<'_>,
@@ -280,18 +280,18 @@ fn judge_kind<'a>(
 }
 
 /// Judges the condition of an `includeIf`, by the options and by where its section comes from. The text before the
-/// first colon tells its kind, letter by letter: `gitdir` and `gitdir/i` match the folder of the repository, `onbranch`
+/// first colon is its kind, in exactly this spelling: `gitdir` and `gitdir/i` match the folder of the repository, `onbranch`
 /// the branch, and `hasconfig:remote.*.url` the urls of remotes, for which the caller has to ask. Any other condition
 /// doesn't hold, and neither does one without a colon.
 ///
-/// It takes memory for the pattern of a folder that is there, and what [`wildmatch`] takes: no memory for a condition of
-/// another kind or on what the options don't tell.
+/// It takes memory for the pattern of a folder that is known, and what [`wildmatch`] takes: no memory for a condition of
+/// another kind, or on what the options don't give.
 ///
 /// # Errors
 ///
-/// What [`file_named`](crate::paths::file_named) answers, for the pattern of a folder in place of the path; E17
-/// ([`Error::MissingGitDir`]) where no folder of a repository is told and the options ask for it; E18
-/// ([`Error::Realpath`]) with the fault of the options, where the folder as it is given doesn't match and could not be
+/// Those of [`file_named`](crate::paths::file_named), for the pattern of a folder in place of the path; E17
+/// ([`Error::MissingGitDir`]) if no folder of a repository is given and the options ask for a refusal; E18
+/// ([`Error::Realpath`]) with the fault of the options, if the folder as it is given doesn't match and could not be
 /// resolved; E27.
 pub fn judge<'a>(
     alloc: Global,

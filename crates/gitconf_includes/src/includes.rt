@@ -1,4 +1,4 @@
-//! Files that include others: how far that goes, and how it is refused.
+//! Files that include others: how deep that goes, and what is refused.
 ghost use Rattle.std.specs.Prelude.{◌≡◌};
 ghost use Rattle.gitconf_includes.specs.Options.{no_conditions, no_follow, follow, strict};
 
@@ -12,7 +12,7 @@ use gitconf_values::Homes;
 use gitconf_values::path::interpolate;
 use thiserror::Error;
 
-/// How includes are refused.
+/// Why includes are refused.
 #[derive(Debug, Drop, Error)]
 pub enum Error {
     /// Reading an included file failed: refusal 20.
@@ -30,10 +30,10 @@ pub enum Error {
     /// The path of an include could not be interpolated: refusal 12 to 14.
     #[error(transparent)]
     Interpolate(interpolate::Error),
-    /// More files include each other than the options allow, or than a level can count: refusal 15.
+    /// Files include each other deeper than the options allow, or than a level can count: refusal 15.
     #[error("The maximum allowed length {max_depth} of the file include chain built by following nested resolve_includes is exceeded")]
     IncludeDepthExceeded { max_depth: u8 },
-    /// A path is told by the folder of a file that has none: refusal 16.
+    /// A path is relative to the folder of a file that has no path: refusal 16.
     #[error("Include paths from environment variables must not be relative as no config file paths exists as root")]
     MissingConfigPath,
     /// A condition asks for the git folder, and there is none: refusal 17.
@@ -98,17 +98,17 @@ impl From<NoMemory> for Error {
     }
 }
 
-/// Which includes are followed, and what refuses.
+/// Which includes are followed, and what is refused.
 #[derive(Clone, Copy)]
 pub struct Options<'a> {
     /// How many files deep includes are followed: 0 for none.
     pub max_depth: u8,
-    /// Whether it is refused where files go deeper than that; else they are left out.
+    /// Whether files that go deeper are refused; otherwise they are left out.
     pub err_on_max_depth_exceeded: bool,
-    /// Whether it is refused where a path has a shorthand that stands for nothing, or where a condition on the git
-    /// folder has none; else the include is left out.
+    /// Whether a path is refused whose shorthand stands for nothing, and a condition on the git folder if there is
+    /// none; otherwise the include is left out.
     pub err_on_interpolation_failure: bool,
-    /// Whether it is refused where a path that doesn't begin with `/` is included by a file without a path; else the
+    /// Whether a path that doesn't begin with `/` is refused in a file without a path; otherwise the
     /// include is left out.
     pub err_on_missing_config_path: bool,
     /// What the shorthands of paths stand for.
@@ -132,8 +132,8 @@ impl<'a> Options<'a> {
         }
     }
 
-    /// Follows includes ten files deep, and refuses what goes deeper and a path told by the folder of a file that has
-    /// none. A shorthand that stands for nothing leaves its include out.
+    /// Follows includes ten files deep, and refuses what goes deeper, and a path relative to the folder of a file that has
+    /// no path. A shorthand that stands for nothing leaves its include out.
     pub fn follow(
         interpolate: interpolate::Context<'a>,
         conditional: conditional::Context<'a>,
@@ -150,7 +150,7 @@ impl<'a> Options<'a> {
         }
     }
 
-    /// [`Options::follow`] with these home folders, and with nothing that a condition could be about.
+    /// [`Options::follow`] with these home folders, and nothing that a condition could be about.
     pub fn follow_without_conditional(
         home_dir: Option<&'a str>,
         homes: Option<&'a Homes>,
@@ -165,7 +165,7 @@ impl<'a> Options<'a> {
         Options::follow(interpolate, conditional::Context::default())
     }
 
-    /// The same, but refusing wherever the options may ask for it.
+    /// The same, but refusing wherever the options can ask for it.
     pub fn strict(mut self) -> Options<'a>
         ensures { result ≡ strict self.entry }
     {

@@ -1,4 +1,4 @@
-//! How files are made of bytes, and how that is refused.
+//! How files are made of bytes, and why that is refused.
 ghost use Rattle.std.specs.Prelude.{◌≡◌};
 
 use crate::includes;
@@ -8,7 +8,7 @@ use gitconf_text::parse::span;
 use gitconf_values::path::interpolate;
 use thiserror::Error;
 
-/// How a file is refused that is to be made.
+/// Why a file is not made.
 #[derive(Debug, Drop, Error)]
 pub enum Error {
     /// The parser refused the bytes: refusal 1 or 2.
@@ -92,14 +92,14 @@ impl From<NoMemory> for Error {
     }
 }
 
-/// How files are made of bytes. The default follows no include, keeps all that a text has, and refuses where a file
+/// How files are made of bytes. The default follows no include, keeps everything that a text has, and refuses a file that
 /// can't be read.
 #[derive(Clone, Copy, Default)]
 pub struct Options<'a> {
     /// Which includes are followed.
     pub includes: includes::Options<'a>,
-    /// Whether blanks, comments and line ends are left out. The document is the same.
+    /// Whether blanks, comments and line endings are left out. The document is the same.
     pub lossy: bool,
-    /// Whether a file that can't be opened is left out, and one that can't be read is empty; else it is refused.
+    /// Whether a file that can't be opened is left out, and one that can't be read is empty; otherwise they are refused.
     pub ignore_io_errors: bool,
 }

@@ -1,4 +1,4 @@
-//! Files that include others, and how files are made: the options of both, how they are refused, which file a path names,
+//! Files that include others, and how files are made: the options of both, what is refused, which file a path names,
 //! and whether a condition holds.
 #![tactic(auto)]
 

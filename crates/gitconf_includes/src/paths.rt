@@ -14,12 +14,12 @@ use gitconf_values::Path;
 use gitconf_values::path::{interpolate, join, parent};
 use std::alloc::Global;
 
-/// The path with its shorthands replaced, or `None` where one stands for nothing and such paths are left out. It takes
-/// memory for the answer alone.
+/// The path with its shorthands replaced, or `None` if one stands for nothing and such paths are left out. It takes
+/// memory for the result alone.
 ///
 /// # Errors
 ///
-/// E12 where the options ask for it, E13, E14, E27.
+/// E12 if the options ask for it, E13, E14, E27.
 pub(crate) fn replaced(options: &Options<'_>, path: BString) -> Result<Option<String>, Error>
     ensures value { Names result (spec.replaced (rules_of_includes options.now) (bstring_bytes path)) }
     ensures cause { IfErr result (λ e. spec.is_of_path e ≡ true) }
@@ -37,12 +37,12 @@ pub(crate) fn replaced(options: &Options<'_>, path: BString) -> Result<Option<St
     }
 }
 
-/// The folder of the file that a section comes from, as a part of that file's path; `None` where the file has no path
+/// The folder of the file that a section comes from, as a part of that file's path; `None` if the file has no path
 /// and what needs one is left out. It takes no memory.
 ///
 /// # Errors
 ///
-/// E16 where the file has no path and the options ask for it, and where its path stands in no folder.
+/// E16 if the file has no path and the options ask for a refusal, and if its path is in no folder.
 pub(crate) fn folder<'a>(
     options: &Options<'_>,
     from: &'a Metadata,
@@ -65,7 +65,7 @@ pub(crate) fn folder<'a>(
     }
 }
 
-/// Whether a slash stands first.
+/// Whether the first byte is a slash.
 pub(crate) fn begins_slash(text: &[u8]) -> bool
     ensures { result ≡ starts_slash text.now }
 {
@@ -75,7 +75,7 @@ pub(crate) fn begins_slash(text: &[u8]) -> bool
     }
 }
 
-/// The path that a text tells: itself where it begins with `/`, else in the folder of the section's file.
+/// The path that a text gives: itself if it begins with `/`, otherwise in the folder of the section's file.
 fn placed(
     alloc: Global,
     options: &Options<'_>,
@@ -94,16 +94,16 @@ fn placed(
     }
 }
 
-/// The file that a path of a section names, by the options and by where the section comes from; `None` where the path
-/// is left out. Shorthands at the path's front are replaced, and a path that doesn't begin with `/` then stands in the
+/// The file that a path of a section names, by the options and by where the section comes from; `None` if the path
+/// is left out. Shorthands at the path's front are replaced, and if it then doesn't begin with `/`, it is in the
 /// folder of the section's file. It asks for memory for the path without shorthands, and for the one in a folder; a
-/// path that is left out for a shorthand takes none.
+/// path that is left out because of a shorthand takes none.
 ///
 /// # Errors
 ///
-/// E12 where a shorthand stands for nothing and the options ask for it, E13 and E14 where the path or a user in it isn't
-/// UTF-8, each as [`Error::Interpolate`]; E16 ([`Error::MissingConfigPath`]) where the folder of a file without a path
-/// is needed and the options ask for it, or where the file's path stands in no folder; E27.
+/// E12 if a shorthand stands for nothing and the options ask for a refusal, E13 and E14 if the path or a user in it isn't
+/// UTF-8, each as [`Error::Interpolate`]; E16 ([`Error::MissingConfigPath`]) if the folder of a file without a path
+/// is needed and the options ask for a refusal, or if the file's path is in no folder; E27.
 pub fn file_named(
     alloc: Global,
     options: &Options<'_>,

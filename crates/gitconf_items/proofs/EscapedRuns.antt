@@ -1,4 +1,4 @@
--- A subsection that is spelled in quotes, run by run: what stands between two bytes behind backslashes is written at once.
+-- A subsection that is spelled in quotes, run by run: what is between two bytes after backslashes is written at once.
 use Rattle.std.proofs.Common.{◌≡◌, ℕ, ◌+◌, ◌-◌, ◌<◌, ◌≤◌, true, false, List, [], ◌∷◌, ◌++◌, Option, Result, length, take, drop, get_or, ap, sym, subst, ◌∙◌, append_assoc, arith}
 use Rattle.std.proofs.lemmas.List.{take-append-drop, take_more, get_or-drop, take_all, length-drop, append-nil}
 use Rattle.std.specs.Prelude.{IsErr}
@@ -37,7 +37,7 @@ waits_more s done i w within plain =
           ∙ ap (λ t. escaped_subsection (take done s) ++ t) (sym run));
     }
 
--- behind a byte with its backslash nothing waits
+-- after a byte with its backslash nothing waits
 pub waits_none : (s : List ℕ) (i : ℕ) → i ≤ length s → Waits s i i
 waits_none s i within =
     let none : i - i ≡ 0 = omega arith in
@@ -69,7 +69,7 @@ fault_in_run s done i r old mid new w written fault holds =
     Writes-fault r (escaped_subsection s) old new fault
     (begun_within s i old new (subst (λ t. is_begun t old new ≡ true) (sym w.spelled) begun))
 
--- a fault while the byte behind its backslash is written
+-- a fault while the byte after its backslash is written
 pub fault_in_pair : {T E : Type 0} (s : List ℕ) (done i : ℕ) (r : Result T E) (old mid next new : Option (List ℕ)) → Waits s done i → i < length s
     → needs_backslash (get_or s i 0) ≡ true → mid ≡ with_text (escaped_subsection (take done s)) old → next ≡ with_text (waiting s done i) mid
     → IsErr r → is_begun (92 ∷ get_or s i 0 ∷ []) next new ≡ true → Writes r (escaped_subsection s) old new
@@ -81,7 +81,7 @@ fault_in_pair s done i r old mid next new w within needs written run fault holds
     Writes-fault r (escaped_subsection s) old new fault
     (begun_within s (i + 1) old new (subst (λ t. is_begun t old new ≡ true) (sym (spelled_behind s done i w within needs)) begun))
 
--- the run and the byte behind its backslash were written
+-- the run and the byte after its backslash were written
 pub told_behind : (s : List ℕ) (done i : ℕ) (old mid next new : Option (List ℕ)) → Waits s done i → i < length s
     → needs_backslash (get_or s i 0) ≡ true → mid ≡ with_text (escaped_subsection (take done s)) old → next ≡ with_text (waiting s done i) mid
     → new ≡ with_text (92 ∷ get_or s i 0 ∷ []) next → new ≡ with_text (escaped_subsection (take (i + 1) s)) old

@@ -13,13 +13,13 @@ both : (a b : Bool) → (a && b) ≡ true → (a ≡ true) × (b ≡ true)
 both true b h = (refl, h)
 both false b h = absurd (cc)
 
--- the line end behind a piece, and blanks, are there or not
+-- the line ending after a piece, and blanks, are there or not
 behind_line_end : (line_end : List ℕ) (pieces last rest : List Token) → (are_items BehindPiece ((pieces ++ last) ++ rest) ≡ true) × (are_items BehindPieceEnd ((pieces ++ last) ++ rest) ≡ true)
     → are_items BehindPiece (((filled NewlineToken line_end ++ pieces) ++ last) ++ rest) ≡ true
 behind_line_end [] pieces last rest r = r.0
 behind_line_end (x ∷ xs) pieces last rest r = r.1
 
--- pieces, and the last one, behind a piece or behind its line end
+-- pieces, and the last one, after a piece or after its line ending
 behind_piece : (pieces : List Piece) (last : List ℕ) (rest : List Token) → are_items Between rest ≡ true
     → (are_items BehindPiece ((flat_map piece_tokens pieces ++ ValueDoneToken last ∷ []) ++ rest) ≡ true)
     × (are_items BehindPieceEnd ((flat_map piece_tokens pieces ++ ValueDoneToken last ∷ []) ++ rest) ≡ true)
@@ -27,7 +27,7 @@ behind_piece [] last rest go_on = (go_on, go_on)
 behind_piece (x ∷ pieces) last rest go_on =
     let r = behind_line_end x.line_end (flat_map piece_tokens pieces) (ValueDoneToken last ∷ []) rest (behind_piece pieces last rest go_on) in (r, r)
 
--- a value, behind a separator or behind blanks
+-- a value, after a separator or after blanks
 behind_separator : (pieces : List Piece) (last : List ℕ) (rest : List Token) → are_items Between rest ≡ true
     → (are_items BehindSeparator (value_tokens pieces last ++ rest) ≡ true) × (are_items BehindSeparatorBlanks (value_tokens pieces last ++ rest) ≡ true)
 behind_separator [] last rest go_on = (go_on, go_on)
@@ -39,7 +39,7 @@ behind_separator_blanks : (blanks : List ℕ) (value rest : List Token) → (are
 behind_separator_blanks [] value rest r = r.0
 behind_separator_blanks (x ∷ xs) value rest r = r.1
 
--- what is assigned, behind a name or behind blanks
+-- what is assigned, after a name or after blanks
 behind_name : (assigned : Option Assigned) (rest : List Token) → are_items Between rest ≡ true
     → (are_items BehindName (assigned_tokens assigned ++ rest) ≡ true) × (are_items BehindNameBlanks (assigned_tokens assigned ++ rest) ≡ true)
 behind_name None rest go_on = (go_on, go_on)
@@ -61,7 +61,7 @@ parts_items (ItemPart (CommentItem tag text) ∷ parts) = parts_items parts
 parts_items (ItemPart (EntryItem e) ∷ parts) =
     behind_name_blanks e.blanks (assigned_tokens e.assigned) (tokens_of parts) (behind_name e.assigned (tokens_of parts) (parts_items parts))
 
--- what may stand behind blanks, or behind a line end, may stand without them
+-- what may follow blanks, or after a line ending, may be without them
 no_name_blanks : (tokens : List Token) → are_items BehindNameBlanks tokens ≡ true → are_items BehindName tokens ≡ true
 no_name_blanks (ValueToken bytes ∷ tokens) h = h
 no_name_blanks (SeparatorToken ∷ tokens) h = h
@@ -156,7 +156,7 @@ something_assigned : (blanks : List ℕ) (pieces : List Piece) (last : List ℕ)
 something_assigned blanks pieces last rest all same =
     ap (λ ts. SeparatorToken ∷ ts) (same ∙ sym (append_assoc (filled WhitespaceToken blanks) (value_tokens pieces last) rest))
 
--- a piece and its line end stand before other pieces
+-- a piece and its line ending come before other pieces
 piece_first : (text line_end : List ℕ) (pieces : List Piece) (last : List ℕ) (rest all : List Token)
     → all ≡ filled NewlineToken line_end ++ ((flat_map piece_tokens pieces ++ ValueDoneToken last ∷ []) ++ rest)
     → ValueNotDoneToken text ∷ all ≡ (flat_map piece_tokens ((record { text = text; line_end = line_end }) ∷ pieces) ++ ValueDoneToken last ∷ []) ++ rest

@@ -1,4 +1,4 @@
--- What stands behind other bytes says what it said.
+-- What follows other bytes says what it said.
 use Rattle.std.proofs.Common.{◌≡◌, ℕ, zero, suc, ◌+◌, ◌<◌, List, [], ◌∷◌, ◌++◌, length, map, take, drop, get_or, set, Some, None, refl, ap, sym, subst, ◌∙◌, arith}
 use Rattle.std.specs.List.{AllByRecursion, refill}
 use Rattle.std.proofs.Math.Seq.{drop-append-add, drop-length, take-length}
@@ -21,7 +21,7 @@ use Rattle.gitconf_items.specs.Forms.{parts_in}
 use Rattle.gitconf_items.specs.ShownEvents.{CopyFits}
 use Rattle.gitconf_items.specs.Moves.{continued_of, copy_of, option_bytes_of, pieces_of, ContinuedFits, IsMoved, PiecesFit}
 
--- bytes behind others
+-- bytes after others
 behind_others : (before buffer : List ℕ) (by start len : ℕ) → length before ≡ by → take len (drop (by + start) (before ++ buffer)) ≡ take len (drop start buffer)
 behind_others before buffer by start len is = ap (λ n. take len (drop (n + start) (before ++ buffer))) (sym is) ∙ ap (take len) (drop-append-add before buffer start)
 
@@ -57,7 +57,7 @@ piece_moved by p text line_end m n = record {
   within = λ limit fits. (m.within limit fits.0, n.within limit fits.1);
 }
 
--- a list whose elements were all put anew
+-- a list whose elements were all put again
 pub refilled : {A : Type 0} (xs ys : List A) → length ys ≡ length xs → refill (length xs) xs ys ≡ ys
 refilled xs ys is =
     ap (λ n. take (length xs) (ys ++ drop n xs)) is ∙ ap (λ zs. take (length xs) (ys ++ zs)) (drop-length xs)

@@ -75,7 +75,7 @@ pub shown_list : (buffer copies : List ℕ) (events : List Event) → AllByRecur
 shown_list buffer copies [] all = refl
 shown_list buffer copies (e ∷ events) all = let first = all.0.shown in let rest = shown_list buffer copies events all.1 in cc
 
--- all of them stand within their buffers
+-- all of them are within their buffers
 pub all_within : (buffer copies : List ℕ) (events : List Event) → AllByRecursion (IsShown buffer copies) events → AreWithin buffer copies events
 all_within buffer copies [] all = tt
 all_within buffer copies (e ∷ events) all = ((all.0.fits, all.0.copy_fits), all_within buffer copies events all.1)
@@ -85,7 +85,7 @@ all_taken P zero xs all = tt
 all_taken P (suc n) [] all = tt
 all_taken P (suc n) (x ∷ xs) all = (all.0, all_taken P n xs all.1)
 
--- cutting at headers goes along with a view that tells headers
+-- cutting at headers goes along with a view that says headers
 pub front_of-map : {A B : Type 0} (t : A → Bool) (u : B → Bool) (f : A → B) → ((x : A) → u (f x) ≡ t x) → (xs : List A) → map f (front_of t xs) ≡ front_of u (map f xs)
 front_of-map t u f same [] = refl
 front_of-map t u f same (x ∷ xs) = go (t x) refl (front_of-map t u f same xs)

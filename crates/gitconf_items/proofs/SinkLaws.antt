@@ -1,4 +1,4 @@
--- Texts that are written one behind the other.
+-- Texts that are written one after the other.
 use Rattle.std.proofs.Common.{◌≡◌, ℕ, suc, ◌+◌, ◌<◌, ◌≤◌, Bool, true, false, List, [], ◌∷◌, ◌++◌, Option, Some, None, Result, Ok, Err, length, take, drop, get_or, refl, ap, sym, subst, ◌∙◌, append_assoc}
 use Rattle.std.specs.Prelude.{nat_eq, flat_map, IsErr}
 use Rattle.std.specs.List.{starts_with}
@@ -20,7 +20,7 @@ pub with_text-empty : (told : Option (List ℕ)) → with_text [] told ≡ told
 with_text-empty None = refl
 with_text-empty (Some told) = ap Some (append-nil told)
 
--- a part of a text behind what stands before it
+-- a part of a text after what comes before it
 pub with_text-take : (n k : ℕ) (text : List ℕ) (told : Option (List ℕ)) → with_text (take k (drop n text)) (with_text (take n text) told) ≡ with_text (take (n + k) text) told
 with_text-take n k text told = with_text-with_text (take k (drop n text)) (take n text) told ∙ ap (λ t. with_text t told) (sym (take-add n k text))
 
@@ -63,7 +63,7 @@ Begun-is_begun text (Some told) (Some now) begun =
       told = ap Some goes_on;
     }
 
--- behind a whole text, the beginning of a next one
+-- after a whole text, the beginning of a next one
 pub begun_behind : (a b : List ℕ) (old new : Option (List ℕ)) → is_begun b (with_text a old) new ≡ true → is_begun (a ++ b) old new ≡ true
 begun_behind a b old new holds =
     let begun = Begun-is_begun b (with_text a old) new holds in
@@ -97,7 +97,7 @@ pub begun_at : (n : ℕ) (text : List ℕ) (old : Option (List ℕ)) → is_begu
 begun_at n text old = is_begun-Begun text old (with_text (take n text) old)
     (record { front = take n text; rest = drop n text; whole = sym (take-append-drop n text); told = refl })
 
--- behind what is written for the first i elements, the beginning of what is written for the next
+-- after what is written for the first i elements, the beginning of what is written for the next
 pub begun_among : {A : Type 0} (f : A → List ℕ) (xs : List A) (i : ℕ) (d : A) (old new : Option (List ℕ))
     → i < length xs → is_begun (f (get_or xs i d)) (with_text (flat_map f (take i xs)) old) new ≡ true → is_begun (flat_map f xs) old new ≡ true
 begun_among f xs i d old new within holds =
@@ -114,7 +114,7 @@ pub Writes-fault : {T E : Type 0} (r : Result T E) (text : List ℕ) (old new : 
 Writes-fault (Ok done) text old new fault holds = absurd (cc)
 Writes-fault (Err fault) text old new is_fault holds = holds
 
--- behind a whole text, what an answer says of the next one
+-- after a whole text, what an answer says of the next one
 pub Writes-behind : {T E : Type 0} (r : Result T E) (a b : List ℕ) (old mid new : Option (List ℕ)) → mid ≡ with_text a old → Writes r b mid new → Writes r (a ++ b) old new
 Writes-behind (Ok done) a b old mid new written holds = holds ∙ ap (with_text b) written ∙ with_text-with_text b a old
 Writes-behind (Err fault) a b old mid new written holds = begun_behind a b old new (subst (λ m. is_begun b m new ≡ true) written holds)
@@ -128,5 +128,5 @@ Writes-among f xs i d r old mid new within written fault holds =
 -- one text, in parts
 pub ruleset in_parts = (with_text-take, with_text-whole, with_text-empty, begun_at, take_rest)
 
--- texts, one behind the other
+-- texts, one after the other
 pub ruleset in_turn = (with_text-with_text, append_assoc, begun_behind, begun_before, begun_behind_byte, begun_before_byte)

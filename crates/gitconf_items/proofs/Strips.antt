@@ -1,4 +1,4 @@
--- What is left of an entry without the blanks and the line ends in it.
+-- What is left of an entry without the blanks and the line endings in it.
 use Rattle.std.proofs.Common.{◌≡◌, ℕ, List, [], ◌∷◌, ◌++◌, length, map, Some, None, refl, ap, sym, subst, ◌∙◌, arith, append_assoc}
 use Rattle.std.specs.Prelude.{filter, Option}
 use Rattle.std.specs.List.{flat_map, AllByRecursion}

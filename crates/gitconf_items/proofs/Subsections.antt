@@ -29,7 +29,7 @@ length-escaped_subsection (b ∷ bytes) = go (needs_backslash b) refl (length-es
 
 pub ruleset lengths = (length-escaped_subsection, length-append)
 
--- what a byte of a subsection is read as behind its spelling
+-- what a byte of a subsection is read as after its spelling
 record Respelled (b : ℕ) : Type 0 where
   unit : TextUnit
   fits : is_subsection_unit unit ≡ true

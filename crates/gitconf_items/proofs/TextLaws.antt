@@ -9,7 +9,7 @@ use Rattle.gitconf_items.specs.EventList.{keeps_entry_token, may_miss, IsSelecti
 use Rattle.gitconf_items.specs.TokenDocument.{keeps_meaning}
 use Rattle.gitconf_items.proofs.TokenDocument.{nothing, before, told}
 
--- a token that stands only where there are bytes
+-- a token that is only if there are bytes
 joined_blanks : (bytes : List ℕ) → flat_map spelled_token (filled WhitespaceToken bytes) ≡ bytes
 joined_blanks [] = refl
 joined_blanks (b ∷ bytes) = append-nil (b ∷ bytes)

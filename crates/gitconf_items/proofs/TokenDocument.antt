@@ -5,7 +5,7 @@ use Rattle.gitconf_text.specs.Header.{name_of, subsection_of}
 use Rattle.gitconf_text.specs.Token.{Token, CommentToken, HeaderToken, NameToken, ValueToken, NewlineToken, ValueNotDoneToken, ValueDoneToken, WhitespaceToken, SeparatorToken}
 use Rattle.gitconf_text.specs.Document.{Document}
 
--- what the tokens from here on say: the document, and what stands before the next name: whether a separator does, and the raw text
+-- what the tokens from here on say: the document, and what comes before the next name: whether a separator does, and the raw text
 pub record Told : Type 0 where
   pub document : Document
   pub assigned : Bool
@@ -22,7 +22,7 @@ with_entry name t = record {
   sections = t.document.sections;
 }
 
--- a token before what others say: blanks, line ends and comments say nothing
+-- a token before what others say: blanks, line endings and comments say nothing
 abbrev pub before : Token → Told → Told
 before (CommentToken tag text) t = t
 before (NewlineToken bytes) t = t

@@ -4,7 +4,7 @@ use Rattle.gitconf_items.specs.declared.entry.EntryParts.{EntryParts}
 use Rattle.gitconf_items.specs.Items.{entry_of}
 use Rattle.gitconf_items.specs.ItemsFit.{EntryFits}
 
--- two entries say the same in each buffer, and the spans of the second end where those of the first do, or before
+-- two entries say the same in each buffer, and the spans of the second end no later than those of the first
 pub record AreAlike (e f : EntryParts) : Type 0 where
   pub same : (buffer : List ℕ) → entry_of buffer f ≡ entry_of buffer e
   pub fits : (limit : ℕ) → EntryFits limit e → EntryFits limit f

@@ -15,6 +15,7 @@ pub record EventList : Type 0 where
   pub keeps_entries : Bool
   pub used : ℕ
 
+-- the token is a section's header
 abbrev pub is_header_token : Token → Bool
 is_header_token (HeaderToken h) = true
 is_header_token _ = false
@@ -58,23 +59,23 @@ pub record IsFiltered (p : Shown → Bool) (all list : EventList) : Type 0 where
   pub entries : list.keeps_entries ≡ list_all (keeps_entry_token p) all.tokens
   pub used : list.used ≡ all.used
 
--- the same of events in a buffer
+-- the same, of events whose spans are offsets of a buffer
 pub record IsKept (p : Shown → Bool) (buffer : List ℕ) (all kept : List Event) (entries : Bool) : Type 0 where
   pub tokens : map (token_of buffer) kept ≡ filter (keeps_token p) (map (token_of buffer) all)
   pub entries_are : entries ≡ list_all (keeps_entry_token p) (map (token_of buffer) all)
 
--- a token that may be missing: no header, and, where the entries are kept, no part of one
+-- a token that may be missing: not a header, and, where the entries are kept, not a part of one
 abbrev pub may_miss : (entries : Bool) → Token → Bool
 may_miss entries t = not (is_header_token t) && not (entries && is_entry_token t)
 
--- The tokens are some of all, in their order, and only such are missing as may be.
+-- The tokens are some of all of them, in order, and only those are missing that may be.
 abbrev pub IsSelection : (entries : Bool) → (all tokens : List Token) → Type 0
 IsSelection entries [] tokens = tokens ≡ []
 IsSelection entries (t ∷ all) tokens =
     ((rest : List Token) × (tokens ≡ t ∷ rest) × IsSelection entries all rest)
     ⊎ ((may_miss entries t ≡ true) × IsSelection entries all tokens)
 
--- The input has a document, and the list has some of its tokens, whatever a filter answered: all headers, and, where it keeps
+-- The input has a document, and the list has some of its tokens, whatever a filter returned: all headers, and, where it keeps
 -- the entries, all that make them.
 pub record IsSelected (input : List ℕ) (list : EventList) : Type 0 where
   pub parts : List Part

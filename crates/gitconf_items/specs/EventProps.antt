@@ -1,4 +1,4 @@
--- Facts on spans have one proof at the most, so that an iterator may keep them.
+-- Facts about spans have at most one proof, so that an iterator may keep them.
 use Rattle.std.specs.Prelude.{ℕ, List, length, Option, Some, None}
 use Rattle.std.specs.List.{AllByRecursion, AllByRecursion-prop}
 use Rattle.std.specs.Coded.{Unit-prop}
@@ -12,7 +12,7 @@ use Rattle.gitconf_items.specs.declared.event.Event.TheVariants as kinds
 use Rattle.gitconf_items.specs.Events.{SpanFits, OptionFits, HeaderFits, EventFits}
 use Rattle.gitconf_items.specs.ShownEvents.{CopyFits, EventCopyFits}
 
--- the event's spans and its copy stand within buffers of these lengths
+-- the event's spans and its copy are within buffers of these lengths
 abbrev pub IsWithin : (limit copies : ℕ) → Event → Type 0
 IsWithin limit copies e = EventFits limit e × EventCopyFits copies e
 
@@ -55,9 +55,10 @@ EventCopyFits-prop limit kinds.KeyValueSeparator = Unit-prop
 IsWithin-prop : (limit copies : ℕ) (e : Event) → IsProp (IsWithin limit copies e)
 IsWithin-prop limit copies e = hlevel (EventFits-prop, EventCopyFits-prop)
 
--- all events stand within their buffers
+-- all events are within their buffers
 abbrev pub AreWithin : (buffer copies : List ℕ) → List Event → Type 0
 AreWithin buffer copies events = AllByRecursion (IsWithin (length buffer) (length copies)) events
 
+-- that all events are within their buffers has at most one proof
 pub AreWithin-prop : (buffer copies : List ℕ) (events : List Event) → IsProp (AreWithin buffer copies events)
 AreWithin-prop buffer copies events = AllByRecursion-prop (IsWithin (length buffer) (length copies)) (IsWithin-prop (length buffer) (length copies)) events

@@ -4,7 +4,7 @@ use Rattle.std.specs.Str.{bytes_eq}
 use Rattle.gitconf_items.specs.declared.event_ref.EventRef.{EventRef}
 use Rattle.gitconf_items.specs.declared.event_ref.EventRef.TheVariants as kinds
 
--- a token without addresses
+-- a token as callers see it: its bytes, without offsets
 pub data Shown : Type 0 where
   ShownComment : (tag : ℕ) (text : List ℕ) → Shown
   ShownHeader : (name : List ℕ) (separator subsection : Option (List ℕ)) → Shown
@@ -28,7 +28,7 @@ shown (kinds.ValueDone bytes) = ShownLast bytes.now
 shown (kinds.Whitespace bytes) = ShownBlanks bytes.now
 shown kinds.KeyValueSeparator = ShownSeparator
 
--- the one text that stands for a token: a header's name, a comment without its tag, `=`, and else the bytes
+-- the one text that stands for a token: a header's name, a comment without its mark, `=`, otherwise the bytes
 abbrev pub lossy_text : Shown → List ℕ
 lossy_text (ShownComment tag text) = text
 lossy_text (ShownHeader name separator subsection) = name
@@ -40,11 +40,11 @@ lossy_text (ShownLast bytes) = bytes
 lossy_text (ShownBlanks bytes) = bytes
 lossy_text ShownSeparator = codes "="
 
--- a quote or a backslash
+-- a byte that is written after a backslash in a quoted subsection: a quote or a backslash
 abbrev pub needs_backslash : ℕ → Bool
 needs_backslash b = b == 34 || b == 92
 
--- a byte of a subsection in quotes: a quote and a backslash stand behind a backslash
+-- a byte of a subsection as it is written in quotes: a quote and a backslash come after a backslash
 abbrev pub escaped_subsection_byte : ℕ → List ℕ
 escaped_subsection_byte b = if needs_backslash b then 92 ∷ b ∷ [] else b ∷ []
 
@@ -52,19 +52,19 @@ escaped_subsection_byte b = if needs_backslash b then 92 ∷ b ∷ [] else b ∷
 abbrev pub escaped_subsection : List ℕ → List ℕ
 escaped_subsection bytes = flat_map escaped_subsection_byte bytes
 
--- a subsection with what stands round it: behind a dot as it is, and else in quotes
+-- a subsection with what surrounds it: after a dot as it is, otherwise in quotes
 abbrev pub written_subsection : (separator subsection : List ℕ) → List ℕ
 written_subsection separator subsection =
     if bytes_eq separator (codes ".") then separator ++ subsection
     else separator ++ (codes "\"" ++ (escaped_subsection subsection ++ codes "\""))
 
--- what stands behind a header's name: nothing where there is no separator or no subsection
+-- what follows a header's name: nothing if there is no separator or no subsection
 abbrev pub behind_name : (separator subsection : Option (List ℕ)) → List ℕ
 behind_name None subsection = []
 behind_name (Some separator) None = []
 behind_name (Some separator) (Some subsection) = written_subsection separator subsection
 
--- the text that a token is written as; behind an unfinished piece of a value stands its backslash
+-- the text that a token is written as; after an unfinished piece of a value comes its backslash
 abbrev pub written : Shown → List ℕ
 written (ShownComment tag text) = tag ∷ text
 written (ShownHeader name separator subsection) = codes "[" ++ (name ++ (behind_name separator subsection ++ codes "]"))

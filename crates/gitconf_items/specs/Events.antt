@@ -12,7 +12,7 @@ use Rattle.gitconf_items.specs.declared.event.Event.TheVariants as kinds
 abbrev pub bytes_of : (buffer : List ℕ) → Span → List ℕ
 bytes_of buffer s = take s.len (drop s.start buffer)
 
--- a header is plain without a separator, dotted where that is a dot alone, and else quoted
+-- a header is plain without a separator, dotted if that is a dot alone, otherwise quoted
 abbrev pub header_form : (buffer name : List ℕ) → (separator subsection : Option Span) → grammar.Header
 header_form buffer name None subsection = grammar.PlainHeader name
 header_form buffer name (Some separator) None = grammar.PlainHeader name
@@ -20,9 +20,11 @@ header_form buffer name (Some separator) (Some subsection) =
     if bytes_eq (bytes_of buffer separator) (46 ∷ []) then grammar.DottedHeader name (bytes_of buffer subsection)
     else grammar.QuotedHeader name (bytes_of buffer separator) (bytes_of buffer subsection)
 
+-- the header that the spans of a header name
 abbrev pub header_of : (buffer : List ℕ) → Header → grammar.Header
 header_of buffer h = header_form buffer (bytes_of buffer h.name) h.separator h.subsection
 
+-- the token of an event: its kind, with the bytes that its spans name
 abbrev pub token_of : (buffer : List ℕ) → Event → Token
 token_of buffer (kinds.Comment tag text) = CommentToken tag (bytes_of buffer text)
 token_of buffer (kinds.SectionHeader h) = HeaderToken (header_of buffer h)
@@ -38,10 +40,12 @@ token_of buffer kinds.KeyValueSeparator = SeparatorToken
 abbrev pub SpanFits : (limit : ℕ) → Span → Type 0
 SpanFits limit s = s.start + s.len ≤ limit
 
+-- a span, if there is one, ends within a buffer of this many bytes
 abbrev pub OptionFits : (limit : ℕ) → Option Span → Type 0
 OptionFits limit None = Unit {0}
 OptionFits limit (Some s) = SpanFits limit s
 
+-- all spans of the header end within a buffer of this many bytes, and it has both a separator and a subsection, or neither
 pub record HeaderFits (limit : ℕ) (h : Header) : Type 0 where
   pub name : SpanFits limit h.name
   pub separator : OptionFits limit h.separator

@@ -6,11 +6,11 @@ use Rattle.gitconf_items.specs.declared.entry.EntryParts.{EntryParts}
 use Rattle.gitconf_items.specs.declared.entry.Form.{Form}
 use Rattle.gitconf_items.specs.declared.entry.Form.TheVariants as forms
 
--- the span begins there, or has no bytes
+-- the span begins at this offset, or has no bytes
 abbrev pub stands_at : Span → ℕ → Bool
 stands_at s at = eqb s.len 0 || eqb s.start at
 
--- the parts of an entry by how they are held
+-- the parts of an entry, whatever form it is held in
 abbrev pub parts_in : Form → EntryParts
 parts_in (forms.Name name blanks) = record { name = name; blanks = record { start = name.start + name.len; len = blanks }; assigned = assigned.Nothing }
 parts_in (forms.Line l) = record {

@@ -1,10 +1,10 @@
--- How tokens are put together to items, one by one, which proofs and private functions alone see: tokens go on as items exactly where
+-- How tokens are put together to items, one by one, which only proofs and private functions see: tokens continue as items if and only if
 -- they are the tokens of some parts.
 use Rattle.std.specs.Prelude.{◌≡◌, ℕ, Bool, true, false, not, ◌&&◌, List, [], ◌∷◌, ◌++◌}
 use Rattle.gitconf_text.specs.Text.{begins}
 use Rattle.gitconf_text.specs.Token.{Token, CommentToken, HeaderToken, NameToken, ValueToken, NewlineToken, ValueNotDoneToken, ValueDoneToken, WhitespaceToken, SeparatorToken}
 
--- where a token may stand
+-- where in an item a token may be
 pub data Place : Type 0 where
   Between : Place
   BehindName : Place
@@ -14,11 +14,13 @@ pub data Place : Type 0 where
   BehindPiece : Place
   BehindPieceEnd : Place
 
+-- there are bytes
 abbrev pub is_filled : List ℕ → Bool
 is_filled bytes = begins (λ _. true) bytes
 
--- The tokens go on, from this place, as items: between entries stand headers, blanks, line ends, comments and names; behind a name blanks,
--- and then an empty value or a separator; behind that blanks, and then a value or pieces, each with a line end, and the last one.
+-- From this place on, the tokens are those of items: between entries come headers, blanks, line endings, comments and names; after a name,
+-- blanks, and then an empty value or a separator; after that blanks, and then a value, or pieces, each with its line ending, and the last
+-- one.
 abbrev pub are_items : Place → List Token → Bool
 are_items Between [] = true
 are_items Between (HeaderToken h ∷ tokens) = are_items Between tokens
@@ -43,7 +45,7 @@ are_items BehindPieceEnd (ValueNotDoneToken bytes ∷ tokens) = are_items Behind
 are_items BehindPieceEnd (ValueDoneToken bytes ∷ tokens) = are_items Between tokens
 are_items _ _ = false
 
--- the first tokens and then the others are all of them, and the others go on as items from this place
+-- all tokens are the first ones and then the others, and the others continue as items from this place
 pub record AreBehind (place : Place) (first others all : List Token) : Type 0 where
   pub joined : first ++ others ≡ all
   pub go_on : are_items place others ≡ true

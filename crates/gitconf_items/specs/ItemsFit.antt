@@ -1,4 +1,4 @@
--- Items stand within the buffer that their spans are offsets of.
+-- The spans of items end within the buffer that they are offsets of.
 use Rattle.std.specs.Prelude.{ℕ, List}
 use Rattle.std.specs.List.{AllByRecursion}
 use Rattle.gitconf_items.specs.declared.event.Event.{Event}
@@ -12,17 +12,21 @@ use Rattle.gitconf_items.specs.declared.items.Section.{Section}
 use Rattle.gitconf_items.specs.declared.items.Item.TheVariants as kinds
 use Rattle.gitconf_items.specs.Events.{SpanFits, HeaderFits, EventFits}
 
+-- both spans of the piece end within a buffer of this many bytes
 abbrev pub PieceFits : (limit : ℕ) → Piece → Type 0
 PieceFits limit p = SpanFits limit p.text × SpanFits limit p.line_end
 
+-- all spans of the value end within a buffer of this many bytes
 abbrev pub ValueFits : (limit : ℕ) → Value → Type 0
 ValueFits limit v = AllByRecursion (PieceFits limit) v.pieces.items × SpanFits limit v.last
 
+-- all spans of what is assigned end within a buffer of this many bytes
 abbrev pub AssignedFits : (limit : ℕ) → Assigned → Type 0
 AssignedFits limit assigned.Nothing = Unit {0}
 AssignedFits limit (assigned.Plain blanks value) = SpanFits limit blanks × SpanFits limit value
 AssignedFits limit (assigned.Continued c) = SpanFits limit c.blanks × ValueFits limit c.value
 
+-- all spans of the entry end within a buffer of this many bytes
 abbrev pub EntryFits : (limit : ℕ) → EntryParts → Type 0
 EntryFits limit e = SpanFits limit e.name × SpanFits limit e.blanks × AssignedFits limit e.assigned
 
@@ -33,6 +37,7 @@ ItemFits limit (kinds.LineEnds run) = SpanFits limit run
 ItemFits limit (kinds.Comment tag text) = SpanFits limit text
 ItemFits limit (kinds.Entry e) = EntryFits limit e
 
+-- all spans of the items end within a buffer of this many bytes
 abbrev pub AreItemsWithin : (limit : ℕ) → List Item → Type 0
 AreItemsWithin limit items = AllByRecursion (ItemFits limit) items
 

@@ -4,15 +4,17 @@ use Rattle.gitconf_items.specs.declared.event.Event.{Event}
 use Rattle.gitconf_items.specs.declared.event.Event.TheVariants as kinds
 use Rattle.gitconf_items.specs.EventRef.{Shown, ShownHeader}
 
+-- what is shown is a header
 abbrev pub is_shown_header : Shown → Bool
 is_shown_header (ShownHeader name separator subsection) = true
 is_shown_header _ = false
 
+-- the event is a header
 abbrev pub is_header_event : Event → Bool
 is_header_event (kinds.SectionHeader h) = true
 is_header_event _ = false
 
--- what stands before the first header
+-- what comes before the first header; the test says what is a header
 abbrev pub front_of : {A : Type 0} → (A → Bool) → List A → List A
 front_of is_header [] = []
 front_of is_header (x ∷ xs) = elim (is_header x) [
@@ -20,7 +22,7 @@ front_of is_header (x ∷ xs) = elim (is_header x) [
   | false ↦ x ∷ front_of is_header xs
 ]
 
--- the sections: each header with what stands behind it up to the next
+-- the sections: each header with what follows it up to the next
 abbrev pub sections_of : {A : Type 0} → (A → Bool) → List A → List (List A)
 sections_of is_header [] = []
 sections_of is_header (x ∷ xs) = elim (is_header x) [

@@ -16,7 +16,7 @@ separator_of (PlainHeader name) = None
 separator_of (DottedHeader name subsection) = Some (46 ∷ [])
 separator_of (QuotedHeader name blanks spelling) = Some blanks
 
--- what is shown of a token: of a header its name, its separator and its decoded subsection, and else its bytes
+-- what is shown of a token: of a header its name, its separator and its decoded subsection, otherwise its bytes
 abbrev pub shown_token : Token → Shown
 shown_token (CommentToken tag text) = ShownComment tag text
 shown_token (HeaderToken h) = ShownHeader (name_of h) (separator_of h) (subsection_of h)
@@ -32,6 +32,7 @@ shown_token SeparatorToken = ShownSeparator
 abbrev pub copied : (copies : List ℕ) → Copied → List ℕ
 copied copies c = take c.len (drop c.start copies)
 
+-- the decoded copy, if there is one, otherwise what is spelled
 abbrev pub decoded_or : (copies : List ℕ) → Option Copied → Option (List ℕ) → Option (List ℕ)
 decoded_or copies None spelled = spelled
 decoded_or copies (Some c) spelled = Some (copied copies c)
@@ -53,21 +54,22 @@ shown_event buffer copies (kinds.ValueDone s) = ShownLast (bytes_of buffer s)
 shown_event buffer copies (kinds.Whitespace s) = ShownBlanks (bytes_of buffer s)
 shown_event buffer copies kinds.KeyValueSeparator = ShownSeparator
 
--- the copy stands within the buffer of copies
+-- the copy, if there is one, is within the buffer of copies
 abbrev pub CopyFits : (limit : ℕ) → Option Copied → Type 0
 CopyFits limit None = Unit {0}
 CopyFits limit (Some c) = c.start + c.len ≤ limit
 
+-- the event's decoded copy, if it has one, is within the buffer of copies
 abbrev pub EventCopyFits : (limit : ℕ) → Event → Type 0
 EventCopyFits limit (kinds.SectionHeader h) = CopyFits limit h.decoded
 EventCopyFits limit _ = Unit {0}
 
--- the event is shown as its token is, and its spans and its copy stand within their buffers
+-- the event is shown as its token is, and its spans and its copy are within their buffers
 pub record IsShown (buffer copies : List ℕ) (e : Event) : Type 0 where
   pub fits : EventFits (length buffer) e
   pub copy_fits : EventCopyFits (length copies) e
   pub shown : shown_event buffer copies e ≡ shown_token (token_of buffer e)
 
--- the new list is the old one and more
+-- the new list begins with the old one
 abbrev pub IsExtended : (old new : List ℕ) → Type 0
 IsExtended old new = (more : List ℕ) × (new ≡ old ++ more)

@@ -1,4 +1,4 @@
--- Which document tokens say, and what a lossy load keeps of them.
+-- Which document tokens have, and what a lossy load keeps of them.
 use Rattle.std.specs.Prelude.{◌≡◌, Bool, true, false, List, filter}
 use Rattle.gitconf_text.specs.Part.{Part}
 use Rattle.gitconf_text.specs.Token.{Token, tokens_of}
@@ -14,7 +14,7 @@ pub record SayDocument (tokens : List Token) (document : Document) : Type 0 wher
   pub tokens_are : tokens ≡ tokens_of parts
   pub document_is : gathered parts ≡ document
 
--- what a lossy load keeps: all but blanks, line ends and comments
+-- what a lossy load keeps: all but blanks, line endings and comments
 abbrev pub keeps_meaning : Shown → Bool
 keeps_meaning (ShownComment tag text) = false
 keeps_meaning (ShownNewline bytes) = false

@@ -1,4 +1,4 @@
-//! Subsections that aren't what is spelled, decoded.
+//! Decoded subsections, where they differ from what is spelled.
 ghost use Rattle.std.specs.Prelude.{◌≡◌, ◌++◌, Some, length, OnOk, IfOk};
 ghost use Rattle.std.specs.List.{list_any};
 ghost use Rattle.std.specs.Char.{is_ascii_uppercase};
@@ -21,7 +21,7 @@ fn append_lower(copies: &mut Vec<u8>, bytes: &[u8]) -> Result<(), NoMemory>
     Ok(())
 }
 
-/// Adds the subsection that is spelled so in quotes.
+/// Adds the subsection that this spelling in quotes stands for.
 fn append_unquoted(copies: &mut Vec<u8>, spelling: &[u8]) -> Result<(), NoMemory>
     ensures { OnOk result (copies.new.items ≡ copies.old.items ++ unquoted spelling.now) }
 {
@@ -44,7 +44,7 @@ fn has_upper(bytes: &[u8]) -> bool
     bytes.iter().any(|byte| byte.is_ascii_uppercase())
 }
 
-/// The copy of a dotted subsection, in lower case, where it isn't what is spelled.
+/// The copy of a dotted subsection in lower case, if that isn't what is spelled.
 #[tactic(auto, using(crate::proofs::Copies::fold_same))]
 fn lower_copy(copies: &mut Vec<u8>, spelled: &[u8]) -> Result<Option<Copied>, NoMemory>
     ensures decoded { IfOk result (λ copy. decoded_or copies.new.items copy (Some spelled.now) ≡ Some (fold spelled.now)) }
@@ -59,7 +59,7 @@ fn lower_copy(copies: &mut Vec<u8>, spelled: &[u8]) -> Result<Option<Copied>, No
     Ok(Some(Copied::behind(copies, start)?))
 }
 
-/// The copy of a quoted subsection, without its backslashes, where it isn't what is spelled.
+/// The copy of a quoted subsection without its backslashes, if that isn't what is spelled.
 #[tactic(auto, using(crate::proofs::Copies::unquoted_same))]
 fn unquoted_copy(copies: &mut Vec<u8>, spelled: &[u8]) -> Result<Option<Copied>, NoMemory>
     ensures decoded { IfOk result (λ copy. decoded_or copies.new.items copy (Some spelled.now) ≡ Some (unquoted spelled.now)) }
@@ -74,7 +74,7 @@ fn unquoted_copy(copies: &mut Vec<u8>, spelled: &[u8]) -> Result<Option<Copied>,
     Ok(Some(Copied::behind(copies, start)?))
 }
 
-/// The copy of a header's subsection, where it has one that isn't what is spelled.
+/// The copy of a header's subsection, if it has one that isn't what is spelled.
 fn header_copy(
     buffer: &[u8],
     header: Header,
@@ -99,11 +99,11 @@ fn header_copy(
     }
 }
 
-/// The header, with a decoded copy of its subsection where that isn't what is spelled. Copies are added at the end.
+/// The header, with a decoded copy of its subsection if that isn't what is spelled. Copies are added at the end of `copies`.
 ///
 /// # Errors
 ///
-/// Want of memory for the copy.
+/// Out of memory for the copy.
 pub fn decoded_header(
     buffer: &[u8],
     header: Header,

@@ -1,7 +1,7 @@
 //! Entries: a value name, the blanks around `=`, and the value.
 //!
-//! Nearly all entries stand in a buffer as one line wrote them, and their parts are short; then an entry is the offset of its
-//! name and four lengths, also where its blanks were left out. Any other has its parts in a box.
+//! Nearly all entries are in a buffer as one line wrote them, and their parts are short; such an entry is the offset of its
+//! name and four lengths, even if its blanks were left out. Any other entry has its parts in a box.
 ghost use Rattle.std.specs.Prelude.{◌≡◌, ◌+◌, ℕ, List, Some, IfOk, IfSome};
 ghost use Rattle.gitconf_items.specs.Events.{bytes_of, SpanFits};
 ghost use Rattle.gitconf_items.specs.Items.{assigned_of, entry_of, lent, value_of};
@@ -18,43 +18,46 @@ use std::marker::Model;
 
 const NOTHING: Span = Span { start: 0, len: 0 };
 
-/// A piece of a value that goes on.
+/// A piece of a value other than the last one.
 #[derive(Clone, Copy, Debug, Default)]
 pub struct Piece {
-    /// Its bytes, without the backslash behind them.
+    /// Its bytes, without the backslash after them.
     pub text: Span,
-    /// The line end behind the backslash; no bytes where there is none.
+    /// The line ending after the backslash; no bytes if there is none.
     pub line_end: Span,
 }
 
-/// A value: the pieces that go on, and the last one.
+/// A value: the pieces before the last one, and the last one.
 #[derive(Clone, Debug, Drop)]
 pub struct Value {
     /// Up to four take no memory of their own.
     pub pieces: SmallVec<Piece, 4>,
+    /// The last piece.
     pub last: Span,
 }
 
-/// A value that goes on, and the blanks before it.
+/// A value of more than one piece, and the blanks before it.
 #[derive(Clone, Debug, Drop)]
 pub struct Continued {
+    /// The blanks between `=` and the value.
     pub blanks: Span,
+    /// The value, of more than one piece.
     pub value: Value,
 }
 
 /// What is assigned to a value name.
 #[derive(Clone, Debug, Drop)]
 pub enum Assigned {
-    /// Nothing: no `=` stands behind the name.
+    /// Nothing: no `=` follows the name.
     Nothing,
     /// A value in one piece, and the blanks between `=` and it.
     Plain { blanks: Span, value: Span },
-    /// A value that goes on, which few do.
+    /// A value of more than one piece, which few entries have.
     Continued(Continued),
 }
 
 impl Assigned {
-    /// The value, behind these blanks.
+    /// The value, after these blanks.
     pub fn of_value(blanks: Span, value: Value) -> Assigned
         ensures told { (buffer : List ℕ) → assigned_of buffer result ≡ Some (record { blanks = bytes_of buffer blanks; value = value_of buffer value }) }
         ensures fits { (limit : ℕ) → SpanFits limit blanks → ValueFits limit value → AssignedFits limit result }
@@ -69,27 +72,30 @@ impl Assigned {
     }
 }
 
-/// What is assigned to the value name of an entry, whose own parts stay where they are.
+/// What is assigned to the value name of an entry, borrowed from it.
 #[derive(Clone, Copy, Debug)]
 pub enum AssignedRef<'a> {
-    /// Nothing: no `=` stands behind the name.
+    /// Nothing: no `=` follows the name.
     Nothing,
     /// A value in one piece, and the blanks between `=` and it.
     Plain { blanks: Span, value: Span },
-    /// A value that goes on.
+    /// A value of more than one piece.
     Continued(&'a Continued),
 }
 
-/// The parts of an entry: a value name, the blanks behind it, and what is assigned, if anything.
+/// The parts of an entry: a value name, the blanks after it, and what is assigned, if anything.
 #[derive(Clone, Debug, Drop)]
 pub struct EntryParts {
+    /// The value name.
     pub name: Span,
+    /// The blanks after the name.
     pub blanks: Span,
+    /// What is assigned, if anything.
     pub assigned: Assigned,
 }
 
-/// Where the parts of a line stand one behind the other, `=` among them: the offset of the name, and the lengths of the name,
-/// of the blanks before and behind `=`, and of the value.
+/// The parts of an entry that are one after the other, with `=` among them: the offset of the name, and the lengths of the name,
+/// of the blanks before and after `=`, and of the value.
 #[derive(Clone, Copy, Debug)]
 pub(crate) struct Line {
     pub(crate) start: u32,
@@ -102,7 +108,7 @@ pub(crate) struct Line {
 /// How the parts of an entry are held.
 #[derive(Debug, Drop)]
 pub(crate) enum Form {
-    /// A name, and so many blanks directly behind it.
+    /// A name, and that many blanks directly after it.
     Name { name: Span, blanks: u32 },
     Line(Line),
     /// The name and the value of a line, whose blanks are no part of the entry.
@@ -110,7 +116,7 @@ pub(crate) enum Form {
     Apart(Box<EntryParts>),
 }
 
-/// An entry. Clauses see its parts.
+/// An entry. Contracts see its parts.
 #[derive(Debug, Drop)]
 pub struct Entry {
     pub(crate) form: Form,
@@ -128,12 +134,12 @@ impl Model for Entry {
 }
 
 impl Entry {
-    /// The entry of these parts. Takes memory where a value goes on, a name has more than 65535 bytes or blanks more than 255, or the parts don't
-    /// stand one behind the other, with one byte for `=`.
+    /// The entry of these parts. Takes memory if a value has several pieces, a name has more than 65535 bytes, blanks have more than 255, or
+    /// the parts aren't one after the other, with one byte for `=`.
     ///
     /// # Errors
     ///
-    /// Want of memory.
+    /// Out of memory.
     pub fn try_new(alloc: Global, parts: EntryParts) -> Result<Entry, NoMemory>
         ensures told { IfOk result (λ e. (buffer : List ℕ) → entry_of buffer e ≡ entry_of buffer parts) }
         ensures fits { IfOk result (λ e. (limit : ℕ) → EntryFits limit parts → EntryFits limit e) }
@@ -147,7 +153,7 @@ impl Entry {
         })
     }
 
-    /// The entry of a name and a value, the blanks before `=` and behind it, where it takes no memory.
+    /// The entry of a name and a value, with the blanks before and after `=`; `None` if such an entry takes memory.
     #[inline(always)]
     pub fn of_line(name: Span, before: Span, behind: Span, value: Span) -> Option<Entry>
         ensures told { IfSome result (λ e. (buffer : List ℕ) → entry_of buffer e ≡ entry_of buffer (record { name = name; blanks = before; assigned = assigned.Plain behind value })) }
@@ -171,7 +177,7 @@ impl Entry {
         }
     }
 
-    /// The blanks behind its name.
+    /// The blanks after its name.
     pub fn blanks(&self) -> Span
         ensures { result ≡ self.now.blanks }
     {
@@ -248,7 +254,7 @@ impl Line {
         }
     }
 
-    /// The blanks behind `=`.
+    /// The blanks after `=`.
     fn blanks_behind(&self) -> Span
         requires { FormFits (forms.Line self.now) }
         ensures { result ≡ record { start = self.now.start + self.now.name + self.now.before + 1; len = self.now.behind } }
@@ -278,7 +284,7 @@ fn begins_at(span: Span, at: u64) -> bool
     span.len == 0 || span.start as u64 == at
 }
 
-/// A name alone, where the blanks stand directly behind it.
+/// A name alone, if the blanks directly follow it.
 fn name_form(name: Span, blanks: Span) -> Option<Form>
     ensures told { IfSome result (λ f. (buffer : List ℕ) → entry_of buffer (parts_in f) ≡ entry_of buffer (record { name = name; blanks = blanks; assigned = assigned.Nothing })) }
     ensures fits { IfSome result (λ f. (limit : ℕ) → SpanFits limit name → SpanFits limit blanks → EntryFits limit (parts_in f)) }
@@ -294,7 +300,7 @@ fn name_form(name: Span, blanks: Span) -> Option<Form>
     None
 }
 
-/// A name and its value, where they stand as a line has them and are short.
+/// A name and its value, if they are as a line has them, and short.
 #[inline(always)]
 fn line_form(name: Span, before: Span, behind: Span, value: Span) -> Option<Form>
     ensures told { IfSome result (λ f. (buffer : List ℕ) → entry_of buffer (parts_in f) ≡ entry_of buffer (record { name = name; blanks = before; assigned = assigned.Plain behind value })) }
@@ -322,7 +328,7 @@ fn line_form(name: Span, before: Span, behind: Span, value: Span) -> Option<Form
     None
 }
 
-/// The parts in a form that takes no memory, if there is one.
+/// The parts in a form that takes no memory; `None` if there is no such form.
 fn short_form(parts: &EntryParts) -> Option<Form>
     ensures told { IfSome result (λ f. (buffer : List ℕ) → entry_of buffer (parts_in f) ≡ entry_of buffer parts.now) }
     ensures fits { IfSome result (λ f. (limit : ℕ) → EntryFits limit parts.now → EntryFits limit (parts_in f)) }

@@ -32,11 +32,11 @@ impl Span {
 impl Span {
     ghost use Rattle.std.specs.Prelude.{◌≡◌, ◌↔◌, ◌+◌, ◌<◌, ◌^◌, IsOk, IfOk, IfErr};
 
-    /// The span that begins at an offset and has so many bytes.
+    /// The span that begins at `start` and has `len` bytes.
     ///
     /// # Errors
     ///
-    /// Refusal 3 where the offset or the length is past 4294967295.
+    /// Refusal 3 if the offset or the length is past 4294967295.
     pub fn try_new(start: usize, len: usize) -> Result<Span, span::Error>
         ensures same { IfOk result (λ s. (s.start ≡ start) × (s.len ≡ len)) }
         ensures fits { IsOk result ↔ ((start < 2 ^ 32) × (len < 2 ^ 32)) }
@@ -51,11 +51,11 @@ impl Span {
         })
     }
 
-    /// The same bytes, where so many others were put before them.
+    /// The same bytes, after `by` others were put before them.
     ///
     /// # Errors
     ///
-    /// Refusal 3 where the offset would be past 4294967295.
+    /// Refusal 3 if the offset would be past 4294967295.
     pub fn moved(self, by: usize) -> Result<Span, span::Error>
         ensures same { IfOk result (λ s. (s.start ≡ self.start + by) × (s.len ≡ self.len)) }
         ensures fits { IsOk result ↔ (self.start + by < 2 ^ 32) }
@@ -71,7 +71,7 @@ impl Span {
 impl Span {
     ghost use Rattle.gitconf_items.specs.Events.{bytes_of};
 
-    /// Its bytes in the buffer, as far as that goes.
+    /// Its bytes in the buffer, as far as the buffer has them.
     #[tactic(auto, using(std::proofs::lemmas::List::take_min, std::proofs::lemmas::List::drop_all))]
     pub fn bytes_in(self, buffer: &[u8]) -> &[u8]
         ensures { result.now ≡ bytes_of buffer.now self }
@@ -83,7 +83,7 @@ impl Span {
     }
 }
 
-/// Where the decoded copy of a subsection stands, in a buffer of such copies.
+/// Where the decoded copy of a subsection is, in a buffer of such copies.
 #[derive(Clone, Copy, Debug)]
 pub struct Copied {
     /// The offset of its first byte.
@@ -95,11 +95,11 @@ pub struct Copied {
 impl Copied {
     ghost use Rattle.std.specs.Prelude.{◌≡◌, ◌≤◌, ◌-◌, length, IfOk};
 
-    /// The copy that stands from an offset up to the end.
+    /// The copy that goes from an offset to the end.
     ///
     /// # Errors
     ///
-    /// The end is past 4294967295, which counts as want of memory.
+    /// The end is past 4294967295, which counts as out of memory.
     pub fn behind(copies: &[u8], start: usize) -> Result<Copied, NoMemory>
         requires { start ≤ length copies.now }
         ensures start { IfOk result (λ c. c.start ≡ start) }
@@ -115,15 +115,16 @@ impl Copied {
     }
 }
 
-/// A header as its text has it.
+/// A section's header, by spans of its text.
 #[derive(Clone, Copy, Debug)]
 pub struct Header {
+    /// The section's name, as spelled.
     pub name: Span,
     /// The dot, or the blanks before the quote.
     pub separator: Option<Span>,
-    /// What stands behind the dot or between the quotes, as spelled.
+    /// What is after the dot, or between the quotes, as spelled.
     pub subsection: Option<Span>,
-    /// The decoded subsection, where it isn't what is spelled.
+    /// The decoded subsection, if it isn't what is spelled.
     pub decoded: Option<Copied>,
 }
 
@@ -135,7 +136,7 @@ pub enum Event {
     SectionValueName(Span),
     Value(Span),
     Newline(Span),
-    /// A piece of a value, without the backslash behind it.
+    /// A piece of a value other than the last one, without the backslash after it.
     ValueNotDone(Span),
     ValueDone(Span),
     Whitespace(Span),

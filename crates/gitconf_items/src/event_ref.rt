@@ -15,7 +15,7 @@ use std::fmt::Write;
 /// A token of a text, with its bytes.
 #[derive(Clone, Copy, Debug, PartialEq, Eq, PartialOrd, Ord, Hash)]
 pub enum EventRef<'a> {
-    /// A comment: `;` or `#`, and the text behind it.
+    /// A comment: `;` or `#`, and the text after it.
     Comment {
         tag: u8,
         text: &'a [u8],
@@ -24,20 +24,20 @@ pub enum EventRef<'a> {
     SectionHeader {
         /// The section's name, as spelled.
         name: &'a [u8],
-        /// What stands between name and subsection: a dot, or blanks.
+        /// What is between name and subsection: a dot, or blanks.
         separator: Option<&'a [u8]>,
         /// The subsection, without quotes and backslashes.
         subsection_name: Option<&'a [u8]>,
     },
     /// The name of a value.
     SectionValueName(&'a [u8]),
-    /// A value that stands on one line, with its quotes and backslashes.
+    /// A value on one line, with its quotes and backslashes.
     Value(&'a [u8]),
-    /// One or more line ends.
+    /// One or more line endings.
     Newline(&'a [u8]),
-    /// A piece of a value, without the backslash behind it.
+    /// A piece of a value other than the last one, without the backslash after it.
     ValueNotDone(&'a [u8]),
-    /// The last piece of a value of several.
+    /// The last piece of a value of several pieces.
     ValueDone(&'a [u8]),
     /// Spaces and tabs.
     Whitespace(&'a [u8]),
@@ -46,7 +46,7 @@ pub enum EventRef<'a> {
 }
 
 impl<'a> EventRef<'a> {
-    /// The one text that stands for the token: a header's name, a comment without its tag, `=`, and else the bytes.
+    /// The one text that stands for the token: a header's name, a comment without its mark, `=`, otherwise the bytes.
     pub fn to_bstr_lossy(&self) -> &'a [u8]
         ensures { result.now ≡ lossy_text (shown self.now) }
     {
@@ -67,16 +67,16 @@ impl<'a> EventRef<'a> {
         }
     }
 
-    /// Writes the token as it stands in a text.
+    /// Writes the token as a text has it.
     ///
-    /// Behind an unfinished piece of a value stands its backslash. A header's subsection is written with its separator:
-    /// behind a dot as it is, and else in quotes, with `"` and `\` each behind a backslash.
+    /// After an unfinished piece of a value its backslash is written. A header's subsection is written with its separator:
+    /// after a dot as it is, otherwise in quotes, with a backslash before each `"` and `\`.
     ///
     /// It takes no memory of its own.
     ///
     /// # Errors
     ///
-    /// A write failed, or took nothing. It is not tried again, and a beginning of the token was written.
+    /// A write failed, or took nothing. It is not tried again, and a beginning of the token may have been written.
     #[tactic(auto, using(crate::proofs::SinkLaws::in_turn))]
     pub fn write_to<W: Sink>(&self, out: &mut W) -> Result<(), SinkFault>
         ensures written { Writes result (written (shown self.now)) (W.told out.old) (W.told out.new) }
@@ -105,7 +105,7 @@ impl<'a> EventRef<'a> {
         }
     }
 
-    /// The token as it stands in a text, as `write_to` writes it.
+    /// The token as a text has it, as `write_to` writes it.
     ///
     /// It reserves memory once.
     ///
@@ -122,7 +122,7 @@ impl<'a> EventRef<'a> {
         }
     }
 
-    /// How many bytes `write_to` writes; the greatest number where they are more.
+    /// How many bytes `write_to` writes, or `usize::MAX` if there are more.
     #[tactic(auto, using(crate::proofs::Subsections::lengths))]
     fn written_len(&self) -> usize
         ensures { let len = length (written (shown self.now)) in len < 2 ^ 64 → result ≡ len }
@@ -145,9 +145,9 @@ impl<'a> EventRef<'a> {
     }
 }
 
-/// The text of `write_to`, with U+FFFD for what is no character.
+/// The text of `write_to`, with U+FFFD for what isn't UTF-8.
 ///
-/// A comment's tag and its text, and a header's name, separator and subsection, are read as texts of their own.
+/// A comment's mark and its text, and a header's name, separator and subsection, are decoded one by one.
 impl fmt::Display for EventRef<'_> {
     fn fmt<W: fmt::Write>(&self, f: &mut fmt::Formatter<W>) -> fmt::Result {
         match *self {
@@ -212,7 +212,7 @@ fn show_subsection<W: fmt::Write>(
     f.write_char('"')
 }
 
-/// How many bytes `write_header` writes; the greatest number where they are more.
+/// How many bytes `write_header` writes, or `usize::MAX` if there are more.
 #[tactic(auto, using(crate::proofs::Subsections::lengths))]
 fn header_len(name: &[u8], separator: Option<&[u8]>, subsection: Option<&[u8]>) -> usize
     ensures { let len = length (written (ShownHeader name.now (option_copied separator.entry) (option_copied subsection.entry))) in
@@ -227,7 +227,7 @@ fn header_len(name: &[u8], separator: Option<&[u8]>, subsection: Option<&[u8]>) 
     }
 }
 
-/// How many bytes `write_subsection` writes; the greatest number where they are more.
+/// How many bytes `write_subsection` writes, or `usize::MAX` if there are more.
 #[tactic(auto, using(crate::proofs::Subsections::lengths))]
 fn subsection_len(separator: &[u8], subsection: &[u8]) -> usize
     ensures { let len = length (written_subsection separator.now subsection.now) in len < 2 ^ 64 → result ≡ len }
@@ -239,9 +239,9 @@ fn subsection_len(separator: &[u8], subsection: &[u8]) -> usize
     quotes_and_separator.saturating_add(escaped_subsection_len(subsection))
 }
 
-/// How many bytes a subsection has that is spelled in quotes, without these; the greatest number where they are more.
+/// How many bytes a subsection has when it is spelled in quotes, without the quotes, or `usize::MAX` if there are more.
 ///
-/// It reads the subsection once, and takes no memory.
+/// It reads the subsection once and takes no memory.
 #[tactic(auto, using(crate::proofs::Subsections::lengths))]
 pub fn escaped_subsection_len(subsection: &[u8]) -> usize
     ensures { result ≡ min (length (escaped_subsection subsection.now)) (2 ^ 64 - 1) }
@@ -250,7 +250,7 @@ pub fn escaped_subsection_len(subsection: &[u8]) -> usize
     subsection.len().saturating_add(backslashes)
 }
 
-/// Whether the byte stands behind a backslash in a quoted subsection.
+/// Whether the byte is written after a backslash in a quoted subsection.
 fn needs_backslash(b: u8) -> bool
     ensures { result ≡ spec.needs_backslash b }
 {
@@ -277,7 +277,7 @@ fn write_header<W: Sink>(
     write_all(out, b"]")
 }
 
-/// Writes a subsection behind its separator: behind a dot as it is, and else in quotes.
+/// Writes a subsection after its separator: after a dot as it is, otherwise in quotes.
 #[tactic(auto, using(crate::proofs::SinkLaws::in_turn))]
 fn write_subsection<W: Sink>(
     out: &mut W,
@@ -296,18 +296,18 @@ fn write_subsection<W: Sink>(
     write_all(out, b"\"")
 }
 
-/// Writes a subsection as it is spelled in quotes: `"` and `\` each behind a backslash.
+/// Writes a subsection as it is spelled in quotes: a backslash before each `"` and `\`.
 ///
-/// It takes no memory of its own, and reads the subsection once.
+/// It takes no memory of its own and reads the subsection once.
 ///
 /// # Errors
 ///
-/// A write failed, or took nothing. It is not tried again, and a beginning of the spelling was written.
+/// A write failed, or took nothing. It is not tried again, and a beginning of the spelling may have been written.
 pub fn write_escaped_subsection<W: Sink>(out: &mut W, subsection: &[u8]) -> Result<(), SinkFault>
     ensures written { Writes result (escaped_subsection subsection.now) (W.told out.old) (W.told out.new) }
     ensures counted { Counts result (W.faults out.old) (W.faults out.new) }
 {
-    // What stands before is written.
+    // The bytes before `done` are written.
     let mut done = 0;
     for (i, b) in subsection.iter().enumerate() {
         if needs_backslash(*b) {

@@ -12,13 +12,13 @@ use crate::event::Span;
 use crate::event_ref::EventRef;
 use crate::items::Item;
 
-/// Where an iterator stands: between items, or behind some events of an entry, the rest of which it still has.
+/// Where an iterator is: between items, or within an entry, of which it still has the rest.
 #[derive(Clone, Copy, Debug)]
 enum Place<'a> {
     Between,
     BehindName(&'a Entry),
     BehindNameBlanks(&'a Entry),
-    /// Behind `=`: the blanks before the value, and the value's pieces and its last one.
+    /// After `=`: the blanks before the value, and the value's pieces and its last one.
     BehindSeparator {
         blanks: Span,
         pieces: &'a [Piece],
@@ -28,13 +28,13 @@ enum Place<'a> {
         pieces: &'a [Piece],
         last: Span,
     },
-    /// Behind a piece's text: its line end, and the others of the value.
+    /// After a piece's text: its line ending, and the rest of the value.
     BehindPiece {
         line_end: Span,
         pieces: &'a [Piece],
         last: Span,
     },
-    /// Behind a piece and its line end.
+    /// After a piece and its line ending.
     BehindPieceEnd {
         pieces: &'a [Piece],
         last: Span,
@@ -43,11 +43,11 @@ enum Place<'a> {
 
 /// The events of items, in order.
 ///
-/// Blanks, line ends and a comment are one event each. An entry is its name, its blanks, and then a value of no bytes
-/// where it has no `=`, or else the separator, the blanks behind that, and its value: one event, or several where it goes
-/// over more than one line. For blanks and line ends of no bytes there is no event within an entry.
+/// Blanks, line endings and a comment are one event each. An entry is its name, its blanks, and then an empty value
+/// if it has no `=`, otherwise the separator, the blanks after that, and its value: one event, or several if it has
+/// more than one piece. Within an entry, empty blanks and line endings have no event.
 ///
-/// It takes no memory, and a step takes the same time whatever is left.
+/// It takes no memory, and a step takes constant time.
 #[derive(Clone, Copy, Debug)]
 pub struct ItemEvents<'a> {
     buffer: &'a [u8],
@@ -72,7 +72,7 @@ fn piece_event<'a>(buffer: &'a [u8], pieces: &'a [Piece], last: Span) -> (EventR
     }
 }
 
-/// The first event behind a piece's text.
+/// The first event after a piece's text.
 fn line_end_event<'a>(
     buffer: &'a [u8],
     line_end: Span,
@@ -101,7 +101,7 @@ fn value_event<'a>(buffer: &'a [u8], pieces: &'a [Piece], last: Span) -> (EventR
     piece_event(buffer, pieces, last)
 }
 
-/// The first event behind `=`.
+/// The first event after `=`.
 fn separated_event<'a>(
     buffer: &'a [u8],
     blanks: Span,
@@ -120,7 +120,7 @@ fn separated_event<'a>(
     )
 }
 
-/// The first event behind a name and its blanks.
+/// The first event after a name and its blanks.
 fn assigned_event<'a>(buffer: &'a [u8], entry: &'a Entry) -> (EventRef<'a>, Place<'a>)
     ensures { IsFirst buffer.now result (assigned_tokens (assigned_of buffer.now entry.now.assigned)) }
 {
@@ -145,7 +145,7 @@ fn assigned_event<'a>(buffer: &'a [u8], entry: &'a Entry) -> (EventRef<'a>, Plac
     }
 }
 
-/// The first event behind a name.
+/// The first event after a name.
 fn named_event<'a>(buffer: &'a [u8], entry: &'a Entry) -> (EventRef<'a>, Place<'a>)
     ensures { IsFirst buffer.now result (named_left buffer.now entry.now) }
 {
@@ -177,7 +177,7 @@ fn item_event<'a>(buffer: &'a [u8], item: &'a Item) -> (EventRef<'a>, Place<'a>)
     }
 }
 
-/// The first event of the entry that a place stands in; none between items.
+/// The first event of the entry that the iterator is in; `None` between items.
 fn entry_event<'a>(buffer: &'a [u8], place: Place<'a>) -> Option<(EventRef<'a>, Place<'a>)>
     ensures first { IfSome result (λ r. IsFirst buffer.now r (tokens_left buffer.now place.entry)) }
     ensures between { IfNone result (tokens_left buffer.now place.entry ≡ []) }

@@ -9,11 +9,11 @@ use std::mem::replace;
 /// How many items a short list holds without memory of its own.
 const FEW: usize = 4;
 
-/// Items of which there are mostly none or a few, as those before a text's first header: up to four take no memory of their own.
+/// Items of which there are mostly few or none, as before a text's first header: up to four take no memory of their own.
 pub type FewItems = SmallVec<Item, 4>;
 
-/// The items of a list, which is left empty. Up to four are moved, and the list keeps its room; of more the list itself is handed
-/// out. So no memory is taken.
+/// The items of a list, which is left empty. Up to four are moved, and the list keeps its room; if there are more, the list itself is
+/// returned. So no memory is taken.
 pub fn taken(alloc: Global, items: &mut Vec<Item>) -> FewItems
     ensures taken { result.items ≡ items.old.items }
     ensures left { items.new.items ≡ [] }

@@ -17,7 +17,7 @@ pub enum Item {
 
 const _: () = prove!(size_of::<Item>() == 24);
 
-/// No blanks; it stands in the places of a short list that aren't used.
+/// Blanks of no bytes, which fill the unused places of a short list.
 impl Default for Item {
     fn default() -> Item {
         Item::Blanks(NOTHING)
@@ -29,27 +29,29 @@ impl Default for Item {
 pub enum Keep {
     /// All of it.
     All,
-    /// Headers and entries, without blanks, line ends and comments: the document is the same.
+    /// Headers and entries, without blanks, line endings and comments: the document is the same.
     Meaning,
 }
 
-/// A header and what stands behind it.
+/// A header and what follows it.
 #[derive(Debug, Drop)]
 pub struct Section {
+    /// The header.
     pub header: Header,
+    /// The items after it, up to the next header.
     pub items: Vec<Item>,
 }
 
 const NOTHING: Span = Span { start: 0, len: 0 };
 
-/// So many items are copied to a list of their own; a longer list is handed over as it is.
+/// A list of more items than this is returned as it is; the items of a shorter one are moved to a list of just their length.
 const MANY: usize = 64;
 
-/// The items in a list of just their length, or in the list itself where they are many. None are left where they stood.
+/// The items in a list of just their length, or, if they are many, in the list that they were in. `items` is empty afterwards.
 ///
 /// # Errors
 ///
-/// Want of memory.
+/// Out of memory.
 pub fn moved_out(items: &mut Vec<Item>) -> Result<Vec<Item>, NoMemory>
     ensures moved { IfOk result (λ moved. moved.items ≡ items.old.items) }
     ensures empty { OnOk result (items.new.items ≡ []) }

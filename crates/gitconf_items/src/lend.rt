@@ -1,4 +1,4 @@
-//! Events with their bytes, lent from the buffers that their spans are offsets of.
+//! Events with their bytes, borrowed from the buffers that their spans are offsets of.
 ghost use Rattle.std.specs.Prelude.{◌≡◌, ◌+◌, ◌≤◌, length};
 ghost use Rattle.gitconf_items.specs.EventRef.{shown};
 ghost use Rattle.std.specs.Option.{option_copied, option_map};

@@ -1,4 +1,4 @@
-//! Items and headers that stand behind other bytes: their spans are moved, and no byte is copied.
+//! Items and headers after other bytes were put before their buffer: their spans are moved, and no byte is copied.
 ghost use Rattle.std.specs.Prelude.{◌≡◌, ◌+◌, ◌-◌, ◌<◌, ◌^◌, length};
 ghost use Rattle.gitconf_items.specs.Events.{bytes_of, HeaderFits, OptionFits, SpanFits};
 ghost use Rattle.gitconf_items.specs.Items.{piece_of, value_of, assigned_of, entry_of, item_of};
@@ -12,7 +12,7 @@ use crate::event::{Copied, Header, Span};
 use crate::items::Item;
 use std::mem::replace;
 
-/// The same bytes, where so many others stand before them.
+/// The same bytes, after `by` others were put before them.
 #[tactic(auto, using(crate::proofs::Moves::moving))]
 fn moved_span(span: Span, by: u32) -> Span
     requires { SpanFits (2 ^ 32 - 1 - by) span }
@@ -51,7 +51,7 @@ fn moved_copy(copy: Option<Copied>, by: u32) -> Option<Copied>
     }
 }
 
-/// A header of a buffer, where so many bytes stand before those of the buffer, and so many before the decoded copies.
+/// A header of a buffer, after `by` bytes were put before those of the buffer, and `copies_by` before the decoded copies.
 pub fn moved_header(header: Header, by: u32, copies_by: u32) -> Header
     requires fits { HeaderFits (2 ^ 32 - 1 - by) header }
     requires copy_fits { CopyFits (2 ^ 32 - 1 - copies_by) header.decoded }
@@ -131,7 +131,7 @@ fn move_parts(parts: &mut EntryParts, by: u32)
     move_assigned(&mut parts.assigned, by);
 }
 
-/// Where an entry has a box, it stays in it.
+/// An entry in a box stays in its box.
 #[tactic(auto, using(crate::proofs::Moves::moving))]
 fn moved_form(form: Form, by: u32) -> Form
     requires inside { FormFits form }
@@ -187,7 +187,7 @@ fn moved_item(item: Item, by: u32) -> Item
 
 const NOTHING: Span = Span { start: 0, len: 0 };
 
-/// Items of a buffer, where so many bytes stand before those of the buffer. One pass, which takes no memory.
+/// Moves the items of a buffer, after `by` bytes were put before those of the buffer. One pass, which takes no memory.
 pub fn move_items(items: &mut [Item], by: u32)
     requires { AreItemsWithin (2 ^ 32 - 1 - by) items.old }
     ensures moved { AreItemsMoved by items.old items.new }

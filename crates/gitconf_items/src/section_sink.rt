@@ -1,4 +1,4 @@
-//! What takes the sections of a text, as they are read.
+//! What takes the sections of a text as they are read.
 ghost use Rattle.std.specs.Prelude.{◌≡◌, ◌++◌, [], List, ℕ, length, flat_map, OnOk};
 ghost use Rattle.std.specs.List.{AllByRecursion};
 ghost use Rattle.gitconf_text.specs.Token.{Token};
@@ -10,20 +10,20 @@ use crate::event::Header;
 use crate::items::{Item, Section, moved_out};
 use gitconf_text::NoMemory;
 
-/// What takes sections one by one, in the order of the text, so that they need not stand in a list first.
+/// What takes sections one by one, in the order of the text, so that they need not be in a list first.
 ///
-/// It tells in `tokens` what it took, in the buffer that the spans of the sections are offsets of, and in `keeps` what holds of it
+/// `tokens` says what it took, in the buffer that the spans of the sections are offsets of, and `keeps` what has held
 /// since it took the first of them.
 pub trait SectionSink {
     ghost tokens: { List ℕ → Self → List Token };
 
     ghost keeps: { List ℕ → Self → Self → Type 0 };
 
-    /// Takes the next section of the buffer: its header, and the items out of a list, which is then empty and may be filled again.
+    /// Takes the next section of the buffer: its header, and the items of a list, which is then empty and may be filled again.
     ///
     /// # Errors
     ///
-    /// Want of memory.
+    /// Out of memory.
     fn take(&mut self, buffer: &[u8], header: Header, items: &mut Vec<Item>) -> Result<(), NoMemory>
         requires fits { HeaderFits (length buffer.now) header }
         requires within { AreItemsWithin (length buffer.now) items.old.items }
@@ -33,7 +33,7 @@ pub trait SectionSink {
         ensures taken { OnOk result (items.new.items ≡ []) };
 }
 
-/// A list takes each section as its last one, with a list of its items.
+/// Each section becomes the last of the list, with a list of its items.
 impl SectionSink for Vec<Section> {
     ghost tokens = { λ buffer v. flat_map (tokens_of_section buffer) v.items };
 
@@ -45,6 +45,7 @@ impl SectionSink for Vec<Section> {
         header: Header,
         items: &mut Vec<Item>,
     ) -> Result<(), NoMemory> {
+        // A list keeps the spans as they are, so it doesn't look at the buffer.
         let _ = buffer;
         let items = moved_out(items)?;
         Ok(self.push(Section { header, items })?)

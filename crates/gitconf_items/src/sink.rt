@@ -11,14 +11,14 @@ pub struct SinkFault;
 
 /// What a text is written to.
 ///
-/// A writer that tells its bytes or its failures in its contract says in `told` which bytes it took, and in `faults`
+/// A writer that reports its bytes or its failures in its contract says in `told` which bytes it took, and in `faults`
 /// how often it failed: each refused write counts one, and so does each that takes nothing of a text that isn't empty.
 pub trait Sink {
     ghost told: { Self → Option (List ℕ) };
 
     ghost faults: { Self → Option ℕ };
 
-    /// Takes a beginning of `text`, and answers its length.
+    /// Takes a beginning of `text`, and returns how many bytes it took.
     ///
     /// # Errors
     ///
@@ -33,7 +33,7 @@ pub trait Sink {
         ensures kept { OnErr result (told self.new ≡ told self.old) };
 }
 
-/// Takes all bytes, and tells them; it doesn't count its failures. A refused growth is a failed write.
+/// Takes all bytes, and reports them; it doesn't count its failures. A refused growth is a failed write.
 impl Sink for Vec<u8> {
     ghost use Rattle.std.specs.Prelude.{Some, None};
 
@@ -49,13 +49,13 @@ impl Sink for Vec<u8> {
     }
 }
 
-/// Writes the whole text. A write that takes a part of it is followed by one of the rest.
+/// Writes the whole text. If a write takes only a part of it, another follows for the rest.
 ///
-/// It takes no memory of its own, and asks for nothing where the text is empty.
+/// It takes no memory of its own, and doesn't call the writer for an empty text.
 ///
 /// # Errors
 ///
-/// A write failed, or took nothing. It is not tried again, and a beginning of the text was written.
+/// A write failed, or took nothing. It is not tried again, and a beginning of the text may have been written.
 #[tactic(auto, using(crate::proofs::SinkLaws::in_parts))]
 pub fn write_all<W: Sink>(out: &mut W, text: &[u8]) -> Result<(), SinkFault>
     ensures written { Writes result text.now (W.told out.old) (W.told out.new) }

@@ -1,4 +1,4 @@
-//! What a load keeps of items that keeps no more than has a meaning: entries, without the blanks and the line ends in them.
+//! What a lossy load keeps of items: entries, without the blanks and the line endings in them.
 ghost use Rattle.std.specs.Prelude.{◌≡◌, ℕ, List, length, map};
 ghost use Rattle.std.specs.Option.{option_map};
 ghost use Rattle.gitconf_text.specs.Part.{EntryItem};
@@ -63,7 +63,7 @@ fn strip_parts(parts: &mut EntryParts)
     strip_assigned(&mut parts.assigned);
 }
 
-/// Where an entry has a box, it stays in it.
+/// An entry in a box stays in its box.
 #[tactic(auto, using(crate::proofs::Strips::stripping))]
 fn stripped_form(form: Form) -> Form
     requires inside { FormFits form }

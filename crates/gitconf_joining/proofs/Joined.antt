@@ -1,4 +1,4 @@
--- Sections of another table behind those of a table, and items held behind the last one.
+-- Sections of another table after those of a table, and items held after the last one.
 use Rattle.std.proofs.Common.{◌≡◌, ℕ, zero, suc, ◌+◌, ◌<◌, List, [], ◌∷◌, ◌++◌, length, map, take, drop, Some, refl, ap, sym, subst, ◌∙◌, arith, append-nil, length-append}
 use Rattle.std.specs.List.{AllByRecursion, slice_get}
 use Rattle.std.specs.Option.{option_map}
@@ -20,7 +20,7 @@ use Rattle.gitconf_sections.proofs.Edits.{put_again, there_is}
 use Rattle.gitconf_joining.specs.Joining.{held_at, AreBehind, AreSame}
 use Rattle.gitconf_views.specs.Store.{section_state, SectionFits}
 
--- the same section, with so many items more held behind it
+-- the same section, with that many items more held after it
 pub record HoldsMore (more : List Item) (s t : Section) : Type 0 where
   pub header : t.header ≡ s.header
   pub meta : t.meta ≡ s.meta
@@ -98,7 +98,7 @@ room_fit b copies [] at s t here holds fits = tt
 room_fit b copies (e ∷ es) (suc at) s t here holds fits = (fits.0, room_fit b copies es at s t here holds fits.1)
 room_fit b copies (e ∷ es) zero s t here holds fits = let is : e.section ≡ s = cc in (held_fits b copies [] e s t is holds fits.0 tt, fits.1)
 
--- what stands at the place then
+-- what is at the place then
 pub room_at : (es others : List (SectionEntry Section)) (at : ℕ) (s t u : Section) → is_at es at s → is_at (changed_at (set_section t) es at ++ others) at u → u ≡ t
 room_at [] others at s t u here there = absurd (cc)
 room_at (e ∷ es) others (suc at) s t u here there = room_at es others at s t u here there
@@ -120,7 +120,7 @@ held_fit b copies more (e ∷ es) others zero s t v here holds fits theirs withi
     let is : e.section ≡ s = cc in (held_fits b copies more e s v is holds fits.0 within, all_both (SectionFits b copies) es others fits.1 theirs)
 held_fit b copies more (e ∷ es) others (suc at) s t v here holds fits theirs within = (fits.0, held_fit b copies more es others at s t v here holds fits.1 theirs within)
 
--- all put behind all
+-- all put after all
 pub put_behind_all : {A : Type 0} (n : ℕ) (xs ys : List A) → n ≡ length xs → take n xs ++ ys ++ drop n xs ≡ xs ++ ys
 put_behind_all n [] ys is = rw is (append-nil ys)
 put_behind_all n (x ∷ xs) ys is = rw is (ap (λ zs. x ∷ zs) (put_behind_all (length xs) xs ys refl))
@@ -130,7 +130,7 @@ changed_count [] at t = refl
 changed_count (e ∷ es) zero t = refl
 changed_count (e ∷ es) (suc at) t = ap suc (changed_count es at t)
 
--- room was made in the last section's list, and the other's sections were put behind all
+-- room was made in the last section's list, and the other's sections were put after all
 module _ (old other new : Sections Section) (at count : ℕ) (s t : Section) (here : is_at old.entries at s) (holds : HoldsMore [] s t) where
   pub room_made : AreSame old (table.with_section old at t)
   room_made = record {
@@ -163,7 +163,7 @@ module _ (old other new : Sections Section) (at count : ℕ) (s t : Section) (he
           (held_fit b copies more old.entries (table.numbered_from old.next other.entries) at s t v here more_held fits (numbered_fit b copies old.next other.entries theirs) within);
     }
 
--- The section at a place holds more, and the other's sections stand behind all.
+-- The section at a place holds more, and the other's sections follow all.
 pub put_behind_held : (old other new : Sections Section) (at : ℕ) (more : List Item) → at < length old.entries → new ≡ table.with_all (length old.entries) other (table.edited_at (holding more) at old)
     → AreBehind at more other old new
 put_behind_held old other new at more within put =
@@ -178,7 +178,7 @@ put_behind_held old other new at more within put =
     let again : mid ≡ table.with_all (length old.entries) other (table.with_section old at s) = ap (table.with_all (length old.entries) other) (sym (put_again old at s here)) in
     subst (AreBehind at more other old) (sym now) (put_behind old other mid at (length old.entries) s s here none (sym (changed_count old.entries at s)) again more (holding more s) held)
 
--- behind no section
+-- after no section
 pub put_behind_none : (old other new : Sections Section) (at : ℕ) (more : List Item) → old.entries ≡ [] → new ≡ table.with_all 0 other old → AreBehind at more other old new
 put_behind_none old other new at more none put =
     let entries : new.entries ≡ table.numbered_from old.next other.entries =

@@ -1,4 +1,4 @@
-//! Items of another file, behind the items of this one.
+//! Items of another file, after the items of this one.
 ghost use Rattle.std.specs.Prelude.{◌≡◌, ℕ, ◌+◌, ◌-◌, ◌<◌, ◌≤◌, ◌↔◌, ◌++◌, [], ◌∷◌, if◌then◌else◌, length, IfErr, IsErrOf, OnErr, OnOk};
 ghost use Rattle.gitconf_text.specs.Part as parts;
 ghost use Rattle.gitconf_state.specs.Edits as edits;
@@ -17,7 +17,7 @@ use gitconf_text::line_end::LineEnd;
 use gitconf_text::parse::span;
 use gitconf_write::line_end::ends_line;
 
-/// Whether items begin with the line end, or there are none.
+/// Whether items begin with the line ending, or there are none.
 fn begins_with(buffer: &[u8], items: &[Item], line_end: LineEnd) -> bool
     ensures { result ≡ edits.begins_with (bytes_of_line_end line_end) (items_of buffer.now items.now) }
 {
@@ -31,8 +31,8 @@ fn begins_with(buffer: &[u8], items: &[Item], line_end: LineEnd) -> bool
     }
 }
 
-/// Whether a line end goes between items and those of another buffer: where there are items, they don't end with one, and the others don't
-/// begin with it. A walk over the items from their end, up to an entry, a comment or a line end.
+/// Whether a line ending goes between items and those of another buffer: if there are items, they don't end with one, and the others don't
+/// begin with it. A walk over the items from their end, up to an entry, a comment or a line ending.
 pub fn parts_lines(
     buffer: &[u8],
     items: &[Item],
@@ -48,7 +48,7 @@ pub fn parts_lines(
         && !begins_with(other_buffer, others, line_end)
 }
 
-/// [`put_behind_section`] where there is no section: the items go behind those of the front.
+/// [`put_behind_section`] if there is no section: the items go after those of the front.
 ///
 /// # Errors
 ///
@@ -75,12 +75,12 @@ fn put_behind_front(
     Ok(())
 }
 
-/// Puts a line end, if one is given, and others behind what is held behind the section at a place, and the sections of another table behind
+/// Adds a line ending, if one is given, and others after what is held after the section at a place, and the sections of another table after
 /// all others. Takes memory for the items, the places and the indexes.
 ///
 /// # Errors
 ///
-/// A [`span::Error`]: number 3 where fewer numbers are left than the other table has sections, and else 27 for want of memory. All sections
+/// A [`span::Error`]: number 3 if fewer numbers are left than the other table has sections, otherwise 27 when out of memory. All sections
 /// are then as they were.
 fn put_behind_section(
     sections: &mut SectionList,
@@ -99,8 +99,8 @@ fn put_behind_section(
     sections.append_held(at, line_end, &mut others, other)
 }
 
-/// Puts a line end, if one is given, and others behind what is held behind the section at a place, or behind the front where there is no
-/// section; and the sections of another table behind all others. Takes memory for the items, the places and the indexes.
+/// Adds a line ending, if one is given, and others after what is held after the section at a place, or after the front if there is no
+/// section; and the sections of another table after all others. Takes memory for the items, the places and the indexes.
 ///
 /// # Errors
 ///

@@ -17,23 +17,25 @@ use gitconf_text::NoMemory;
 use std::alloc::Global;
 use std::rc::Rc;
 
-/// The sections of a text that is being loaded, as far as they were read, each from the same place.
+/// The sections of a text that is being loaded, as far as they were read, all from the same place.
 #[derive(Drop)]
 pub struct Loading {
+    /// Where each of the sections comes from.
     pub meta: Rc<Metadata>,
     /// The decoded subsections of the headers that need one.
     pub copies: Vec<u8>,
+    /// The sections that were read.
     pub sections: SectionList,
 }
 
-/// How many bytes a section has at the least for which room is made before it is read.
+/// Before sections are read, room is made for at most one section for this many bytes.
 const BYTES: usize = 32;
 
-/// So many bytes of a text tell how many sections all of it may have.
+/// The sections of a text are estimated from this many bytes at its front.
 const HEAD: usize = 4096;
 
-/// How many sections a text may be expected to have: as many for each byte as its first bytes have brackets, but no more
-/// than one for so many bytes.
+/// How many sections a text may be expected to have: as many for each byte as its first bytes have brackets, but at most one for
+/// each `BYTES` bytes.
 fn expected_sections(text: &[u8]) -> usize {
     let head = text.split_at(text.len().min(HEAD)).0;
     let brackets = head.iter().filter(|byte| **byte == b'[').count();
@@ -59,11 +61,11 @@ impl Loading {
     }
 
     /// No sections yet, with room for as many as the text may be expected to have and an eighth more, so that a section put
-    /// behind them copies no table.
+    /// after them copies no table.
     ///
     /// # Errors
     ///
-    /// Want of memory.
+    /// Out of memory.
     pub fn of_text(alloc: Global, text: &[u8], meta: Rc<Metadata>) -> Result<Loading, NoMemory>
         ensures meta { IfOk result (λ l. l.meta.value ≡ meta.value) }
         ensures loading { IfOk result (λ l. (buffer : List ℕ) → IsLoading buffer meta.value l.copies.items l.sections) }
@@ -78,7 +80,7 @@ impl Loading {
     }
 }
 
-/// Puts a section last, with nothing held behind it.
+/// Adds a section at the end, with nothing held after it.
 fn add_section(
     buffer: &[u8],
     copies: &mut Vec<u8>,
@@ -105,7 +107,7 @@ fn add_section(
     }
 }
 
-/// Takes each section under the next number, with a copy of its subsection where that isn't what is spelled.
+/// Takes each section under the next number, with a decoded copy of its subsection if that isn't what is spelled.
 impl SectionSink for Loading {
     ghost tokens = { λ buffer l. flat_map section_tokens (map (section_state buffer) l.sections.entries) };
 

@@ -1,4 +1,4 @@
-//! Sections whose bytes stand behind others, and put behind those of a table.
+//! Sections whose bytes come after other bytes, and which are added to those of a table.
 ghost use Rattle.std.specs.Option.{option_copied};
 ghost use Rattle.std.specs.Prelude.{◌≡◌, ◌+◌, ◌-◌, ◌^◌, ◌<◌, ◌≤◌, ◌↔◌, [], ◌∷◌, ◌++◌, length, map, IfErr, IfOk, IsErrOf, OnErr, OnOk};
 ghost use Rattle.gitconf_items.specs.declared.event.Event.TheVariants as kinds;
@@ -22,11 +22,11 @@ use gitconf_text::NoMemory;
 use gitconf_text::parse::span;
 use std::rc::Rc;
 
-/// How many bytes of copies stand before others that go behind them.
+/// How many bytes of copies there are, after which the others go.
 ///
 /// # Errors
 ///
-/// All together would be more than 4294967295 bytes, which counts as want of memory.
+/// All together would be more than 4294967295 bytes, which counts as out of memory.
 pub fn copies_before(copies: &[u8], others: &[u8]) -> Result<u32, NoMemory>
     ensures count { IfOk result (λ n. n ≡ length copies.now) }
     ensures room { IfOk result (λ n. length others.now ≤ 2 ^ 32 - 1 - n) }
@@ -63,11 +63,11 @@ pub fn move_sections(sections: &mut SectionList, by: u32, copies_by: u32)
     }
 }
 
-/// Puts a section of the buffer behind the others, under the next number, and answers that.
+/// Adds a section of the buffer after the others, under the next number, and returns that number.
 ///
 /// # Errors
 ///
-/// A [`span::Error`]: number 3 where no number is left, and else 27 for want of memory. The table is then as it was.
+/// A [`span::Error`]: number 3 if no number is left, otherwise 27 when out of memory. The table is then as it was.
 pub fn put_last(
     buffer: &[u8],
     copies: &[u8],

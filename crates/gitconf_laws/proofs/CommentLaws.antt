@@ -1,4 +1,4 @@
--- The printed text has the comments of the state: the tokens of a text tell its comments.
+-- The printed text has the comments of the state: the tokens of a text say its comments.
 use Rattle.std.proofs.Common.{◌≡◌, ℕ, Bool, true, List, [], ◌∷◌, ◌++◌, Option, Some, None, refl, ap, sym, ◌∙◌}
 use Rattle.std.specs.List.{flat_map, AllByRecursion}
 use Rattle.std.proofs.lemmas.Grind.{flat_map-append}
@@ -27,7 +27,7 @@ blanks_tell_none : (blanks : List ℕ) → flat_map token_comments (filled White
 blanks_tell_none [] = refl
 blanks_tell_none (b ∷ blanks) = refl
 
--- a line end is no comment
+-- a line ending is no comment
 line_end_tells_none : (bytes : List ℕ) → flat_map token_comments (filled NewlineToken bytes) ≡ []
 line_end_tells_none [] = refl
 line_end_tells_none (b ∷ bytes) = refl
@@ -54,7 +54,7 @@ assigned_tells_none (Some a) =
     ∙ ap (λ t. t ++ flat_map token_comments (value_tokens a.value.pieces a.value.last)) (blanks_tell_none a.blanks)
     ∙ value_tells_none a.value.pieces a.value.last
 
--- the tokens of a part tell its comment
+-- the tokens of a part say its comment
 part_tells : (p : Part) → flat_map token_comments (part_tokens p) ≡ part_comments p
 part_tells (ItemPart (BlanksItem run)) = refl
 part_tells (ItemPart (LineEndsItem run)) = refl
@@ -65,7 +65,7 @@ part_tells (ItemPart (EntryItem e)) =
     ∙ assigned_tells_none e.assigned
 part_tells (HeaderPart h) = refl
 
--- tokens tell the comments
+-- tokens say the comments
 tokens_tell : (parts : List Part) → flat_map token_comments (tokens_of parts) ≡ comments_of parts
 tokens_tell [] = refl
 tokens_tell (p ∷ parts) =

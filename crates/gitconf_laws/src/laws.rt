@@ -24,9 +24,9 @@ ghost use Rattle.gitconf_state.specs.Edit.{is_entry_of, spacing_of, new_entry, s
 ghost use Rattle.gitconf_state.specs.Edits.{Edit, is_about, IsEdit, IsCleanEdit, AreEdits, AreCleanEdits, apply, apply_all, edited_number, finds_or_makes, IsOneChanged};
 ghost use Rattle.gitconf_state.specs.Comments.{item_comments, comments_of, comments, comments_of_kept};
 
-/// A state loaded from a text has items of a text, also where a filter dropped blanks, line ends and comments. Loaded whole it is
-/// clean and has the text's document; a lossy one, or any that kept what makes entries, has the document too, and is clean where no
-/// entry stands before its first section.
+/// A state loaded from a text has items of a text, also if a filter dropped blanks, line endings and comments. Loaded whole it is
+/// clean and has the text's document; a lossy load, or any that kept what makes entries, has the document too, and is clean if no
+/// entry comes before its first section.
 pub fn loads_are_clean()
     ensures full { (text : List ℕ) (parts : List Part) (state : State) → IsText text parts → IsFullLoad parts state → HasItems state × IsClean state }
     ensures full_document { (text : List ℕ) (parts : List Part) (state : State) → IsText text parts → IsFullLoad parts state → document_of state ≡ gathered parts }
@@ -38,18 +38,18 @@ pub fn loads_are_clean()
     ensures part_document { (text : List ℕ) (parts : List Part) (state : State) → IsText text parts → IsPartLoad parts state → document_of state ≡ gathered parts }
 {}
 
-/// Loaded whole and printed, a text keeps the bytes of all its tokens, in order; nothing is put in but a line end behind some of them.
+/// Loaded whole and printed, a text keeps the bytes of all its tokens, in order; nothing is inserted but a line ending after some of them.
 pub fn full_load_is_inserted()
     ensures { (text : List ℕ) (parts : List Part) (state : State) → IsText text parts → IsFullLoad parts state → Inserted (map spelled_token (tokens_of parts)) (printed state) }
 {}
 
-/// A text is printed byte for byte, but for its mark, where its line ends are of one kind and one ends it, each header stands at the
-/// start of a line, no key stands on a header's line or on another key's, and no value is left open at the end.
+/// A text is printed byte for byte, except for its mark, if its line endings are of one kind and it ends with one, each header is at the
+/// start of a line, no key is on a header's line or on another key's, and no value is left open at the end.
 pub fn byte_for_byte()
     ensures { (text : List ℕ) (parts : List Part) (state : State) → IsText text parts → IsFullLoad parts state → IsByteForByte parts → printed state ≡ unmarked text }
 {}
 
-/// The text of a section alone is read back: its document has the section, and nothing else.
+/// The text of a section alone reads back: its document has the section, and nothing else.
 pub fn printed_section_reads_back()
     ensures { (state : State) → HasItems state → IsClean state
         → AllByRecursion (λ s. Reads (printed_section s) (record { front = []; sections = section_document s ∷ [] })) state.sections }
@@ -63,7 +63,7 @@ pub fn printed_text_reads_back()
     ensures all { (state : State) → HasItems state → IsClean state → Reads (printed state) (document_of state) }
 {}
 
-/// The comments of a printed text are those of what is printed, in order, each with its tag, but for spaces, tabs and CRs at their ends.
+/// The comments of a printed text are those of what is printed, in order, each with its mark, except for spaces, tabs and CRs at their ends.
 pub fn comments_are_kept()
     ensures kept { (keeps : SectionState → Bool) (state : State) → HasItems state → IsClean state
         → (parts : List Part) → IsText (printed_kept keeps state) parts → comments_of parts ≡ comments_of_kept keeps state }
@@ -73,8 +73,8 @@ pub fn comments_are_kept()
         → AllByRecursion (λ s. (parts : List Part) → IsText (printed_section s) parts → comments_of parts ≡ flat_map item_comments s.items) state.sections }
 {}
 
-/// An edit leaves a state that has items, where what it writes may stand in a text; and a clean one, where its headers have a name or a
-/// subsection and what it puts in is clean. So do edits, one behind the other. They give no number twice.
+/// An edit of a state that has items of a text leaves such items, if what it writes may be in a text; and leaves a clean state clean, if
+/// its headers have a name or a subsection and what it puts in is clean. So does a list of edits. Edits give no number twice.
 pub fn edits_keep_states()
     ensures items { (edit : Edit) (state : State) → IsEdit edit state → HasItems state → HasItems (apply edit state) }
     ensures clean { (edit : Edit) (state : State) → IsCleanEdit edit → IsClean state → IsClean (apply edit state) }
@@ -84,14 +84,14 @@ pub fn edits_keep_states()
     ensures state { (edits : List Edit) (state : State) → AreEdits edits state → IsState state → (apply_all edits state).next ≤ no_number → IsState (apply_all edits state) }
 {}
 
-/// An editor's edit changes the section of its number alone, and no section's number.
+/// An editor's edit changes only the section of its number, and no section's number.
 pub fn an_editor_changes_one_section()
     ensures { (edit : Edit) (number : ℕ) (state : State) → edited_number edit ≡ Some number → IsOneChanged number state (apply edit state) }
 {}
 
-/// The text of an edited state is read back: it has the document that the edits leave, whole, of the sections that a filter keeps, and of
-/// each section alone, with its comments. So it is from the bytes of an accepted text, loaded whole, through any list of edits, to the
-/// bytes that are written.
+/// The text of an edited state reads back: it has the document that the edits leave, for the whole, for the sections that a filter keeps,
+/// and for each section alone, with its comments. So this is a round trip from the bytes of an accepted text, loaded whole, through any
+/// list of edits, to the bytes that are written.
 pub fn edited_text_reads_back()
     ensures state { (edits : List Edit) (state : State) → AreEdits edits state → AreCleanEdits edits → HasItems state → IsClean state
         → Reads (printed (apply_all edits state)) (document_of (apply_all edits state)) }
@@ -106,8 +106,8 @@ pub fn edited_text_reads_back()
         → Reads (printed (apply_all edits state)) (document_of (apply_all edits state)) }
 {}
 
-/// How many bytes a buffer has is asked by no edit, and shown by no text or document. So calls that leave the state of an edit but for
-/// this number leave that of all edits, one behind the other, but for it.
+/// No edit depends on how many bytes a buffer has, and no text or document shows it. So calls that leave the state of an edit except for
+/// this number leave that of all edits, one after the other, except for it.
 pub fn used_bytes_are_not_asked()
     ensures edits { (edits : List Edit) (used : ℕ) (state : State) → apply_all edits (with_used used state) ≡ with_used used (apply_all edits state) }
     ensures names { (edits : List Edit) (used : ℕ) (state : State) → AreEdits edits state → AreEdits edits (with_used used state) }
@@ -115,14 +115,15 @@ pub fn used_bytes_are_not_asked()
     ensures document { (used : ℕ) (state : State) → document_of (with_used used state) ≡ document_of state }
 {}
 
-/// An edit leaves what is said of every key that it is not about: so all look-ups of these keys, whatever the filter, answer as before.
+/// An edit leaves what is said of every key that it is not about: so all lookups of these keys, whatever the filter, return what they
+/// returned before.
 pub fn edits_leave_other_keys()
     ensures { (edit : Edit) (name : List ℕ) (subsection : Option (List ℕ)) (key : List ℕ) (state : State) → IsEdit edit state → is_about edit name subsection key state ≡ false
         → said name subsection key (listed (apply edit state)) ≡ said name subsection key (listed state) }
 {}
 
-/// Look-ups ask the number of each section, where it comes from, and its document: states that agree in these are listed alike, and every
-/// look-up answers alike. So a lossy load of a text answers each of them as the full one.
+/// Lookups depend on the number of each section, where it comes from, and its document: states that agree in these are listed alike, and
+/// every lookup returns the same. So a lossy load of a text returns for each lookup what the full one returns.
 pub fn look_ups_ask_documents()
     ensures listed { (one other : State) → map section_document one.sections ≡ map section_document other.sections
         → map (λ s. s.number) one.sections ≡ map (λ s. s.number) other.sections → map (λ s. s.meta) one.sections ≡ map (λ s. s.meta) other.sections
@@ -132,7 +133,7 @@ pub fn look_ups_ask_documents()
         → listed lossy ≡ listed full }
 {}
 
-/// Equality of files is an equivalence. Files of the same sections in their documents are equal.
+/// Equality of files is an equivalence. Files whose sections have the same documents are equal.
 pub fn equality_is_an_equivalence()
     ensures same { (state : State) → AreEqual state state }
     ensures turned { (one other : State) → AreEqual one other → AreEqual other one }
@@ -140,7 +141,7 @@ pub fn equality_is_an_equivalence()
     ensures documents { (one other : State) → map section_document one.sections ≡ map section_document other.sections → AreEqual one other }
 {}
 
-/// A value that was set is found by its name, subsection and key, where the look-up keeps the sections that the edit keeps and
+/// A value that was set is found by its name, subsection and key, if the lookup keeps the sections that the edit keeps and
 /// would keep a new one.
 pub fn set_value_is_found()
     ensures found { (name : List ℕ) (subsection : Option (List ℕ)) (key value : List ℕ) (state : State) → finds_or_makes name subsection (λ _. true) state ≡ true
@@ -150,8 +151,8 @@ pub fn set_value_is_found()
         → last_value name subsection key keeps (listed (set_raw_value name subsection key keeps value state)) ≡ Some value }
 {}
 
-/// Setting a value changes the last section of the name and subsection that passes, and of it the items alone. Where none passes, a
-/// new section stands behind all others.
+/// Setting a value changes the last section of the name and subsection that passes, and only the items of it. If none passes, a
+/// new section follows all others.
 pub fn set_value_changes_one_section()
     ensures file { (name : List ℕ) (subsection : Option (List ℕ)) (key : List ℕ) (keeps : Meta → Bool) (value : List ℕ) (state : State)
         → ((set_raw_value name subsection key keeps value state).front ≡ state.front)
@@ -172,8 +173,8 @@ pub fn set_value_changes_one_section()
         × ((section_with line_end key value s).meta ≡ s.meta) × ((section_with line_end key value s).held ≡ s.held) }
 {}
 
-/// Of a section's items, setting a value changes the key's last entry alone, and keeps its name as spelled. Without an entry of the key,
-/// a new one stands behind all others.
+/// Of a section's items, setting a value changes only the key's last entry, and keeps its name as spelled. Without an entry of the key,
+/// a new one follows all others.
 pub fn set_value_changes_one_entry()
     ensures found { (line_end key value : List ℕ) (items before : List Item) (e : Entry) (behind : List Item) → items ≡ before ++ EntryItem e ∷ behind
         → is_same_name key e.name ≡ true → list_any (is_entry_of key) behind ≡ false
@@ -183,7 +184,7 @@ pub fn set_value_changes_one_entry()
         → set_value line_end key value items ≡ items ++ new_entry (spacing_of items) line_end key value }
 {}
 
-/// Setting a value leaves what is said of every other key, whatever the section, and the sections of every other name or subsection.
+/// Setting a value leaves what is said of every other key, in any section, and the sections of every other name or subsection.
 pub fn set_value_leaves_others()
     ensures keys { (name : List ℕ) (subsection : Option (List ℕ)) (key : List ℕ) (keeps : Meta → Bool) (value : List ℕ) (state : State)
         → (other_name : List ℕ) (other_subsection : Option (List ℕ)) (other : List ℕ) → is_same_name key other ≡ false

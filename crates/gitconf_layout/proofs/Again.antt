@@ -1,4 +1,4 @@
--- What one pass writes is read as parts that one pass from the same place writes as they are, where no comment's text ends with a CR.
+-- What one pass writes is read as parts that one pass from the same place writes as they are, if no comment's text ends with a CR.
 use Rattle.std.proofs.Common.{◌≡◌, ◌<◌, ℕ, Bool, true, false, not, List, [], ◌∷◌, ◌++◌, length, Option, Some, None, inl, inr, refl, ap, sym, subst, ◌∙◌, append_assoc, append-nil, arith}
 use Rattle.std.specs.Prelude.{◌==◌, ◌&&◌, is_none, if◌then◌else◌}
 use Rattle.std.specs.List.{list_all}
@@ -64,7 +64,7 @@ stays_blanks o e s b r run set text some all later true k =
       holds = (tt, f.holds);
     }
 
--- line ends, or none
+-- line endings, or none
 pub stays_ends : (o : Options) (e : List ℕ) → is_line_end e ≡ true → (s : Bool) (b : Before) (r : Option ℕ) (run text : List ℕ)
     → (let q = ends_place o (at_place s b r) run in Stays o e q.in_section q.before q.room text)
     → Stays o e s b r (ends_text o e (at_place s b r) run ++ text)
@@ -122,12 +122,12 @@ words_same text rest h = go (begins_newline rest) refl
     go true k = rw (k, comment_text) (no_cr text h)
     go false k = rw (k, comment_text) refl
 
--- a comment may stand before a line end, and at the end
+-- a comment may come before a line ending, and at the end
 pub closed_ends : (text : List ℕ) → ends (λ b. b == 13) text ≡ false → (rest : List ℕ) → is_line_closed rest ≡ true → ends_comment text rest ≡ true
 closed_ends text h [] closed = refl
 closed_ends text h (b ∷ rest) closed = line_end_cases (λ t. ends_comment text t ≡ true) (λ rest. rw h refl) (λ rest. refl) (b ∷ rest) closed
 
--- what is set behind a comment begins with a line end, or is nothing
+-- what is set after a comment begins with a line ending, or is nothing
 pub set_closed_line : (o : Options) (e : List ℕ) → is_line_end e ≡ true → (s : Bool) (r : Option ℕ) → (parts : List Part) → AreFit parts [] → is_line_closed (spelled parts) ≡ true → is_line_closed (set_from o e s Other r parts) ≡ true
 unfolding set_tokens
 set_closed_line o e line s r [] fits closed = refl
@@ -143,7 +143,7 @@ set_closed_line o e line s r (HeaderPart (PlainHeader name) ∷ parts) fits clos
 set_closed_line o e line s r (HeaderPart (DottedHeader name subsection) ∷ parts) fits closed = absurd (cc)
 set_closed_line o e line s r (HeaderPart (QuotedHeader name blanks spelling) ∷ parts) fits closed = absurd (cc)
 
--- a comment behind its indent
+-- a comment after its indent
 pub again_comment : (o : Options) (e : List ℕ) (s : Bool) (b : Before) (r : Option ℕ) (tag : ℕ) (words : List ℕ) (set : List Shown) (text : List ℕ) → is_mark tag ≡ true → list_all (λ b. not (b == 10)) words ≡ true → ends (λ b. b == 13) words ≡ false
     → ends_comment words text ≡ true → Stays o e s Other r text → Again o e s b r set ((before_comment o s b ++ (tag ∷ words)) ++ text)
 unfolding set_tokens ends_text ends_place
@@ -186,12 +186,12 @@ stays_header o e s b r h text fits later =
       holds = (tt, later.holds);
     }
 
--- What is set behind parts, for all places that meet what is left open.
+-- What is set after parts, for all places that meet what is left open.
 abbrev pub AgainBehind : Options → (e : List ℕ) → List Part → Type 0
 AgainBehind o e parts = (state : Open) (s : Bool) (b : Before) (r : Option ℕ) → meets state b ≡ true → AreFit parts [] → Follows state (spelled parts) → has_no_cr parts ≡ true
     → Again o e s b r (shown_parts parts) (set_from o e s b r parts)
 
--- the value of an entry, which has its line ends
+-- the value of an entry, which has its line endings
 pub stays_closed : (o : Options) (e : List ℕ) → is_line_end e ≡ true → (s : Bool) (b : Before) (r : Option ℕ) (name : List ℕ) (pieces : List Piece) (last : List ℕ) (rest text : List ℕ) → is_value_name name ≡ true
     → (let v : ValueOf = record { pieces = pieces; last = last } in FitsValue v rest → (list_all (λ (p : Piece). is_line_end p.line_end) (set_value e v).pieces ≡ true) → ends is_white last ≡ false
     → may_follow_value text ≡ true → Stays o e s (before_behind_value pieces) (room_behind o pieces r) text
@@ -213,7 +213,7 @@ stays_closed o e line s b r name (p ∷ pieces) last rest text named fits closed
     go [] h = absurd (piece_text p.text _ _ last h)
     go (c ∷ value) h = stays_value o e line s b r name v text named f (closed_stays o e v c value h (set_closed o e v rest fits closed white) (spelled f.parts) (subst (λ t. may_follow_value t ≡ true) (sym f.same) follows))
 
--- nothing behind parts
+-- nothing after parts
 pub stays_none : (o : Options) (e : List ℕ) (s : Bool) (b : Before) (r : Option ℕ) (parts : List Part) → parts ≡ [] → Stays o e s b r (set_from o e s b r parts)
 unfolding set_tokens
 stays_none o e s b r parts none = record { parts = []; same = ap (set_from o e s b r) (sym none); fits = tt; again = ap (set_from o e s b r) (sym none); holds = tt }

@@ -1,5 +1,5 @@
--- What one pass writes, with one line end in the place of those at its end, is read as parts that one pass from the same place
--- writes as they are, where no comment's text ends with a CR.
+-- What one pass writes, with one line ending in place of those at its end, is read as parts that one pass from the same place
+-- writes as they are, if no comment's text ends with a CR.
 use Rattle.std.proofs.Common.{◌≡◌, ◌<◌, ℕ, Bool, true, false, not, List, [], ◌∷◌, ◌++◌, length, map, Option, Some, None, inl, inr, refl, ap, sym, subst, ◌∙◌, append_assoc, append-nil}
 use Rattle.std.specs.Prelude.{◌⊎◌, ◌==◌, flat_map, if◌then◌else◌}
 use Rattle.std.specs.List.{list_all}
@@ -48,7 +48,7 @@ Full o e s b r set text = Filled (trimmed text) × Again o e s b r set (trimmed 
 abbrev pub Shut : (o : Options) (e : List ℕ) (s : Bool) (b : Before) (r : Option ℕ) (set : List Shown) (text : List ℕ) → Type 0
 Shut o e s b r set text = Bare s b r set text ⊎ Full o e s b r set text
 
--- a line end that stays
+-- a line ending that stays
 pub stays_end : (o : Options) (e : List ℕ) → is_line_end e ≡ true → (s : Bool) (b : Before) (r : Option ℕ) → is_dropped (at_place s b r) ≡ false → Stays o e s b r e
 unfolding set_tokens
 stays_end o e line s b r kept =
@@ -93,7 +93,7 @@ words_stay (b ∷ []) cr lines =
     rw (trimmed, r, f) refl
 words_stay (b ∷ c ∷ text) cr lines = rw (trimmed, words_stay (c ∷ text) cr (both_true (not (b == 10)) (list_all (λ b. not (b == 10)) (c ∷ text)) lines).1) refl
 
--- what begins with a line end does so when its end is replaced
+-- what begins with a line ending does so when its end is replaced
 closed_trimmed : (e : List ℕ) → is_line_end e ≡ true → (text : List ℕ) → is_line_closed text ≡ true → is_line_closed (trimmed text ++ e) ≡ true
 closed_trimmed e line [] h = one_line_end (λ e. is_line_closed e ≡ true) refl refl e line
 closed_trimmed e line (b ∷ text) h = line_closed (trimmed (b ∷ text) ++ e) (begins_trimmed e line (b ∷ text) h)
@@ -105,7 +105,7 @@ closed_trimmed e line (b ∷ text) h = line_closed (trimmed (b ∷ text) ++ e) (
 no_filled : Filled [] → ⊥
 no_filled f = absurd (let x = f.2 in cc)
 
--- What is set behind parts, for all places that meet what is left open.
+-- What is set after parts, for all places that meet what is left open.
 abbrev pub ShutBehind : Options → (e : List ℕ) → List Part → Type 0
 ShutBehind o e parts = (state : Open) (s : Bool) (b : Before) (r : Option ℕ) → meets state b ≡ true → AreFit parts [] → Follows state (spelled parts) → has_no_cr parts ≡ true
     → Shut o e s b r (shown_parts parts) (set_from o e s b r parts)
@@ -141,7 +141,7 @@ shut_ends o e line s b r run set other text plain later = elim later [
     x : List ℕ
     x = ends_text o e p run
 
-    -- from the front, since nothing stays behind
+    -- from the front, since nothing stays after
     gone : trimmed x ≡ []
     gone = elim (ends_run o e line p run) [ inl none ↦ ap trimmed none | inr some ↦ line_ends_go x some.1 ]
 
@@ -200,13 +200,13 @@ before_content (p ∷ pieces) = refl
 piece_again : (e : List ℕ) → is_line_end e ≡ true → (p : Piece) → set_piece e (set_piece e p) ≡ set_piece e p
 piece_again e line p = λ j. record { text = p.text; line_end = end_again e p.line_end line j }
 
--- the pieces of a value with the last one's line end replaced, set again
+-- the pieces of a value with the last one's line ending replaced, set again
 reclosed_again : (e : List ℕ) → is_line_end e ≡ true → (p : Piece) (pieces : List Piece)
     → map (set_piece e) (reclosed e (set_piece e p) (map (set_piece e) pieces)) ≡ reclosed e (set_piece e p) (map (set_piece e) pieces)
 reclosed_again e line p [] = λ j. record { text = p.text; line_end = end_again e (10 ∷ []) line j } ∷ []
 reclosed_again e line p (q ∷ more) = λ j. piece_again e line p j ∷ reclosed_again e line q more j
 
--- an entry at the end whose last piece is empty and stands behind others
+-- an entry at the end whose last piece is empty and follows others
 last_pieces : (o : Options) (e : List ℕ) → is_line_end e ≡ true → (s : Bool) (b : Before) (r : Option ℕ) (name : List ℕ) (p : Piece) (pieces : List Piece) (rest : List ℕ) (set : List Shown) (text : List ℕ) → begins_comment set ≡ false → is_value_name name ≡ true
     → FitsValue (record { pieces = p ∷ pieces; last = [] }) rest → trimmed text ≡ []
     → Full o e s b r set (before_name o s b ++ (spelled_item (EntryItem (valued o e name (gap o) (record { pieces = p ∷ pieces; last = [] }))) ++ text))
@@ -327,7 +327,7 @@ shut_entry o e line name blanks (Some a) parts later state s b r m fits follows 
     (shut_value o e line s b r name a.value.pieces a.value.last (spelled parts) set (shown_parts parts) text refl first.0 first.2.1 (λ h. ap (set_from o e s before room) (no_parts parts fits.1 h)) behind
     (later OpenValue s before room (behind_is a.value.pieces) fits.1 opened none))
 
--- What one pass writes, with one line end in the place of those at its end, stays.
+-- What one pass writes, with one line ending in place of those at its end, stays.
 pub shut : (o : Options) (e : List ℕ) → is_line_end e ≡ true → (parts : List Part) → ShutBehind o e parts
 unfolding set_tokens ends_text ends_place
 shut o e line [] state s b r m fits follows none = inl (refl, refl, λ d. refl)

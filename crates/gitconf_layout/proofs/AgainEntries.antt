@@ -25,7 +25,7 @@ use Rattle.gitconf_layout.proofs.Laid.{set_from, entry_text}
 use Rattle.gitconf_layout.proofs.LineEnds.{AssignedHolds, Holds, set_pieces_hold, entry_holds}
 use Rattle.gitconf_layout.proofs.Fronts.{shown_parts, CutBlanks, keeps_none, with_front, front_same, front_fits, front_holds, front_goes}
 
--- Parts that are a text and may stand there, that hold the line end, and that one pass from a place writes as that text.
+-- Parts that are a text and may be there, that hold the line ending, and that one pass from a place writes as that text.
 pub record Stays (o : Options) (e : List ℕ) (s : Bool) (b : Before) (r : Option ℕ) (text : List ℕ) : Type 0 where
   pub parts : List Part
   pub same : spelled parts ≡ text
@@ -36,7 +36,7 @@ pub record Stays (o : Options) (e : List ℕ) (s : Bool) (b : Before) (r : Optio
 abbrev pub moved : (o : Options) (e : List ℕ) (s : Bool) (b : Before) (r : Option ℕ) (text other : List ℕ) → text ≡ other → Stays o e s b r text → Stays o e s b r other
 moved o e s b r text other same f = record { parts = f.parts; same = f.same ∙ same; fits = f.fits; again = f.again ∙ same; holds = f.holds }
 
--- the line ends of a value, set twice
+-- the line endings of a value, set twice
 pub end_again : (e line_end : List ℕ) → is_line_end e ≡ true → set_end e (set_end e line_end) ≡ set_end e line_end
 end_again e [] line = refl
 end_again e (b ∷ bytes) line = go e line
@@ -80,12 +80,12 @@ pub set_piece_ends : (e : List ℕ) → is_line_end e ≡ true → (pieces : Lis
 set_piece_ends e line [] = tt
 set_piece_ends e line (p ∷ pieces) = (set_piece_end e p.line_end line, set_piece_ends e line pieces)
 
--- what is behind a value, set again
+-- what is after a value, set again
 place_again : (o : Options) (e : List ℕ) → is_line_end e ≡ true → (s : Bool) (r : Option ℕ) (v : ValueOf)
     → at_place s (before_behind_value (map (set_piece e) v.pieces)) (room_behind o (map (set_piece e) v.pieces) r) ≡ at_place s (before_behind_value v.pieces) (room_behind o v.pieces r)
 place_again o e line s r v = λ j. at_place s (behind_again e v.pieces j) (room_again o e line v.pieces r j)
 
--- the end of a value whose pieces have their line ends
+-- the end of a value whose pieces have their line endings
 ended : (pieces : List Piece) (last rest : List ℕ) → list_all (λ (p : Piece). is_line_end p.line_end) pieces ≡ true → ends is_white last ≡ false → may_follow_value rest ≡ true → IsEnded pieces last rest
 ended [] last rest all white follows = (white, follows)
 ended (p ∷ pieces) last rest all white follows = let q = both_true (is_line_end p.line_end) _ all in inl (q.0, ended pieces last rest q.1 white follows)
@@ -97,7 +97,7 @@ entry_no_blank : (name rest more end : List ℕ) → is_value_name name ≡ true
 entry_no_blank [] rest more end h = absurd (cc)
 entry_no_blank (b ∷ name) rest more end h = letter_no_blank b (both_true _ _ h).0
 
--- an entry behind its indent
+-- an entry after its indent
 front_entry : (o : Options) (e : List ℕ) (s : Bool) (b : Before) (r : Option ℕ) (en : Entry) (rest : List Part) → is_value_name en.name ≡ true → FitsItem (EntryItem en) (spelled rest ++ []) → AreFit rest [] → AssignedHolds e en.assigned → Holds e rest
     → (text : List ℕ) → spelled (ItemPart (EntryItem en) ∷ rest) ≡ text → set_from o e s b r (ItemPart (EntryItem en) ∷ rest) ≡ before_name o s b ++ text → Stays o e s b r (before_name o s b ++ text)
 front_entry o e s b r en rest named fits more assigned holds text same again = record {
@@ -108,7 +108,7 @@ front_entry o e s b r en rest named fits more assigned holds text same again = r
   holds = front_holds e (before_name o s b) (ItemPart (EntryItem en)) rest (entry_holds e en rest assigned holds);
 }
 
--- behind a name and all blanks stands no `=`
+-- after a name and all blanks is no `=`
 no_equals : (rest : List ℕ) → begins is_blank rest ≡ false → may_follow_key rest ≡ true → begins (λ b. b == 61) rest ≡ false
 no_equals [] stops follows = refl
 no_equals (b ∷ rest) stops follows = false_not (b == 61) (rw (stops, may_follow_key) at follows)
@@ -116,7 +116,7 @@ no_equals (b ∷ rest) stops follows = false_not (b == 61) (rw (stops, may_follo
 key_regrouped : (name run rest : List ℕ) → (name ++ (run ++ [])) ++ rest ≡ (name ++ ([] ++ [])) ++ (run ++ rest)
 key_regrouped name run rest = simp (append_assoc, append-nil)
 
--- an entry without `=`, which takes the blanks behind it
+-- an entry without `=`, which takes the blanks after it
 pub stays_key : (o : Options) (e : List ℕ) (s : Bool) (b : Before) (r : Option ℕ) (name : List ℕ) (text : List ℕ) → is_value_name name ≡ true → may_follow OpenKey text ≡ true → (f : Stays o e s Value r text) → CutBlanks o e s r f.parts
     → Stays o e s b r (before_name o s b ++ ((name ++ ([] ++ [])) ++ text))
 stays_key o e s b r name text named follows f c =
@@ -132,7 +132,7 @@ stays_key o e s b r name text named follows f c =
     (key_regrouped name c.run (spelled c.rest) ∙ ap (λ t. (name ++ ([] ++ [])) ++ t) (sym whole))
     (entry_text o e s b r en c.rest tt ∙ ap (λ t. before_name o s b ++ ((name ++ ([] ++ [])) ++ t)) (sym c.again ∙ f.again))
 
--- an entry with a value, which no blanks behind it change
+-- an entry with a value, which no blanks after it change
 abbrev pub valued : (o : Options) → (e name : List ℕ) → (between : List ℕ) → ValueOf → Entry
 valued o e name between v = record { name = name; blanks = gap o; assigned = Some (record { blanks = between; value = set_value e v }) }
 
@@ -161,7 +161,7 @@ blanks_more (b ∷ run) other all also = let q = both_true (is_blank b) (list_al
 empty_regrouped : (name blanks between run rest : List ℕ) → (name ++ (blanks ++ 61 ∷ ((between ++ run) ++ []))) ++ rest ≡ (name ++ (blanks ++ 61 ∷ (between ++ []))) ++ (run ++ rest)
 empty_regrouped name blanks between run rest = simp (append_assoc, append-nil)
 
--- an entry with an empty value, which takes the blanks behind it
+-- an entry with an empty value, which takes the blanks after it
 pub stays_empty : (o : Options) (e : List ℕ) → is_line_end e ≡ true → (s : Bool) (b : Before) (r : Option ℕ) (name text : List ℕ) → is_value_name name ≡ true → may_follow_value text ≡ true → (f : Stays o e s Value r text) → CutBlanks o e s r f.parts
     → Stays o e s b r (before_name o s b ++ (spelled_item (EntryItem (valued o e name (gap o) (record { pieces = []; last = [] }))) ++ text))
 stays_empty o e line s b r name text named follows f c =
@@ -175,7 +175,7 @@ stays_empty o e line s b r name text named follows f c =
     (empty_regrouped name (gap o) (gap o) c.run (spelled c.rest) ∙ ap (λ t. spelled_item (EntryItem (valued o e name (gap o) v)) ++ t) (sym whole))
     (set_again o e line s b r name (gap o ++ c.run) v c.rest ∙ ap (λ t. before_name o s b ++ (spelled_item (EntryItem (valued o e name (gap o) v)) ++ t)) (sym c.again ∙ f.again))
 
--- a value whose pieces have their line ends may stand before what is set behind it
+-- a value whose pieces have their line endings may come before what is set after it
 pub closed_stays : (o : Options) (e : List ℕ) (v : ValueOf) (c : ℕ) (bytes : List ℕ) → spelled_value (set_value e v) ≡ c ∷ bytes → IsClosed (record { blanks = gap o; value = set_value e v }) → (rest : List ℕ) → may_follow_value rest ≡ true
     → FitsValue (set_value e v) (rest ++ [])
 closed_stays o e v c bytes some closed rest follows =

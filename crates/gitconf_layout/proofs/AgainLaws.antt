@@ -1,4 +1,4 @@
--- A layout holds the line end that was chosen, and is laid out as it is.
+-- A layout holds the line ending that was chosen, and is laid out as it is.
 use Rattle.std.proofs.Common.{◌≡◌, ℕ, Bool, true, false, List, [], ◌∷◌, ◌++◌, inl, inr, refl, ap, sym, subst, ◌∙◌}
 use Rattle.std.specs.Prelude.{◌⊎◌, ◌==◌, if◌then◌else◌}
 use Rattle.std.specs.List.{AllByRecursion, list_any}
@@ -62,14 +62,14 @@ with_one_filled : (e text : List ℕ) → Filled text → with_one_line_end e te
 with_one_filled e [] f = absurd (let x = f.2 in cc)
 with_one_filled e (b ∷ text) f = refl
 
--- a text with one line end at its end keeps it
+-- a text with one line ending at its end keeps it
 one_again : (e text : List ℕ) → is_line_end e ≡ true → with_one_line_end e (with_one_line_end e text) ≡ with_one_line_end e text
 one_again e [] line = refl
 one_again e (b ∷ text) line =
     with_one_filled e (trimmed (b ∷ text) ++ e) (front_filled (trimmed (b ∷ text)) e (one_line_end Filled (10, [], refl) (13, 10 ∷ [], refl) e line))
     ∙ ap (λ t. t ++ e) (trimmed_none (trimmed (b ∷ text)) e (one_line_end (λ e. trimmed e ≡ []) refl refl e line) ∙ trimmed_again (b ∷ text))
 
--- what is set from the start, with one line end at its end
+-- what is set from the start, with one line ending at its end
 one_stays : (o : Options) (e : List ℕ) → is_line_end e ≡ true → (set : List Shown) (text : List ℕ) → Shut o e false Nothing o.max_leading_blank_lines set text → StaysWhole o e (with_one_line_end e text)
 unfolding set_tokens
 one_stays o e line set [] is = stays_none o e false Nothing o.max_leading_blank_lines [] refl
@@ -90,7 +90,7 @@ body_ended o text parts is none =
     let w = shut o e line parts Closed false Nothing o.max_leading_blank_lines refl is.fits tt none in
     moved o e false Nothing o.max_leading_blank_lines _ _ (ap (with_one_line_end e) (body_is o e (shown_parts parts))) (one_stays o e line (shown_parts parts) _ w)
 
--- where the line end is told anew, it is the same, or nothing is to be ended
+-- where the line ending is told again, it is the same, or nothing is to be ended
 line_same : (n : Newline) (tokens again : List Shown) → AllByRecursion (HoldsLineEnd (line_end_of n tokens)) again → (line_end_of n again ≡ line_end_of n tokens) ⊎ (list_any is_newline again ≡ false)
 line_same Detect tokens again h = detected_is (detected tokens) (line_end_is Detect tokens) again h
 line_same Lf tokens again h = inl refl
@@ -100,7 +100,7 @@ line_same CrLf tokens again h = inl refl
 one_list : (o : Options) (e text : List ℕ) → (f : StaysWhole o e text) → (read : List Part) → IsText text read → tokens_of read ≡ tokens_of f.parts
 one_list o e text f read is = let own = stays_text o e text f in one_tokens (unmarked text) read f.parts is.spelled_is is.fits own.spelled_is own.fits
 
--- the lines of parts that stay, by the line end that is told anew
+-- the lines of parts that stay, by the line ending that is told again
 relined : (o : Options) (e other text : List ℕ) → (f : StaysWhole o e text) → (other ≡ e) ⊎ (has_newline (tokens_of f.parts) ≡ false) → set_body o other (lines_of (shown_parts f.parts)) ≡ text
 relined o e other text f which =
     sym (body_is o other (shown_parts f.parts)) ∙ elim which [
@@ -108,7 +108,7 @@ relined o e other text f which =
       | inr none ↦ set_unended o other e (first o) (shown_parts f.parts) none
     ] ∙ f.again
 
--- one line end at the end stays, by the line end that is told anew
+-- one line ending at the end stays, by the line ending that is told again
 one_same : (o : Options) (e other text : List ℕ) → is_line_end e ≡ true → (f : StaysWhole o e (with_one_line_end e text)) → (other ≡ e) ⊎ (has_newline (tokens_of f.parts) ≡ false)
     → with_one_line_end other (with_one_line_end e text) ≡ with_one_line_end e text
 one_same o e other text line f (inl same) = ap (λ other. with_one_line_end other (with_one_line_end e text)) same ∙ one_again e text line
@@ -136,7 +136,7 @@ laid_out_again o text parts read is none is_read = go o.ensure_trailing_newline 
         let read_is : IsText (set_body o e (lines_of (shown_parts parts))) read = rw h at is_read in
         rw (h, one_list o e _ f read read_is) (relined o e _ _ f (line_same o.newline (shown_parts parts) (shown_parts f.parts) f.holds))
 
--- Its newlines are the line end that was chosen.
+-- Its newlines are the line ending that was chosen.
 pub laid_out_holds : (o : Options) (text : List ℕ) (parts read : List Part) → IsText text parts → has_no_cr parts ≡ true → IsText (layout o parts) read → HoldLineEnd (line_end_in o parts) read
 unfolding laid_out
 laid_out_holds o text parts read is none is_read = All-from_recursion (HoldsLineEnd e) (shown_parts read) (go o.ensure_trailing_newline refl)

@@ -1,4 +1,4 @@
--- A text with one line end in the place of those at its end keeps its document and its comments.
+-- A text with one line ending in place of those at its end keeps its document and its comments.
 use Rattle.std.proofs.Common.{◌≡◌, ℕ, Bool, true, false, not, List, [], ◌∷◌, ◌++◌, inl, inr, refl, ap, sym, subst, ◌∙◌}
 use Rattle.std.specs.Prelude.{◌⊎◌}
 use Rattle.std.specs.List.{list_all}
@@ -12,7 +12,7 @@ use Rattle.gitconf_layout.specs.Layout.{is_cr_or_lf, trimmed}
 use Rattle.gitconf_layout.proofs.SetEntries.{one_line_end}
 use Rattle.gitconf_state.specs.Writing.{Open, Closed, OpenKey, OpenKeyAndBlanks, OpenValue, OpenComment}
 
--- a byte stays where any behind it does, or where it is no CR and no LF
+-- a byte stays where any after it does, or where it is no CR and no LF
 pub trimmed_cases : (b : ℕ) (text : List ℕ) → ((trimmed (b ∷ text) ≡ []) × (is_cr_or_lf b ≡ true)) ⊎ (trimmed (b ∷ text) ≡ b ∷ trimmed text)
 trimmed_cases b text = go (trimmed text) refl (is_cr_or_lf b) refl
   where
@@ -21,11 +21,11 @@ trimmed_cases b text = go (trimmed text) refl (is_cr_or_lf b) refl
     go [] h true k = inl (rw (h, trimmed, k) refl, k)
     go [] h false k = inr (rw (h, trimmed, k) refl)
 
--- a line end begins with a line end
+-- a line ending begins with a line ending
 pub end_begins : (e : List ℕ) → is_line_end e ≡ true → begins_line_end e ≡ true
 end_begins = one_line_end (λ e. begins_line_end e ≡ true) refl refl
 
--- what begins with a line end does so when its end is replaced
+-- what begins with a line ending does so when its end is replaced
 pub begins_trimmed : (e : List ℕ) → is_line_end e ≡ true → (text : List ℕ) → begins_line_end text ≡ true → begins_line_end (trimmed text ++ e) ≡ true
 begins_trimmed e line text h = line_end_cases (λ text. begins_line_end (trimmed text ++ e) ≡ true) feed both text h
   where

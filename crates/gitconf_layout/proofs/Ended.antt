@@ -1,4 +1,4 @@
--- A text whose end is replaced by one line end keeps its document and its comments.
+-- A text whose end is replaced by one line ending keeps its document and its comments.
 use Rattle.std.proofs.Common.{◌≡◌, ◌<◌, ℕ, Bool, true, false, not, List, [], ◌∷◌, ◌++◌, length, Option, Some, None, inl, inr, refl, ap, sym, subst, ◌∙◌, append_assoc, append-nil, arith}
 use Rattle.std.specs.Prelude.{◌⊎◌, ◌==◌, ◌||◌, flat_map}
 use Rattle.std.specs.List.{list_all}
@@ -81,7 +81,7 @@ put_again e line (ItemPart (EntryItem en)) rest document comments fits filled f 
       | inr bare ↦ absurd (let x : filled.0 ∷ filled.1 ≡ [] = sym filled.2 ∙ ap trimmed bare.0 in cc)
     ]
 
--- a line end alone
+-- a line ending alone
 end_alone : (e : List ℕ) → is_line_end e ≡ true → Fitted e no_entries []
 end_alone e line =
     let run = one_line_end (λ e. (0 < length e) × (are_line_ends e ≡ true)) (omega arith, refl) (omega arith, refl) e line in
@@ -96,7 +96,7 @@ redocumented same f = record { parts = f.parts; same = f.same; fits = f.fits; do
 recommented : {text : List ℕ} {document : Document} {comments other : List (List ℕ)} → comments ≡ other → Fitted text document comments → Fitted text document other
 recommented same f = record { parts = f.parts; same = f.same; fits = f.fits; document_is = f.document_is; comments_are = f.comments_are ∙ same }
 
--- units behind others come in pairs of their own
+-- units after others come in pairs of their own
 pub paired_rest : (units more : List TextUnit) (quoted : Bool) → are_paired quoted (units ++ more) ≡ true → (now : Bool) × (are_paired now more ≡ true)
 paired_rest [] more quoted h = (quoted, h)
 paired_rest (Escape b ∷ units) more quoted h = paired_rest units more quoted (both_true (is_value_escape b) _ h).1
@@ -236,7 +236,7 @@ end_part e line (ItemPart (EntryItem en)) rest fits = go en.name en.blanks en.as
         (put_key name blanks fits.0 fits.1 (line_end_follows (after_blanks blanks OpenKey) e (end_begins e line)) (end_alone e line))
     go name blanks (Some a) fits = end_value e line name blanks a.blanks a.value.pieces a.value.last rest fits
 
--- the parts of a text, with one line end in the place of those at its end
+-- the parts of a text, with one line ending in place of those at its end
 closes : (e : List ℕ) → is_line_end e ≡ true → (parts : List Part) → AreFit parts [] → Closes e (spelled parts) (gathered parts) (comments_of parts)
 closes e line [] fits = inl (refl, refl, refl)
 closes e line (p ∷ parts) fits =
@@ -261,7 +261,7 @@ closes e line (p ∷ parts) fits =
       | inr some ↦ inr (subst Filled (sym same) some.0, respelled (ap (λ t. t ++ e) (sym same)) some.1)
     ]
 
--- A text with one line end in the place of those at its end keeps its document and its comments.
+-- A text with one line ending in place of those at its end keeps its document and its comments.
 pub ended_fitted : (e : List ℕ) → is_line_end e ≡ true → (text : List ℕ) (document : Document) (comments : List (List ℕ)) → Fitted text document comments → Fitted (with_one_line_end e text) document comments
 ended_fitted e line [] document comments f = f
 ended_fitted e line (b ∷ text) document comments f =

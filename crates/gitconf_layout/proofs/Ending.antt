@@ -1,4 +1,4 @@
--- Parts at the end of a text, with one line end in the place of those behind them.
+-- Parts at the end of a text, with one line ending in place of those after them.
 use Rattle.std.proofs.Common.{◌≡◌, ℕ, Bool, true, false, not, List, [], ◌∷◌, ◌++◌, inl, inr, refl, ap, sym, subst, ◌∙◌, append_assoc, append-nil}
 use Rattle.std.specs.Prelude.{◌==◌, ◌&&◌, flat_map, if◌then◌else◌}
 use Rattle.std.specs.List.{list_all}
@@ -93,7 +93,7 @@ last_stays (b ∷ c ∷ text) white lines =
 abbrev pub flat : List Piece → List ℕ
 flat pieces = flat_map (λ (p : Piece). p.text ++ 92 ∷ p.line_end) pieces
 
--- the pieces with the last one's line end replaced
+-- the pieces with the last one's line ending replaced
 abbrev pub reclosed : (e : List ℕ) → Piece → List Piece → List Piece
 reclosed e p [] = (record { text = p.text; line_end = e }) ∷ []
 reclosed e p (q ∷ more) = p ∷ reclosed e q more
@@ -137,7 +137,7 @@ reclosed_ends e line p (q ∷ more) last rest ended = elim ended [
   | inr bare ↦ absurd (let x : q ∷ more ≡ [] = bare.1 in cc)
 ]
 
--- what a value may be at the end, where its last piece is empty and stands behind others
+-- what a value may be at the end, where its last piece is empty and follows others
 pub reclosed_value : (e : List ℕ) → is_line_end e ≡ true → (blanks : List ℕ) (p : Piece) (pieces : List Piece) (rest : List ℕ) → list_all is_blank blanks ≡ true → FitsValue (record { pieces = p ∷ pieces; last = [] }) rest
     → IsClosed (record { blanks = blanks; value = record { pieces = reclosed e p pieces; last = [] } })
 reclosed_value e line blanks p pieces rest all fits = record {

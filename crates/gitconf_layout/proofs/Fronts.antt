@@ -53,7 +53,7 @@ line_ends_no_blank : (run more end : List ℕ) → 0 < length run → are_line_e
 line_ends_no_blank [] more end some all = absurd (omega arith)
 line_ends_no_blank (b ∷ run) more end some all = line_end_no_blank b run (both_true _ _ all).0
 
--- parts, cut behind the line ends at their front
+-- parts, cut after the line endings at their front
 pub record CutEnds (o : Options) (e : List ℕ) (s : Bool) (b : Before) (r : Option ℕ) (parts : List Part) : Type 0 where
   pub run : List ℕ
   pub rest : List Part
@@ -118,7 +118,7 @@ cut_ends o e s b r (HeaderPart h ∷ parts) fits = record {
   holds = λ h. ((0, refl), h);
 }
 
--- parts behind a value, cut behind the blanks at their front, which go
+-- parts after a value, cut after the blanks at their front, which go
 pub record CutBlanks (o : Options) (e : List ℕ) (s : Bool) (r : Option ℕ) (parts : List Part) : Type 0 where
   pub run : List ℕ
   pub rest : List Part
@@ -178,7 +178,7 @@ and_false : (a : Bool) → (a && false) ≡ false
 and_false true = refl
 and_false false = refl
 
--- no blanks stay where no comment follows
+-- no blanks stay if no comment follows
 pub keeps_none : (o : Options) (s : Bool) (b : Before) (rest : List Shown) → begins_comment rest ≡ false → keeps_blanks o s b rest ≡ false
 keeps_none o s b rest h = rw h (and_false (is_nothing b && not s && is_none o.root_comment_indent))
 

@@ -32,7 +32,7 @@ use Rattle.gitconf_layout.proofs.SetEntries.{at_place, gap, set_value, set_entry
 use Rattle.gitconf_layout.proofs.SetValues.{gap_blank, raw_same, Ways, ways, piece_ends, set_closed, set_bare}
 use Rattle.gitconf_layout.proofs.SetRuns.{IsRun, ends_run, ends_line, stripped_comment, comment_in_line, name_blank, comment_blank}
 
--- what is left open in the text that is set: no blanks stand behind a name
+-- what is left open in the text that is set: no blanks follow a name
 abbrev pub tight : Open → Open
 tight Closed = Closed
 tight OpenKey = OpenKey
@@ -40,7 +40,7 @@ tight OpenKeyAndBlanks = OpenKey
 tight OpenValue = OpenValue
 tight OpenComment = OpenComment
 
--- what stands before a token on its line is what is left open there
+-- what comes before a token on its line is what is left open there
 abbrev pub meets : Open → Before → Bool
 meets Closed before = true
 meets OpenKey Value = true
@@ -56,7 +56,7 @@ meets OpenComment before = not (is_nothing before)
 abbrev pub set_from : Options → (e : List ℕ) → (s : Bool) → (b : Before) → (r : Option ℕ) → List Part → List ℕ
 set_from o e s b r parts = set_tokens o e (at_place s b r) (map shown_token (tokens_of parts))
 
--- a text with this document and these comments that may stand behind what is left open
+-- a text with this document and these comments that may follow what is left open
 pub record Laid (state : Open) (text : List ℕ) (document : Document) (comments : List (List ℕ)) : Type 0 where
   pub fitted : Fitted text document comments
   pub follows : may_follow (tight state) text ≡ true
@@ -86,7 +86,7 @@ meets_blanks (c ∷ run) OpenKeyAndBlanks b h = h
 meets_blanks (c ∷ run) OpenValue b h = h
 meets_blanks (c ∷ run) OpenComment b h = h
 
--- what may follow may follow behind blanks
+-- what may follow may follow after blanks
 loosened : (before : Open) (run text : List ℕ) → may_follow before text ≡ true → may_follow (after_blanks run before) text ≡ true
 loosened before [] text h = h
 loosened Closed (b ∷ run) text h = h
@@ -119,7 +119,7 @@ run_begins (b ∷ []) rest some all = ends_front b rest (both_true (begins_line_
         go false e = absurd (let k : (b == 13 && false) ≡ true = rw e at h in let l = (both_true (b == 13) false k).1 in cc)
 run_begins (b ∷ c ∷ run) rest some all = (both_true (begins_line_end (b ∷ c ∷ run)) _ all).0
 
--- a run of line ends put before a text, or nothing
+-- a run of line endings put before a text, or nothing
 maybe_line_ends : (state : Open) (run text : List ℕ) (document : Document) (comments : List (List ℕ)) → IsRun run → (run ≡ [] → state ≡ Closed) → Fitted text document comments
     → Laid state (run ++ text) document comments
 maybe_line_ends state run text document comments is none f = elim is [
@@ -133,7 +133,7 @@ maybe_line_ends state run text document comments is none f = elim is [
   }
 ]
 
--- behind nothing on its line nothing is left open
+-- after nothing on its line nothing is left open
 pub nothing_closed : (state : Open) (b : Before) → meets state b ≡ true → is_nothing b ≡ true → state ≡ Closed
 nothing_closed Closed b m h = refl
 nothing_closed OpenKey Nothing m h = absurd (cc)
@@ -145,7 +145,7 @@ nothing_closed OpenKeyAndBlanks Other m h = absurd (cc)
 nothing_closed OpenValue b m h = absurd (let k : false ≡ true = rw h at m in cc)
 nothing_closed OpenComment b m h = absurd (let k : false ≡ true = rw h at m in cc)
 
--- no comment stands behind a comment
+-- no comment follows a comment
 not_comment : (state : Open) (tag : ℕ) (text rest : List ℕ) → FitsItem (CommentItem tag text) rest → Follows state ((tag ∷ text) ++ rest) → state ≡ OpenComment → ⊥
 not_comment Closed tag text rest fits h e = absurd (cc)
 not_comment OpenKey tag text rest fits h e = absurd (cc)
@@ -165,7 +165,7 @@ tight_comment OpenKeyAndBlanks (b ∷ run) no_comment e = absurd (cc)
 tight_comment OpenValue (b ∷ run) no_comment e = absurd (cc)
 tight_comment OpenComment (b ∷ run) no_comment e = no_comment refl
 
--- a comment behind its indent
+-- a comment after its indent
 set_comment : (state : Open) (front : List ℕ) (tag : ℕ) (words text : List ℕ) (document : Document) (comments : List (List ℕ)) → list_all is_blank front ≡ true → is_mark tag ≡ true
     → list_all (λ b. not (b == 10)) words ≡ true → (state ≡ OpenComment → ⊥) → Laid OpenComment text document comments
     → Laid state ((front ++ (tag ∷ words)) ++ text) document ((tag ∷ without_white_end words) ∷ comments)
@@ -183,7 +183,7 @@ redocumented same f = record { parts = f.parts; same = f.same; fits = f.fits; do
 recommented : {text : List ℕ} {document : Document} {comments other : List (List ℕ)} → comments ≡ other → Fitted text document comments → Fitted text document other
 recommented same f = record { parts = f.parts; same = f.same; fits = f.fits; document_is = f.document_is; comments_are = f.comments_are ∙ same }
 
--- a bracket may follow where a header stands
+-- a bracket may follow where a header is
 bracket : (state : Open) (h : Header) (rest : List ℕ) → Follows state (spelled_header h ++ rest) → (text : List ℕ) → may_follow (tight state) (91 ∷ text) ≡ true
 bracket Closed h rest follows text = refl
 bracket OpenKey h rest follows text = refl
@@ -195,7 +195,7 @@ bracket OpenComment (PlainHeader name) rest follows text = absurd (cc)
 bracket OpenComment (DottedHeader name subsection) rest follows text = absurd (cc)
 bracket OpenComment (QuotedHeader name blanks spelling) rest follows text = absurd (cc)
 
--- a header may follow where one stands
+-- a header may follow where one is
 header_follows : (state : Open) (h other : Header) (rest text : List ℕ) → Follows state (spelled_header h ++ rest) → may_follow (tight state) (spelled_header other ++ text) ≡ true
 header_follows state h (PlainHeader name) rest text follows = bracket state h rest follows _
 header_follows state h (DottedHeader name subsection) rest text follows = bracket state h rest follows _
@@ -214,7 +214,7 @@ put_header state h written rest text document comments same follows later =
       follows = ap (λ t. may_follow (tight state) (t ++ text)) (sym same.same) ∙ header_follows state h same.header rest text follows;
     }
 
--- where an entry may stand, the set one may follow
+-- where an entry may be, the set one may follow
 entry_follows : (o : Options) (s : Bool) (state : Open) (b : Before) (name rest : List ℕ) → may_stand_behind state (EntryItem (record { name = name; blanks = []; assigned = None })) ≡ true → meets state b ≡ true → is_value_name name ≡ true
     → may_follow (tight state) (before_name o s b ++ (name ++ rest)) ≡ true
 entry_follows o s Closed b name rest stands m named = refl
@@ -267,7 +267,7 @@ no_parts (HeaderPart (PlainHeader name) ∷ parts) fits h = absurd (cc)
 no_parts (HeaderPart (DottedHeader name subsection) ∷ parts) fits h = absurd (cc)
 no_parts (HeaderPart (QuotedHeader name blanks spelling) ∷ parts) fits h = absurd (cc)
 
--- an entry without `=` behind its indent
+-- an entry without `=` after its indent
 set_key : (o : Options) (s : Bool) (b : Before) (state : Open) (en : Entry) (text : List ℕ) (document : Document) (comments : List (List ℕ)) → en.assigned ≡ None → may_stand_behind state (EntryItem en) ≡ true → meets state b ≡ true
     → is_value_name en.name ≡ true → may_follow OpenKey text ≡ true → Fitted text document comments
     → Laid state (before_name o s b ++ ((en.name ++ ([] ++ [])) ++ text)) (with_part (ItemPart (EntryItem (record { name = en.name; blanks = en.blanks; assigned = None }))) document) comments
@@ -283,7 +283,7 @@ value_document : (o : Options) (e : List ℕ) (en : Entry) (a : Assigned) (docum
     ≡ with_part (ItemPart (EntryItem (record { name = en.name; blanks = en.blanks; assigned = Some a }))) document
 value_document o e en a document = ap (λ (raw : List ℕ). record { front = (record { name = en.name; raw = Some raw }) ∷ document.front; sections = document.sections }) (raw_same e a.value)
 
--- an entry with a value behind its indent
+-- an entry with a value after its indent
 set_valued : (o : Options) (e : List ℕ) (s : Bool) (b : Before) (state : Open) (en : Entry) (a : Assigned) (text : List ℕ) (document : Document) (comments : List (List ℕ)) → may_stand_behind state (EntryItem en) ≡ true → meets state b ≡ true
     → is_value_name en.name ≡ true → Fitted ((en.name ++ (gap o ++ 61 ∷ (gap o ++ spelled_value (set_value e a.value)))) ++ text)
     (with_part (ItemPart (EntryItem (record { name = en.name; blanks = gap o; assigned = Some (record { blanks = gap o; value = set_value e a.value }) }))) document) comments
@@ -298,12 +298,12 @@ pub behind_is : (pieces : List Piece) → meets OpenValue (before_behind_value p
 behind_is [] = refl
 behind_is (p ∷ pieces) = refl
 
--- What stands behind parts, for all places that meet what is left open.
+-- What follows parts, for all places that meet what is left open.
 abbrev pub LaidBehind : Options → (e : List ℕ) → List Part → Type 0
 LaidBehind o e parts = (state : Open) (s : Bool) (b : Before) (r : Option ℕ) → meets state b ≡ true → AreFit parts [] → Follows state (spelled parts)
     → Laid state (set_from o e s b r parts) (gathered parts) (comments_of parts)
 
--- the text of an entry and what stands behind it
+-- the text of an entry and what follows it
 pub entry_text : (o : Options) (e : List ℕ) (s : Bool) (b : Before) (r : Option ℕ) (en : Entry) (parts : List Part) → AssignedEnds en.assigned
     → set_from o e s b r (ItemPart (EntryItem en) ∷ parts)
     ≡ before_name o s b ++ (spelled_item (EntryItem (set_entry o e en)) ++ set_tokens o e (behind_assigned o s r en.assigned) (map shown_token (tokens_of parts)))

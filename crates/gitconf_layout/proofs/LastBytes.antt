@@ -34,7 +34,7 @@ trimmed_less text k d some within e =
     let h : take k text ≡ take (k - 1) text ++ get_or text (k - 1) d ∷ [] = ap (λ n. take n text) (sym same) ∙ take_more text (k - 1) d (omega arith) in
     sym (ap trimmed h ∙ trimmed-push (take (k - 1) text) (get_or text (k - 1) d) e)
 
--- nothing goes behind another byte
+-- nothing goes after another byte
 pub trimmed_all : (text : List ℕ) (k d : ℕ) → 0 < k → k ≤ length text → is_cr_or_lf (get_or text (k - 1) d) ≡ false → trimmed (take k text) ≡ take k text
 trimmed_all text k d some within e =
     let same : k - 1 + 1 ≡ k = omega arith in

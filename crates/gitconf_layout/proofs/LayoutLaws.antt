@@ -38,7 +38,7 @@ detected_end (ShownLast bytes ∷ tokens) = detected_end tokens
 detected_end (ShownBlanks bytes ∷ tokens) = detected_end tokens
 detected_end (ShownSeparator ∷ tokens) = detected_end tokens
 
--- what lines end with is a line end
+-- what lines end with is a line ending
 pub line_end_is : (n : Newline) (tokens : List Shown) → is_line_end (line_end_of n tokens) ≡ true
 line_end_is Detect tokens = detected_end tokens
 line_end_is Lf tokens = refl
@@ -70,7 +70,7 @@ keeps_document o text parts is = go o.ensure_trailing_newline
     go true = fitted_keeps parts _ (ended_fitted e (line_end_is o.newline tokens) (set_body o e (lines_of tokens)) (gathered parts) (comments_of parts) (body_fitted o text parts is))
     go false = fitted_keeps parts _ (body_fitted o text parts is)
 
--- no CR or LF stands at the end
+-- no CR or LF is at the end
 trimmed_ends : (text : List ℕ) → ends is_cr_or_lf (trimmed text) ≡ false
 trimmed_ends [] = refl
 trimmed_ends (b ∷ text) = go (trimmed text) refl (trimmed_ends text)
@@ -87,7 +87,7 @@ ended_once : (e text : List ℕ) → is_line_end e ≡ true → EndsOnce (with_o
 ended_once e [] line = inl refl
 ended_once e (b ∷ text) line = inr (trimmed (b ∷ text), e, refl, trimmed_ends (b ∷ text), line)
 
--- with one asked for the text ends with one line end
+-- with one asked for the text ends with one line ending
 pub ends_once : (o : Options) (parts : List Part) → o.ensure_trailing_newline ≡ true → EndsOnce (layout o parts)
 unfolding laid_out
 ends_once o parts h =

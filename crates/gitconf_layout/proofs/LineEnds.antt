@@ -1,4 +1,4 @@
--- Newlines that are made of the line end that was chosen: `Detect` finds it there, and a text without one ends with no LF.
+-- Newlines that are made of the line ending that was chosen: `Detect` finds it there, and a text without one ends with no LF.
 use Rattle.std.proofs.Common.{◌≡◌, ◌<◌, ℕ, ◌+◌, zero, suc, Bool, true, false, not, List, [], ◌∷◌, ◌++◌, length, map, Option, Some, None, inl, inr, refl, ap, sym, subst, ◌∙◌, append_assoc, append-nil, arith}
 use Rattle.std.specs.Prelude.{◌⊎◌, ◌==◌, ◌||◌, flat_map, replicate}
 use Rattle.std.specs.List.{AllByRecursion, concat, fold, list_all, list_any}
@@ -24,7 +24,7 @@ use Rattle.gitconf_layout.proofs.SetEntries.{set_end, set_piece, one_line_end}
 use Rattle.gitconf_layout.proofs.Ending.{flat, name_bytes, no_feed}
 use Rattle.gitconf_layout.proofs.Ended.{closed_or_bare, paired_rest}
 
--- the line end, any number of times
+-- the line ending, any number of times
 abbrev pub IsMade : (e run : List ℕ) → Type 0
 IsMade e run = (n : ℕ) × (run ≡ concat (replicate n e))
 
@@ -70,7 +70,7 @@ made_of e run h = (suc h.0, h.1)
 pub holds_both : (e x y : List ℕ) → 0 < length (x ++ y) → IsMade e x → IsMade e y → HoldsLineEnd e (ShownNewline (x ++ y))
 holds_both e x y some f g = holds_run e (x ++ y) some (made_append e x y f g)
 
--- each newline of these tokens is the line end, once or more
+-- each newline of these tokens is the line ending, once or more
 abbrev pub TokensHold : (e : List ℕ) → List Token → Type 0
 TokensHold e tokens = AllByRecursion (HoldsLineEnd e) (map shown_token tokens)
 
@@ -89,7 +89,7 @@ hold_newline : (e run : List ℕ) → IsMade e run → TokensHold e (filled Newl
 hold_newline e [] m = tt
 hold_newline e (b ∷ run) m = (holds_run e (b ∷ run) (omega arith) m, tt)
 
--- each piece ends with the line end, or with nothing
+-- each piece ends with the line ending, or with nothing
 abbrev pub PiecesHold : (e : List ℕ) → List Piece → Type 0
 PiecesHold e [] = Unit {0}
 PiecesHold e (p ∷ pieces) = IsMade e p.line_end × PiecesHold e pieces
@@ -140,7 +140,7 @@ detected_run e line run h = one_line_end (λ e. (n : ℕ) → run ≡ e ++ conca
     both : (n : ℕ) → run ≡ (13 ∷ 10 ∷ []) ++ concat (replicate n (13 ∷ 10 ∷ [])) → detected (ShownNewline run ∷ []) ≡ 13 ∷ 10 ∷ []
     both n same = rw same refl
 
--- the line end is found, where there is a newline
+-- the line ending is found, if there is a newline
 pub detected_is : (e : List ℕ) → is_line_end e ≡ true → (tokens : List Shown) → AllByRecursion (HoldsLineEnd e) tokens → (detected tokens ≡ e) ⊎ (list_any is_newline tokens ≡ false)
 detected_is e line [] h = inr refl
 detected_is e line (ShownNewline run ∷ tokens) h = inl (detected_run e line run h.0)
@@ -168,7 +168,7 @@ no_line_ends (ShownLast bytes) h = refl
 no_line_ends (ShownBlanks bytes) h = refl
 no_line_ends ShownSeparator h = refl
 
--- without a newline no line end is set
+-- without a newline no line ending is set
 pub set_unended : (o : Options) (e other : List ℕ) (p : Place) (tokens : List Shown) → list_any is_newline tokens ≡ false → set_tokens o e p tokens ≡ set_tokens o other p tokens
 unfolding set_tokens ends_text ends_place
 set_unended o e other p [] h = refl
@@ -203,7 +203,7 @@ unended_last : (x : List ℕ) (b : ℕ) → (b == 10) ≡ false → Unended (x +
 unfolding step
 unended_last x b h = fold-append step false x (b ∷ []) ∙ h
 
--- a line end at the end
+-- a line ending at the end
 pub ended_last : (x e : List ℕ) → is_line_end e ≡ true → ends (λ b. b == 10) (x ++ e) ≡ true
 unfolding step
 ended_last x e line = fold-append step false x e ∙ one_line_end (λ e. fold step (fold step false x) e ≡ true) refl refl e line

@@ -8,7 +8,7 @@ use Rattle.gitconf_layout.specs.declared.place.Place.{Place}
 use Rattle.gitconf_layout.specs.Layout.{Lines, on_first_line, cut, line_ends_in, lines_of, begins_comment, begins_newline, set_token, line_text}
 use Rattle.gitconf_layout.specs.Setting.{behind_token, on_next_line, end_text, ends_text, ends_place, set_tokens}
 
--- behind the tokens of a line
+-- after the tokens of a line
 abbrev pub behind_line : Place → List Shown → Place
 behind_line p [] = p
 behind_line p (t ∷ line) = behind_line (behind_token p t) line
@@ -36,7 +36,7 @@ begins_same test same (t ∷ tokens) =
     let lines = cut (line_ends_in t) (lines_of tokens) in
     first_first t test (same t) tokens lines.ended lines.last
 
--- a token is set by what begins behind it
+-- a token is set by what begins after it
 set_same : (o : Options) (s : Bool) (b : Before) (t : Shown) (xs ys : List Shown) → begins_comment xs ≡ begins_comment ys → begins_newline xs ≡ begins_newline ys
     → set_token o s b t xs ≡ set_token o s b t ys
 set_same o s b (ShownComment tag text) xs ys h k = rw k refl
@@ -61,7 +61,7 @@ set_on_line o s b (ShownUnfinished bytes) tokens = refl
 set_on_line o s b (ShownLast bytes) tokens = refl
 set_on_line o s b ShownSeparator tokens = refl
 
--- the first line with one token more
+-- the first line with one more token
 on_first : (o : Options) (e : List ℕ) (p : Place) (t : Shown) (ended : List (List Shown)) (last : List Shown)
     → let all = on_first_line t (record { ended = ended; last = last }) in
     lines_text o e p all.ended all.last ≡ set_token o p.in_section p.before t (first_line (record { ended = ended; last = last })) ++ lines_text o e (behind_token p t) ended last

@@ -1,4 +1,4 @@
--- Line ends that are set stay as they are, and what one pass writes of a run is what it writes of its parts.
+-- Line endings that are set stay as they are, and what one pass writes of a run is what it writes of its parts.
 use Rattle.std.proofs.Common.{◌≡◌, ◌<◌, ℕ, ◌-◌, Bool, true, false, List, [], ◌∷◌, ◌++◌, length, Option, Some, None, refl, ap, sym, subst, ◌∙◌, append_assoc, append-nil, arith}
 use Rattle.std.specs.Prelude.{◌==◌}
 use Rattle.std.proofs.lemmas.Bool.{eqb-true}
@@ -33,7 +33,7 @@ ends_place-append o p (b ∷ x) y = go (b == 10) refl (λ p. ends_place-append o
     go true h later = rw (h, ends_place) (later (on_next_line o p))
     go false h later = rw (h, ends_place) (later p)
 
--- one line end
+-- one line ending
 pub text_once : (o : Options) (e : List ℕ) (p : Place) (run : List ℕ) → is_line_end run ≡ true → ends_text o e p run ≡ end_text e p
 unfolding ends_text
 text_once o e p run line = one_line_end (λ run. ends_text o e p run ≡ end_text e p) (append-nil (end_text e p)) (append-nil (end_text e p)) run line
@@ -42,14 +42,14 @@ pub place_once : (o : Options) (p : Place) (run : List ℕ) → is_line_end run 
 unfolding ends_place
 place_once o p run line = one_line_end (λ run. ends_place o p run ≡ on_next_line o p) refl refl run line
 
--- behind a blank line that goes stands what stood before it
+-- after a blank line that goes is what came before it
 dropped_stays : (o : Options) (s : Bool) (b : Before) (r : Option ℕ) → is_dropped (at_place s b r) ≡ true → on_next_line o (at_place s b r) ≡ at_place s b r
 dropped_stays o s Nothing None h = absurd (cc)
 dropped_stays o s Nothing (Some n) h = subst (λ n. at_place s Nothing (Some (n - 1)) ≡ at_place s Nothing (Some n)) (sym (eqb-true n 0 h)) refl
 dropped_stays o s Value r h = absurd (cc)
 dropped_stays o s Other r h = absurd (cc)
 
--- the line ends that are set, set again
+-- the line endings that are set, set again
 pub record EndsAgain (o : Options) (e : List ℕ) (p : Place) (run : List ℕ) : Type 0 where
   pub text : ends_text o e p (ends_text o e p run) ≡ ends_text o e p run
   pub place : ends_place o p (ends_text o e p run) ≡ ends_place o p run
@@ -84,12 +84,12 @@ ends_again o e line p (b ∷ run) = go (b == 10) refl (λ p. ends_again o e line
         record { text = rw (h, ends_text) both.0; place = rw (h, ends_text, ends_place) both.1 }
     go false h later = record { text = rw (h, ends_text) ((later p).text); place = rw (h, ends_text, ends_place) ((later p).place) }
 
--- where no line end is set the place stays
+-- if no line ending is set the place stays
 pub no_ends : (o : Options) (e : List ℕ) → is_line_end e ≡ true → (p : Place) (run : List ℕ) → ends_text o e p run ≡ [] → ends_place o p run ≡ p
 unfolding ends_place
 no_ends o e line p run none = sym ((ends_again o e line p run).place) ∙ ap (ends_place o p) none
 
--- where no blank line may stay no line end is set
+-- if no blank line may stay no line ending is set
 pub dropped_run : (o : Options) (e : List ℕ) (s : Bool) (b : Before) (r : Option ℕ) → is_dropped (at_place s b r) ≡ true → (run : List ℕ) → ends_text o e (at_place s b r) run ≡ []
 unfolding ends_text
 dropped_run o e s b r d [] = refl
@@ -102,7 +102,7 @@ dropped_run o e s b r d (c ∷ run) = go (c == 10) refl (dropped_run o e s b r d
     go true h later = rw (h, ends_text) (ap (λ t. t ++ ends_text o e (on_next_line o (at_place s b r)) run) none ∙ ap (λ p. ends_text o e p run) (dropped_stays o s b r d) ∙ later)
     go false h later = rw (h, ends_text) later
 
--- behind content the first line end of a run is set
+-- after content the first line ending of a run is set
 pub content_ends : (o : Options) (e : List ℕ) (p : Place) → is_nothing p.before ≡ false → (run : List ℕ) → 0 < length run → are_line_ends run ≡ true → (rest : List ℕ) × (ends_text o e p run ≡ e ++ rest)
 unfolding ends_text
 content_ends o e p content [] some all = absurd (omega arith)

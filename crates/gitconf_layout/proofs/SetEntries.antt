@@ -20,7 +20,7 @@ use Rattle.gitconf_layout.specs.Setting.{ends_text, ends_place, set_tokens}
 abbrev pub at_place : (s : Bool) → (b : Before) → (r : Option ℕ) → Place
 at_place s b r = record { in_section = s; before = b; room = r }
 
--- a piece with the text's line end
+-- a piece with the text's line ending
 abbrev pub set_end : (e line_end : List ℕ) → List ℕ
 set_end e [] = []
 set_end e (b ∷ bytes) = e
@@ -46,7 +46,7 @@ gap_before o (Some a) = gap o
 abbrev pub set_entry : Options → (e : List ℕ) → Entry → Entry
 set_entry o e en = record { name = en.name; blanks = gap_before o en.assigned; assigned = set_assigned o e en.assigned }
 
--- a piece ends with a line end, or with nothing
+-- a piece ends with a line ending, or with nothing
 abbrev pub PieceEnd : List ℕ → Type 0
 PieceEnd [] = Unit {0}
 PieceEnd (b ∷ bytes) = is_line_end (b ∷ bytes) ≡ true
@@ -59,7 +59,7 @@ abbrev pub AssignedEnds : Option Assigned → Type 0
 AssignedEnds None = Unit {0}
 AssignedEnds (Some a) = PieceEnds a.value.pieces
 
--- behind a piece
+-- after a piece
 abbrev pub before_behind : (line_end : List ℕ) → Before
 before_behind [] = Other
 before_behind (b ∷ bytes) = Nothing
@@ -72,7 +72,7 @@ abbrev pub room_behind : Options → List Piece → Option ℕ → Option ℕ
 room_behind o [] r = r
 room_behind o (p ∷ pieces) r = room_behind o pieces (room_behind_end o p.line_end r)
 
--- what holds of LF and of CR and LF holds of a line end
+-- what holds of LF and of CR and LF holds of a line ending
 pub one_line_end : (P : List ℕ → Type 0) → P (10 ∷ []) → P (13 ∷ 10 ∷ []) → (bytes : List ℕ) → is_line_end bytes ≡ true → P bytes
 one_line_end P feed both [] h = absurd (cc)
 one_line_end P feed both (b ∷ []) h = subst (λ b. P (b ∷ [])) (sym (eqb-true b 10 h)) feed
@@ -81,7 +81,7 @@ one_line_end P feed both (b ∷ c ∷ []) h =
     subst (λ b. P (b ∷ c ∷ [])) (sym (eqb-true b 13 p.0)) (subst (λ c. P (13 ∷ c ∷ [])) (sym (eqb-true c 10 p.1)) both)
 one_line_end P feed both (b ∷ c ∷ d ∷ bytes) h = absurd (cc)
 
--- one line end behind content
+-- one line ending after content
 pass_newline : (o : Options) (e : List ℕ) (s : Bool) (r : Option ℕ) (rest : List Shown) (bytes : List ℕ) → is_line_end bytes ≡ true
     → set_tokens o e (at_place s Other r) (ShownNewline bytes ∷ rest) ≡ e ++ set_tokens o e (at_place s Nothing o.max_consecutive_blank_lines) rest
 unfolding set_tokens ends_text ends_place
@@ -98,7 +98,7 @@ unfolding set_tokens ends_text ends_place
 pass_blanks o e s r [] rest = refl
 pass_blanks o e s r (b ∷ blanks) rest = refl
 
--- a piece that goes on
+-- a piece that continues
 pass_piece : (o : Options) (e : List ℕ) (s : Bool) (b : Before) (r : Option ℕ) (text line_end : List ℕ) (rest : List Shown) → PieceEnd line_end
     → set_tokens o e (at_place s b r) (map shown_token (ValueNotDoneToken text ∷ filled NewlineToken line_end) ++ rest)
     ≡ (text ++ 92 ∷ set_end e line_end) ++ set_tokens o e (at_place s (before_behind line_end) (room_behind_end o line_end r)) rest
@@ -143,7 +143,7 @@ unfolding set_tokens ends_text ends_place
 pass_value o e s r [] last rest ends = refl
 pass_value o e s r (p ∷ pieces) last rest ends = pass_pieces o e s Other r (p ∷ pieces) last rest ends
 
--- where the tokens behind an entry stand
+-- where the tokens after an entry are
 abbrev pub behind_assigned : Options → Bool → Option ℕ → Option Assigned → Place
 behind_assigned o s r None = at_place s Value r
 behind_assigned o s r (Some a) = at_place s (before_behind_value a.value.pieces) (room_behind o a.value.pieces r)
@@ -153,7 +153,7 @@ separator_is : (spaces : Bool) → ◌≡◌ {A = List ℕ} (if◌then◌else◌
 separator_is true = refl
 separator_is false = refl
 
--- what stands behind a name
+-- what follows a name
 pass_assigned : (o : Options) (e : List ℕ) (s : Bool) (r : Option ℕ) (a : Option Assigned) (rest : List Shown) → AssignedEnds a
     → set_tokens o e (at_place s Other r) (map shown_token (assigned_tokens a) ++ rest)
     ≡ (gap_before o a ++ spelled_assigned (set_assigned o e a)) ++ set_tokens o e (behind_assigned o s r a) rest

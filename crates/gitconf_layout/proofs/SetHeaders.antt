@@ -29,7 +29,7 @@ fold_header (b ∷ bytes) h =
     let p = both_true (is_header_byte b) (list_all is_header_byte bytes) h in
     rw (lower_header b p.0) (fold_header bytes p.1)
 
--- no LF stands among what is spelled in quotes
+-- no LF is among what is spelled in quotes
 units_lines : (units : List TextUnit) → list_all is_subsection_unit units ≡ true → list_all (λ b. not (b == 10)) (flat_map subsection_byte units) ≡ true
 units_lines [] h = refl
 units_lines (Escape b ∷ units) h =

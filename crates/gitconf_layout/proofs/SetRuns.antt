@@ -1,4 +1,4 @@
--- The line ends and the comments that are set.
+-- The line endings and the comments that are set.
 use Rattle.std.proofs.Common.{◌≡◌, ◌<◌, ℕ, zero, suc, Bool, true, false, not, List, [], ◌∷◌, ◌++◌, length, Option, Some, None, inl, inr, refl, ap, sym, subst, ◌∙◌, append-nil, arith}
 use Rattle.std.specs.Prelude.{◌⊎◌, ◌==◌, ◌&&◌, ◌||◌, replicate, if◌then◌else◌}
 use Rattle.std.specs.List.{list_all}
@@ -20,7 +20,7 @@ use Rattle.gitconf_layout.specs.Layout.{indent_text, is_nothing, before_name, be
 use Rattle.gitconf_layout.specs.Setting.{is_dropped, on_next_line, end_text, ends_text}
 use Rattle.gitconf_layout.proofs.SetEntries.{one_line_end}
 
--- nothing, or a run of line ends
+-- nothing, or a run of line endings
 abbrev pub IsRun : List ℕ → Type 0
 IsRun text = (text ≡ []) ⊎ ((0 < length text) × (are_line_ends text ≡ true))
 
@@ -57,7 +57,7 @@ not_empty : (e rest : List ℕ) → is_line_end e ≡ true → e ++ rest ≡ [] 
 not_empty [] rest line h = absurd (cc)
 not_empty (b ∷ e) rest line h = absurd (cc)
 
--- the line end behind content stays
+-- the line ending after content stays
 pub ends_line : (o : Options) (e : List ℕ) → is_line_end e ≡ true → (p : Place) → is_nothing p.before ≡ false → (run : List ℕ) → 0 < length run → are_line_ends run ≡ true → ends_text o e p run ≡ [] → ⊥
 unfolding ends_text
 ends_line o e line p content [] some all none = absurd (omega arith)
@@ -134,7 +134,7 @@ root_blank : (i : Option Indent) → list_all is_blank (root_indent i) ≡ true
 root_blank None = refl
 root_blank (Some i) = indent_blank i
 
--- what stands before a name and before a comment are blanks
+-- what comes before a name and before a comment are blanks
 pub name_blank : (o : Options) (s : Bool) (b : Before) → list_all is_blank (before_name o s b) ≡ true
 name_blank o s Nothing = key_blank o.key_value_indent s [] refl
 name_blank o s Value = refl

@@ -1,4 +1,4 @@
--- The values of entries that are set may stand in a text.
+-- The values of entries that are set may be in a text.
 use Rattle.std.proofs.Common.{◌≡◌, ℕ, Bool, true, false, List, [], ◌∷◌, ◌++◌, map, inl, inr, refl, ap, sym, subst, ◌∙◌, append-nil}
 use Rattle.std.specs.Prelude.{◌⊎◌, flat_map, if◌then◌else◌}
 use Rattle.std.specs.List.{list_all}
@@ -48,7 +48,7 @@ front_same : (e : List ℕ) (pieces : List Piece) (last : List ℕ) → begins i
 front_same e [] last h = h
 front_same e (p ∷ pieces) last h = front_piece p.text p.line_end (set_end e p.line_end) _ last h _ last
 
--- a line end stays one
+-- a line ending stays one
 pub end_set : (e line_end : List ℕ) → is_line_end e ≡ true → is_line_end line_end ≡ true → is_line_end (set_end e line_end) ≡ true
 end_set e [] line h = absurd (cc)
 end_set e (b ∷ bytes) line h = line
@@ -57,7 +57,7 @@ end_none : (e line_end : List ℕ) → line_end ≡ [] → set_end e line_end �
 end_none e [] h = refl
 end_none e (b ∷ bytes) h = absurd (cc)
 
--- each piece has its line end, or the last is left open at the end of the text
+-- each piece has its line ending, or the last is left open at the end of the text
 abbrev pub Ways : (e : List ℕ) (pieces : List Piece) (last rest : List ℕ) → Type 0
 Ways e pieces last rest =
     ((list_all (λ (p : Piece). is_line_end p.line_end) (map (set_piece e) pieces) ≡ true) × (ends is_white last ≡ false) × (may_follow_value rest ≡ true))
@@ -88,7 +88,7 @@ piece_ends (p ∷ pieces) last rest ended = elim ended [
   | inr bare ↦ (no_end p.line_end bare.0, subst PieceEnds (sym bare.1) tt)
 ]
 
--- a value that is set, whose pieces have their line ends
+-- a value that is set, whose pieces have their line endings
 pub set_closed : (o : Options) (e : List ℕ) (v : ValueOf) (rest : List ℕ) → FitsValue v rest → list_all (λ (p : Piece). is_line_end p.line_end) (map (set_piece e) v.pieces) ≡ true → ends is_white v.last ≡ false
     → IsClosed (record { blanks = gap o; value = set_value e v })
 set_closed o e v rest fits closed last = record {

@@ -35,7 +35,7 @@ behind_line-room : (p : Place) (line : List Shown) → (behind_line p line).room
 behind_line-room p [] = refl
 behind_line-room p (t ∷ line) = behind_line-room (behind_token p t) line
 
--- content stands behind content
+-- content follows content
 behind_content : (b : Before) (t : Shown) → is_nothing (behind b t) ≡ (is_nothing b && not (is_content t))
 behind_content Nothing (ShownComment tag text) = refl
 behind_content Nothing (ShownHeader name separator subsection) = refl
@@ -79,7 +79,7 @@ behind_line-before p [] = sym (and_true (is_nothing p.before))
 behind_line-before p (t ∷ line) =
     behind_line-before (behind_token p t) line ∙ ap (λ x. x && not (list_any is_content line)) (behind_content p.before t) ∙ and_not (is_nothing p.before) (is_content t) (list_any is_content line)
 
--- where no content follows, no comment does
+-- if no content follows, no comment does
 no_comment : (line : List Shown) → list_any is_content line ≡ false → begins_comment line ≡ false
 no_comment [] h = refl
 no_comment (ShownComment tag text ∷ line) h = absurd (cc)
@@ -111,7 +111,7 @@ blank_text o s (ShownBlanks run ∷ line) h =
     let none : keeps_blanks o s Nothing line ≡ false = rw (no_comment line h) (and_false (not s && is_none o.root_comment_indent)) in
     rw none (blank_text o s line h)
 
--- how many more blank lines may stay, where so many stand before
+-- how many more blank lines may stay, where that many come before
 abbrev left : (limit : Option ℕ) → (blank : ℕ) → Option ℕ
 left None blank = None
 left (Some n) blank = Some (n - blank)
@@ -154,7 +154,7 @@ end_room e q h k = rw (h, k, end_text) refl
 regroup : (a e b c : List ℕ) → ((a ++ e) ++ b) ++ c ≡ a ++ (e ++ (b ++ c))
 regroup a e b c = simp append_assoc
 
--- the text of the lines that stay, and what stands behind them
+-- the text of the lines that stay, and what follows them
 text_of : (o : Options) (e : List ℕ) (s : Bool) (limit : Option ℕ) (blank : ℕ) (ended : List (List Shown)) (last : List Shown) → List ℕ
 text_of o e s limit blank ended last =
     joined e (kept limit o.max_consecutive_blank_lines blank (set_lines o s ended)) ++ line_text o (s || list_any (list_any is_shown_header) ended) Nothing last

@@ -18,11 +18,11 @@ pub record Keeps (parts : List Part) (text : List ℕ) : Type 0 where
   pub document : gathered read ≡ gathered parts
   pub comments : comments_of read ≡ comments_of parts
 
--- the text is empty, or one line end stands behind a front that ends with neither CR nor LF
+-- the text is empty, or it is one line ending after a text that ends with neither CR nor LF
 abbrev pub EndsOnce : (text : List ℕ) → Type 0
 EndsOnce text = (text ≡ []) ⊎ ((front : List ℕ) × (line_end : List ℕ) × (text ≡ front ++ line_end) × (ends is_cr_or_lf front ≡ false) × (is_line_end line_end ≡ true))
 
--- the part is no comment whose text ends with a CR
+-- the part is not a comment whose text ends with a CR
 abbrev pub ends_with_no_cr : Part → Bool
 ends_with_no_cr (ItemPart (CommentItem tag text)) = not (ends (λ b. b == 13) text)
 ends_with_no_cr (ItemPart (BlanksItem run)) = true
@@ -38,11 +38,11 @@ has_no_cr parts = list_all ends_with_no_cr parts
 abbrev pub line_end_in : Options → List Part → List ℕ
 line_end_in options parts = line_end_of options.newline (map shown_token (tokens_of parts))
 
--- the token is no newline, or this line end, once or more
+-- the token is not a newline, or is this line ending, once or more often
 abbrev pub HoldsLineEnd : (line_end : List ℕ) → Shown → Type 0
 HoldsLineEnd line_end (ShownNewline run) = (more : ℕ) × (run ≡ line_end ++ concat (replicate more line_end))
 HoldsLineEnd line_end _ = Unit {0}
 
--- each newline of the parts is this line end, once or more
+-- each newline of the parts is this line ending, once or more often
 abbrev pub HoldLineEnd : (line_end : List ℕ) → List Part → Type 0
 HoldLineEnd line_end parts = All (HoldsLineEnd line_end) (map shown_token (tokens_of parts))

@@ -1,4 +1,4 @@
--- Layout: the lines of a text, how the tokens of each are set, and which lines stay.
+-- Layout: the lines of a text, how the tokens of each are written, and which lines stay.
 use Rattle.std.specs.Prelude.{◌≡◌, ℕ, ◌+◌, nat_lt, Bool, true, false, not, List, [], ◌∷◌, ◌++◌, ◌==◌, ◌&&◌, ◌||◌, if◌then◌else◌, replicate, map, flat_map, Option, Some, None, is_none}
 use Rattle.std.specs.List.{list_any}
 use Rattle.gitconf_text.specs.Part.{Part}
@@ -15,6 +15,7 @@ use Rattle.gitconf_layout.specs.declared.format.Options.{Options}
 use Rattle.gitconf_layout.specs.declared.place.Before.{Before}
 use Rattle.gitconf_layout.specs.declared.place.Before.TheVariants.{Nothing, Value, Other}
 
+-- the options that `Default` gives
 abbrev pub default_options : Options
 default_options = record {
   root_comment_indent = Some (Spaces 0);
@@ -26,35 +27,36 @@ default_options = record {
   max_consecutive_blank_lines = None;
 }
 
+-- the bytes of an indent
 abbrev pub indent_text : Indent → List ℕ
 indent_text (Tabs n) = replicate n 9
 indent_text (Spaces n) = replicate n 32
 
--- the line end of the first newline: CR and LF where it holds a CR, else LF; LF where there is none
+-- the line ending of the first newline: CR and LF if it holds a CR, otherwise LF; LF if there is none
 abbrev pub detected : List Shown → List ℕ
 detected [] = 10 ∷ []
 detected (ShownNewline run ∷ tokens) = if list_any (λ b. b == 13) run then 13 ∷ 10 ∷ [] else 10 ∷ []
 detected (_ ∷ tokens) = detected tokens
 
--- what lines end with
+-- the line ending of a layout: the one that is asked for, or that of the text
 abbrev pub line_end_of : Newline → List Shown → List ℕ
 line_end_of Detect tokens = detected tokens
 line_end_of Lf tokens = 10 ∷ []
 line_end_of CrLf tokens = 13 ∷ 10 ∷ []
 
--- lines that are ended, and the tokens behind the last of them; a newline stands on the line that its first LF ends
+-- lines that are ended, and the tokens after the last of them; a newline is on the line that its first LF ends
 pub record Lines : Type 0 where
   pub ended : List (List Shown)
   pub last : List Shown
 
--- a token put first on the first line
+-- the lines, with a token put at the front of the first one
 abbrev pub on_first_line : Shown → Lines → Lines
 on_first_line t lines = elim lines.ended [
   | [] ↦ record { ended = []; last = t ∷ lines.last }
   | line ∷ others ↦ record { ended = (t ∷ line) ∷ others; last = lines.last }
 ]
 
--- each LF ends a line before these
+-- the lines, with those before them that the LFs of a run end
 abbrev pub cut : (run : List ℕ) → Lines → Lines
 cut [] lines = lines
 cut (b ∷ run) lines = elim (b == 10) [
@@ -62,60 +64,68 @@ cut (b ∷ run) lines = elim (b == 10) [
   | false ↦ cut run lines
 ]
 
--- the bytes among which each LF ends a line
+-- the bytes of a newline token, in which each LF ends a line; none for any other token
 abbrev pub line_ends_in : Shown → List ℕ
 line_ends_in (ShownNewline run) = run
 line_ends_in _ = []
 
+-- the lines of tokens
 abbrev pub lines_of : List Shown → Lines
 lines_of [] = record { ended = []; last = [] }
 lines_of (t ∷ tokens) = on_first_line t (cut (line_ends_in t) (lines_of tokens))
 
--- what stands before the next token on the line
+-- what comes before the next token on the line, after this token
 abbrev pub behind : Before → Shown → Before
 behind before (ShownBlanks run) = before
 behind before (ShownNewline run) = before
 behind before (ShownValue bytes) = Value
 behind before _ = Other
 
+-- the token is a comment
 abbrev pub is_comment_event : Shown → Bool
 is_comment_event (ShownComment tag text) = true
 is_comment_event _ = false
 
+-- the token is a newline
 abbrev pub is_newline : Shown → Bool
 is_newline (ShownNewline run) = true
 is_newline _ = false
 
+-- a comment comes first
 abbrev pub begins_comment : List Shown → Bool
 begins_comment [] = false
 begins_comment (t ∷ rest) = is_comment_event t
 
+-- a newline comes first
 abbrev pub begins_newline : List Shown → Bool
 begins_newline [] = false
 begins_newline (t ∷ rest) = is_newline t
 
--- Behind a header a name at the start of a line gets the indent; behind an entry without `=` a name gets one blank.
+-- What is written before a name: at the start of a line after a header the indent, and after an entry without `=` one blank.
 abbrev pub before_name : Options → (in_section : Bool) → Before → List ℕ
 before_name options in_section Nothing = if in_section then indent_text options.key_value_indent else []
 before_name options in_section Value = 32 ∷ []
 before_name options in_section Other = []
 
+-- the bytes of an indent, if one is asked for
 abbrev pub root_indent : Option Indent → List ℕ
 root_indent None = []
 root_indent (Some indent) = indent_text indent
 
--- A comment gets one blank behind others; else the indent of names behind a header, and its own before the first.
+-- What is written before a comment: one blank after other tokens; at the start of a line the indent of names, or before the first header
+-- its own.
 abbrev pub before_comment : Options → (in_section : Bool) → Before → List ℕ
 before_comment options in_section Nothing = if in_section then indent_text options.key_value_indent else root_indent options.root_comment_indent
 before_comment options in_section Value = 32 ∷ []
 before_comment options in_section Other = 32 ∷ []
 
+-- nothing comes before on the line
 abbrev pub is_nothing : Before → Bool
 is_nothing Nothing = true
 is_nothing Value = false
 is_nothing Other = false
 
--- Where comments before the first header have no indent of their own, blanks at the start of a line stay directly before one.
+-- If comments before the first header have no indent of their own, blanks at the start of a line stay directly before such a comment.
 abbrev pub keeps_blanks : Options → (in_section : Bool) → Before → (rest : List Shown) → Bool
 keeps_blanks options in_section before rest = is_nothing before && not in_section && is_none options.root_comment_indent && begins_comment rest
 
@@ -124,11 +134,11 @@ abbrev pub without_cr : List ℕ → List ℕ
 without_cr [] = []
 without_cr (b ∷ text) = elim text [ [] ↦ if b == 13 then [] else b ∷ [] | c ∷ more ↦ b ∷ without_cr text ]
 
--- a CR at the end of a comment goes where a newline follows
+-- a CR at the end of a comment is dropped if a newline follows
 abbrev pub comment_text : (text : List ℕ) → (rest : List Shown) → List ℕ
 comment_text text rest = if begins_newline rest then without_cr text else text
 
--- how a token is set before the rest of its line
+-- how a token is written before the rest of its line
 abbrev pub set_token : Options → (in_section : Bool) → Before → Shown → (rest : List Shown) → List ℕ
 set_token options in_section before (ShownBlanks run) rest = if keeps_blanks options in_section before rest then run else []
 set_token options in_section before (ShownNewline run) rest = []
@@ -140,35 +150,37 @@ set_token options in_section before (ShownValue bytes) rest = written (ShownValu
 set_token options in_section before (ShownUnfinished bytes) rest = written (ShownUnfinished bytes)
 set_token options in_section before (ShownLast bytes) rest = written (ShownLast bytes)
 
--- the text of a line from here on
+-- the text of a line from this token on
 abbrev pub line_text : Options → (in_section : Bool) → Before → List Shown → List ℕ
 line_text options in_section before [] = []
 line_text options in_section before (t ∷ rest) =
     set_token options in_section before t rest ++ line_text options (is_shown_header t || in_section) (behind before t) rest
 
--- all but blanks and newlines
+-- the token is neither blanks nor a newline
 abbrev pub is_content : Shown → Bool
 is_content t = not (is_nothing (behind Nothing t))
 
--- a line with its text, and whether it has content
+-- the text of a line, and whether it has content
 pub record SetLine : Type 0 where
   pub content : Bool
   pub text : List ℕ
 
+-- a line, laid out
 abbrev pub set_line : Options → (in_section : Bool) → List Shown → SetLine
 set_line options in_section line = record { content = list_any is_content line; text = line_text options in_section Nothing line }
 
+-- lines, laid out one after the other; those after a header are in a section
 abbrev pub set_lines : Options → (in_section : Bool) → List (List Shown) → List SetLine
 set_lines options in_section [] = []
 set_lines options in_section (line ∷ lines) = set_line options in_section line ∷ set_lines options (in_section || list_any is_shown_header line) lines
 
--- so many blank lines are fewer than may stand together
+-- fewer blank lines came before than may stay together
 abbrev pub is_fewer : ℕ → (limit : Option ℕ) → Bool
 is_fewer blank None = true
 is_fewer blank (Some limit) = nat_lt blank limit
 
--- The lines that stay: all with content, and of blank ones those before which fewer stand than the limit;
--- `limit` holds until a line with content has ended, and then `later`.
+-- The lines that stay: all with content, and blank ones if fewer than the limit came directly before;
+-- `limit` holds up to the first line with content, and then `later`.
 abbrev pub kept : (limit later : Option ℕ) → (blank : ℕ) → List SetLine → List SetLine
 kept limit later blank [] = []
 kept limit later blank (line ∷ lines) = elim line.content [
@@ -179,16 +191,17 @@ kept limit later blank (line ∷ lines) = elim line.content [
   ]
 ]
 
--- each line with its end
+-- the texts of lines, each with a line ending
 abbrev pub joined : (line_end : List ℕ) → List SetLine → List ℕ
 joined line_end lines = flat_map (λ (line : SetLine). line.text ++ line_end) lines
 
--- the lines that stay, and the tokens behind the last line end
+-- the text of the lines that stay, and of the tokens after the last line ending
 abbrev pub set_body : Options → (line_end : List ℕ) → Lines → List ℕ
 set_body options line_end lines =
     joined line_end (kept options.max_leading_blank_lines options.max_consecutive_blank_lines 0 (set_lines options false lines.ended))
     ++ line_text options (list_any (list_any is_shown_header) lines.ended) Nothing lines.last
 
+-- the byte is CR or LF
 abbrev pub is_cr_or_lf : ℕ → Bool
 is_cr_or_lf b = b == 13 || b == 10
 
@@ -197,11 +210,12 @@ abbrev pub trimmed : List ℕ → List ℕ
 trimmed [] = []
 trimmed (b ∷ text) = elim (trimmed text) [ [] ↦ if is_cr_or_lf b then [] else b ∷ [] | c ∷ more ↦ b ∷ c ∷ more ]
 
--- a text that isn't empty, with one line end in the place of those at its end
+-- the text with exactly one line ending at its end, unless it is empty
 abbrev pub with_one_line_end : (line_end : List ℕ) → List ℕ → List ℕ
 with_one_line_end line_end [] = []
 with_one_line_end line_end (b ∷ text) = trimmed (b ∷ text) ++ line_end
 
+-- the text of tokens, laid out
 unfoldable pub laid_out : Options → List Shown → List ℕ
 laid_out options tokens =
     let line_end = line_end_of options.newline tokens in

@@ -8,30 +8,33 @@ use Rattle.gitconf_layout.specs.declared.place.Before.TheVariants.{Nothing}
 use Rattle.gitconf_layout.specs.declared.place.Place.{Place}
 use Rattle.gitconf_layout.specs.Layout.{behind, is_nothing, line_ends_in, set_token}
 
+-- the byte b, n times
 abbrev pub replicate : ℕ → ℕ → List ℕ
 replicate n b = prelude.replicate n b
 
--- before the first token
+-- the place before the first token
 abbrev pub first : Options → Place
 first options = record { in_section = false; before = Nothing; room = options.max_leading_blank_lines }
 
--- behind a token, before the lines that it ends
+-- the place after a token, before the lines that it ends
 abbrev pub behind_token : Place → Shown → Place
 behind_token p t = record { in_section = is_shown_header t || p.in_section; before = behind p.before t; room = p.room }
 
+-- no more blank lines may stay
 abbrev pub is_full : Option ℕ → Bool
 is_full None = false
 is_full (Some n) = n == 0
 
--- the line has nothing on it and may not stay
+-- the line is blank and may not stay
 abbrev pub is_dropped : Place → Bool
 is_dropped p = is_nothing p.before && is_full p.room
 
+-- one fewer blank line may stay; no limit stays no limit
 abbrev pub one_less : Option ℕ → Option ℕ
 one_less None = None
 one_less (Some n) = Some (n - 1)
 
--- behind the end of the line
+-- the place after the end of the line
 abbrev pub on_next_line : Options → Place → Place
 on_next_line options p = record {
   in_section = p.in_section;
@@ -39,11 +42,11 @@ on_next_line options p = record {
   room = elim (is_nothing p.before) [ true ↦ one_less p.room | false ↦ options.max_consecutive_blank_lines ];
 }
 
--- the line's end, if it stays
+-- what ends the line: the line ending if the line stays, otherwise nothing
 abbrev pub end_text : (line_end : List ℕ) → Place → List ℕ
 end_text line_end p = elim (is_dropped p) [ true ↦ [] | false ↦ line_end ]
 
--- the line ends that each LF of a run stands for
+-- the line endings that are written for a run: one for each LF whose line stays
 unfoldable pub ends_text : Options → (line_end : List ℕ) → Place → List ℕ → List ℕ
 ends_text options line_end p [] = []
 ends_text options line_end p (b ∷ run) = elim (b == 10) [
@@ -51,7 +54,7 @@ ends_text options line_end p (b ∷ run) = elim (b == 10) [
   | false ↦ ends_text options line_end p run
 ]
 
--- behind a run
+-- the place after a run
 unfoldable pub ends_place : Options → Place → List ℕ → Place
 ends_place options p [] = p
 ends_place options p (b ∷ run) = elim (b == 10) [

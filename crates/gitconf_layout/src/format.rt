@@ -1,4 +1,4 @@
-//! `normalize`, and what it may be asked for.
+//! `normalize`, and its options.
 ghost use Rattle.std.specs.Prelude.{◌≡◌, IfOk, IfErr};
 ghost use Rattle.bstr.specs.Owned.{bstring_bytes};
 ghost use Rattle.gitconf_parse.specs.EventResult.{IsRefused};
@@ -15,19 +15,19 @@ use gitconf_parse::events::{EventIter, Events};
 use gitconf_text::NoMemory;
 use std::alloc::Global;
 
-/// What stands before a comment or a name at the start of its line.
+/// What comes before a comment or a name at the start of its line.
 #[derive(Clone, Copy, Debug, PartialEq, Eq)]
 pub enum Indent {
-    /// So many tabs.
+    /// This many tabs.
     Tabs(usize),
-    /// So many spaces.
+    /// This many spaces.
     Spaces(usize),
 }
 
 /// What lines end with.
 #[derive(Clone, Copy, Debug, PartialEq, Eq)]
 pub enum Newline {
-    /// CR and LF where the first newline of the text holds a CR, and else LF.
+    /// CR and LF if the first newline of the text holds a CR, otherwise LF.
     Detect,
     /// LF.
     Lf,
@@ -38,27 +38,27 @@ pub enum Newline {
 /// How a text is laid out.
 #[derive(Clone, Copy, Debug, PartialEq, Eq)]
 pub struct Options {
-    /// What stands before a comment that no header stands before, where it has a line of its own. `None` leaves the blanks
+    /// What comes before a comment on a line of its own before the first header. `None` keeps the blanks
     /// that are there.
     pub root_comment_indent: Option<Indent>,
-    /// What stands before a name or a comment behind a header, where it begins a line.
+    /// What comes before a name or a comment that begins a line after a header.
     pub key_value_indent: Indent,
-    /// Whether a space stands on either side of `=`.
+    /// Whether there is a space on either side of `=`.
     pub spaces_around_separator: bool,
     /// What lines end with.
     pub newline: Newline,
-    /// Whether a text that isn't empty ends with one line end.
+    /// Whether a text that isn't empty ends with one line ending.
     pub ensure_trailing_newline: bool,
     /// How many blank lines stay before the first line that isn't blank; `None` keeps them all.
     pub max_leading_blank_lines: Option<usize>,
-    /// How many blank lines stay together behind that; `None` keeps them all.
+    /// How many blank lines stay together after that line; `None` keeps them all.
     pub max_consecutive_blank_lines: Option<usize>,
 }
 
 impl Default for Options {
     ghost is_default = { λ o. o ≡ default_options };
 
-    /// Names behind a tab, ` = `, the line end that is there, one line end at the end, and all blank lines.
+    /// A tab before names, ` = `, the line ending of the text, one line ending at the end, and all blank lines.
     fn default() -> Options {
         Options {
             root_comment_indent: Some(Indent::Spaces(0)),
@@ -74,12 +74,12 @@ impl Default for Options {
 
 /// The text, laid out by the options. Its document is the same.
 ///
-/// The events of the text are read once. It takes memory for them and for the answer.
+/// The events of the text are read once. It takes memory for them and for the result.
 ///
 /// # Errors
 ///
-/// Refusal 1 where the text has no document, with the line and the data from where it can't be read on; refusal 2 for
-/// more than 4294967295 bytes; refusal 27 for want of memory.
+/// Refusal 1 if the text has no document, with the line and the data from where it can't be read on; refusal 2 for
+/// more than 4294967295 bytes; refusal 27 when out of memory.
 pub fn normalize(alloc: Global, input: &[u8], options: Options) -> Result<BString, Error>
     ensures set { IfOk result (λ text. IsLayout options input.now (bstring_bytes text)) }
     ensures refused { IfErr result (IsRefused input.now) }

@@ -6,26 +6,26 @@ ghost use Rattle.gitconf_layout.specs.Kept.{Keeps, EndsOnce, HoldLineEnd, has_no
 ghost use Rattle.gitconf_layout.specs.Layout.{layout};
 ghost use Rattle.gitconf_layout.specs.declared.format.Options.{Options};
 
-/// The layout of a text has the text's document and its comments, by all options.
+/// The layout of a text has the text's document and its comments, whatever the options.
 ///
-/// So no two tokens are joined, and none is swallowed or lost. Comments are compared without the blanks and CRs at their end.
+/// So no two tokens are joined, and none is lost. Comments are compared without the blanks and CRs at their ends.
 pub fn layouts_keep_documents()
     ensures { (options : Options) (text : List ℕ) (parts : List Part) → IsText text parts → Keeps parts (layout options parts) }
 {}
 
-/// Where a line end at the end is asked for, a text that isn't empty ends with exactly one.
+/// If a line ending at the end is asked for, a text that isn't empty ends with exactly one.
 pub fn layouts_end_once()
     ensures { (options : Options) (parts : List Part) → options.ensure_trailing_newline ≡ true → EndsOnce (layout options parts) }
 {}
 
-/// Each newline of a layout is the line end that was chosen, once or more, where no comment's text in the text ends with a CR.
+/// Each newline of a layout is the line ending that was chosen, once or more often, if no comment of the text ends with a CR.
 ///
-/// So `Detect` finds the line end of a text in its layout too, if that has a newline.
+/// So `Detect` finds the line ending of a text in its layout too, if that has a newline.
 pub fn layouts_hold_their_line_end()
     ensures { (options : Options) (text : List ℕ) (parts read : List Part) → IsText text parts → has_no_cr parts ≡ true → IsText (layout options parts) read → HoldLineEnd (line_end_in options parts) read }
 {}
 
-/// Laid out again by the same options a layout stays as it is, where no comment's text in the text ends with a CR.
+/// A layout that is laid out again by the same options stays as it is, if no comment of the text ends with a CR.
 pub fn layouts_stay()
     ensures { (options : Options) (text : List ℕ) (parts read : List Part) → IsText text parts → has_no_cr parts ≡ true → IsText (layout options parts) read → layout options read ≡ layout options parts }
 {}

@@ -1,4 +1,4 @@
-//! The layout of a text: its lines set anew, with the document and the comments kept.
+//! The layout of a text: its lines written again, with the same document and comments.
 #![tactic(auto)]
 
 pub mod format;

@@ -1,34 +1,34 @@
-//! Where a token stands.
+//! Where a token is.
 ghost use Rattle.std.specs.Prelude.{◌≡◌};
 ghost use Rattle.gitconf_items.specs.EventRef.{shown};
 ghost use Rattle.gitconf_layout.specs.Layout.{behind};
 
 use gitconf_items::event_ref::EventRef;
 
-/// What stands before a token on its line, blanks aside.
+/// What comes before a token on its line, apart from blanks.
 #[derive(Clone, Copy, Debug)]
 pub enum Before {
     /// Nothing.
     Nothing,
-    /// A value; before a name that is the empty value of an entry without `=`.
+    /// A value; before a name it is the empty value of an entry without `=`.
     Value,
     /// Some other token.
     Other,
 }
 
-/// Where a token stands.
+/// Where a token is.
 #[derive(Clone, Copy, Debug)]
 pub struct Place {
-    /// Whether it stands behind a header.
+    /// Whether it comes after a header.
     pub in_section: bool,
-    /// What stands before it on its line.
+    /// What comes before it on its line.
     pub before: Before,
-    /// How many more blank lines may stay here; `None` where all may.
+    /// How many more blank lines may stay here; `None` if all may.
     pub room: Option<usize>,
 }
 
 impl Before {
-    /// What stands before the next token.
+    /// What comes before the next token, after this one.
     pub fn behind(self, event: &EventRef<'_>) -> Before
         ensures { result ≡ behind self (shown event.now) }
     {

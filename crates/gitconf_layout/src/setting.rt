@@ -1,4 +1,4 @@
-//! One pass over the events of a text, which sets each.
+//! One pass over the events of a text, which writes each.
 ghost use Rattle.std.specs.Prelude.{◌≡◌, ◌++◌, Bool, OnOk, IfOk};
 ghost use Rattle.gitconf_items.specs.EventRef.{shown, written};
 ghost use Rattle.gitconf_parse.specs.EventIters.{events_left};
@@ -13,7 +13,7 @@ use gitconf_parse::events::EventIter;
 use gitconf_text::NoMemory;
 use std::alloc::Global;
 
-/// The line end of the first newline: CR and LF where it holds a CR, and else LF.
+/// The line ending of the first newline: CR and LF if it holds a CR, otherwise LF.
 fn detected(events: EventIter<'_>) -> &'static [u8]
     ensures { result.now ≡ spec.detected (events_left events.entry) }
 {
@@ -26,7 +26,7 @@ fn detected(events: EventIter<'_>) -> &'static [u8]
     b"\n"
 }
 
-/// What lines end with.
+/// The line ending of a layout: the one that is asked for, or that of the text.
 pub fn line_end_of(newline: Newline, events: EventIter<'_>) -> &'static [u8]
     ensures { result.now ≡ spec.line_end_of newline (events_left events.entry) }
 {
@@ -79,7 +79,7 @@ fn append_indent(text: &mut Vec<u8>, indent: Indent) -> Result<(), NoMemory>
     }
 }
 
-/// Puts what stands before a name.
+/// Writes what comes before a name.
 fn begin_name(text: &mut Vec<u8>, place: Place, options: &Options) -> Result<(), NoMemory>
     ensures { OnOk result (text.new.items ≡ text.old.items ++ spec.before_name options.now place.in_section place.before) }
 {
@@ -90,7 +90,7 @@ fn begin_name(text: &mut Vec<u8>, place: Place, options: &Options) -> Result<(),
     }
 }
 
-/// Puts what stands before a comment.
+/// Writes what comes before a comment.
 fn begin_comment(text: &mut Vec<u8>, place: Place, options: &Options) -> Result<(), NoMemory>
     ensures { OnOk result (text.new.items ≡ text.old.items ++ spec.before_comment options.now place.in_section place.before) }
 {
@@ -104,7 +104,7 @@ fn begin_comment(text: &mut Vec<u8>, place: Place, options: &Options) -> Result<
     }
 }
 
-/// Whether blanks stay: at the start of a line, directly before a comment that no header stands before, where its indent is left as it is.
+/// Whether blanks stay: at the start of a line, directly before a comment before the first header, if comments there keep their blanks.
 fn keeps_blanks(rest: EventIter<'_>, place: Place, options: &Options) -> bool
     ensures { result ≡ spec.keeps_blanks options.now place.in_section place.before (events_left rest.entry) }
 {
@@ -123,7 +123,7 @@ fn append_event(text: &mut Vec<u8>, event: &EventRef<'_>) -> Result<(), NoMemory
     }
 }
 
-/// Puts one token, behind which `rest` stand. Of a newline nothing is put.
+/// Writes one token, which comes before `rest`. For a newline nothing is written.
 fn set_token(
     text: &mut Vec<u8>,
     event: &EventRef<'_>,
@@ -173,7 +173,7 @@ impl Place {
     ghost use Rattle.gitconf_items.specs.EventRef.{shown};
     ghost use Rattle.gitconf_layout.specs.Setting as setting;
 
-    /// Before the first token.
+    /// The place before the first token.
     fn first(options: &Options) -> Place
         ensures { result ≡ setting.first options.now }
     {
@@ -184,7 +184,7 @@ impl Place {
         }
     }
 
-    /// Behind a token, before the lines that it ends.
+    /// The place after a token, before the lines that it ends.
     fn behind(self, event: &EventRef<'_>) -> Place
         ensures { result ≡ setting.behind_token self (shown event.now) }
     {
@@ -195,14 +195,14 @@ impl Place {
         }
     }
 
-    /// Whether the line has nothing on it and may not stay.
+    /// Whether the line is blank and may not stay.
     fn is_dropped(self) -> bool
         ensures { result ≡ setting.is_dropped self }
     {
         matches!(self.before, Before::Nothing) && self.room == Some(0)
     }
 
-    /// Behind the end of the line.
+    /// The place after the end of the line.
     fn on_next_line(self, options: &Options) -> Place
         ensures { result ≡ setting.on_next_line options.now self }
     {
@@ -218,7 +218,7 @@ impl Place {
     }
 }
 
-/// The bytes of a newline, and none of any other token.
+/// The bytes of a newline; none for any other token.
 fn line_ends_in<'a>(event: &EventRef<'a>) -> &'a [u8]
     ensures { result.now ≡ spec.line_ends_in (shown event.now) }
 {
@@ -235,7 +235,7 @@ fn line_ends_in<'a>(event: &EventRef<'a>) -> &'a [u8]
     }
 }
 
-/// Ends a line for each LF of a run, and answers where the next token stands.
+/// Ends a line for each LF of a run, and returns the place of the next token.
 #[tactic(auto, unfolding(crate::specs::Setting::ends_text, crate::specs::Setting::ends_place))]
 fn end_lines(
     text: &mut Vec<u8>,

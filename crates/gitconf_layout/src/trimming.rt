@@ -10,7 +10,7 @@ fn is_cr_or_lf(b: u8) -> bool
     b == b'\r' || b == b'\n'
 }
 
-/// How many bytes stand before the CRs and LFs at the end.
+/// How many bytes come before the CRs and LFs at the end.
 #[tactic(auto, using(crate::proofs::LastBytes::trimming))]
 fn trimmed_len(text: &[u8]) -> usize
     ensures within { result ≤ length text.now }
@@ -34,7 +34,7 @@ pub fn without_cr(text: &[u8]) -> &[u8]
     }
 }
 
-/// Puts one line end in the place of all CRs and LFs at the end, where the text isn't empty.
+/// Puts one line ending in place of all CRs and LFs at the end, unless the text is empty.
 pub fn end_with(text: &mut Vec<u8>, line_end: &[u8]) -> Result<(), NoMemory>
     ensures { OnOk result (text.new.items ≡ spec.with_one_line_end line_end.now text.old.items) }
 {

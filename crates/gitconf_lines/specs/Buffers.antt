@@ -1,16 +1,16 @@
--- A buffer that only grows, and what stands in it.
+-- A buffer that only grows, and what is in it.
 use Rattle.std.specs.Prelude.{◌≡◌, ◌⊎◌, ℕ, ◌+◌, ◌<◌, ◌≤◌, ◌^◌, List, length, Result, IfErr, IsErrOf}
 use Rattle.gitconf_items.specs.declared.event.Span.{Span}
 use Rattle.gitconf_items.specs.Events.{bytes_of, SpanFits}
 use Rattle.gitconf_items.specs.ShownEvents.{IsExtended}
 
--- these bytes stand at the span
+-- these bytes are at the span
 pub record StandsAt (buffer : List ℕ) (s : Span) (bytes : List ℕ) : Type 0 where
   pub fits : SpanFits (length buffer) s
   pub is : bytes_of buffer s ≡ bytes
 
--- At most so many bytes were put behind those of the buffer, which stays below the limit. A refusal is that they are too many, only where
--- they would pass it, or want of memory.
+-- At most that many bytes were added to the buffer, which stays below the limit. A refusal says that they are too many, only if
+-- they would pass the limit, or that memory ran out.
 pub record Grows {T : Type 0} (result : Result T ℕ) (count : ℕ) (old new : List ℕ) : Type 0 where
   pub extended : IsExtended old new
   pub room : length new < 2 ^ 32

@@ -21,28 +21,30 @@ use Rattle.gitconf_lines.specs.declared.editor.Leading.TheVariants as leadings
 use Rattle.gitconf_lines.specs.declared.editor.Around.{Around}
 use Rattle.gitconf_lines.specs.declared.editor.Around.TheVariants as arounds
 
--- the blanks before a key
+-- the blanks before a key, if there are any
 abbrev pub leading_in : (buffer : List ℕ) → Leading → Option (List ℕ)
 leading_in buffer leadings.Nothing = None
 leading_in buffer (leadings.Stored run) = Some (bytes_of buffer run)
 leading_in buffer (leadings.Given bytes) = Some bytes.now
 
+-- blanks before a key that are at a span are within a buffer of this many bytes
 abbrev pub LeadingFits : (limit : ℕ) → Leading → Type 0
 LeadingFits limit leadings.Nothing = Unit {0}
 LeadingFits limit (leadings.Stored run) = SpanFits limit run
 LeadingFits limit (leadings.Given bytes) = Unit {0}
 
--- those that stand at a span
+-- the blanks at a span, if there is one
 abbrev pub stored_leading : Option Span → Leading
 stored_leading None = leadings.Nothing
 stored_leading (Some run) = leadings.Stored run
 
--- those before and behind `=`
+-- the blanks before and after `=`
 abbrev pub around_in : (buffer : List ℕ) → Around → List ℕ × List ℕ
 around_in buffer arounds.Spaces = (32 ∷ [], 32 ∷ [])
 around_in buffer (arounds.Stored before behind) = (bytes_of buffer before, bytes_of buffer behind)
 around_in buffer (arounds.Given before behind) = (before.now, behind.now)
 
+-- blanks around `=` that are at spans are within a buffer of this many bytes
 abbrev pub AroundFits : (limit : ℕ) → Around → Type 0
 AroundFits limit arounds.Spaces = Unit {0}
 AroundFits limit (arounds.Stored before behind) = SpanFits limit before × SpanFits limit behind
@@ -52,43 +54,45 @@ AroundFits limit (arounds.Given before behind) = Unit {0}
 abbrev pub spacing_in : (buffer : List ℕ) → Editor → state.Spacing
 spacing_in buffer e = record { leading = leading_in buffer e.leading; before = (around_in buffer e.around).0; behind = (around_in buffer e.around).1 }
 
--- what an editor of this buffer is
+-- the editor that the code's editor is in this buffer
 abbrev pub editor_in : (buffer : List ℕ) → Editor → states.Editor
 editor_in buffer e = record { spacing = spacing_in buffer e; line_end = bytes_of_line_end e.line_end; ends = e.ends }
 
--- its blanks stand within a buffer of so many bytes
+-- the blanks of an editor are within a buffer of that many bytes
 abbrev pub EditorFits : (limit : ℕ) → Editor → Type 0
 EditorFits limit e = LeadingFits limit e.leading × AroundFits limit e.around
 
--- How many bytes an editor puts behind those of the buffer: blanks that stand there are used again, and a space on both sides of `=` is put once.
+-- How many bytes an editor adds to the buffer for the blanks before a key: none for blanks that are there already.
 abbrev pub leading_put : Leading → ℕ
 leading_put leadings.Nothing = 0
 leading_put (leadings.Stored run) = 0
 leading_put (leadings.Given bytes) = length bytes.now
 
+-- how many bytes it adds for the blanks around `=`: a space that is used on both sides is added once
 abbrev pub around_put : Around → ℕ
 around_put arounds.Spaces = 1
 around_put (arounds.Stored before behind) = 0
 around_put (arounds.Given before behind) = length before.now + length behind.now
 
--- those of a body's editor: a space where the body has no entry
+-- how many bytes a body's own editor adds for the blanks around `=`: a space if the body has no entry
 abbrev pub around_bytes : List parts.Item → ℕ
 around_bytes items = if list_any is_entry items then 0 else 1
 
--- of a value, with the blanks around its `=`
+-- how many bytes it adds for a value, with the blanks around its `=`
 abbrev pub value_put : Around → (value : Option (List ℕ)) → ℕ
 value_put around None = 0
 value_put around (Some value) = around_put around + length (escaped value)
 
--- of a comment, with the space before it; its `#` stands in no buffer
+-- how many bytes it adds for a comment, with the space before it; its `#` is in no buffer
 abbrev pub comment_put : (comment : Option (List ℕ)) → ℕ
 comment_put None = 0
 comment_put (Some text) = 1 + length (comment_text text)
 
+-- how many bytes it adds for the line ending after what is pushed
 abbrev pub end_put : Editor → ℕ
 end_put e = if e.ends then length (bytes_of_line_end e.line_end) else 0
 
--- of a line that is pushed
+-- how many bytes it adds for a line that is pushed
 abbrev pub line_put : Editor → (key : List ℕ) → (value comment : Option (List ℕ)) → ℕ
 line_put e key value comment = leading_put e.leading + (length key + (value_put e.around value + (comment_put comment + end_put e)))
 
@@ -100,17 +104,18 @@ separator_in buffer around entry = elim entry.assigned [
   | forms.Continued c ↦ (bytes_of buffer entry.blanks, bytes_of buffer c.blanks)
 ]
 
+-- how many bytes it adds for the blanks around the `=` of an entry that gets a value: none if the entry has `=`
 abbrev pub separator_put : Around → Entry → ℕ
 separator_put around entry = elim entry.assigned [ forms.Nothing ↦ around_put around | forms.Plain blanks value ↦ 0 | forms.Continued c ↦ 0 ]
 
--- what holds of an item's entry, if it is one
+-- what holds of an item's entry, if the item is one
 abbrev pub IfEntry : Item → (Entry → Type 0) → Type 0
 IfEntry (items.Entry e) holds = holds e
 IfEntry (items.Blanks run) holds = Unit {0}
 IfEntry (items.LineEnds run) holds = Unit {0}
 IfEntry (items.Comment tag text) holds = Unit {0}
 
--- of a value that an entry gets
+-- how many bytes it adds for the value that an entry gets
 abbrev pub changed_put : Around → (value : List ℕ) → parts.Item → ℕ
 changed_put around value (parts.EntryItem entry) = elim entry.assigned [
   | Some a ↦ length (escaped value)
@@ -118,7 +123,7 @@ changed_put around value (parts.EntryItem entry) = elim entry.assigned [
 ]
 changed_put around value i = 0
 
--- of a value that is set
+-- how many bytes it adds for a value that is set: in the key's last entry, or with a line that is pushed
 abbrev pub set_put : Editor → (key value : List ℕ) → List parts.Item → ℕ
 set_put e key value items = elim (last_or None (filter (is_entry_of key) items)) [
   | None ↦ line_put e key (Some value) None

@@ -1,5 +1,5 @@
--- How many bytes editors put into a buffer: names, values as they are spelled, blanks, comments and line ends. A separator and the mark of a
--- comment stand in no buffer.
+-- How many bytes editors add to a buffer: for names, values as they are spelled, blanks, comments and line endings. A separator and the
+-- mark of a comment are in no buffer.
 use Rattle.std.specs.Prelude.{ℕ, ◌+◌, List, length, filter, Option, Some, None, if◌then◌else◌}
 use Rattle.std.specs.List.{last_or}
 use Rattle.gitconf_text.specs.Part.{Item, EntryItem}
@@ -8,23 +8,23 @@ use Rattle.gitconf_state.specs.Edit.{Spacing, is_entry_of}
 use Rattle.gitconf_state.specs.Editors.{Editor}
 use Rattle.gitconf_lines.specs.Editors.{comment_put}
 
--- blanks, where there are any
+-- how many bytes for blanks, if there are any
 abbrev pub run_bytes : Option (List ℕ) → ℕ
 run_bytes None = 0
 run_bytes (Some run) = length run
 
--- a value with the blanks around its `=`
+-- how many bytes for a value, with the blanks around its `=`
 abbrev pub assigned_bytes : Spacing → (value : Option (List ℕ)) → ℕ
 assigned_bytes spacing None = 0
 assigned_bytes spacing (Some value) = length spacing.before + length spacing.behind + length (escaped value)
 
--- a line that is pushed
+-- how many bytes for a line that is pushed
 abbrev pub line_bytes : Editor → (key : List ℕ) → (value comment : Option (List ℕ)) → ℕ
 line_bytes editor key value comment =
     run_bytes editor.spacing.leading
     + (length key + (assigned_bytes editor.spacing value + (comment_put comment + (if editor.ends then length editor.line_end else 0))))
 
--- a value that an entry gets: with the blanks of the editor where the entry has no `=`
+-- how many bytes for the value that an entry gets: also the blanks of the editor, if the entry has no `=`
 abbrev pub changed_bytes : Spacing → (value : List ℕ) → Item → ℕ
 changed_bytes spacing value (EntryItem e) = elim e.assigned [
   | Some a ↦ length (escaped value)
@@ -32,7 +32,7 @@ changed_bytes spacing value (EntryItem e) = elim e.assigned [
 ]
 changed_bytes spacing value i = 0
 
--- a value that is set: in the key's last entry, or with a line that is pushed
+-- how many bytes for a value that is set: in the key's last entry, or with a line that is pushed
 abbrev pub value_set_bytes : Editor → (key value : List ℕ) → List Item → ℕ
 value_set_bytes editor key value items = elim (last_or None (filter (is_entry_of key) items)) [
   | None ↦ line_bytes editor key (Some value) None

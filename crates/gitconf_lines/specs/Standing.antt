@@ -1,4 +1,4 @@
--- Items that stand in a buffer.
+-- Items and what they say in a buffer.
 use Rattle.std.specs.Prelude.{◌≡◌, ℕ, List, [], ◌∷◌, ◌++◌, length, Option, Some, None}
 use Rattle.gitconf_text.specs.Part as parts
 use Rattle.gitconf_items.specs.declared.event.Span.{Span}
@@ -10,17 +10,17 @@ use Rattle.gitconf_lines.specs.Spacings.{leading_items}
 use Rattle.gitconf_lines.specs.declared.push.Comment.{Comment}
 use Rattle.gitconf_lines.specs.declared.push.Line.{Line}
 
--- these items stand within the buffer and are those there
+-- these items are within the buffer, and say this there
 pub record Stand (buffer : List ℕ) (is : List Item) (shown : List parts.Item) : Type 0 where
   pub shown_are : items_of buffer is ≡ shown
   pub within : AreItemsWithin (length buffer) is
 
--- a comment behind its blanks, if there is one
+-- a comment after its blanks, if there is one
 abbrev pub comment_items : Option Comment → List Item
 comment_items None = []
 comment_items (Some c) = items.Blanks c.blanks ∷ items.Comment 35 c.text ∷ []
 
--- a line end, if there is one
+-- an item of a line ending, if there is one
 abbrev pub end_items : Option Span → List Item
 end_items None = []
 end_items (Some run) = items.LineEnds run ∷ []

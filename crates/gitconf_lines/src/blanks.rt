@@ -1,4 +1,4 @@
-//! The blanks of an editor, with memory of their own: they stay as they were when it was made, whatever becomes of the body.
+//! The blanks of an editor, with memory of their own: they stay as they were when the editor was made, whatever happens to the body.
 ghost use Rattle.std.specs.List.{list_all};
 ghost use Rattle.std.specs.Prelude.{◌≡◌, IfOk, option_map, true};
 ghost use Rattle.gitconf_state.specs.State.{is_item};
@@ -12,7 +12,7 @@ use gitconf_text::line_end::LineEnd;
 use std::alloc::Global;
 use std::marker::Model;
 
-/// The bytes again, with memory of their own.
+/// A copy of the bytes.
 fn copied(alloc: Global, bytes: &[u8]) -> Result<Vec<u8>, NoMemory>
     ensures { IfOk result (λ copy. copy.items ≡ bytes.now) }
 {
@@ -21,7 +21,7 @@ fn copied(alloc: Global, bytes: &[u8]) -> Result<Vec<u8>, NoMemory>
     Ok(copy)
 }
 
-/// The blanks before a key.
+/// A copy of the blanks before a key.
 fn copied_leading(
     alloc: Global,
     buffer: &[u8],
@@ -38,7 +38,7 @@ fn copied_leading(
     Ok(Some(copy))
 }
 
-/// The blanks before and behind `=`.
+/// A copy of the blanks before and after `=`.
 fn copied_around(
     alloc: Global,
     buffer: &[u8],
@@ -56,7 +56,7 @@ fn copied_around(
     Ok((before, behind))
 }
 
-/// The three blanks of an editor: before a key, where there are any, and before and behind `=`.
+/// The three blanks of an editor: before a key, if there are any, and before and after `=`.
 #[derive(Drop)]
 pub struct Blanks {
     leading: Option<Vec<u8>>,
@@ -83,13 +83,13 @@ impl Blanks {
     ghost use Rattle.gitconf_state.specs.Edits.{IsEditor};
     ghost use Rattle.gitconf_lines.specs.Blanks.{editor_with, given_editor, IsGiven, PutsAround};
 
-    /// The blanks that a body has: those directly before its first entry, if there are any, and those around its first `=`. Where no
-    /// entry has `=`, none stand around it; where there is no entry, the blanks are a tab, a space and a space. One walk over the
+    /// The blanks that a body uses: those directly before its first entry, if there are any, and those around its first `=`. If no
+    /// entry has `=`, none are around it; if there is no entry, the blanks are a tab, a space and a space. One walk over the
     /// items, which takes memory for the blanks alone.
     ///
     /// # Errors
     ///
-    /// Want of memory.
+    /// Out of memory.
     pub fn of_items(alloc: Global, buffer: &[u8], items: &[Item]) -> Result<Blanks, NoMemory>
         requires { list_all is_item (items_of buffer.now items.now) ≡ true }
         ensures { IfOk result (λ b. b ≡ spacing_of (items_of buffer.now items.now)) }
@@ -138,7 +138,7 @@ impl Blanks {
         self.leading.as_deref()
     }
 
-    /// The blanks before and behind `=`.
+    /// The blanks before and after `=`.
     pub fn around(&self) -> (&[u8], &[u8])
         ensures before { result.0.now ≡ self.now.before }
         ensures behind { result.1.now ≡ self.now.behind }
@@ -146,11 +146,11 @@ impl Blanks {
         (&self.before, &self.behind)
     }
 
-    /// Puts other blanks before keys, or none.
+    /// Sets other blanks before keys, or none.
     ///
     /// # Errors
     ///
-    /// Want of memory. The blanks are then as they were.
+    /// Out of memory. The blanks are then as they were.
     pub fn set_leading(&mut self, leading: Option<&[u8]>) -> Result<(), NoMemory>
         ensures ok { OnOk result (self.new ≡ record self.old { leading = option_copied leading.entry }) }
         ensures err { OnErr result (self.new ≡ self.old) }

@@ -1,15 +1,15 @@
-//! Bytes put behind those of a buffer.
+//! Bytes added to a buffer.
 ghost use Rattle.std.specs.Prelude.{◌≡◌, ◌↔◌, ◌+◌, ◌<◌, ◌≤◌, ◌^◌, ◌++◌, length, IfOk, IfErr, OnOk, OnErr, IsErrOf};
 ghost use Rattle.gitconf_lines.specs.Buffers.{Grows, StandsAt};
 
 use gitconf_items::event::Span;
 use gitconf_text::parse::span;
 
-/// Puts bytes behind those of a buffer, and answers where they stand. Takes memory for them alone.
+/// Adds bytes to a buffer, and returns their span. Takes memory for them alone.
 ///
 /// # Errors
 ///
-/// A [`span::Error`]: number 3 where the buffer would be longer than 4294967295 bytes, and else 27 for want of memory.
+/// A [`span::Error`]: number 3 if the buffer would be longer than 4294967295 bytes, otherwise 27 when out of memory.
 /// The buffer is then as it was.
 #[tactic(auto, using(crate::proofs::Buffers::appending))]
 pub fn append(buffer: &mut Vec<u8>, bytes: &[u8]) -> Result<Span, span::Error>
@@ -28,11 +28,11 @@ pub fn append(buffer: &mut Vec<u8>, bytes: &[u8]) -> Result<Span, span::Error>
     Ok(Span::between(start, start + bytes.len()))
 }
 
-/// Asks whether so many bytes may be put behind those of a buffer. Takes no memory.
+/// Checks that a buffer has room for that many more bytes. Takes no memory.
 ///
 /// # Errors
 ///
-/// A [`span::Error`], number 3, where the buffer would be longer than 4294967295 bytes.
+/// A [`span::Error`], number 3, if the buffer would be longer than 4294967295 bytes.
 pub fn check_room(buffer: &[u8], count: usize) -> Result<(), span::Error>
     requires room { length buffer.now < 2 ^ 32 }
     ensures too_large { IsErrOf result 3 ↔ (2 ^ 32 ≤ length buffer.now + count) }

@@ -1,4 +1,4 @@
-//! The editor of a body: the blanks and the line end that it writes.
+//! The editor of a body: the blanks and the line ending that it writes.
 ghost use Rattle.std.specs.Prelude.{◌≡◌, ◌+◌, ℕ, List, None, true};
 ghost use Rattle.gitconf_items.specs.ItemsFit.{AreItemsWithin};
 ghost use Rattle.gitconf_state.specs.Edit.{blank_bytes, spacing_of};
@@ -19,31 +19,31 @@ pub enum Leading<'a> {
     Nothing,
     /// Those at a span of the buffer that is edited.
     Stored(Span),
-    /// These bytes, which are put into the buffer with each key.
+    /// These bytes, which are added to the buffer with each key.
     Given(&'a [u8]),
 }
 
-/// The blanks before and behind `=`.
+/// The blanks before and after `=`.
 #[derive(Clone, Copy, Debug)]
 pub enum Around<'a> {
-    /// A space on both sides, which is put into the buffer with each value.
+    /// A space on both sides, which is added to the buffer with each value.
     Spaces,
-    /// Those at spans of the buffer that is edited; no bytes where there are none.
+    /// Those at spans of the buffer that is edited; a span of no bytes for none.
     Stored { before: Span, behind: Span },
-    /// These bytes, which are put into the buffer with each value.
+    /// These bytes, which are added to the buffer with each value.
     Given { before: &'a [u8], behind: &'a [u8] },
 }
 
-/// What an editor of a body writes beside names and values. It stays as it was made, also while the body changes.
+/// What an editor of a body writes besides names and values. It stays as it was made, even while the body changes.
 #[derive(Clone, Copy, Debug)]
 pub struct Editor<'a> {
     /// The blanks before a key.
     pub leading: Leading<'a>,
-    /// The blanks before and behind `=`.
+    /// The blanks before and after `=`.
     pub around: Around<'a>,
     /// What a line ends with.
     pub line_end: LineEnd,
-    /// Whether a line end is put behind what is pushed.
+    /// Whether a line ending is added after what is pushed.
     pub ends: bool,
 }
 
@@ -57,9 +57,9 @@ fn found_leading(items: &[Item]) -> Leading<'static>
     }
 }
 
-/// The editor of these items, which puts this line end behind what is pushed. Its blanks are those directly before the first entry, if
-/// there are any, and those around the first `=`. Where no entry has `=`, none stand around it; where there is no entry, the blanks are a
-/// tab, a space and a space. Takes no memory, and puts nothing into a buffer; one walk over the items.
+/// The editor of these items, which adds this line ending after what is pushed. Its blanks are those directly before the first entry, if
+/// there are any, and those around the first `=`. If no entry has `=`, none are around it; if there is no entry, the blanks are a
+/// tab, a space and a space. Takes no memory, and adds nothing to a buffer; one walk over the items.
 pub fn editor_of(items: &[Item], line_end: LineEnd) -> Editor<'static>
     ensures told { (buffer : List ℕ) → editor_in buffer result
         ≡ record { spacing = spacing_of (items_of buffer items.now); line_end = bytes_of_line_end line_end; ends = true } }

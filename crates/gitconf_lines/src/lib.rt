@@ -1,4 +1,5 @@
-//! The lines of a body: their blanks, an editor's own ones, entries of a key, and lines pushed behind all others in a buffer that only grows.
+//! The lines of a body: their blanks, the blanks of an editor, the entries of a key, and lines pushed after all others in a buffer that
+//! only grows.
 #![tactic(auto)]
 
 pub mod blanks;

@@ -1,4 +1,4 @@
-//! Lines that are pushed behind the items of a body.
+//! Lines that are pushed after the items of a body.
 ghost use Rattle.std.specs.Prelude.{◌≡◌, ◌↔◌, ℕ, List, ◌+◌, ◌-◌, ◌<◌, ◌≤◌, ◌^◌, min, not, Option, Some, None, ◌∷◌, ◌++◌, [], length, IfOk, IfErr, OnOk, OnErr, IsErrOf};
 ghost use Rattle.std.specs.Option.{option_copied};
 ghost use Rattle.gitconf_text.specs.Text.{begins};
@@ -30,7 +30,7 @@ use std::alloc::Global;
 
 const NOTHING: Span = Span { start: 0, len: 0 };
 
-/// The blanks before a key, put into the buffer where they don't stand there.
+/// The blanks before a key, added to the buffer if they aren't there.
 #[tactic(auto, using(crate::proofs::Buffers::extending, crate::proofs::Standing::standing))]
 fn put_leading(buffer: &mut Vec<u8>, leading: &Leading<'_>) -> Result<Option<Span>, span::Error>
     requires room { length buffer.old.items < 2 ^ 32 }
@@ -45,7 +45,7 @@ fn put_leading(buffer: &mut Vec<u8>, leading: &Leading<'_>) -> Result<Option<Spa
     }
 }
 
-/// The blanks before and behind `=`, put into the buffer where they don't stand there.
+/// The blanks before and after `=`, added to the buffer if they aren't there.
 #[tactic(auto, using(crate::proofs::Buffers::extending))]
 pub fn put_around(buffer: &mut Vec<u8>, around: &Around<'_>) -> Result<(Span, Span), span::Error>
     requires room { length buffer.old.items < 2 ^ 32 }
@@ -68,7 +68,7 @@ pub fn put_around(buffer: &mut Vec<u8>, around: &Around<'_>) -> Result<(Span, Sp
     }
 }
 
-/// Puts a value into the buffer, as a file spells it.
+/// Adds a value to the buffer, as a file spells it.
 #[tactic(auto, using(crate::proofs::Buffers::extending))]
 pub fn put_value(buffer: &mut Vec<u8>, value: &[u8]) -> Result<Span, span::Error>
     requires room { length buffer.old.items < 2 ^ 32 }
@@ -79,7 +79,7 @@ pub fn put_value(buffer: &mut Vec<u8>, value: &[u8]) -> Result<Span, span::Error
     append(buffer, &text)
 }
 
-/// An entry of a value that has one piece.
+/// An entry with a value of one piece.
 pub fn entry_with(
     alloc: Global,
     name: Span,
@@ -105,7 +105,7 @@ pub fn entry_with(
     Ok(Entry::try_new(alloc, parts)?)
 }
 
-/// An entry of a key, with a value or without one, put into the buffer.
+/// An entry of a key, with a value or without one, added to the buffer.
 #[tactic(auto, using(crate::proofs::Buffers::extending))]
 pub fn put_entry(
     buffer: &mut Vec<u8>,
@@ -134,7 +134,7 @@ pub fn put_entry(
     Ok(entry_with(*buffer.allocator(), name, before, behind, value)?)
 }
 
-/// Whether no white space stands first, but another byte.
+/// Whether there is a first byte, and it is not white space.
 fn begins_with_word(text: &[u8]) -> bool
     ensures { result ≡ begins (λ b. not (is_whitespace b)) text.now }
 {
@@ -144,7 +144,7 @@ fn begins_with_word(text: &[u8]) -> bool
     }
 }
 
-/// The text of a comment behind its tag: behind a space where it doesn't begin with white space, each LF turned to a space.
+/// The text of a comment after its mark: after a space, unless it begins with white space, with each LF turned to a space.
 fn comment_text(alloc: Global, text: &[u8]) -> Result<Vec<u8>, NoMemory>
     ensures { IfOk result (λ t. t.items ≡ state.comment_text text.now) }
 {
@@ -158,7 +158,7 @@ fn comment_text(alloc: Global, text: &[u8]) -> Result<Vec<u8>, NoMemory>
     Ok(out)
 }
 
-/// How many bytes [`comment_text`] has; the greatest number where they are more.
+/// How many bytes [`comment_text`] has, or `usize::MAX` if there are more.
 fn comment_len(text: &[u8]) -> usize
     ensures { result ≡ min (length (state.comment_text text.now)) (2 ^ 64 - 1) }
 {
@@ -176,7 +176,7 @@ struct Comment {
     text: Span,
 }
 
-/// A comment, if one is given, put into the buffer with a space before it.
+/// A comment, if one is given, added to the buffer with a space before it.
 #[tactic(auto, using(crate::proofs::Buffers::extending, crate::proofs::Standing::standing))]
 fn put_comment(buffer: &mut Vec<u8>, comment: Option<&[u8]>) -> Result<Option<Comment>, span::Error>
     requires room { length buffer.old.items < 2 ^ 32 }
@@ -192,7 +192,7 @@ fn put_comment(buffer: &mut Vec<u8>, comment: Option<&[u8]>) -> Result<Option<Co
     Ok(Some(Comment { blanks, text }))
 }
 
-/// The line end behind what is pushed, put into the buffer, unless it is switched off.
+/// The line ending after what is pushed, added to the buffer, unless it is switched off.
 #[tactic(auto, using(crate::proofs::Buffers::extending, crate::proofs::Standing::standing))]
 fn put_end(buffer: &mut Vec<u8>, editor: &Editor<'_>) -> Result<Option<Span>, span::Error>
     requires room { length buffer.old.items < 2 ^ 32 }
@@ -214,7 +214,7 @@ struct Line {
     line_end: Option<Span>,
 }
 
-/// The parts of a line, put into the buffer.
+/// The parts of a line, added to the buffer.
 #[tactic(auto, using(crate::proofs::Buffers::extending))]
 fn put_line(
     buffer: &mut Vec<u8>,
@@ -241,7 +241,7 @@ fn put_line(
     })
 }
 
-/// Puts the items of a line behind the others. Takes one growth.
+/// Adds the items of a line after the others. Takes one growth.
 fn push_items(items: &mut Vec<Item>, line: Line) -> Result<(), NoMemory>
     ensures ok { OnOk result (items.new.items ≡ items.old.items ++ line_items line) }
     ensures err { OnErr result (items.new.items ≡ items.old.items) }
@@ -264,7 +264,7 @@ fn push_items(items: &mut Vec<Item>, line: Line) -> Result<(), NoMemory>
     Ok(())
 }
 
-/// How many bytes [`put_leading`] puts into the buffer.
+/// How many bytes [`put_leading`] adds to the buffer.
 fn leading_len(leading: &Leading<'_>) -> usize
     ensures { result ≡ spec.leading_put leading.now }
 {
@@ -274,7 +274,7 @@ fn leading_len(leading: &Leading<'_>) -> usize
     }
 }
 
-/// How many bytes [`put_around`] puts into the buffer; the greatest number where they are more.
+/// How many bytes [`put_around`] adds to the buffer, or `usize::MAX` if there are more.
 pub fn around_len(around: &Around<'_>) -> usize
     ensures { result ≡ min (spec.around_put around.now) (2 ^ 64 - 1) }
 {
@@ -285,7 +285,7 @@ pub fn around_len(around: &Around<'_>) -> usize
     }
 }
 
-/// How many bytes a value and the blanks around its `=` put into the buffer; the greatest number where they are more.
+/// How many bytes a value and the blanks around its `=` add to the buffer, or `usize::MAX` if there are more.
 pub fn value_len(around: &Around<'_>, value: Option<&[u8]>) -> usize
     ensures { result ≡ min (spec.value_put around.now (option_copied value.entry)) (2 ^ 64 - 1) }
 {
@@ -295,7 +295,7 @@ pub fn value_len(around: &Around<'_>, value: Option<&[u8]>) -> usize
     }
 }
 
-/// How many bytes [`put_comment`] puts into the buffer; the greatest number where they are more.
+/// How many bytes [`put_comment`] adds to the buffer, or `usize::MAX` if there are more.
 fn spaced_comment_len(comment: Option<&[u8]>) -> usize
     ensures { result ≡ min (spec.comment_put (option_copied comment.entry)) (2 ^ 64 - 1) }
 {
@@ -305,7 +305,7 @@ fn spaced_comment_len(comment: Option<&[u8]>) -> usize
     }
 }
 
-/// How many bytes [`put_end`] puts into the buffer.
+/// How many bytes [`put_end`] adds to the buffer.
 fn end_len(editor: &Editor<'_>) -> usize
     ensures { result ≡ spec.end_put editor.now }
 {
@@ -316,7 +316,7 @@ fn end_len(editor: &Editor<'_>) -> usize
     }
 }
 
-/// How many bytes [`put_line`] puts into the buffer; the greatest number where they are more.
+/// How many bytes [`put_line`] adds to the buffer, or `usize::MAX` if there are more.
 fn line_len(editor: &Editor<'_>, key: &[u8], value: Option<&[u8]>, comment: Option<&[u8]>) -> usize
     ensures { result ≡ min (spec.line_put editor.now key.now (option_copied value.entry) (option_copied comment.entry)) (2 ^ 64 - 1) }
 {
@@ -327,11 +327,11 @@ fn line_len(editor: &Editor<'_>, key: &[u8], value: Option<&[u8]>, comment: Opti
         .saturating_add(end_len(editor))
 }
 
-/// Asks whether what [`push`] puts may be put behind the bytes of a buffer. Takes no memory.
+/// Checks that a buffer has room for what [`push`] adds to it. Takes no memory.
 ///
 /// # Errors
 ///
-/// A [`span::Error`], number 3, where the buffer would be longer than 4294967295 bytes.
+/// A [`span::Error`], number 3, if the buffer would be longer than 4294967295 bytes.
 pub fn check_push(
     buffer: &[u8],
     editor: &Editor<'_>,
@@ -347,15 +347,15 @@ pub fn check_push(
     check_room(buffer, line_len(editor, key, value, comment))
 }
 
-/// Pushes a line behind the items: the editor's blanks, the key, and where a value is given `=` with the editor's blanks around it and the
-/// value as a file spells it; then the comment, if one is given, behind a space and `#`, with a space before a first byte that is no white
-/// space, and each LF turned to a space; then the editor's line end, unless it is switched off. The key is written as it is.
+/// Pushes a line after the items: the editor's blanks, the key, and if a value is given `=` with the editor's blanks around it and the
+/// value as a file spells it; then the comment, if one is given, after a space and `#`, with a space before a first byte that is not white
+/// space, and each LF turned to a space; then the editor's line ending, unless it is switched off. The key is written as it is.
 ///
-/// It looks at no item. Takes memory for what is put into the buffer, and for the new items.
+/// It looks at no item. Takes memory for what is added to the buffer, and for the new items.
 ///
 /// # Errors
 ///
-/// A [`span::Error`]: number 3 exactly where the buffer would be longer than 4294967295 bytes, before any growth, and else 27 for want of
+/// A [`span::Error`]: number 3 if and only if the buffer would be longer than 4294967295 bytes, before any growth, otherwise 27 when out of
 /// memory. The items are then as they were, and the buffer may have grown.
 #[tactic(auto, using(crate::proofs::Buffers::extending))]
 pub fn push(
@@ -383,7 +383,7 @@ pub fn push(
     Ok(())
 }
 
-/// Asks whether what [`push_newline`] puts may be put behind the bytes of a buffer. Takes no memory.
+/// Checks that a buffer has room for what [`push_newline`] adds to it. Takes no memory.
 ///
 /// # Errors
 ///
@@ -396,8 +396,8 @@ pub fn check_newline(buffer: &[u8], editor: &Editor<'_>) -> Result<(), span::Err
     check_room(buffer, editor.line_end.as_bytes().len())
 }
 
-/// Pushes the editor's line end behind the items, also where it is switched off behind lines. It looks at no item. Takes memory for the
-/// line end in the buffer, and for the new item.
+/// Pushes the editor's line ending after the items, even if it is switched off after lines. It looks at no item. Takes memory for the
+/// line ending in the buffer, and for the new item.
 ///
 /// # Errors
 ///

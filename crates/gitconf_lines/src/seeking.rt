@@ -14,7 +14,7 @@ use gitconf_text::parse::section::bytes::is_same_name;
 pub fn is_named(buffer: &[u8], span: Span, name: &[u8]) -> bool
     ensures { result ≡ names.is_same_name name.now (bytes_of buffer.now span) }
 {
-    // Most names that differ do so in length, and where the span lies in the buffer its own is that of its bytes.
+    // Most names that differ do so in length, and if the span is within the buffer, its length is that of its bytes.
     let (start, len) = (span.start as usize, span.len as usize);
     if len != name.len() && start + len <= buffer.len() {
         return false;

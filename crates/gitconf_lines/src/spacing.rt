@@ -1,4 +1,4 @@
-//! The blanks that a body has.
+//! The blanks that a body uses.
 ghost use Rattle.std.specs.Prelude.{◌≡◌, None};
 ghost use Rattle.std.specs.List.{list_any};
 ghost use Rattle.gitconf_lines.specs.Spacings as spec;
@@ -31,7 +31,7 @@ pub fn leading_blanks(items: &[Item]) -> Option<Span>
     None
 }
 
-/// The blanks before and behind the first `=`.
+/// The blanks before and after the first `=`.
 pub fn separator_blanks(items: &[Item]) -> (Span, Span)
     ensures { result ≡ spec.separator_spans items.now }
 {

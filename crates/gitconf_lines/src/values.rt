@@ -10,11 +10,11 @@ use gitconf_items::items::Item;
 use gitconf_text::NoMemory;
 use std::alloc::Global;
 
-/// The raw text of a value: its pieces put together. One pass; memory is taken for the text as it grows.
+/// The raw text of a value: its pieces joined. One pass; memory is taken for the text as it grows.
 ///
 /// # Errors
 ///
-/// Want of memory.
+/// Out of memory.
 pub fn raw_text(alloc: Global, buffer: &[u8], value: &Value) -> Result<Vec<u8>, NoMemory>
     ensures { IfOk result (λ raw. raw.items ≡ raw_of (value_of buffer.now value.now)) }
 {
@@ -26,7 +26,7 @@ pub fn raw_text(alloc: Global, buffer: &[u8], value: &Value) -> Result<Vec<u8>, 
     Ok(raw)
 }
 
-/// The raw text of an entry's value; nothing where it has none.
+/// The raw text of an entry's value; no bytes if it has none.
 pub fn entry_text(alloc: Global, buffer: &[u8], entry: &Entry) -> Result<Vec<u8>, NoMemory>
     ensures { IfOk result (λ raw. raw.items ≡ item_raw (EntryItem (entry_of buffer.now entry.now))) }
 {
@@ -41,7 +41,7 @@ pub fn entry_text(alloc: Global, buffer: &[u8], entry: &Entry) -> Result<Vec<u8>
     }
 }
 
-/// The raw text of an item's value; nothing where it has none.
+/// The raw text of an item's value; no bytes if it has none.
 pub fn item_text(alloc: Global, buffer: &[u8], item: &Item) -> Result<Vec<u8>, NoMemory>
     ensures { IfOk result (λ raw. raw.items ≡ item_raw (item_of buffer.now item.now)) }
 {

@@ -15,7 +15,7 @@ answered variables name gives told r is given = inr (told, may variables is, giv
     may None is = tt
     may (Some var) is = is
 
--- memory was wanting
+-- memory ran out
 pub wanting : {T : Type 0} (variables : Option (List ℕ → VariableTold)) (name : List ℕ) (gives : VariableTold → Result T ℕ → Type 0) (n : ℕ) → n ≡ 27 → IsAnswer variables name gives (Err n)
 wanting variables name gives n is = inl (ap Err is)
 

@@ -1,4 +1,4 @@
--- What is loaded is clean, where no text that the host tells has an entry before its first section.
+-- What is loaded is clean, if no text that the host says has an entry before its first section.
 use Rattle.std.proofs.Common.{◌≡◌, ℕ, Bool, true, false, not, if◌then◌else◌, List, [], ◌∷◌, Option, Some, None, Result, Ok, Err, inl, inr, refl, sym, ap, subst}
 use Rattle.std.specs.List.{list_all}
 use Rattle.gitconf_text.specs.Document.{IsText, gathered}
@@ -54,7 +54,7 @@ no_entries (LineEndsItem run ∷ items) none = no_entries items none
 no_entries (CommentItem tag text ∷ items) none = no_entries items none
 no_entries (EntryItem e ∷ items) none = absurd (cc)
 
--- a file behind another one
+-- a file after another one
 pub behind_headed : (target other now : State) → IsHeaded target → IsHeaded other → IsBehind target other now → IsHeaded now
 behind_headed target other now is more behind = subst IsHeaded (sym behind.0) (record {
   clean = record { sections = clean.sections; blanks = clean.blanks; names = clean.names };
@@ -112,7 +112,7 @@ module _ (files : List ℕ → FileTold) (asks : Asks) (tells : asks.table ≡ S
       go Read at = empty_headed parts (subst (λ t. IsText t parts) (of_read ignores (rw at at is)) of_text)
       go Memory at = let e : ◌≡◌ {A = Result (Option (List ℕ)) ℕ} (Ok (Some text)) (Err 27) = rw at at is in absurd (cc)
 
-  -- what stands, if anything does
+  -- what is, if anything does
   abbrev pub StandHeaded : Option State → Type 0
   StandHeaded None = Unit {0}
   StandHeaded (Some file) = IsHeaded file

@@ -25,7 +25,7 @@ grew_none_less (Some m) (Some n) is = omega (arith, is)
 grew_none_less (Some m) None is = tt
 grew_none_less None n is = is
 
--- of two calls, one behind the other
+-- of two calls, one after the other
 pub none_less : (old mid new : Option ℕ) → IsNoLess old mid → IsNoLess mid new → IsNoLess old new
 none_less (Some m) (Some k) (Some n) first second = omega (arith, first, second)
 none_less (Some m) (Some k) None first second = tt
@@ -85,7 +85,7 @@ pub later : (T : Type 0) (result : Result T ℕ) (old mid new : Option ℕ) → 
 later T (Ok made) old mid new first second = none_less old mid new first second
 later T (Err number) old mid new first second = by_number T number old new (later_counts (is_file_number number) old mid new first (of_number T number mid new second))
 
--- the count of a refusal tells that none was fewer
+-- the count of a refusal says that none was fewer
 counts_none_less : (file : Bool) (old new : Option ℕ) → IsCountOf file old new → IsNoLess old new
 counts_none_less true old new is = grew_none_less old new is
 counts_none_less false old new is = is

@@ -15,7 +15,7 @@ module _ (variables : Option (List ℕ → VariableTold)) (places : Places) (tab
   pub no_place : (source : Source) → IsPlaced variables (λ var. place_of var places source) None → IsFound variables places table source []
   no_place source placed = (None, placed, refl)
 
-  -- a place at which no file stands
+  -- a place at which no file is
   pub no_file : (source : Source) (path : List ℕ) → IsPlaced variables (λ var. place_of var places source) (Some path) → IfSome table (λ files. false ≡ is_there (files path))
       → IsFound variables places table source []
   no_file source path placed told = (Some path, placed, (false, may (λ files. false ≡ is_there (files path)) table told, refl))
@@ -25,7 +25,7 @@ module _ (variables : Option (List ℕ → VariableTold)) (places : Places) (tab
       → meta ≡ meta_of_file path source Full → IsFound variables places table source (meta ∷ [])
   a_file source path meta placed told is = (Some path, placed, (true, may (λ files. true ≡ is_there (files path)) table told, ap (λ m. m ∷ []) is))
 
-  -- four sources, one behind the other
+  -- four sources, one after the other
   pub four : (one two three last : Source) (first second third fourth : List Meta) (found : List Meta) → IsFound variables places table one first → IsFound variables places table two second
       → IsFound variables places table three third → IsFound variables places table last fourth → found ≡ first ++ (second ++ (third ++ (fourth ++ [])))
       → AreFound variables places table (one ∷ two ∷ three ∷ last ∷ []) found

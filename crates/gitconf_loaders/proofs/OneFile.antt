@@ -22,12 +22,12 @@ use Rattle.gitconf_loaders.specs.Causes.{IsFault, IsFileCause, load_refusal}
 use Rattle.gitconf_loaders.specs.Errors.{paths_number, paths_of_parse}
 use Rattle.gitconf_loaders.specs.Paths.{IsLoadedFrom, IsRead, load_fault, numbered}
 
--- what a call of the host tells, the table may tell
+-- what a call of the host says, the table may say
 pub may : {T : Type 0} (P : T → Type 0) (table : Option T) → IfSome table P → May table P
 may P None told = tt
 may P (Some t) told = told
 
--- a text that is read is answered by the table
+-- a text that is read is returned by the table
 pub answered : {Z : Type 0} (table : Option (List ℕ → FileTold)) (path : List ℕ) (text : Vec ℕ Z)
     → IfSome table (λ files. IsReadOf (Ok text) (files path)) → May table (λ files. ◌≡◌ {A = Result (List ℕ) FileFault} (Ok text.items) (read_of (files path)))
 answered None path text told = tt

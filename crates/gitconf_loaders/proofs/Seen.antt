@@ -14,12 +14,12 @@ use Rattle.std.proofs.lemmas.Map.Text.{is_eq-slice_cmp}
 use Rattle.gitconf_loaders.specs.Causes.{Sees}
 use Rattle.gitconf_loaders.specs.Paths.{is_among}
 
--- a test, or else
+-- a test, otherwise
 either : (b x : Bool) → cond b true x ≡ (b || x)
 either true x = refl
 either false x = refl
 
--- a path that is put into the set stands there from then on
+-- a path that is put into the set is there from then on
 pub put : (set new : BTreeSet (String Global)) (key : String Global) (path : List ℕ) (added : Bool) → string_bytes key ≡ path → added ≡ not (contains string_cmp set key)
     → Updates string_cmp set new key true → OnFalse added (IsUnchanged set new)
     → (before : List (List ℕ)) → Sees set before → (added ≡ not (is_among path before)) × Sees new (if added then path ∷ before else before)

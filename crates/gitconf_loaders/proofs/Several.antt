@@ -1,4 +1,4 @@
--- Files that are loaded one behind the other, by how the calls end.
+-- Files that are loaded one after the other, by how the calls end.
 use Rattle.std.proofs.Common.{◌≡◌, ◌⊎◌, ℕ, ◌+◌, ◌==◌, ◌<◌, ◌≤◌, ◌^◌, ◌&&◌, ◌||◌, not, Bool, true, false, List, [], ◌∷◌, Option, Some, None, Result, Ok, Err, inl, inr, refl, sym, ap, ◌∙◌, subst, length}
 use Rattle.std.specs.Prelude.{IfErr, IfSome, IsErrAnd, leb, ltb}
 use Rattle.std.specs.List.{list_any}
@@ -31,7 +31,7 @@ use Rattle.gitconf_loaders.specs.Errors.{paths_number, paths_of_init, paths_of_s
 use Rattle.gitconf_loaders.specs.Paths.{AreLoaded, CountsLoad, has_room_behind, IsFileLoaded, IsLoadOfPaths, IsMetaLoaded, is_among, IsTextTaken, Joins, left_by, load_fault, numbered, once, taken}
 use Rattle.gitconf_loaders.proofs.Counts.{fault_load, later as counts_later, renumbered}
 
--- whether there is room, by what an append tells
+-- whether there is room, by what an append says
 pub open_room : (target other : State) → ((2 ^ 32 ≤ target.used + appended_bytes other target) ⊎ (no_number < target.next + length other.sections) → ⊥) → has_room_behind target other ≡ true
 open_room target other not_large = go (target.used + appended_bytes other target) (target.next + length other.sections) not_large
   where
@@ -54,7 +54,7 @@ shut_room target other large = go (target.used + appended_bytes other target) (t
         second true y is = is
         second false y is = refl
 
--- a file that goes behind another one
+-- a file that goes after another one
 pub joined : (target other now : State) → now ≡ with_used now.used (apply (Append other) target) → now.used ≤ target.used + appended_bytes other target
     → ((2 ^ 32 ≤ target.used + appended_bytes other target) ⊎ (no_number < target.next + length other.sections) → ⊥) → Joins (Some target) other (Ok (Some now))
 joined target other now is grown not_large = rw (open_room target other not_large, Joins) (now, (is, grown), refl)
@@ -71,7 +71,7 @@ span_number n = go (n == 27) refl
 abbrev pub IsAppendRefusal : (target other : State) → (n : ℕ) → Type 0
 IsAppendRefusal target other n = ((n ≡ 3) ⊎ (n ≡ 27)) × (n ≡ 3 → (2 ^ 32 ≤ target.used + appended_bytes other target) ⊎ (no_number < target.next + length other.sections))
 
--- one for which there is no room, or for which memory was wanting
+-- one for which there is no room, or for which memory ran out
 pub not_joined : (target other : State) (n : ℕ) (result : Result Unit Error) (now : Option State) → IsAppendRefusal target other n → IsErrAnd result (λ r. r ≡ paths_of_span n)
     → (left_by paths_number result now ≡ Err 27) ⊎ Joins (Some target) other (left_by paths_number result now)
 not_joined target other n (Ok made) now refusal err = absurd err
@@ -93,7 +93,7 @@ text_read table must_exist ignores path text told = (Ok text.items, go table tol
     go None told = tt
     go (Some files) told = sym told
 
--- of a fault, which may be one of memory that the table doesn't tell
+-- of a fault, which may be one of memory that the table doesn't say
 pub text_faulted : (Z : Type 0) (table : Option (List ℕ → FileTold)) (must_exist ignores : Bool) (path : List ℕ) (fault : FileFault) (text : Result (Option (List ℕ)) ℕ)
     → IfSome table (λ files. IsReadOf {Z = Z} (Err fault) (files path)) → text ≡ taken must_exist ignores (Err fault) → (text ≡ Err 27) ⊎ IsTextTaken table must_exist ignores path text
 text_faulted Z table must_exist ignores path fault text told is = go table told
@@ -204,7 +204,7 @@ pub not_made_left : (must_exist ignores : Bool) (asks : Asks) (meta : Meta) (pat
 not_made_left must_exist ignores asks meta path text target e (Ok done) takes made err = absurd err
 not_made_left must_exist ignores asks meta path text target e (Err r) takes made err = not_made must_exist ignores asks meta path target text e (paths_number r) takes made (ap paths_number err ∙ init_numbers e)
 
--- and how often a host's files failed behind it
+-- and how often a host's files failed after it
 pub made_counts : (target : Option State) (e : Init) (result : Result Unit Error) (old mid new : Option ℕ) → IsErrAnd result (λ r. r ≡ paths_of_init e) → IsNoLess old mid → CountsFault (init_number e) mid new
     → CountsLoad (left_by paths_number result target) old new
 made_counts target e (Ok done) old mid new err first second = absurd err
@@ -310,7 +310,7 @@ left_of path meta metas is = go (has_path path meta)
     go true = refl
     go false = is
 
--- metadata that has a path is one of a list that it stands first in
+-- metadata that has a path is one of a list that it comes first in
 pub first_of : (path : List ℕ) (meta : Meta) (metas : List Meta) → meta.path ≡ Some path → list_any (has_path path) (meta ∷ metas) ≡ true
 first_of path meta metas is = go (has_path path meta) (ap (λ o. option_eq bytes_eq o (Some path)) is ∙ (bytes_decides path path).1 refl)
   where

@@ -1,4 +1,4 @@
--- What the refusals of loaders tell beside their numbers.
+-- What the refusals of loaders say besides their numbers.
 use Rattle.std.specs.Prelude.{◌≡◌, ◌⊎◌, ℕ, Bool, true, List, Option, Some, None, Result, Ok, Err, string_bytes}
 use Rattle.std.specs.BTreeSet.{BTreeSet, contains_text}
 use Rattle.std.specs.List.{list_any}
@@ -19,23 +19,23 @@ use Rattle.gitconf_loaders.specs.declared.from_paths.Error.{Error}
 use Rattle.gitconf_loaders.specs.declared.from_paths.Error.TheVariants as paths
 use Rattle.gitconf_loaders.specs.Paths.{is_among, IsTextTaken}
 
--- how a fault of the file at a path refuses
+-- how a load is refused for a fault of the file at a path
 abbrev pub load_refusal : FileFault → (path : String Global) → Error
 load_refusal fault path = elim fault.stage [ Open ↦ paths.Io path fault | Read ↦ paths.Io path fault | Memory ↦ paths.Memory ]
 
--- a host that tells what stands at each path answers that fault of one, where it is read or asked how far it is trusted
+-- a host that reports what is at each path has this fault at the path, when the file is read or when its trust is asked
 abbrev pub IsFault : Option (List ℕ → FileTold) → (path : List ℕ) → FileFault → Type 0
 IsFault table path fault =
     May table (λ told. (◌≡◌ {A = Result Trust FileFault} (trust_of (told path)) (Err fault)) ⊎ (◌≡◌ {A = Result (List ℕ) FileFault} (read_of (told path)) (Err fault)))
 
--- Of one file: the path that it was asked for, with the fault; and how the parser refuses its text.
+-- The cause for one file: its path, with the fault; or how the parser refuses its text.
 abbrev pub IsFileCause : Option (List ℕ → FileTold) → (path : List ℕ) → Error → Type 0
 IsFileCause table path (paths.Io at fault) = (string_bytes at ≡ path) × IsFault table path fault
 IsFileCause table path (paths.Init (init.Parse e)) = (text : List ℕ) × IsTextOf table path text × IsRefused text e
 IsFileCause table path e = Unit {0}
 
--- Of one with what it includes: the path that it was asked for, with the fault; how the parser refuses what was taken; and what an include
--- tells.
+-- The cause for one file with what it includes: its path, with the fault; how the parser refuses the text; or what the refusal of an
+-- include says.
 abbrev pub IsPathCause : (must_exist : Bool) → Options → Option (List ℕ → FileTold) → (path : List ℕ) → Error → Type 0
 IsPathCause must_exist options table path (paths.Io at fault) = (string_bytes at ≡ path) × IsFaultOf table path fault
 IsPathCause must_exist options table path (paths.Init (init.Parse e)) =
@@ -43,18 +43,19 @@ IsPathCause must_exist options table path (paths.Init (init.Parse e)) =
 IsPathCause must_exist options table path (paths.Init (init.Includes e)) = IsCause options table e
 IsPathCause must_exist options table path e = Unit {0}
 
+-- the cause for the file of metadata, if that has a path
 abbrev pub IsMetaCause : (must_exist : Bool) → Options → Option (List ℕ → FileTold) → Meta → Error → Type 0
 IsMetaCause must_exist options table meta e = elim meta.path [ None ↦ ⊥ | Some path ↦ IsPathCause must_exist options table path e ]
 
--- whether it has that path
+-- the metadata has that path
 abbrev pub has_path : (path : List ℕ) → Meta → Bool
 has_path path meta = option_eq bytes_eq meta.path (Some path)
 
--- Of several: that of one of them; or memory was wanting.
+-- The cause for several files: that of one of them; or memory ran out.
 abbrev pub IsLoadCause : (must_exist : Bool) → Options → Option (List ℕ → FileTold) → List Meta → Error → Type 0
 IsLoadCause must_exist options table metas e =
     (e ≡ paths.Memory) ⊎ (path : List ℕ) × (list_any (has_path path) metas ≡ true) × IsPathCause must_exist options table path e
 
--- a set has these paths
+-- the set has these paths
 abbrev pub Sees : BTreeSet (String Global) → (paths : List (List ℕ)) → Type 0
 Sees set paths = (path : String Global) → contains_text set (string_bytes path) ≡ is_among (string_bytes path) paths

@@ -1,4 +1,4 @@
--- The refusals of loaders, of what they come from; want of memory has one case in each.
+-- The refusals of loaders, made of what caused them; running out of memory has one case in each.
 use Rattle.std.specs.Prelude.{ℕ, ◌==◌, if◌then◌else◌}
 use Rattle.gitconf_text.specs.HeaderErrors.{header_number}
 use Rattle.gitconf_text.specs.declared.parse.section.header.Error.{Error as Header}
@@ -50,47 +50,59 @@ git_number (git.Includes e) = includes_number e
 git_number (git.Span e) = e
 git_number git.Memory = 27
 
+-- the refusal of a load whose file can't be made
 abbrev pub paths_of_init : Init → Paths
 paths_of_init init.Memory = paths.Memory
 paths_of_init e = paths.Init e
 
+-- the refusal of a load because there is no room for a file
 abbrev pub paths_of_span : (number : ℕ) → Paths
 paths_of_span number = if number == 27 then paths.Memory else paths.Init (init.Span number)
 
+-- the refusal of a load because the parser refuses a file
 abbrev pub paths_of_parse : Refusal → Paths
 paths_of_parse e = if e.number == 27 then paths.Memory else paths.Init (init.Parse e)
 
+-- the refusal of the variables' entries because of an include
 abbrev pub env_of_includes : Includes → Env
 env_of_includes includes.Memory = env.Memory
 env_of_includes e = env.Includes e
 
+-- the refusal of the variables' entries because a section can't be made
 abbrev pub env_of_header : Header → Env
 env_of_header header.Memory = env.Memory
 env_of_header e = env.Section e
 
+-- the refusal of the variables' entries because a value can't be put in
 abbrev pub env_of_value : Value → Env
 env_of_value value.Memory = env.Memory
 env_of_value e = env.SectionValue e
 
+-- the refusal of the variables' entries because a path can't be interpolated
 abbrev pub env_of_interpolate : Interpolate → Env
 env_of_interpolate interpolate.Memory = env.Memory
 env_of_interpolate e = env.PathInterpolationError e
 
+-- the refusal of a repository's configuration because of a load by paths
 abbrev pub git_of_paths : Paths → Git
 git_of_paths paths.Memory = git.Memory
 git_of_paths e = git.FromPaths e
 
+-- the refusal of a repository's configuration because of the variables' entries
 abbrev pub git_of_env : Env → Git
 git_of_env env.Memory = git.Memory
 git_of_env e = git.FromEnv e
 
+-- the refusal of a repository's configuration because a file can't be made
 abbrev pub git_of_init : Init → Git
 git_of_init init.Memory = git.Memory
 git_of_init e = git.Init e
 
+-- the refusal of a repository's configuration because of an include
 abbrev pub git_of_includes : Includes → Git
 git_of_includes includes.Memory = git.Memory
 git_of_includes e = git.Includes e
 
+-- the refusal of a repository's configuration because there is no room for a file
 abbrev pub git_of_span : (number : ℕ) → Git
 git_of_span number = if number == 27 then git.Memory else git.Span number

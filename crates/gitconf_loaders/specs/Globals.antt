@@ -21,7 +21,7 @@ use Rattle.gitconf_loaders.specs.declared.from_paths.Error.TheVariants.{Memory}
 abbrev pub global_sources : List Source
 global_sources = GitInstallation ∷ System ∷ Git ∷ User ∷ []
 
--- What includes go by in them: ten files deep, with the user's home folder and those of users; what conditions ask for isn't there.
+-- The rules of their includes: ten files deep, with the user's home folder and those of users; nothing is known that conditions ask for.
 abbrev pub home_rules : Places → Rules
 home_rules places = record {
   max_depth = 10;
@@ -36,12 +36,12 @@ home_rules places = record {
   lossy = false;
 }
 
--- what was found, as a list
+-- what was found, as a list of one or none
 abbrev pub found_list : Option Meta → List Meta
 found_list None = []
 found_list (Some meta) = meta ∷ []
 
--- where what stands at a place comes from, if a file stands there
+-- the metadata of the file at a place, if there is a file
 abbrev pub IsFileAt : Option (List ℕ → FileTold) → Source → (place : Option (List ℕ)) → List Meta → Type 0
 IsFileAt table source None found = found ≡ []
 IsFileAt table source (Some path) found = (there : Bool) × May table (λ told. there ≡ is_there (told path)) × elim there [
@@ -49,31 +49,31 @@ IsFileAt table source (Some path) found = (there : Bool) × May table (λ told. 
   | false ↦ found ≡ []
 ]
 
--- the same of the place of a source, by what variables are set to
+-- the same, for the place of a source, by what variables are set to
 abbrev pub IsFound : Option (List ℕ → VariableTold) → Places → Option (List ℕ → FileTold) → Source → List Meta → Type 0
 IsFound variables places table source found =
     (place : Option (List ℕ)) × IsPlaced variables (λ var. place_of var places source) place × IsFileAt table source place found
 
--- the files of sources, in order
+-- the metadata of the files of sources, in order
 abbrev pub AreFound : Option (List ℕ → VariableTold) → Places → Option (List ℕ → FileTold) → List Source → List Meta → Type 0
 AreFound variables places table [] found = found ≡ []
 AreFound variables places table (source ∷ sources) found =
     (here : List Meta) × IsFound variables places table source here × (rest : List Meta) × AreFound variables places table sources rest × (found ≡ here ++ rest)
 
--- a file that has nothing
+-- a file without front and sections
 abbrev pub empty_file : Meta → State
 empty_file meta = record { front = []; meta = meta; next = 0; used = 0; sections = [] }
 
--- what was loaded; where nothing was it is the empty file
+-- what was loaded, or the empty file if nothing was
 abbrev pub IsOrEmpty : Option State → Result State ℕ → Type 0
 IsOrEmpty loaded r = r ≡ Ok (unwrap_or loaded (empty_file api_meta))
 
--- the files of the machine and of the user, one behind the other; memory may be wanting
+-- the files of the machine and of the user, one after the other; memory may run out
 abbrev pub IsGlobal : Option (List ℕ → VariableTold) → Places → Option (List ℕ → FileTold) → Result State ℕ → Type 0
 IsGlobal variables places table r = (r ≡ Err 27)
     ⊎ (found : List Meta) × AreFound variables places table global_sources found
     × Then (IsLoadOfPaths true false (record { rules = home_rules places; table = table }) found) IsOrEmpty r
 
--- what its refusals tell beside their numbers; or memory was wanting
+-- the causes of its refusals; or memory ran out
 abbrev pub IsGlobalCause : Places → Option (List ℕ → FileTold) → Error → Type 0
 IsGlobalCause places table e = (e ≡ Memory) ⊎ (options : Options) × (rules_of options ≡ home_rules places) × (found : List Meta) × IsLoadCause true options table found e

@@ -1,5 +1,5 @@
--- Files that are loaded by their paths, one behind the other.
--- Source: gix-config. That a fault of want of memory always refuses is this project's own rule.
+-- Files that are loaded by their paths, one after the other.
+-- Source: gix-config. That running out of memory in a source of files always refuses the load is this project's own rule.
 use Rattle.std.specs.Prelude.{◌≡◌, ◌⊎◌, ◌≤◌, ◌^◌, ℕ, ◌+◌, ltb, leb, length, Bool, true, false, not, ◌&&◌, ◌||◌, if◌then◌else◌, List, [], ◌∷◌, Option, Some, None, Result, Ok, Err}
 use Rattle.std.specs.List.{list_any}
 use Rattle.std.specs.Option.{option_map}
@@ -22,20 +22,20 @@ use Rattle.gitconf_expansion.specs.Expansion.{Asks, IsLoadOf}
 use Rattle.gitconf_expansion.specs.Outcomes.{is_file_number}
 use Rattle.gitconf_resolving.specs.Resolving.{IsMadeOf}
 
--- an outcome, a refusal by its number
+-- a result, with the number of its refusal
 abbrev pub numbered : {T E : Type 0} → (number : E → ℕ) → Result T E → Result T ℕ
 numbered number result = result_map_both (λ made. made) number result
 
--- what comes behind an outcome; a refusal ends all
+-- what follows a result; a refusal ends everything
 abbrev pub GoesOn : {T U : Type 0} → (next : T → Result U ℕ → Type 0) → Result T ℕ → Result U ℕ → Type 0
 GoesOn next (Ok made) r = next made r
 GoesOn next (Err number) r = r ≡ Err number
 
--- one step, and behind it the next
+-- one step, and then the next
 abbrev pub Then : {T U : Type 0} → (first : Result T ℕ → Type 0) → (next : T → Result U ℕ → Type 0) → Result U ℕ → Type 0
 Then {T} first next r = (mid : Result T ℕ) × first mid × GoesOn next mid r
 
--- what stands behind a call that changes a value, or its refusal by number
+-- the value after a call that changes it, or the number of the call's refusal
 abbrev pub left_by : {T E : Type 0} → (number : E → ℕ) → Result Unit E → (now : T) → Result T ℕ
 left_by number result now = result_map_both (λ done. now) number result
 
@@ -45,27 +45,27 @@ load_fault Open = 21
 load_fault Read = 21
 load_fault Memory = 27
 
--- The file at a path, which is to be read; no include is followed.
+-- The file at a path, without its includes, whose trust was asked before.
 abbrev pub IsRead : Option (List ℕ → FileTold) → (path : List ℕ) → Source → Trust → Result State ℕ → Type 0
 IsRead table path source trust r = (answer : Result (List ℕ) FileFault) × May table (λ told. answer ≡ read_of (told path)) × elim answer [
   | Err fault ↦ r ≡ Err (load_fault fault.stage)
   | Ok text ↦ IsLoadOf false text (meta_of_file path source trust) r
 ]
 
--- a file that is trusted so far is read; where that can't be told it is refused
+-- a file is read with its trust; if that can't be asked, the load is refused
 abbrev pub IsReadWhereTrusted : Option (List ℕ → FileTold) → (path : List ℕ) → Source → Result Trust FileFault → Result State ℕ → Type 0
 IsReadWhereTrusted table path source (Ok trust) r = IsRead table path source trust r
 IsReadWhereTrusted table path source (Err fault) r = r ≡ Err (load_fault fault.stage)
 
--- first it is asked how far the file is trusted; memory may be wanting
+-- first the trust of the file is asked; memory may run out
 abbrev pub IsLoadedFrom : Option (List ℕ → FileTold) → (path : List ℕ) → Source → Result State ℕ → Type 0
 IsLoadedFrom table path source r = (r ≡ Err 27) ⊎ (answer : Result Trust FileFault) × May table (λ told. answer ≡ trust_of (told path)) × IsReadWhereTrusted table path source answer r
 
--- whether a path is among others
+-- a path is among others
 abbrev pub is_among : (path : List ℕ) → List (List ℕ) → Bool
 is_among path others = list_any (λ other. bytes_eq other path) others
 
--- metadata that has a path, each path once: of several with one path, the first
+-- the metadata that has a path, each path once: of several with one path, the first
 abbrev pub once : (seen : List (List ℕ)) → List Meta → List Meta
 once seen [] = []
 once seen (meta ∷ metas) = elim meta.path [
@@ -73,8 +73,8 @@ once seen (meta ∷ metas) = elim meta.path [
   | Some path ↦ elim (is_among path seen) [ true ↦ once seen metas | false ↦ meta ∷ once (path ∷ seen) metas ]
 ]
 
--- What is taken of a file that was opened and read, or was not: its text; nothing where it is passed over; or a refusal. A missing file is
--- passed over where it needn't exist, and any that can't be opened where faults are ignored; one that can't be read is empty then.
+-- What is taken of a file that was opened and read, or was not: its text; nothing if it is skipped; or a refusal. A missing file is
+-- skipped if it needn't exist, and any that can't be opened if faults are ignored; one that can't be read is then empty.
 abbrev pub taken : (must_exist ignores : Bool) → Result (List ℕ) FileFault → Result (Option (List ℕ)) ℕ
 taken must_exist ignores (Ok text) = Ok (Some text)
 taken must_exist ignores (Err fault) = elim fault.stage [
@@ -83,24 +83,24 @@ taken must_exist ignores (Err fault) = elim fault.stage [
   | Memory ↦ Err 27
 ]
 
--- the same of the file at a path, by what a host tells of it
+-- the same of the file at a path, by what a host reports of it
 abbrev pub IsTextTaken : Option (List ℕ → FileTold) → (must_exist ignores : Bool) → (path : List ℕ) → Result (Option (List ℕ)) ℕ → Type 0
 IsTextTaken table must_exist ignores path text = (answer : Result (List ℕ) FileFault) × May table (λ told. answer ≡ read_of (told path)) × (text ≡ taken must_exist ignores answer)
 
--- an answer of the text that is taken, as its bytes
+-- the text that was taken, as its bytes, or the number of the fault
 abbrev pub text_taken : {Z : Type 0} → Result (Option (Vec ℕ Z)) FileFault → Result (Option (List ℕ)) ℕ
 text_taken (Ok text) = Ok (option_map (λ t. t.items) text)
 text_taken (Err fault) = Err (load_fault fault.stage)
 
--- whether there is room for a file behind another one: its bytes stand below 4294967296, and there are numbers for its sections
+-- there is room for a file after another one: its bytes are below 4294967296, and there are numbers for its sections
 abbrev pub has_room_behind : (target other : State) → Bool
 has_room_behind target other = ltb (target.used + appended_bytes other target) (2 ^ 32) && leb (target.next + length other.sections) no_number
 
--- A file behind another one, whose buffer has no more bytes than both and the line end between.
+-- A file appended to another one, whose buffer has no more bytes than both and the line ending between.
 abbrev pub IsBehind : (target other now : State) → Type 0
 IsBehind target other now = (now ≡ with_used now.used (apply (Append other) target)) × (now.used ≤ target.used + appended_bytes other target)
 
--- a file that was made goes behind those before it, where there is room; the first one is the beginning
+-- a file that was made is appended to those before it, if there is room; the first one is the beginning
 abbrev pub Joins : (target : Option State) → (made : State) → Result (Option State) ℕ → Type 0
 Joins None made r = r ≡ Ok (Some made)
 Joins (Some target) made r = elim (has_room_behind target made) [
@@ -108,30 +108,31 @@ Joins (Some target) made r = elim (has_room_behind target made) [
   | false ↦ r ≡ Err 3
 ]
 
--- the text of a file is made a file, with what it includes, and goes behind those before it; a file that is passed over changes nothing
+-- a file is made of the text, with what it includes, and appended to those before it; a file that is skipped changes nothing
 abbrev pub IsMadeBehind : Asks → Meta → (target : Option State) → Result (Option (List ℕ)) ℕ → Result (Option State) ℕ → Type 0
 IsMadeBehind asks meta target (Err number) r = r ≡ Err number
 IsMadeBehind asks meta target (Ok None) r = r ≡ Ok target
 IsMadeBehind asks meta target (Ok (Some text)) r = Then (IsMadeOf (λ number. number) asks text meta) (Joins target) r
 
--- one file by its path; memory may be wanting
+-- one file is loaded by its path; memory may run out
 abbrev pub IsFileLoaded : (must_exist ignores : Bool) → Asks → Meta → (path : List ℕ) → (target : Option State) → Result (Option State) ℕ → Type 0
 IsFileLoaded must_exist ignores asks meta path target r =
     (r ≡ Err 27) ⊎ (text : Result (Option (List ℕ)) ℕ) × IsTextTaken asks.table must_exist ignores path text × IsMadeBehind asks meta target text r
 
+-- the file of metadata is loaded; without a path nothing is done
 abbrev pub IsMetaLoaded : (must_exist ignores : Bool) → Asks → Meta → (target : Option State) → Result (Option State) ℕ → Type 0
 IsMetaLoaded must_exist ignores asks meta target r = elim meta.path [ None ↦ r ≡ Ok target | Some path ↦ IsFileLoaded must_exist ignores asks meta path target r ]
 
--- files, in order, each behind those before it
+-- the files of metadata are loaded in order, each appended to those before it
 abbrev pub AreLoaded : (must_exist ignores : Bool) → Asks → List Meta → (target : Option State) → Result (Option State) ℕ → Type 0
 AreLoaded must_exist ignores asks [] target r = r ≡ Ok target
 AreLoaded must_exist ignores asks (meta ∷ metas) target r = Then (IsMetaLoaded must_exist ignores asks meta target) (AreLoaded must_exist ignores asks metas) r
 
--- the files of metadata that has a path, each path once; nothing where there is none, or memory was wanting
+-- the files of metadata that has a path are loaded, each path once; nothing if there is none, or memory ran out
 abbrev pub IsLoadOfPaths : (must_exist ignores : Bool) → Asks → List Meta → Result (Option State) ℕ → Type 0
 IsLoadOfPaths must_exist ignores asks metas r = (r ≡ Err 27) ⊎ AreLoaded must_exist ignores asks (once [] metas) None r
 
--- How often a host's files failed in a load: once at least where that refuses it; faults that are ignored count too.
+-- How often a host's files failed in a load: at least once if a fault refused it; faults that are ignored count too.
 abbrev pub CountsLoad : {T : Type 0} → Result T ℕ → (old new : Option ℕ) → Type 0
 CountsLoad (Ok made) old new = IsNoLess old new
 CountsLoad (Err number) old new = elim (is_file_number number) [ true ↦ Grew old new | false ↦ IsNoLess old new ]

@@ -1,5 +1,5 @@
--- Entries that variables of the environment tell.
--- Source: git-config's manual page, under "ENVIRONMENT". What is no text is refused, of a key and of a value.
+-- Entries that variables of the environment set.
+-- Source: git-config's manual page, under "ENVIRONMENT". Keys and values that aren't UTF-8 are refused.
 use Rattle.std.specs.Prelude.{◌≡◌, ◌⊎◌, ◌==◌, ◌<◌, ◌^◌, ℕ, true, List, ◌++◌, codes, decimal, Option, Some, None, Result, Ok, Err, IfErr, string_bytes}
 use Rattle.std.specs.List.{list_any}
 use Rattle.std.specs.Result.{OkIff}
@@ -12,7 +12,8 @@ use Rattle.gitconf_store.specs.Renamings.{header_numbers}
 use Rattle.gitconf_loaders.specs.declared.from_env.Error.{Error}
 use Rattle.gitconf_loaders.specs.declared.from_env.Error.TheVariants as env
 
--- how many entries there are: none where the variable isn't set to a text; digits behind a plus or none, below 2 to the 64th, else refusal 23
+-- how many entries there are: none if the variable isn't set to a text; otherwise digits, with an optional plus, below 2 to the 64th, or
+-- refusal 23
 abbrev pub IsCountOf : VariableTold → Result ℕ ℕ → Type 0
 IsCountOf NotSet r = r ≡ Ok 0
 IsCountOf NoText r = r ≡ Ok 0
@@ -20,46 +21,50 @@ IsCountOf (HasText text) r =
     OkIff r (IsNumeral 10 (without_leading_plus text) × (digits_value 10 (without_leading_plus text) < 2 ^ 64)) (digits_value 10 (without_leading_plus text))
     × IfErr r (λ number. number ≡ 23)
 
--- the names of an entry's variables, counted from 0
+-- the name of the variable that has an entry's key, counted from 0
 abbrev pub key_variable : (index : ℕ) → List ℕ
 key_variable index = codes "GIT_CONFIG_KEY_" ++ decimal index
 
+-- the name of the variable that has an entry's value, counted from 0
 abbrev pub value_variable : (index : ℕ) → List ℕ
 value_variable index = codes "GIT_CONFIG_VALUE_" ++ decimal index
 
--- the text of a key
+-- the key that its variable has: refusal 24 if it isn't set, 22 if it isn't UTF-8
 abbrev pub key_told : VariableTold → Result (List ℕ) ℕ
 key_told (HasText text) = Ok text
 key_told NotSet = Err 24
 key_told NoText = Err 22
 
--- the text of a value; one that is no text is refused later, where it is put into its section
+-- the value that its variable has; one that isn't UTF-8 is refused later, when it is put into its section
 abbrev pub value_told : VariableTold → Result (Option (List ℕ)) ℕ
 value_told (HasText text) = Ok (Some text)
 value_told NotSet = Err 26
 value_told NoText = Ok None
 
--- what a variable gives, where it is asked once; memory may be wanting
+-- what is returned for a variable that is asked once; memory may run out
 abbrev pub IsAnswer : {T : Type 0} → Option (List ℕ → VariableTold) → (name : List ℕ) → (VariableTold → Result T ℕ → Type 0) → Result T ℕ → Type 0
 IsAnswer variables name gives r = (r ≡ Err 27) ⊎ (told : VariableTold) × May variables (λ var. told ≡ var name) × gives told r
 
+-- what `GIT_CONFIG_COUNT` gives
 abbrev pub IsCount : Option (List ℕ → VariableTold) → Result ℕ ℕ → Type 0
 IsCount variables = IsAnswer variables (codes "GIT_CONFIG_COUNT") IsCountOf
 
+-- what the variable of an entry's key gives
 abbrev pub IsKeyAt : Option (List ℕ → VariableTold) → (index : ℕ) → Result (List ℕ) ℕ → Type 0
 IsKeyAt variables index = IsAnswer variables (key_variable index) (λ told r. r ≡ key_told told)
 
+-- what the variable of an entry's value gives
 abbrev pub IsValueAt : Option (List ℕ → VariableTold) → (index : ℕ) → Result (Option (List ℕ)) ℕ → Type 0
 IsValueAt variables index = IsAnswer variables (value_variable index) (λ told r. r ≡ value_told told)
 
--- What a refused count tells beside its number: the text that the variable is set to.
+-- What a refused count says besides its number: the text that the variable is set to.
 abbrev pub IsCountCause : Option (List ℕ → VariableTold) → Error → Type 0
 IsCountCause variables (env.InvalidConfigCount input) = May variables (λ var. HasText (string_bytes input) ≡ var (codes "GIT_CONFIG_COUNT"))
 IsCountCause variables env.Memory = Unit {0}
 IsCountCause variables e = ⊥
 
--- What refusals of an entry tell beside their numbers: which entry it is, what of it is no text, and a key that has no dot. No include refuses
--- one, and no file.
+-- What refusals of an entry say besides their numbers: which entry it is, which part of it isn't UTF-8, and a key without a dot. No include
+-- and no file causes one.
 abbrev pub IsEntryCause : (index : ℕ) → Error → Type 0
 IsEntryCause index (env.IllformedUtf8 at kind) = (at ≡ index) × ((kind.now ≡ codes "key") ⊎ (kind.now ≡ codes "value"))
 IsEntryCause index (env.InvalidKeyId at) = at ≡ index

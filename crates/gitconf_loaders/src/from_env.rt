@@ -1,4 +1,4 @@
-//! How a file is refused that is made of variables of the environment.
+//! Why the entries of variables of the environment are refused.
 ghost use Rattle.std.specs.Prelude.{◌≡◌};
 
 use gitconf_includes::includes;
@@ -8,26 +8,26 @@ use gitconf_values::path::interpolate;
 use gitconf_views::section::value;
 use thiserror::Error;
 
-/// How a file is refused that is made of variables of the environment. Entries are counted from 0.
+/// Why the entries of variables of the environment are refused. Entries are counted from 0.
 #[derive(Debug, Drop, Error)]
 pub enum Error {
-    /// A key or a value (`kind`) is set to what is no UTF-8: refusal 22.
+    /// A key or a value (`kind`) is set to bytes that aren't UTF-8: refusal 22.
     #[error("Configuration {kind} at index {index} contained illformed UTF-8")]
     IllformedUtf8 { index: usize, kind: &'static str },
-    /// `GIT_CONFIG_COUNT` is no number, or one past 64 bits: refusal 23.
+    /// `GIT_CONFIG_COUNT` is not a number, or one that 64 bits don't hold: refusal 23.
     #[error("GIT_CONFIG_COUNT was not a positive integer: {input}")]
     InvalidConfigCount { input: String },
-    /// The key of an entry isn't set: refusal 24.
+    /// The key of an entry is not set: refusal 24.
     #[error("GIT_CONFIG_KEY_{key_id} was not set")]
     InvalidKeyId { key_id: usize },
     /// The key of an entry has no dot: refusal 25.
     #[error("GIT_CONFIG_KEY_{key_id} was set to an invalid value: {key_val}")]
     InvalidKeyValue { key_id: usize, key_val: String },
-    /// The value of an entry isn't set: refusal 26.
+    /// The value of an entry is not set: refusal 26.
     #[error("GIT_CONFIG_VALUE_{value_id} was not set")]
     InvalidValueId { value_id: usize },
-    /// A path could not be interpolated: refusal 12 to 14. The Rust crate has it, and no call answers it: an include that is refused so is
-    /// told as one.
+    /// A path could not be interpolated: refusal 12 to 14. The Rust crate has it, and no call returns it: such a refusal of an include is
+    /// reported as [`Error::Includes`].
     #[error(transparent)]
     PathInterpolationError(interpolate::Error),
     /// An include was refused.

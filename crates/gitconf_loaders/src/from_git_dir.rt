@@ -1,4 +1,4 @@
-//! How the configuration of a repository is refused.
+//! Why the configuration of a repository is refused.
 ghost use Rattle.std.specs.Prelude.{◌≡◌};
 
 use crate::{from_env, from_paths};
@@ -7,22 +7,22 @@ use gitconf_text::NoMemory;
 use gitconf_text::parse::span;
 use thiserror::Error;
 
-/// How the configuration of a repository is refused.
+/// Why the configuration of a repository is refused.
 #[derive(Debug, Drop, Error)]
 pub enum Error {
     /// A file could not be loaded by its path.
     #[error(transparent)]
     FromPaths(from_paths::Error),
-    /// What variables tell was refused.
+    /// The entries of variables were refused.
     #[error(transparent)]
     FromEnv(from_env::Error),
-    /// Bytes could not be made a file. The Rust crate has it, and no call answers it: a file that is refused so is loaded by its path.
+    /// A file could not be made of bytes. The Rust crate has it, and no call returns it: such a file is loaded by its path.
     #[error(transparent)]
     Init(init::Error),
     /// An include was refused.
     #[error(transparent)]
     Includes(includes::Error),
-    /// There is no room for a file behind those before it: refusal 3.
+    /// There is no room for a file after those before it: refusal 3.
     #[error(transparent)]
     Span(span::Error),
     /// A growth was refused: refusal 27.

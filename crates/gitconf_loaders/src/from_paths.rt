@@ -1,4 +1,4 @@
-//! How files are refused that are loaded by their paths.
+//! Why files that are loaded by their paths are refused.
 ghost use Rattle.std.specs.Prelude.{◌≡◌};
 
 use gitconf_host::FileFault;
@@ -8,13 +8,13 @@ use gitconf_text::NoMemory;
 use gitconf_text::parse::span;
 use thiserror::Error;
 
-/// How a file is refused that is loaded by its path.
+/// Why a file that is loaded by its path is refused.
 #[derive(Debug, Drop, Error)]
 pub enum Error {
-    /// Opening the file at that path, reading it or asking how far it is trusted failed: refusal 21.
+    /// Opening the file at that path, reading it or asking for its trust failed: refusal 21.
     #[error("The configuration file at \"{path}\" could not be read")]
     Io { path: String, source: FileFault },
-    /// What was read could not be made a file, or could not be put behind those before it.
+    /// What was read could not be made a file, or could not be appended to the files before it.
     #[error(transparent)]
     Init(init::Error),
     /// A growth was refused: refusal 27.

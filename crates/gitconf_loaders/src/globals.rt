@@ -18,7 +18,7 @@ use gitconf_store::store::Store;
 use gitconf_text::NoMemory;
 use std::alloc::Global;
 
-/// How files are made that include others by the home folder alone, and nothing that a condition could be about.
+/// The options of these files: includes are followed with the home folders alone, and nothing is known that a condition could be about.
 pub fn home_options(places: &Places) -> Options<'_>
     ensures rules { rules_of result ≡ home_rules places.now }
     ensures faults { result.ignore_io_errors ≡ false }
@@ -33,11 +33,11 @@ pub fn home_options(places: &Places) -> Options<'_>
     }
 }
 
-/// Where the configuration of a source comes from, or `None` where no file stands at its place.
+/// Where the configuration of a source comes from, or `None` if no file is at its place.
 ///
 /// # Errors
 ///
-/// Want of memory.
+/// Out of memory.
 fn found<F: Files, E: Env>(
     alloc: Global,
     files: &mut F,
@@ -64,11 +64,11 @@ fn found<F: Files, E: Env>(
     }))
 }
 
-/// Puts where that is behind the metadata of the sources before, if a file stands there.
+/// Adds the metadata of a source's file to that of the sources before, if there is a file.
 ///
 /// # Errors
 ///
-/// Want of memory.
+/// Out of memory.
 fn find<F: Files, E: Env>(
     alloc: Global,
     files: &mut F,
@@ -88,11 +88,11 @@ fn find<F: Files, E: Env>(
     Ok(())
 }
 
-/// The same of all sources whose configuration is not that of one repository, in the order in which Git reads them.
+/// The same for all sources whose configuration is not that of one repository, in the order in which Git reads them.
 ///
 /// # Errors
 ///
-/// Want of memory.
+/// Out of memory.
 fn all_found<F: Files, E: Env>(
     alloc: Global,
     files: &mut F,
@@ -123,7 +123,7 @@ fn all_found<F: Files, E: Env>(
 ///
 /// # Errors
 ///
-/// Want of memory.
+/// Out of memory.
 fn or_empty(alloc: Global, loaded: Option<Store>) -> Result<Store, NoMemory>
     ensures { IfOk result (λ file. file ≡ unwrap_or loaded (empty_file api_meta)) }
 {
@@ -133,13 +133,13 @@ fn or_empty(alloc: Global, loaded: Option<Store>) -> Result<Store, NoMemory>
     }
 }
 
-/// The configuration of the machine and of the user: what stands at the places of their sources, each with what it includes, one behind the
-/// other; an empty file where no file stands at any. Each is fully trusted, at level 0. Variables are asked anew for each place.
+/// The configuration of the machine and of the user: what is at the places of their sources, each with what it includes, one after the
+/// other; an empty file if there is none. Each is fully trusted, at level 0. Variables are asked again for each place.
 ///
 /// # Errors
 ///
-/// 21 where a file can't be opened or read; 1, 2 and 12 to 20 as a file and its includes are refused; 3 where there is no room for one; 27 for
-/// want of memory.
+/// 21 if a file can't be opened or read; 1, 2 and 12 to 20 if a file or its includes are refused; 3 if there is no room for one; 27 when
+/// out of memory.
 pub fn from_globals<F: Files, E: Env>(
     alloc: Global,
     files: &mut F,

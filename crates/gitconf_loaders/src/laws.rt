@@ -1,4 +1,4 @@
-//! What holds of loaded files, for all hosts that tell what stands at each path: each law is a function that does nothing.
+//! What holds of loaded files, for all hosts that report what is at each path: each law is a function that does nothing.
 ghost use Rattle.std.specs.Prelude.{◌≡◌, ℕ, Bool, List, [], Ok, Option, Some};
 ghost use Rattle.gitconf_base.specs.Metadata.{Meta};
 ghost use Rattle.gitconf_base.specs.declared.source.Source.{Source};
@@ -12,8 +12,8 @@ ghost use Rattle.gitconf_loaders.specs.Globals.{IsGlobal};
 ghost use Rattle.gitconf_loaders.specs.Paths.{IsLoadedFrom, IsLoadOfPaths};
 
 /// Files that are loaded by their paths are clean, those of the machine and of the user too, and have no entry before their first section;
-/// where no text that may be loaded or included has one. A file that is loaded without includes is clean in any case. So what is written of
-/// them reads back.
+/// if no text that may be loaded or included has such an entry. A file that is loaded without includes is clean in any case. So what is
+/// written of them reads back.
 pub fn loaded_files_are_clean()
     ensures path { (table : Option (List ℕ → FileTold)) (path : List ℕ) (source : Source) (file : State) → IsLoadedFrom table path source (Ok file) → IsClean file }
     ensures paths { (files : List ℕ → FileTold) (must_exist ignores : Bool) (asks : Asks) (metas : List Meta) (file : State) → asks.table ≡ Some files → AreHeaded files

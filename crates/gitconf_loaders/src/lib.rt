@@ -1,4 +1,4 @@
-//! Files that are loaded by their paths, by the places of sources, and what variables tell of entries.
+//! Files that are loaded by their paths or by the places of sources, and the entries that variables set.
 #![tactic(auto)]
 
 pub mod from_env;

@@ -24,14 +24,14 @@ use std::rc::Rc;
 ///
 /// # Errors
 ///
-/// Want of memory.
+/// Out of memory.
 pub(crate) fn shared(alloc: Global, meta: Metadata) -> Result<Rc<Metadata>, NoMemory>
     ensures { IfOk result (λ shared. shared.value ≡ meta) }
 {
     Ok(Rc::new(alloc, meta)?)
 }
 
-/// How a fault of the file at that path refuses.
+/// How a load is refused for a fault of the file at that path.
 fn refusal(fault: FileFault, path: String) -> Error
     ensures number { paths_number result ≡ load_fault fault.stage }
     ensures is { result ≡ load_refusal fault path }
@@ -45,11 +45,11 @@ fn refusal(fault: FileFault, path: String) -> Error
     }
 }
 
-/// The file at a path, of that source, at level 0, with the trust that the host tells, which is asked first. No include is followed.
+/// The file at a path, of that source, at level 0, with the trust that the host reports, which is asked first. No include is followed.
 ///
 /// # Errors
 ///
-/// 21 where the trust can't be told, or the file can't be opened or read; 1 and 2 where the parser refuses it; 27 for want of memory.
+/// 21 if the trust can't be asked, or the file can't be opened or read; 1 and 2 if the parser refuses it; 27 when out of memory.
 pub fn from_path<F: Files>(
     alloc: Global,
     files: &mut F,
@@ -78,11 +78,11 @@ pub fn from_path<F: Files>(
     Ok(load(alloc, text, false, shared(alloc, meta)?)?)
 }
 
-/// Whether a path stands in the set for the first time; it does from now on.
+/// Whether a path is new to the set, which then has it.
 ///
 /// # Errors
 ///
-/// Want of memory.
+/// Out of memory.
 fn is_new(alloc: Global, seen: &mut BTreeSet<String>, path: &str) -> Result<bool, NoMemory>
     ensures { (before : List (List ℕ)) → Sees seen.old before
         → IfOk result (λ new. (new ≡ not (is_among path.now before)) × Sees seen.new (if new then path.now ∷ before else before)) }
@@ -94,7 +94,7 @@ fn is_new(alloc: Global, seen: &mut BTreeSet<String>, path: &str) -> Result<bool
 ///
 /// # Errors
 ///
-/// Want of memory.
+/// Out of memory.
 fn once(alloc: Global, metas: Vec<Metadata>) -> Result<Vec<Metadata>, NoMemory>
     ensures { IfOk result (λ kept. kept.items ≡ once [] metas.items) }
 {
@@ -110,14 +110,14 @@ fn once(alloc: Global, metas: Vec<Metadata>) -> Result<Vec<Metadata>, NoMemory>
     Ok(kept)
 }
 
-/// Whether a file that can't be opened is passed over.
+/// Whether a file that can't be opened is skipped.
 fn is_passed_over(fault: FileFault, must_exist: bool, ignores: bool) -> bool
     ensures { result ≡ (ignores || (fault.not_found && not must_exist)) }
 {
     ignores || (fault.not_found && !must_exist)
 }
 
-/// The text of a file that is to be loaded, or `None` where it is passed over.
+/// The text of a file that is to be loaded, or `None` if it is skipped.
 ///
 /// # Errors
 ///
@@ -145,11 +145,11 @@ fn text_of<F: Files>(
     }
 }
 
-/// Puts a file behind those before it; the first one is the beginning.
+/// Appends a file to those before it; the first one is the beginning.
 ///
 /// # Errors
 ///
-/// 3 where there is no room for it; 27 for want of memory.
+/// 3 if there is no room for it; 27 when out of memory.
 fn join(target: &mut Option<Store>, made: Store) -> Result<(), Error>
     ensures joined { (left_by paths_number result target.new ≡ Err 27) ⊎ Joins target.old made (left_by paths_number result target.new) }
     ensures cause { IfErr result (λ e. (e ≡ refusals.Memory) ⊎ (e ≡ refusals.Init (Span 3))) }
@@ -163,11 +163,11 @@ fn join(target: &mut Option<Store>, made: Store) -> Result<(), Error>
     }
 }
 
-/// The file at a path, with what it includes, goes behind those before it.
+/// Appends the file at a path, with what it includes, to those before it.
 ///
 /// # Errors
 ///
-/// 21 where it can't be opened or read, unless that is passed over; else those of `resolved_text`, and 3.
+/// 21 if it can't be opened or read, unless that is ignored; otherwise those of `resolved_text`, and 3.
 fn load_behind<F: Files>(
     alloc: Global,
     files: &mut F,
@@ -205,16 +205,16 @@ fn load_behind<F: Files>(
     join(target, made)
 }
 
-/// The files of metadata that has a path, each with what it includes by the options, one behind the other; `None` where no file was loaded.
-/// Of several with one path the first is taken. A file that isn't there is passed over unless it must exist; the options tell whether other
-/// faults are ignored: a file that can't be opened is passed over then, and one that can't be read counts as empty.
+/// The files of metadata that has a path, each with what it includes by the options, one after the other; `None` if no file was loaded.
+/// Of several with one path the first is taken. A file that isn't there is skipped unless it must exist; the options say whether other
+/// faults are ignored: then a file that can't be opened is skipped, and one that can't be read counts as empty.
 ///
-/// Each file is read and parsed once. What is put behind others is moved once, and the paths are kept in a tree.
+/// Each file is read and parsed once. What is appended is moved once, and the paths are kept in a tree.
 ///
 /// # Errors
 ///
-/// 21 where a file can't be opened or read, and that isn't ignored; 1, 2 and 12 to 20 as a file and its includes are refused; 3 where there is
-/// no room for one; 27 for want of memory.
+/// 21 if a file can't be opened or read, and that isn't ignored; 1, 2 and 12 to 20 if a file or its includes are refused; 3 if there is
+/// no room for one; 27 when out of memory.
 pub fn from_paths<F: Files>(
     alloc: Global,
     files: &mut F,

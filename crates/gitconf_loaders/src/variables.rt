@@ -1,4 +1,4 @@
-//! Entries that variables of the environment tell.
+//! Entries that variables of the environment set.
 ghost use Rattle.std.specs.Prelude.{◌≡◌, IfErr, IfOk, string_bytes};
 ghost use Rattle.std.specs.Option.{option_map};
 ghost use Rattle.std.specs.Result.{result_map_both};
@@ -12,12 +12,12 @@ use gitconf_host::{Env, EnvVar};
 use gitconf_text::NoMemory;
 use std::alloc::Global;
 
-/// How many entries the variables tell: none where `GIT_CONFIG_COUNT` isn't set, or is set to what is no text. A plus may stand before the
+/// How many entries the variables set: none if `GIT_CONFIG_COUNT` isn't set, or is set to bytes that aren't UTF-8. A plus may come before the
 /// digits.
 ///
 /// # Errors
 ///
-/// 23 for what is no number below 2 to the 64th; 27 for want of memory.
+/// 23 for a text that is not a number below 2 to the 64th; 27 when out of memory.
 pub fn count<E: Env>(env: &mut E) -> Result<usize, Error>
     ensures count { IsCount (E.variables env.old) (numbered env_number result) }
     ensures cause { IfErr result (IsCountCause (E.variables env.old)) }
@@ -32,7 +32,7 @@ pub fn count<E: Env>(env: &mut E) -> Result<usize, Error>
     }
 }
 
-/// The names of an entry's variables, counted from 0.
+/// The name of the variable that has an entry's key, counted from 0.
 fn key_variable(alloc: Global, index: usize) -> Result<String, NoMemory>
     ensures { IfOk result (λ name. string_bytes name ≡ spec.key_variable index) }
 {
@@ -49,7 +49,7 @@ fn value_variable(alloc: Global, index: usize) -> Result<String, NoMemory>
 ///
 /// # Errors
 ///
-/// 24 where its variable isn't set, 22 where that is set to what is no text; 27 for want of memory.
+/// 24 if its variable isn't set, 22 if it is set to bytes that aren't UTF-8; 27 when out of memory.
 pub fn key_at<E: Env>(alloc: Global, env: &mut E, index: usize) -> Result<String, Error>
     ensures key { IsKeyAt (E.variables env.old) index (result_map_both string_bytes env_number result) }
     ensures cause { IfErr result (IsEntryCause index) }
@@ -63,11 +63,11 @@ pub fn key_at<E: Env>(alloc: Global, env: &mut E, index: usize) -> Result<String
     }
 }
 
-/// The value of an entry, counted from 0; `None` where its variable is set to what is no text.
+/// The value of an entry, counted from 0; `None` if its variable is set to bytes that aren't UTF-8.
 ///
 /// # Errors
 ///
-/// 26 where the variable isn't set; 27 for want of memory.
+/// 26 if the variable isn't set; 27 when out of memory.
 pub fn value_at<E: Env>(alloc: Global, env: &mut E, index: usize) -> Result<Option<String>, Error>
     ensures value { IsValueAt (E.variables env.old) index (result_map_both (option_map string_bytes) env_number result) }
     ensures cause { IfErr result (IsEntryCause index) }

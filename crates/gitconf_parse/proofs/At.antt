@@ -1,12 +1,12 @@
--- What stands at an offset of the input.
+-- What is at an offset of the input.
 use Rattle.std.proofs.Common.{◌≡◌, ℕ, ◌+◌, List, [], ◌∷◌, ◌++◌, length, drop, get_or, refl, ap, sym, ◌∙◌, arith}
 use Rattle.std.proofs.lemmas.List.{drop-drop, drop_at, get_or-drop}
 
--- behind the front stands what is left
+-- after the front is what is left
 pub behind_front : (input front rest : List ℕ) (n : ℕ) → drop n input ≡ front ++ rest → drop (n + length front) input ≡ rest
 behind_front input front rest n at = sym (drop-drop (length front) n input) ∙ ap (λ t. drop (length front) t) at ∙ drop_at front rest (length front) refl
 
--- behind a byte stands what is left
+-- after a byte is what is left
 pub behind_byte : (input : List ℕ) (b : ℕ) (rest : List ℕ) (n : ℕ) → drop n input ≡ b ∷ rest → drop (n + 1) input ≡ rest
 behind_byte input b rest n at = behind_front input (b ∷ []) rest n at
 

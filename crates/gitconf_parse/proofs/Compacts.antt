@@ -212,7 +212,7 @@ compact_header headers headers2 list list2 h place is one two all =
         (length list, omega (arith, longer), get_last list (kept.SectionHeader place) kept.KeyValueSeparator ∙ ap kept.SectionHeader (sym same))
     go k below (inr other) = named_more (length headers) list (kept.SectionHeader place) all.named k (omega (arith, below, other, is))
 
--- the front of a list, and what stands behind it
+-- the front of a list, and what follows it
 pub front_taken : (headers : List Header) (list : List Compact) (n : ℕ) → take n list ≡ front_of is_kept_header list → take n (events_in headers list) ≡ front_of is_header_event (events_in headers list)
 front_taken headers list n is = take-map (event_at headers) n list ∙ ap (events_in headers) is ∙ front_in headers list
 

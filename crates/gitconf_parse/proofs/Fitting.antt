@@ -17,7 +17,7 @@ use Rattle.gitconf_parse.proofs.TextTakes.{after_parts}
 abbrev AllFit : (limit : ℕ) → List Event → Type 0
 AllFit limit events = AllByRecursion (EventFits limit) events
 
--- one event more
+-- one more event
 push_fits : (limit : ℕ) (events : List Event) (e : Event) → AllFit limit events → EventFits limit e → AllFit limit (events ++ e ∷ [])
 push_fits limit [] e all fits = (fits, tt)
 push_fits limit (x ∷ events) e all fits = (all.0, push_fits limit events e all.1 fits)

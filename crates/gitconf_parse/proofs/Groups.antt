@@ -32,7 +32,7 @@ several : (pieces : List grammar.Piece) (p : grammar.Piece) (last : List ℕ) (o
 several [] p last others = append_assoc (flat_map piece_tokens (p ∷ [])) (ValueDoneToken last ∷ []) others
 several (q ∷ pieces) p last others = append_assoc (flat_map piece_tokens (q ∷ (pieces ++ p ∷ []))) (ValueDoneToken last ∷ []) others
 
--- the last piece stands behind these
+-- the last piece follows these
 pub value_ends : (buffer : List ℕ) (some now : List Piece) (p : Piece) (last : List ℕ) (rest others all : List Token) → now ≡ some ++ p ∷ []
     → flat_map piece_tokens (map (piece_of buffer) some) ++ ValueNotDoneToken (bytes_of buffer p.text) ∷ rest ≡ all
     → AreBehind BehindPieceEnd (filled NewlineToken (bytes_of buffer p.line_end)) (ValueDoneToken last ∷ others) rest

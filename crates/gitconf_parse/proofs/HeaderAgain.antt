@@ -25,7 +25,7 @@ pub all_header_bytes : (name : List ℕ) → list_all is_name_byte name ≡ true
 all_header_bytes [] h = refl
 all_header_bytes (b ∷ name) h = let p = both_true (is_name_byte b) (list_all is_name_byte name) h in rw (name_byte_header b p.0) (all_header_bytes name p.1)
 
--- the spans of a header whose bracket stands at the offset n, and the offset behind it
+-- the spans of a header whose bracket is at the offset n, and the offset after it
 abbrev pub header_spans : (n : ℕ) → grammar.Header → Header × ℕ
 header_spans n (grammar.PlainHeader name) =
     let end = n + 1 + length name in
@@ -45,7 +45,7 @@ pub begins_other : (p : ℕ → Bool) (blanks rest : List ℕ) → ((b : ℕ) �
 begins_other p [] rest differs some all = absurd (omega (arith, some))
 begins_other p (b ∷ blanks) rest differs some all = differs b (both_true (is_blank b) (list_all is_blank blanks) all).0
 
--- Behind its name, a header with quotes is read to its spans.
+-- After its name, a header with quotes is read to its spans.
 quoted_again : (blanks spelling rest input : List ℕ) (from end : ℕ) → drop end input ≡ blanks ++ (34 ∷ (spelling ++ (34 ∷ 93 ∷ rest)))
     → 0 < length blanks → list_all is_blank blanks ≡ true → grammar.is_spelling spelling ≡ true
     → quoted_header input from end ≡ Some (

@@ -28,7 +28,7 @@ use Rattle.gitconf_parse.proofs.PartTakes.{IsOpening, opening_is}
 use Rattle.gitconf_parse.proofs.Pieces.{value_piece}
 use Rattle.gitconf_parse.proofs.TokensLaws.{blanks_tokens, bytes_none}
 
--- bytes stand between two offsets
+-- bytes are between two offsets
 filled_span : (token : List ℕ → Token) (input : List ℕ) (from end : ℕ) → from < end → end ≤ length input
     → filled token (bytes_of input (span from end)) ≡ token (bytes_of input (span from end)) ∷ []
 filled_span token input from end some within = go (bytes_of input (span from end)) (let left = length-drop from input in length-take-le (end - from) (drop from input) (omega (arith, within, left)))
@@ -81,7 +81,7 @@ pieces_tokens input pieces p =
     ap (flat_map piece_tokens) (map-append (piece_of input) pieces (p ∷ [])) ∙ flat_map-append piece_tokens (map (piece_of input) pieces) (piece_of input p ∷ [])
     ∙ ap (λ t. flat_map piece_tokens (map (piece_of input) pieces) ++ t) (append-nil (piece_tokens (piece_of input p)))
 
--- a piece with a line end of k bytes
+-- a piece with a line ending of k bytes
 pub piece_more : (input : List ℕ) (first from : ℕ) (quoted : Bool) (pieces : List Piece) (at k : ℕ) (inner : Bool) → IsBegun input first from quoted pieces
     → piece_from from quoted from 0 (drop from input) ≡ ends.GoesOn at k inner → 0 < k → at + 1 + k ≤ length input
     → IsBegun input first (at + 1 + k) inner (pieces ++ (record { text = span from at; line_end = span (at + 1) (at + 1 + k) }) ∷ [])
@@ -213,7 +213,7 @@ pub entry_part : (input : List ℕ) (n : ℕ) (wanted : Expected) → opening_of
 unfolding part_at
 entry_part input n wanted opens = rw (opens, part_at) refl
 
--- No part stands where no bracket does and nothing else may begin.
+-- There is no part if no bracket begins one and nothing else may begin.
 pub no_item_read : (input : List ℕ) (n : ℕ) (wanted : Expected) (opening : Opening) → (get_or input n 0 == 91) ≡ false → opening ≡ opening_of (drop n input)
     → (opening ≡ openings.Header) ⊎ (opening ≡ openings.Nothing) → part_at input n wanted [] ≡ Err (record { at = n; expected = wanted })
 unfolding part_at
@@ -223,7 +223,7 @@ no_item_read input n wanted opening byte is (inl header) =
     let bracket : (rest : List ℕ) × (drop n input ≡ 91 ∷ rest) = subst (λ k. IsOpening k (drop n input)) opens (opening_is (drop n input)) in
     absurd (let wrong = rw (byte_at input 91 bracket.0 n bracket.1) at byte in cc)
 
--- what holds of each holds of each behind one more
+-- what holds of each holds of each after one more
 pub all_put : {A : Type 0} (P : A → Type 0) (x : A) → P x → (xs : List A) → AllByRecursion P xs → AllByRecursion P (xs ++ x ∷ [])
 all_put P x px [] all = (px, tt)
 all_put P x px (y ∷ xs) all = (all.0, all_put P x px xs all.1)

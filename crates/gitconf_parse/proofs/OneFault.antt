@@ -1,4 +1,4 @@
--- A text is stuck at one place: the reader tells it, and reads one way.
+-- A text is stuck at one place: the reader says it, and reads one way.
 use Rattle.std.proofs.Common.{◌≡◌, ℕ, ◌+◌, ◌<◌, Bool, true, false, List, [], ◌∷◌, ◌++◌, length, take, drop, Option, Some, None, Ok, Err, refl, ap, sym, subst, ◌∙◌, arith, append_assoc, length-append, inl, inr}
 use Rattle.std.specs.Prelude.{◌⊎◌, ◌==◌}
 use Rattle.std.specs.List.{list_all}
@@ -40,7 +40,7 @@ cut_once p (x ∷ xs) (y ∷ ys) rest other passes passes_too stops stops_too sa
     let r = cut_once p xs ys rest other (both_true (p x) (list_all p xs) passes).1 (both_true (p y) (list_all p ys) passes_too).1 stops stops_too behind in
     let tail = r.0 in (cc, r.1)
 
--- a name, and what stands behind it, are cut in one way
+-- a name, and what follows it, are cut in one way
 name_once : (name other blanks blanks_too rest rest_too : List ℕ) → is_value_name name ≡ true → is_value_name other ≡ true
     → list_all is_blank blanks ≡ true → list_all is_blank blanks_too ≡ true → begins is_name_byte (blanks ++ rest) ≡ false → begins is_name_byte (blanks_too ++ rest_too) ≡ false
     → begins is_blank rest ≡ false → begins is_blank rest_too ≡ false → name ++ (blanks ++ rest) ≡ other ++ (blanks_too ++ rest_too)
@@ -56,7 +56,7 @@ name_once (b ∷ name) (c ∷ other) blanks blanks_too rest rest_too is is_too a
     let d = cut_once is_blank blanks blanks_too rest rest_too are are_too ends ends_too n.1 in
     let tail = n.0 in (cc, d.0, d.1)
 
--- behind the name of an assignment stands no name byte
+-- after the name of an assignment is no name byte
 assignment_stops : (blanks rest : List ℕ) → list_all is_blank blanks ≡ true → begins is_name_byte (blanks ++ 61 ∷ rest) ≡ false
 assignment_stops [] rest all = refl
 assignment_stops (b ∷ blanks) rest all = blank_no_name_byte b (both_true (is_blank b) (list_all is_blank blanks) all).0
@@ -77,7 +77,7 @@ assignment_once name other blanks blanks_too behind behind_too rest rest_too is 
     let d = cut_once is_blank behind behind_too rest rest_too is.behind_are is_too.behind_are unblank unblank_too left in
     (ap (λ t. spelled_assignment t blanks behind) n.0 ∙ (ap (λ t. spelled_assignment other t behind) n.1 ∙ ap (λ t. spelled_assignment other blanks_too t) d.0), d.1)
 
--- an entry does not stand where an assignment has no value behind it
+-- an entry is not where an assignment has no value after it
 no_entry : (e : Entry) (more name blanks behind rest : List ℕ) → FitsPart (ItemPart (EntryItem e)) more → IsAssignment name blanks behind → begins is_blank rest ≡ false → NoValue rest
     → e.name ++ (e.blanks ++ (spelled_assigned e.assigned ++ more)) ≡ name ++ (blanks ++ 61 ∷ (behind ++ rest)) → ⊥
 no_entry e more name blanks behind rest fits is unblank none same = go e.assigned refl fits.2 n.2
@@ -132,7 +132,7 @@ no_part (HeaderPart (PlainHeader h)) more (c ∷ name) blanks behind rest fits i
 no_part (HeaderPart (DottedHeader h subsection)) more (c ∷ name) blanks behind rest fits is unblank none same = no_bracket c name blanks behind is (let first : 91 ≡ c = cc in first)
 no_part (HeaderPart (QuotedHeader h spaces spelling)) more (c ∷ name) blanks behind rest fits is unblank none same = no_bracket c name blanks behind is (let first : 91 ≡ c = cc in first)
 
--- what the reader tells of a place where the text is stuck
+-- what the reader says of a place where the text is stuck
 record IsTold (input : List ℕ) (line : ℕ) (rest kind : List ℕ) (f : Fault) : Type 0 where
   read : text_from input expected.SectionHeader [] 0 0 (drop 0 input) ≡ Err f
   rest_is : rest ≡ drop f.at input

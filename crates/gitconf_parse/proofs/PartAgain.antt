@@ -22,7 +22,7 @@ use Rattle.gitconf_text.proofs.Tests.{both_true}
 use Rattle.gitconf_parse.proofs.ValueAgain.{value_after, pieces_text-is, pieces_units-is, pieces_again}
 use Rattle.gitconf_parse.proofs.HeaderAgain.{run_at, header_spans, header_again}
 
--- the events of what is assigned at the offset n, behind those so far, and the offset behind it
+-- the events of what is assigned at the offset n, after those so far, and the offset after it
 abbrev pub after_assigned : List Event → (n : ℕ) → Option Assigned → List Event × ℕ
 after_assigned events n None = (events ++ kinds.Value (span n n) ∷ [], n)
 after_assigned events n (Some a) =
@@ -66,7 +66,7 @@ assigned_again (Some a) blanks rest input events n stands fits = rw (ap (begins 
     here : drop (n + 1 + length a.blanks) input ≡ spelled_value a.value ++ rest
     here = behind_front input a.blanks (spelled_value a.value ++ rest) (n + 1) behind
 
--- what stands behind a name is no name byte
+-- what follows a name is no name byte
 pub name_stops : (blanks rest : List ℕ) (a : Option Assigned) → list_all is_blank blanks ≡ true → FitsAssigned blanks a rest → begins is_name_byte (blanks ++ (spelled_assigned a ++ rest)) ≡ false
 name_stops blanks rest None all fits = fits.0
 name_stops [] rest (Some a) all fits = refl

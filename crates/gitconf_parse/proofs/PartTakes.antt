@@ -1,4 +1,4 @@
--- What is read as a part is one, and where none is read none stands.
+-- What is read as a part is one, and if none is read none is.
 use Rattle.std.proofs.Common.{◌≡◌, ℕ, zero, suc, ◌+◌, Bool, true, false, List, [], ◌∷◌, ◌++◌, length, drop, Option, Some, None, Ok, Err, refl, ap, sym, subst, ◌∙◌, arith, append_assoc, length-append, inl, inr}
 use Rattle.std.specs.Prelude.{◌==◌, ◌⊎◌, if◌then◌else◌}
 use Rattle.std.specs.List.{list_all}
@@ -70,14 +70,14 @@ opening_is (b ∷ rest) = blank (is_blank b) refl
     blank true e = (b, rest, refl, e)
     blank false e = line_end (begins_line_end (b ∷ rest)) refl
 
--- what is assigned behind a name and its blanks, and what follows
+-- what is assigned after a name and its blanks, and what follows
 pub record AssignedShape (blanks text : List ℕ) : Type 0 where
   pub assigned : Option Assigned
   pub rest : List ℕ
   pub whole : text ≡ spelled_assigned assigned ++ rest
   pub fits : FitsAssigned blanks assigned rest
 
--- a value behind `=` and blanks
+-- a value after `=` and blanks
 value_shape : (blanks between text : List ℕ) → list_all is_blank between ≡ true → begins is_blank text ≡ false → ValueShape false text → AssignedShape blanks (61 ∷ (between ++ text))
 value_shape blanks between text all unblank s =
     let v : Value = record { pieces = s.pieces; last = s.last } in
@@ -121,18 +121,18 @@ assigned_takes blanks input events more n end no_name no_blank read = go (begins
             subst (λ t. AssignedShape blanks t) whole (value_shape blanks r.front r.rest (places_all is_blank r.front r.rest r.places) (stops_begins is_blank r.rest r.stops)
             (subst (λ t. ValueShape false t) there shape))
 
--- the end of a run that stands at the offset n
+-- the end of a run that is at the offset n
 pub run_rest : (test : List ℕ → Bool) (input : List ℕ) (n : ℕ) (r : Run test n (drop n input)) → drop (end_of_run test n (drop n input)) input ≡ r.rest
 run_rest test input n r = rw r.end (behind_front input r.front r.rest n r.whole)
 
--- where an entry's name ends, and the blanks behind it
+-- where an entry's name ends, and the blanks after it
 abbrev pub name_end : (input : List ℕ) → ℕ → ℕ
 name_end input n = end_of_run (begins is_name_byte) (n + 1) (drop (n + 1) input)
 
 abbrev pub blanks_end : (input : List ℕ) → ℕ → ℕ
 blanks_end input n = end_of_run (begins is_blank) (name_end input n) (drop (name_end input n) input)
 
--- a name and blanks, before what is left at the offset behind them
+-- a name and blanks, before what is left at the offset after them
 pub record NameShape (input : List ℕ) (n : ℕ) : Type 0 where
   pub name : List ℕ
   pub blanks : List ℕ
@@ -312,14 +312,14 @@ entry_fault : (input : List ℕ) (n : ℕ) (events : List Event) (f : Fault) →
 unfolding entry_at
 entry_fault input n events f s read = assigned_fault s.name s.blanks input _ n (blanks_end input n) f s.name_is s.blanks_are s.whole s.end read
 
--- where a text opens otherwise, no key stands
+-- where a text opens otherwise, no key is
 no_entry : (text : List ℕ) (k : Opening) → opening_of text ≡ k → (k ≡ openings.Entry → ⊥) → (name blanks behind : List ℕ) → IsAssignment name blanks [] → text ≡ spelled_assignment name blanks behind → ⊥
 no_entry text k e other [] blanks behind is whole = let x = IsAssignment.name_is is in cc
 no_entry text k e other (b ∷ name) blanks behind is whole =
     let letter = (both_true (is_ascii_alphabetic b) (list_all is_name_byte name) (IsAssignment.name_is is)).0 in
     other (sym e ∙ ap opening_of whole ∙ letter_opens b (name ++ (blanks ++ 61 ∷ behind)) letter)
 
--- A refusal is told where no part stands, or where no value stands.
+-- A refusal is told if no part is, or if no value is.
 pub part_fault : (input : List ℕ) (n : ℕ) (wanted : Expected) (events : List Event) (f : Fault) → part_at input n wanted events ≡ Err f
     → ((record { at = n; expected = wanted } ≡ f) × NoPart (drop n input)) ⊎ ValueFaultShape input n f
 unfolding part_at

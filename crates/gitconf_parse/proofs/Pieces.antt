@@ -52,7 +52,7 @@ value_piece (b ∷ text) input first events joined from kept quoted n zero stand
     mark true eq e later = rw (e, value_from, piece_from) (rw eq (later (n + 1) true 0))
     mark false eq e later = rw (e, value_from, piece_from) (rw eq refl)
 
-    -- a line end of k bytes
+    -- a line ending of k bytes
     joint : (k : ℕ) (more : List Event) (q : Bool) → value_from first more true (n + 1 + k) (n + 1 + k) q (n + 1) k text
         ≡ value_from first more true (n + 1 + k) (n + 1 + k) q (n + 1 + k) 0 (drop (n + 1 + k) input)
     joint k more q =

@@ -32,7 +32,7 @@ plain_front quoted n (b ∷ front) rest plain =
     let e : n + 1 + length front ≡ n + length (b ∷ front) = omega arith in
     rw (other_is b both.0, piece_from) (plain_front quoted (n + 1) front rest both.1 ∙ ap (λ (k : ℕ). piece_from k quoted k 0 rest) e)
 
--- the same of a place in an input, up to the end of the run that stands there
+-- the same of a place in an input, up to the end of the run that is there
 pub plain_goes_on : (input : List ℕ) (n : ℕ) (quoted : Bool)
     → piece_from n quoted n 0 (drop n input) ≡ piece_from (run_end_at input runs.PlainBytes n) quoted (run_end_at input runs.PlainBytes n) 0 (drop (run_end_at input runs.PlainBytes n) input)
 plain_goes_on input n quoted = go (run_takes (begins is_plain) n (drop n input))

@@ -9,7 +9,7 @@ use Rattle.gitconf_text.proofs.Tests.{both_true}
 use Rattle.gitconf_text.proofs.ByteLaws.{line_end_more}
 use Rattle.gitconf_text.proofs.CommentEnds.{AllPlaces, Stops, is_comment_text}
 
--- a run and what stands behind it
+-- a run and what follows it
 pub record Run (test : List ℕ → Bool) (n : ℕ) (text : List ℕ) : Type 0 where
   pub front : List ℕ
   pub rest : List ℕ
@@ -63,7 +63,7 @@ line_ends_places (b ∷ front) rest h =
     let q = both_true (begins_line_end (b ∷ front)) (are_line_ends front) h in
     (line_end_more b front rest q.0, line_ends_places front rest q.1)
 
--- the line end at the front of a run is whole within it
+-- the line ending at the front of a run is whole within it
 pub line_end_within : (b : ℕ) (front rest : List ℕ) → begins_line_end (b ∷ (front ++ rest)) ≡ true → Stops begins_line_end rest → begins_line_end (b ∷ front) ≡ true
 line_end_within b (c ∷ front) rest h stops = h
 line_end_within b [] [] h stops = h

@@ -1,4 +1,4 @@
--- The parts one behind the other: bytes that were read already are skipped.
+-- The parts one after the other: bytes that were read already are skipped.
 use Rattle.std.proofs.Common.{◌≡◌, ℕ, zero, suc, ◌+◌, ◌-◌, ◌<◌, List, [], ◌∷◌, length, drop, get_or, Result, Ok, Err, refl, ap, sym, ◌∙◌, arith, add-zero}
 use Rattle.std.proofs.lemmas.List.{drop-drop}
 use Rattle.gitconf_items.specs.declared.event.Event.{Event}
@@ -19,12 +19,12 @@ text_from-skip input wanted events n (suc k) (b ∷ rest) =
     let e : n + 1 + k ≡ n + suc k = omega arith in
     text_from-skip input wanted events (n + 1) k rest ∙ ap (λ m. text_from input wanted events m 0 (drop k rest)) e
 
--- where no byte is left, all is read
+-- if no byte is left, all is read
 pub text_from-end : (input : List ℕ) (wanted : Expected) (events : List Event) (n : ℕ) → text_from input wanted events n 0 [] ≡ Ok events
 unfolding text_from
 text_from-end input wanted events n = refl
 
--- behind a part the text goes on at its end
+-- after a part the text goes on at its end
 pub text_from-part : (input : List ℕ) (wanted : Expected) (events : List Event) (n : ℕ) (more : List Event) (end : ℕ)
     → n < length input → n < end → part_at input n wanted events ≡ Ok (more, end)
     → text_from input wanted events n 0 (drop n input) ≡ text_from input (wanted_behind (get_or input n 0) wanted) more end 0 (drop end input)
@@ -43,7 +43,7 @@ pub text_from-fault : (input : List ℕ) (wanted : Expected) (events : List Even
 unfolding text_from
 text_from-fault input wanted events n f within read = rw (cut_at input n within, read, text_from) refl
 
--- a part's refusal, or its want of memory, is the text's
+-- a part's refusal, or running out of memory in it, is the text's
 pub gives_all : (e : ReadError) (events : List Event) (read : Read) (all : Result (List Event) Fault)
     → Gives (Err e) events read → ((f : Fault) → read ≡ Err f → all ≡ Err f) → GivesAll (Err e) events all
 gives_all errors.Memory events read all given passes = tt

@@ -29,7 +29,7 @@ quote_is b h = go (b == 34) refl
         let d = unchosen (b == 92) Backslash _ Quote (λ k. absurd (cc)) c.1 in
         absurd (white (is_whitespace b) d.1)
 
--- a backslash stands before what may be escaped
+-- a backslash comes before what may be escaped
 escape_stands : (text rest : List ℕ) → list_all is_subsection_unit (units_behind true text) ≡ true → escapes_in_subsection (text ++ rest) ≡ true
 escape_stands [] rest h = absurd (cc)
 escape_stands (b ∷ text) rest h = (both_true (not (b == 10)) _ h).0

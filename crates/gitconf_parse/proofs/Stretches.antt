@@ -1,4 +1,4 @@
--- Stretches of a text, one behind the other.
+-- Stretches of a text, one after the other.
 use Rattle.std.proofs.Common.{◌≡◌, ℕ, ◌+◌, ◌≤◌, ◌<◌, List, [], ◌∷◌, ◌++◌, length, take, drop, get_or, map, Ok, Err, refl, ap, sym, subst, ◌∙◌, arith, append_assoc, append-nil, length-append}
 use Rattle.std.specs.Prelude.{◌==◌, false, Some, None, count_by}
 use Rattle.std.proofs.lemmas.List.{length-drop}
@@ -38,11 +38,11 @@ use Rattle.gitconf_parse.proofs.TextTakes.{part_end, part_first}
 use Rattle.gitconf_parse.proofs.TokensLaws.{part_events_tokens}
 use Rattle.gitconf_parse.proofs.Whole.{stuck}
 
--- nothing stands between an offset and itself
+-- nothing is between an offset and itself
 pub no_stretch : (input : List ℕ) (n : ℕ) (wanted : Expected) → IsStretch input n wanted n wanted []
 no_stretch input n wanted = record { parts = []; whole = refl; fits = tt; to_is = omega arith; last_is = refl; tokens_are = refl }
 
--- parts stand before others
+-- parts come before others
 fit_both : (ps qs : List Part) (rest : List ℕ) → AreFit ps (spelled qs ++ rest) → AreFit qs rest → AreFit (ps ++ qs) rest
 fit_both [] qs rest first second = second
 fit_both (p ∷ ps) qs rest first second = (
@@ -57,7 +57,7 @@ wanted_both wanted (p ∷ ps) qs = wanted_both (wanted_part wanted p) ps qs
 long_both : (ps qs : List Part) → length (spelled (ps ++ qs)) ≡ length (spelled ps) + length (spelled qs)
 long_both ps qs = ap length (flat_map-append spelled_part ps qs) ∙ length-append (spelled ps) (spelled qs)
 
--- one stretch behind another
+-- one stretch after another
 pub both_stretches : (input : List ℕ) (a b c : ℕ) (u v w : Expected) (some more : List Token) → IsStretch input a u b v some → IsStretch input b v c w more → IsStretch input a u c w (some ++ more)
 both_stretches input a b c u v w some more x y =
     let long = long_both x.parts y.parts in
@@ -73,7 +73,7 @@ both_stretches input a b c u v w some more x y =
       tokens_are = ap (λ t. t ++ more) x.tokens_are ∙ ap (λ t. tokens_of x.parts ++ t) y.tokens_are ∙ sym (flat_map-append part_tokens x.parts y.parts);
     }
 
--- where a stretch stands before a break, it breaks there
+-- where a stretch comes before a break, it breaks there
 pub broken_behind : (input : List ℕ) (a b : ℕ) (u v : Expected) (some : List Token) (e : ReadError) → IsStretch input a u b v some → IsBreak input b v e → IsBreak input a u e
 broken_behind input a b u v some errors.Memory x broken = tt
 broken_behind input a b u v some (errors.Fault f) x y =
@@ -117,7 +117,7 @@ part_read input n wanted new end within read =
       subst (λ es. EventsWithin (length input) es) new_is (part_events_fit (length input) s.part [] n tt (omega (arith, within, long, left))),
     )
 
--- An item was read, where no bracket stands.
+-- An item was read, if no bracket is.
 pub item_read : (input : List ℕ) (n : ℕ) (wanted : Expected) (end : ℕ) (tokens : List Token) → n < length input → (get_or input n 0 == 91) ≡ false → IsReadTo input (part_at input n wanted []) end tokens
     → IsStretch input n wanted end wanted tokens
 item_read input n wanted end tokens within byte r =
@@ -134,7 +134,7 @@ header_refused : (input : List ℕ) (n : ℕ) (wanted : Expected) → get_or inp
 unfolding part_at
 header_refused input n wanted byte within none = rw (cut_at input n within, byte, part_at, none) refl
 
--- A header was read, where a bracket stands.
+-- A header was read, where a bracket is.
 pub header_read : (input : List ℕ) (n : ℕ) (wanted : Expected) (h : Spans) (end : ℕ) → n < length input → get_or input n 0 ≡ 91 → header_at input n ≡ Some (h, end)
     → IsStretch input n wanted end expected.Name (HeaderToken (header_of input h) ∷ []) × HeaderFits (length input) h
 header_read input n wanted h end within byte found =
@@ -198,7 +198,7 @@ header_kept : (keep : Keep) (h : Header) → tokens_kept keep (HeaderToken h ∷
 header_kept keeps.All h = refl
 header_kept keeps.Meaning h = refl
 
--- one behind another
+-- one after another
 kept_stretches : (keep : Keep) (input : List ℕ) (a b c : ℕ) (u v w : Expected) (some more : List Token) → IsKeptStretch keep input a u b v some → IsKeptStretch keep input b v c w more → IsKeptStretch keep input a u c w (some ++ more)
 kept_stretches keep input a b c u v w some more x y = record {
   tokens = x.tokens ++ y.tokens;
@@ -246,7 +246,7 @@ section_read keep input a b c d v before old new body h r y z is =
       behind = is ∙ ap (λ t. t ++ HeaderToken (header_of input h) ∷ body) r.behind ∙ append_assoc before r.more _;
     }
 
--- What stands before the first header, and then the sections were read, up to the end of the text.
+-- What comes before the first header, and then the sections were read, up to the end of the text.
 pub all_read : (keep : Keep) (input : List ℕ) (start at : ℕ) (last : Expected) (front before now : List Token) → drop start input ≡ unmarked input → before ≡ []
     → IsKeptStretch keep input start expected.SectionHeader at expected.SectionHeader front → IsReadOn keep input at (length input) last before now
     → (parts : List Part) × IsText input parts × (front ++ now ≡ tokens_kept keep (tokens_of parts))

@@ -29,7 +29,7 @@ abbrev pub after_parts : List Event → (n : ℕ) → List Part → List Event
 after_parts events n [] = events
 after_parts events n (p ∷ parts) = after_parts (after_part events n p).0 (n + length (spelled_part p)) parts
 
--- the offset behind a value
+-- the offset after a value
 value_end_is : (pieces : List Piece) (last : List ℕ) (events : List Event) (joined : Bool) (n : ℕ)
     → (value_after events joined n pieces last).1 ≡ n + length (flat_map (λ (p : Piece). p.text ++ 92 ∷ p.line_end) pieces ++ last)
 value_end_is [] last events joined n = refl
@@ -46,7 +46,7 @@ header_end (PlainHeader name) n = simp length-append (omega arith)
 header_end (DottedHeader name subsection) n = simp length-append (omega arith)
 header_end (QuotedHeader name blanks spelling) n = simp length-append (omega arith)
 
--- the offset behind a part
+-- the offset after a part
 pub part_end : (p : Part) (events : List Event) (n : ℕ) → (after_part events n p).1 ≡ n + length (spelled_part p)
 part_end (ItemPart (BlanksItem run)) events n = refl
 part_end (ItemPart (LineEndsItem run)) events n = refl
@@ -81,11 +81,11 @@ part_first (HeaderPart (PlainHeader name)) rest fits = (91, name ++ 93 ∷ [], r
 part_first (HeaderPart (DottedHeader name subsection)) rest fits = (91, _, refl, λ wanted. refl)
 part_first (HeaderPart (QuotedHeader name blanks spelling)) rest fits = (91, _, refl, λ wanted. refl)
 
--- where a byte stands, the input goes on
+-- where a byte is, the input goes on
 stands_within : (input : List ℕ) (n b : ℕ) (rest : List ℕ) → drop n input ≡ b ∷ rest → n < length input
 stands_within input n b rest stands = let long : length input - n ≡ length (b ∷ rest) = sym (length-drop n input) ∙ ap length stands in omega arith
 
--- parts are read one behind the other
+-- parts are read one after the other
 pub text_again : (parts : List Part) (rest input : List ℕ) (n : ℕ) (wanted : Expected) (events : List Event) → drop n input ≡ spelled parts ++ rest → AreFit parts rest
     → text_from input wanted events n 0 (drop n input) ≡ text_from input (wanted_after wanted parts) (after_parts events n parts) (n + length (spelled parts)) 0 (drop (n + length (spelled parts)) input)
 text_again [] rest input n wanted events stands fits = let e : n ≡ n + 0 = omega arith in ap (λ m. text_from input wanted events m 0 (drop m input)) e

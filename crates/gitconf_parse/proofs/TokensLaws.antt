@@ -20,7 +20,7 @@ use Rattle.gitconf_parse.proofs.HeaderAgain.{header_spans}
 use Rattle.gitconf_parse.proofs.PartAgain.{after_assigned, after_part}
 use Rattle.gitconf_parse.proofs.TextTakes.{after_parts}
 
--- the bytes from an offset up to another are what stands there
+-- the bytes from an offset up to another are what is there
 pub bytes_span : (input front rest : List ℕ) (n end : ℕ) → drop n input ≡ front ++ rest → n + length front ≡ end → bytes_of input (span n end) ≡ front
 bytes_span input front rest n end stands end_is = let e : end - n ≡ length front = omega arith in rw (e, stands) (take_at front rest (length front) refl)
 
@@ -40,7 +40,7 @@ blanks_tokens input [] rest events n end stands end_is = rw (le-ltb n end (omega
 blanks_tokens input (b ∷ blanks) rest events n end stands end_is =
     rw (lt-ltb n end (omega arith)) (map-append (token_of input) events _ ∙ ap (λ t. map (token_of input) events ++ WhitespaceToken t ∷ []) (bytes_span input (b ∷ blanks) rest n end stands end_is))
 
--- the tokens of a value behind its first piece, or from it on
+-- the tokens of a value after its first piece, or from it on
 abbrev pub tail_tokens : (joined : Bool) → List Piece → (last : List ℕ) → List Token
 tail_tokens joined [] last = (if joined then ValueDoneToken last else ValueToken last) ∷ []
 tail_tokens joined (p ∷ pieces) last = piece_tokens p ++ tail_tokens true pieces last

@@ -13,7 +13,7 @@ use Rattle.gitconf_items.specs.declared.event.Event.{Event}
 use Rattle.gitconf_parse.specs.Reading.{Read, value_from, value_end, span, behind, EscapeBehind}
 use Rattle.gitconf_items.specs.declared.event.Event.TheVariants as kinds
 
--- behind the last byte that isn't white, or `kept` where all are
+-- after the last byte that isn't white, or `kept` where all are
 abbrev pub kept_behind : (kept n : ℕ) → List ℕ → ℕ
 kept_behind kept n [] = kept
 kept_behind kept n (b ∷ rest) = kept_behind (elim (class_of b) [ White ↦ kept | _ ↦ n + 1 ]) (n + 1) rest
@@ -26,7 +26,7 @@ skip_of false = 0
 pub escape_behind : (b : ℕ) (rest : List ℕ) → is_value_escape b ≡ true → behind (b ∷ rest) ≡ EscapeBehind
 escape_behind b rest h = rw (apart is_value_escape 10 b refl h, apart is_value_escape 13 b refl h, h) refl
 
--- behind a backslash of paired units stands an escape
+-- after a backslash of paired units is an escape
 pub paired_escape : (text : List ℕ) (more : List TextUnit) (quoted : Bool) (rest : List ℕ) → are_paired quoted (units_behind true text ++ more) ≡ true → behind (text ++ rest) ≡ EscapeBehind
 paired_escape [] more quoted rest paired = absurd (let e = paired in cc)
 paired_escape (b ∷ text) more quoted rest paired = escape_behind b (text ++ rest) (both_true _ _ paired).0
@@ -47,7 +47,7 @@ white_is_whitespace b h =
 pub whitespace_no_escape : (b : ℕ) → is_whitespace b ≡ true → is_value_escape b ≡ true → ⊥
 whitespace_no_escape b white escape = grind (arith, nat_tests)
 
--- behind a backslash of paired units stands no white byte
+-- after a backslash of paired units is no white byte
 pub kept_paired : (text : List ℕ) (more : List TextUnit) (quoted : Bool) → are_paired quoted (units_behind true text ++ more) ≡ true
     → (kept other n : ℕ) → kept_behind kept n text ≡ kept_behind other n text
 kept_paired [] more quoted paired kept other n = absurd (let e = paired in cc)
@@ -70,7 +70,7 @@ PieceAgain escaped text rest first events joined from kept quoted n more k end a
     → ((now : Bool) → are_paired now more ≡ true → value_from first events joined from k now end 0 rest ≡ answer)
     → value_from first events joined from kept quoted n (skip_of escaped) (text ++ rest) ≡ answer
 
--- The bytes of a piece are read up to what stands behind it.
+-- The bytes of a piece are read up to what follows it.
 pub piece_again : (escaped : Bool) (text rest : List ℕ) (first : ℕ) (events : List Event) (joined : Bool) (from kept : ℕ) (quoted : Bool) (n : ℕ) (more : List TextUnit) (k end : ℕ) (answer : Read)
     → PieceAgain escaped text rest first events joined from kept quoted n more k end answer
 unfolding value_from
@@ -164,7 +164,7 @@ pub pieces_units-is : (pieces : List Piece) (last : List ℕ) → flat_map (λ (
 pieces_units-is [] last = refl
 pieces_units-is (p ∷ pieces) last = rw append_assoc (ap (λ t. units_of p.text ++ t) (pieces_units-is pieces last))
 
--- the events of a value whose first piece begins at the offset n, and the offset behind it
+-- the events of a value whose first piece begins at the offset n, and the offset after it
 abbrev pub newline_after : List Event → (n : ℕ) → List ℕ → List Event
 newline_after events n [] = events
 newline_after events n (b ∷ bytes) = events ++ kinds.Newline (span n (n + length (b ∷ bytes))) ∷ []

@@ -54,7 +54,7 @@ dark_escape : (b : ℕ) → is_white b ≡ false → (t : List ℕ) → ends is_
 dark_escape b e [] h = e
 dark_escape b e (c ∷ t) h = h
 
--- what stands behind a backslash, by its kind
+-- what follows a backslash, by its kind
 abbrev pub IsBehind : Behind → List ℕ → Type 0
 IsBehind NothingBehind text = text ≡ []
 IsBehind LineFeedBehind text = (rest : List ℕ) × (text ≡ 10 ∷ rest)

@@ -34,7 +34,7 @@ wanted_kind [] = refl
 wanted_kind (ItemPart i ∷ parts) = wanted_kind parts
 wanted_kind (HeaderPart h ∷ parts) = wanted_name parts
 
--- the line of a place behind the mark and a text
+-- the line of a place after the mark and a text
 line_at : (input front rest : List ℕ) (start at : ℕ) → count_by (λ b. b == 10) (take start input) ≡ 0 → start ≤ length input → drop start input ≡ front ++ rest → at ≡ start + length front
     → line_behind (take at input) ≡ line_behind front
 line_at input front rest start at no_line inside whole at_is =

@@ -19,11 +19,12 @@ pub record IsRead (input : List ℕ) (events : List Event) : Type 0 where
   pub tokens : map (token_of input) events ≡ tokens_of parts
   pub inside : AllByRecursion (EventFits (length input)) events
 
--- the input can't be read on where the fault is told
+-- the input can't be read on at the place that the fault gives
 pub record IsFault (input : List ℕ) (f : Fault) : Type 0 where
   pub inside : f.at ≤ length input
   pub stuck : IsStuck input (line_behind (take f.at input)) (drop f.at input) (kind_of f.expected)
 
+-- what the parser does with a text: the events are its tokens, or it can't be read on at the fault, or memory ran out
 abbrev pub IsReading : (input : List ℕ) → (events : List Event) → Result (Unit {0}) ReadError → Type 0
 IsReading input events (Ok done) = IsRead input events
 IsReading input events (Err errors.Memory) = Unit {0}
@@ -35,7 +36,7 @@ NoFault (Ok done) = Unit {0}
 NoFault (Err errors.Memory) = Unit {0}
 NoFault (Err (errors.Fault f)) = ⊥
 
--- why a text was not read: it has no document, and can't be read on where the fault is told; or memory was wanting
+-- why a text was not read: it has no document, and can't be read on at the place of the fault; or memory ran out
 abbrev pub IsMisread : (input : List ℕ) → ReadError → Type 0
 IsMisread input errors.Memory = Unit {0}
 IsMisread input (errors.Fault f) = IsFault input f × ((parts : List Part) → IsText input parts → ⊥)

@@ -1,4 +1,4 @@
--- The functional reader, which proofs alone see: the parser's steps over the bytes that are left, with absolute offsets and the
+-- The functional reader, which only proofs see: the parser's steps over the bytes that are left, with absolute offsets and the
 -- parser's own records. The grammar knows nothing of it.
 use Rattle.std.specs.Prelude.{◌≡◌, ℕ, zero, suc, ◌+◌, ◌-◌, Bool, true, false, not, List, [], ◌∷◌, ◌++◌, ◌==◌, ◌&&◌, if◌then◌else◌, Result, Ok, Err, nat_lt, drop, slice_index, Option, Some, None}
 use Rattle.gitconf_text.specs.Unit.{LineFeed, Quote, Mark, Backslash, White, Other, class_of, is_mark}
@@ -22,20 +22,21 @@ use Rattle.gitconf_parse.specs.declared.reading.value.PieceEnd.TheVariants as en
 use Rattle.gitconf_parse.specs.declared.reading.ReadError.{ReadError}
 use Rattle.gitconf_parse.specs.declared.reading.ReadError.TheVariants as errors
 
--- the events so far and the offset behind what was read, or the fault
+-- the events so far and the offset after what was read, or the fault
 abbrev pub Read : Type 0
 Read = Result (List Event × ℕ) Fault
 
--- the code's answer and the events that it leaves are those of the reader, unless memory runs out
+-- the code returns the reader's offset or fault, and leaves the reader's events, unless memory runs out
 abbrev pub Gives : Result ℕ ReadError → List Event → Read → Type 0
 Gives (Ok n) events read = read ≡ Ok (events, n)
 Gives (Err errors.Memory) events read = Unit {0}
 Gives (Err (errors.Fault f)) events read = read ≡ Err f
 
+-- the span from one offset up to another
 abbrev pub span : (from end : ℕ) → Span
 span from end = record { start = from; len = end - from }
 
--- what stands behind a backslash in a value
+-- what follows a backslash in a value
 pub data Behind : Type 0 where
   NothingBehind : Behind
   LineFeedBehind : Behind
@@ -43,6 +44,7 @@ pub data Behind : Type 0 where
   EscapeBehind : Behind
   OtherBehind : Behind
 
+-- what follows a backslash in a value, by the bytes after it
 abbrev pub behind : List ℕ → Behind
 behind [] = NothingBehind
 behind (b ∷ rest) =
@@ -50,13 +52,13 @@ behind (b ∷ rest) =
     if b == 13 && begins (λ c. c == 10) rest then CrLfBehind else
     if is_value_escape b then EscapeBehind else OtherBehind
 
--- the end of a value: its last piece, and the offset behind it
+-- the end of a value: its last piece, and the offset after it
 abbrev pub value_end : (first : ℕ) → List Event → (joined : Bool) → (from kept : ℕ) → (quoted : Bool) → Read
 value_end first events joined from kept quoted =
     if quoted then Err (record { at = first; expected = expected.Value })
     else Ok (events ++ (if joined then kinds.ValueDone (span from kept) else kinds.Value (span from kept)) ∷ [], kept)
 
--- the value that began at `first`, from the offset `n` on; `from`: where its piece began; `kept`: behind the last byte of the
+-- the value that began at `first`, read on from the offset `n`; `from`: where its piece began; `kept`: after the last byte of the
 -- piece that isn't white; `skip`: how many of the bytes were read already
 unfoldable pub value_from : (first : ℕ) → List Event → (joined : Bool) → (from kept : ℕ) → (quoted : Bool) → (n skip : ℕ) → List ℕ → Read
 value_from first events joined from kept quoted n skip [] = value_end first events joined from kept quoted
@@ -80,10 +82,11 @@ value_from first events joined from kept quoted n zero (b ∷ rest) = elim (clas
   ]
 ]
 
+-- the value that begins at an offset, whose text begins there
 abbrev pub value_at : (first : ℕ) → List Event → List ℕ → Read
 value_at first events text = value_from first events false first first false first 0 text
 
--- how the piece of a value ends that goes on at the offset `n`; `kept`: behind its last byte that isn't white; `skip`: how many
+-- how the piece of a value ends that is read on at the offset `n`; `kept`: after its last byte that isn't white; `skip`: how many
 -- of the bytes were read already
 unfoldable pub piece_from : (kept : ℕ) → (quoted : Bool) → (n skip : ℕ) → List ℕ → PieceEnd
 piece_from kept quoted n skip [] = if quoted then ends.Refused else ends.Last kept
@@ -106,7 +109,7 @@ piece_from kept quoted n zero (b ∷ rest) = elim (class_of b) [
   ]
 ]
 
--- what the value that began at `first` is read to where its piece, which began at `from`, ends so
+-- what the value that began at `first` is read to if its piece, which began at `from`, ends like this
 abbrev pub value_behind : (input : List ℕ) → (first : ℕ) → List Event → (joined : Bool) → (from : ℕ) → PieceEnd → Read
 value_behind input first events joined from (ends.Last kept) = value_end first events joined from kept false
 value_behind input first events joined from (ends.GoesOn at line_end quoted) =
@@ -119,7 +122,7 @@ value_behind input first events joined from ends.Refused = Err (record { at = fi
 abbrev pub is_plain : ℕ → Bool
 is_plain b = elim (class_of b) [ Other ↦ true | _ ↦ false ]
 
--- what a run consists of, told by the text from a byte on
+-- what a run consists of: whether the text from a byte on goes on with it
 abbrev pub run_test : Run → List ℕ → Bool
 run_test runs.Blanks text = begins is_blank text
 run_test runs.LineEnds text = begins_line_end text
@@ -128,7 +131,7 @@ run_test runs.NameBytes text = begins is_name_byte text
 run_test runs.HeaderBytes text = begins is_header_byte text
 run_test runs.PlainBytes text = begins is_plain text
 
--- the offset behind the run that stands at the offset n
+-- the offset after the run that is at the offset n
 unfoldable pub end_of_run : (List ℕ → Bool) → (n : ℕ) → List ℕ → ℕ
 end_of_run test n [] = n
 end_of_run test n (b ∷ rest) = elim (test (b ∷ rest)) [
@@ -140,11 +143,11 @@ end_of_run test n (b ∷ rest) = elim (test (b ∷ rest)) [
 abbrev pub run_end_at : (input : List ℕ) → Run → (n : ℕ) → ℕ
 run_end_at input run n = end_of_run (run_test run) n (drop n input)
 
--- the events and a blanks token, where there are blanks
+-- the events and a blanks token, if there are blanks
 abbrev pub with_blanks : List Event → (from end : ℕ) → List Event
 with_blanks events from end = if nat_lt from end then events ++ kinds.Whitespace (span from end) ∷ [] else events
 
--- what is assigned behind the blanks that follow a name
+-- what is assigned, after a name and its blanks
 unfoldable pub assigned_at : (input : List ℕ) → (n : ℕ) → List Event → Read
 assigned_at input n events = elim (begins (λ b. b == 61) (drop n input)) [
   | false ↦ Ok (events ++ kinds.Value (span n n) ∷ [], n)
@@ -160,7 +163,7 @@ entry_at input n events =
     let blanks_end = run_end_at input runs.Blanks name_end in
     assigned_at input blanks_end (with_blanks (events ++ kinds.SectionValueName (span n name_end) ∷ []) name_end blanks_end)
 
--- a byte that may stand behind a backslash in a quoted subsection
+-- whether a byte follows that may follow a backslash in a quoted subsection
 abbrev pub escapes_in_subsection : List ℕ → Bool
 escapes_in_subsection text = begins (λ b. not (b == 10)) text
 
@@ -186,7 +189,7 @@ unquoted_header input from n =
     else if nat_lt from n then Some (record { name = span from n; separator = None; subsection = None; decoded = None }, n + 1)
     else None
 
--- the header with quotes whose name ends at the offset n, where blanks may stand
+-- the header with quotes whose name ends at the offset n, where blanks may be
 unfoldable pub quoted_header : (input : List ℕ) → (from n : ℕ) → Option (Header × ℕ)
 quoted_header input from n =
     let blanks_end = run_end_at input runs.Blanks n in
@@ -199,7 +202,7 @@ quoted_header input from n =
     ]
     else None
 
--- the header whose bracket stands at the offset n, and the offset behind it
+-- the header whose bracket is at the offset n, and the offset after it
 unfoldable pub header_at : (input : List ℕ) → (n : ℕ) → Option (Header × ℕ)
 header_at input n =
     let name_end = run_end_at input runs.HeaderBytes (n + 1) in
@@ -216,7 +219,7 @@ opening_of (b ∷ rest) =
     if b == 91 then openings.Header else
     if is_ascii_alphabetic b then openings.Entry else openings.Nothing
 
--- one part, from the offset n on; wanted: what is told as looked for where none stands
+-- one part, from the offset n on; `wanted`: what is reported as looked for if there is none
 unfoldable pub part_at : (input : List ℕ) → (n : ℕ) → Expected → List Event → Read
 part_at input n wanted events = elim (opening_of (drop n input)) [
   | openings.Blanks ↦ let end = run_end_at input runs.Blanks (n + 1) in Ok (events ++ kinds.Whitespace (span n end) ∷ [], end)
@@ -232,7 +235,7 @@ part_at input n wanted events = elim (opening_of (drop n input)) [
   | openings.Nothing ↦ Err (record { at = n; expected = wanted })
 ]
 
--- what is looked for behind a part that begins with b
+-- what is looked for after a part that begins with b
 abbrev pub wanted_behind : (b : ℕ) → Expected → Expected
 wanted_behind b wanted = if b == 91 then expected.Name else wanted
 
@@ -245,7 +248,7 @@ text_from input wanted events n zero (b ∷ rest) = elim (part_at input n wanted
   | Ok read ↦ text_from input (wanted_behind b wanted) read.0 (n + 1) (read.1 - (n + 1)) rest
 ]
 
--- the code's answer and the events that it leaves are those of the reader, unless memory runs out
+-- the code leaves the reader's events or returns its fault, unless memory runs out
 abbrev pub GivesAll : Result (Unit {0}) ReadError → List Event → Result (List Event) Fault → Type 0
 GivesAll (Ok n) events read = read ≡ Ok events
 GivesAll (Err errors.Memory) events read = Unit {0}

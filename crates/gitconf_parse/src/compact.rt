@@ -1,4 +1,4 @@
-//! Events in 12 bytes each: headers, which take more, stand in a list of their own.
+//! Events in 12 bytes each: headers, which take more, are in a list of their own.
 ghost use Rattle.std.specs.Prelude.{◌≡◌, ◌∷◌, ◌++◌, [], true, ◌<◌, ◌≤◌, MatchOption, get_or, length, map, take, drop, OnOk, IfOk};
 ghost use Rattle.gitconf_parse.specs.Compact as spec;
 ghost use Rattle.gitconf_parse.specs.Compact.{no_header, is_kept_header};
@@ -43,7 +43,7 @@ fn header_at(headers: &[Header], place: u32) -> Header
     }
 }
 
-/// The event that is kept so.
+/// The event that is kept in this form.
 #[inline(always)]
 fn event_at(headers: &[Header], kept: Compact) -> Event
     ensures { result ≡ spec.event_at headers.now kept }
@@ -61,7 +61,7 @@ fn event_at(headers: &[Header], kept: Compact) -> Event
     }
 }
 
-/// Whether what is kept so is a header.
+/// Whether a header is kept in this form.
 #[inline(always)]
 fn is_header(kept: Compact) -> bool
     ensures { result ≡ is_kept_header kept }
@@ -69,7 +69,7 @@ fn is_header(kept: Compact) -> bool
     matches!(kept, Compact::SectionHeader(_))
 }
 
-/// How many stand before the first header.
+/// How many come before the first header.
 fn front_len(list: &[Compact]) -> usize
     ensures within { result ≤ length list.now }
     ensures front { take result list.now ≡ front_of is_kept_header list.now }
@@ -83,7 +83,7 @@ fn front_len(list: &[Compact]) -> usize
     len
 }
 
-/// Events one behind the other.
+/// Events one after the other.
 #[derive(Clone, Copy, Debug)]
 pub struct EventSlice<'e> {
     list: &'e [Compact],
@@ -95,7 +95,7 @@ impl<'e> EventSlice<'e> {
     ghost use Rattle.gitconf_parse.specs.Compact.{events_of, IsSectionFirst};
     ghost use Rattle.gitconf_items.specs.Sections.{front_of, sections_of, is_header_event, is_cut};
 
-    /// How many they are.
+    /// How many events there are.
     #[inline(always)]
     pub fn len(self) -> usize
         ensures { result ≡ length (events_of self.entry) }
@@ -103,7 +103,7 @@ impl<'e> EventSlice<'e> {
         self.list.len()
     }
 
-    /// The first event, and those behind it.
+    /// The first event, and those after it; `None` if there is none.
     #[inline(always)]
     pub fn split_first(self) -> Option<(Event, EventSlice<'e>)>
         ensures cases { MatchOption result (events_of self.entry ≡ []) (λ r. events_of self.entry ≡ r.0 ∷ events_of r.1) }
@@ -117,7 +117,7 @@ impl<'e> EventSlice<'e> {
         Some((event_at(self.headers, *first), behind))
     }
 
-    /// So many events, and those behind them.
+    /// The first `count` events, and those after them.
     pub fn split_at(self, count: usize) -> (EventSlice<'e>, EventSlice<'e>)
         requires { count ≤ length (events_of self) }
         ensures front { events_of result.0 ≡ take count (events_of self.entry) }
@@ -145,7 +145,7 @@ impl<'e> EventSlice<'e> {
         self.split_at(front_len(self.list))
     }
 
-    /// The first event with those behind it up to the next header, and the others.
+    /// The first event with those after it up to the next header, and the rest; `None` if there is no event.
     pub fn split_section(self) -> Option<(EventSlice<'e>, EventSlice<'e>)>
         ensures { MatchOption result (events_of self.entry ≡ []) (λ r. IsSectionFirst (events_of self.entry) (events_of r.0) (events_of r.1)) }
     {
@@ -154,7 +154,7 @@ impl<'e> EventSlice<'e> {
     }
 }
 
-/// Events that grow by one behind the other.
+/// A list of events, to which events are added at its end.
 #[derive(Debug, Drop)]
 pub struct EventVec {
     list: Vec<Compact>,
@@ -201,11 +201,11 @@ impl EventVec {
         }
     }
 
-    /// Adds an event behind the others.
+    /// Adds an event after the others.
     ///
     /// # Errors
     ///
-    /// Want of memory, also for more than 4294967295 headers.
+    /// Out of memory, or there would be more than 4294967295 headers.
     #[inline(always)]
     pub fn push(&mut self, event: Event) -> Result<(), NoMemory>
         ensures { OnOk result (self.new ≡ self.old ++ event ∷ []) }
@@ -240,11 +240,11 @@ impl EventVec {
         Ok(())
     }
 
-    /// The same events, each header with the place of its subsection's copy where that isn't what is spelled.
+    /// The same events, each header with the place of its subsection's decoded copy, if that isn't what is spelled.
     ///
     /// # Errors
     ///
-    /// Want of memory for a copy.
+    /// Out of memory for a copy.
     pub fn decoded(self, buffer: &[u8], copies: &mut Vec<u8>) -> Result<EventVec, NoMemory>
         requires { AllByRecursion (EventFits (length buffer.now)) self }
         ensures tokens { IfOk result (λ r. map (token_of buffer.now) r ≡ map (token_of buffer.now) self) }
@@ -256,11 +256,11 @@ impl EventVec {
         Ok(EventVec { list, headers })
     }
 
-    /// The same events again.
+    /// A copy of the events.
     ///
     /// # Errors
     ///
-    /// Want of memory.
+    /// Out of memory.
     pub fn try_clone(&self) -> Result<EventVec, NoMemory>
         ensures { IfOk result (λ events. events ≡ self.now) }
     {

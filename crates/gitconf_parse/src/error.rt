@@ -11,7 +11,7 @@ use std::fmt::Write;
 use std::marker::Model;
 use std::{fmt, str};
 
-/// Why the parser refused a text: no token that it knows begins there, the text is too large, or memory was wanting.
+/// Why the parser refused a text: at some place no token begins that it knows, the text is too large, or memory ran out.
 #[derive(Debug, Drop)]
 pub struct Error {
     cause: Cause,
@@ -41,7 +41,7 @@ impl Model for Error {
 impl Error {
     ghost use Rattle.std.specs.Prelude.{◌==◌};
 
-    /// Refusal 1: from `remaining` on, in this line, no token can be read. It is for the crates above this one.
+    /// Refusal 1: at `remaining`, which begins in this line, no token can be read. It is for the crates above this one.
     pub fn unexpected(line_number: usize, expected: Expected, remaining: Vec<u8>) -> Error
         ensures { result ≡ unexpected_token line_number expected remaining.items }
     {
@@ -72,7 +72,7 @@ impl Error {
         }
     }
 
-    /// The refusal's number: 1 where no token can be read, 2 where the input is too large, and 27 where memory was wanting.
+    /// The refusal's number: 1 if no token can be read, 2 if the input is too large, and 27 when memory ran out.
     pub fn number(&self) -> u8
         ensures { result ≡ self.now.number }
     {
@@ -83,14 +83,14 @@ impl Error {
         }
     }
 
-    /// Whether memory was wanting. It is for the crates above this one, whose own errors have a case for that.
+    /// Whether memory ran out. It is for the crates above this one, whose own errors have a case for that.
     pub fn is_memory(&self) -> bool
         ensures { result ≡ (self.now.number == 27) }
     {
         matches!(&self.cause, Cause::Memory)
     }
 
-    /// The line in which the remaining data begins, counted from 1. It is 1 but for refusal 1.
+    /// The line in which the remaining data begins, counted from 1. It is 1 except for refusal 1.
     pub const fn line_number(&self) -> usize
         ensures { result ≡ self.now.line }
     {
@@ -100,7 +100,7 @@ impl Error {
         }
     }
 
-    /// The text from the token on that could not be read. It is empty but for refusal 1.
+    /// The text from the token on that could not be read. It is empty except for refusal 1.
     pub fn remaining_data(&self) -> &[u8]
         ensures { result.now ≡ self.now.data }
     {
@@ -110,7 +110,7 @@ impl Error {
         }
     }
 
-    /// What was looked for: `section header`, `name` or `value`. It is empty but for refusal 1.
+    /// What was looked for: `section header`, `name` or `value`. It is empty except for refusal 1.
     pub fn kind(&self) -> &str
         ensures { result.now ≡ self.now.kind }
     {
@@ -120,7 +120,7 @@ impl Error {
         }
     }
 
-    /// The length of an input that is too large; 0 but for refusal 2.
+    /// The length of an input that is too large; 0 except for refusal 2.
     fn size(&self) -> usize
         ensures { result ≡ self.now.size }
     {
@@ -185,8 +185,8 @@ impl fmt::Display for Error {
 /// How many characters of a long text are shown.
 const SHOWN: usize = 10;
 
-/// Text in quotes, of a long one the first characters and how many bytes it has above their number. Data that isn't
-/// UTF-8 is shown whole, without quotes, and with U+FFFD for what is no character.
+/// A text in quotes; of a long one the first characters, and how many bytes it has above their number. Data that isn't
+/// UTF-8 is shown whole, without quotes, with U+FFFD for what isn't UTF-8.
 fn write_remaining<W: fmt::Write>(remaining: &[u8], f: &mut fmt::Formatter<W>) -> fmt::Result {
     let Ok(text) = str::from_utf8(remaining) else {
         let shown = BStr::new(remaining);

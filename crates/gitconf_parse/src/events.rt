@@ -68,7 +68,7 @@ pub fn check_len(len: usize) -> Result<(), Error>
     Ok(())
 }
 
-/// The refusal of a text that can't be read from a place on.
+/// The refusal of a text that can't be read on at a fault.
 pub(crate) fn refusal(alloc: Global, input: &[u8], fault: Fault) -> Error
     requires { fault.at ≤ length input.now }
     ensures { IsRefusal input.now fault result }
@@ -88,14 +88,14 @@ fn copied(alloc: Global, input: &[u8]) -> Result<Vec<u8>, NoMemory>
     Ok(Vec::from_slice(alloc, input)?)
 }
 
-/// How many bytes more a copy with room takes before it grows: some edits of a text.
+/// How much room, in bytes, a copy has for more: enough for some edits of the text.
 const ROOM: usize = 4096;
 
-/// A copy of a text with room behind it, so that a first edit copies nothing.
+/// A copy of a text with room after it, so that the first edits copy nothing.
 ///
 /// # Errors
 ///
-/// Want of memory.
+/// Out of memory.
 pub fn copied_with_room(alloc: Global, input: &[u8]) -> Result<Vec<u8>, NoMemory>
     ensures items { IfOk result (λ copy. copy.items ≡ input.now) }
 {
@@ -156,7 +156,7 @@ impl Events {
     fn filtered(self, alloc: Global, filter: fn(&EventRef<'_>) -> bool) -> Result<Events, NoMemory>
         requires callable { IsAlwaysCallable filter }
         requires entries { self.keeps_entries ≡ true }
-        // With a filter that answers by what it is shown.
+        // With a filter whose result depends only on what it is shown.
         ensures filtered { IfOk result (λ e. (p : Shown → Bool) → ((r : _) (b : Bool) → post filter r b → b ≡ p (shown r.now)) → IsFiltered p self e) }
         // With any filter.
         ensures selected { IfOk result (λ e. (input : List ℕ) → IsSelected input self → IsSelected input e) }
@@ -179,12 +179,12 @@ impl Events {
     /// The events of a text, all of them or those that `filter` keeps; headers are always kept.
     ///
     /// The text is read once. The filter is asked about each other event, in order, once the whole text was read.
-    /// The answer has a copy of the text.
+    /// The result has a copy of the text.
     ///
     /// # Errors
     ///
-    /// Refusal 1 where the text has no document, with the line and the data from where it can't be read on; refusal 2 for
-    /// more than 4294967295 bytes; refusal 27 for want of memory.
+    /// Refusal 1 if the text has no document, with the line and the data from where it can't be read on; refusal 2 for
+    /// more than 4294967295 bytes; refusal 27 when out of memory.
     #[tactic(auto, using(crate::proofs::Filtering::filtering, gitconf_items::proofs::Selections::whole_selected))]
     pub fn from_bytes(
         alloc: Global,
@@ -192,7 +192,7 @@ impl Events {
         filter: Option<fn(&EventRef<'_>) -> bool>,
     ) -> Result<Events, Error>
         requires { ForSome filter (λ f. IsAlwaysCallable f) }
-        // With a filter that answers by what it is shown, and none is one that keeps all.
+        // With a filter whose result depends only on what it is shown; without a filter all are kept.
         ensures parsed { IfOk result (λ events. (p : Shown → Bool) → ForSome filter (λ f. (e : _) (b : Bool) → post f e b → b ≡ p (shown e.now))
             → ForNone filter ((s : Shown) → p s ≡ true) → IsParsed p input.now events) }
         ensures whole { IsNone filter → IfOk result (IsWhole input.now) }
@@ -223,15 +223,15 @@ impl Events {
         Events::whole(alloc, input.as_bytes())
     }
 
-    /// The text, and the items of what was kept before its first header; the sections are handed over in order. All spans are
+    /// The text, and the kept items before its first header; the sections are handed over in order. All spans are
     /// offsets of the text, and the tokens of both are those that were kept.
     ///
-    /// It asks that these are the tokens of some parts of a text; they are where `keeps_entries` is true, by
+    /// It requires that these are the tokens of some parts of a text; they are if `keeps_entries` is true, by
     /// `laws::kept_entries_make_items`. One pass, and no byte is copied; memory is taken as by `loading::read_sections`.
     ///
     /// # Errors
     ///
-    /// Want of memory. Some sections may have been handed over.
+    /// Out of memory. Some sections may have been handed over.
     #[tactic(auto, using(gitconf_items::proofs::GroupLaws::tokens_items))]
     pub fn into_sections<S: SectionSink>(
         self,
@@ -276,17 +276,17 @@ impl Events {
     /// Whether the filter kept every name, separator, value and piece of a value.
     pub fn keeps_entries(&self) -> bool
         ensures value { result ≡ self.now.keeps_entries }
-        // What was kept are tokens of a text: all headers, and all that make entries where the answer is true.
+        // What was kept are tokens of a text: all headers, and, if the result is true, all that make entries.
         ensures text { (input : List ℕ) × IsSelected input self.now }
     {
         self.keeps_entries
     }
 
-    /// The same events again, with a text of their own.
+    /// A copy of the events, with a copy of the text.
     ///
     /// # Errors
     ///
-    /// Memory was wanting.
+    /// Out of memory.
     pub fn try_clone(&self) -> Result<Events, NoMemory>
         ensures { IfOk result (λ events. events ≡ self.now) }
     {

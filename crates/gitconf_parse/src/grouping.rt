@@ -1,4 +1,4 @@
-//! Items of events.
+//! Events grouped to items.
 ghost use Rattle.std.specs.Prelude.{◌≡◌, ◌≤◌, ◌∷◌, ◌++◌, [], true, false, length, map, IfOk, OnOk};
 ghost use Rattle.gitconf_text.specs.Token.{WhitespaceToken, NewlineToken, ValueNotDoneToken, item_tokens, assigned_tokens, filled};
 ghost use Rattle.gitconf_items.specs.Events.{bytes_of, token_of, SpanFits, EventFits};
@@ -21,7 +21,7 @@ use std::alloc::Global;
 
 const NOTHING: Span = Span { start: 0, len: 0 };
 
-/// The blanks that the events begin with, or no bytes, and the events behind them.
+/// The blanks that the events begin with, or no bytes, and the events after them.
 fn blanks_first<'e>(buffer: &[u8], events: EventSlice<'e>) -> (Span, EventSlice<'e>)
     requires within { EventsWithin (length buffer.now) (events_of events) }
     ensures name { are_items BehindName (map (token_of buffer.now) (events_of events.entry)) ≡ true → AreBehind BehindNameBlanks
@@ -37,7 +37,7 @@ fn blanks_first<'e>(buffer: &[u8], events: EventSlice<'e>) -> (Span, EventSlice<
     }
 }
 
-/// The line end that the events begin with, or no bytes, and the events behind it.
+/// The line ending that the events begin with, or no bytes, and the events after it.
 fn line_end_first<'e>(buffer: &[u8], events: EventSlice<'e>) -> (Span, EventSlice<'e>)
     requires items { are_items BehindPiece (map (token_of buffer.now) (events_of events)) ≡ true }
     requires within { EventsWithin (length buffer.now) (events_of events) }
@@ -53,7 +53,7 @@ fn line_end_first<'e>(buffer: &[u8], events: EventSlice<'e>) -> (Span, EventSlic
     }
 }
 
-/// A value that begins with a piece of this text, and the events behind it.
+/// A value that begins with a piece of this text, and the events after it.
 fn pieces_first<'e>(
     alloc: Global,
     buffer: &[u8],
@@ -87,7 +87,7 @@ fn pieces_first<'e>(
     }
 }
 
-/// The value that the events begin with, and the events behind it.
+/// The value that the events begin with, and the events after it.
 fn value_first<'e>(
     alloc: Global,
     buffer: &[u8],
@@ -112,7 +112,7 @@ fn value_first<'e>(
     }
 }
 
-/// What the events behind a name assign, and the events behind that.
+/// What the events after a name assign, and the events after that.
 fn assigned_first<'e>(
     alloc: Global,
     buffer: &[u8],
@@ -135,7 +135,7 @@ fn assigned_first<'e>(
     }
 }
 
-/// The item of the first event, which is no header, and of some behind it, and the others behind these.
+/// The item of the first event, which is not a header, and of some after it, and the events after these.
 fn item_first<'e>(
     alloc: Global,
     buffer: &[u8],
@@ -168,7 +168,7 @@ fn item_first<'e>(
     }
 }
 
-/// Adds the items that the events begin with, up to a header or the end, and answers the events behind them.
+/// Adds the items that the events begin with, up to a header or the end, and returns the events after them.
 fn push_items<'e>(
     alloc: Global,
     buffer: &[u8],
@@ -195,7 +195,7 @@ fn push_items<'e>(
     Ok(rest)
 }
 
-/// Hands over the sections that the events are, in order; their spans are offsets of the buffer. The items of each go through
+/// Hands over the sections that the events are, in order; their spans are offsets of the buffer. The items of each section go through
 /// `scratch`.
 fn push_sections<S: SectionSink>(
     alloc: Global,
@@ -221,13 +221,13 @@ fn push_sections<S: SectionSink>(
 }
 
 /// The items of events before their first header; the sections are handed over in order. All spans are offsets of the buffer,
-/// and the tokens of both are the events' again.
+/// and the tokens of both are those of the events.
 ///
 /// One pass, without a copy of a byte.
 ///
 /// # Errors
 ///
-/// Want of memory.
+/// Out of memory.
 pub(crate) fn grouped<S: SectionSink>(
     alloc: Global,
     buffer: &[u8],

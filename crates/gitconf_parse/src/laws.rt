@@ -11,7 +11,7 @@ ghost use Rattle.gitconf_items.specs.EventRef.{Shown, escaped_subsection};
 ghost use Rattle.gitconf_items.specs.EventList.{EventList, IsParsed, IsSelected, IsSelection, IsWhole, keeps_token};
 ghost use Rattle.gitconf_items.specs.TokenDocument.{SayDocument, keeps_meaning};
 
-/// A subsection without LF that is spelled in quotes, with `"` and `\` each behind a backslash, may stand in a header,
+/// A subsection without LF, spelled in quotes with a backslash before each `"` and `\`, may be in a header,
 /// and is read back as it was.
 pub fn escaped_subsection_reads_back()
     ensures fits { (s : List ℕ) → list_all (λ b. not (b == 10)) s ≡ true → is_spelling (escaped_subsection s) ≡ true }
@@ -24,18 +24,18 @@ pub fn one_document()
     ensures tokens { (text : List ℕ) (parts others : List Part) → IsText text parts → IsText text others → tokens_of parts ≡ tokens_of others }
 {}
 
-/// A text is stuck at one place alone: in one line, before one rest, and one kind of token was looked for there.
+/// A text can't be read on at one place only: in one line, before one rest, and one kind of token was looked for there.
 pub fn stuck_at_one_place()
     ensures { (text : List ℕ) (line other : ℕ) (rest rest_too kind kind_too : List ℕ) → IsStuck text line rest kind → IsStuck text other rest_too kind_too
         → (line ≡ other) × (rest ≡ rest_too) × (kind ≡ kind_too) }
 {}
 
-/// The tokens of a text, joined as they are spelled, give the text without its mark.
+/// The tokens of a text, spelled one after the other, give the text without its mark.
 pub fn tokens_join()
     ensures { (text : List ℕ) (parts : List Part) → IsText text parts → flat_map spelled_token (tokens_of parts) ≡ unmarked text }
 {}
 
-/// Parts with the same tokens have the same document. The tokens that are left of a text without blanks, line ends and
+/// Parts with the same tokens have the same document. The tokens that are left of a text without blanks, line endings and
 /// comments, all of these or some, are those of parts with the text's document.
 pub fn lossy_tokens_have_the_document()
     ensures one { (parts others : List Part) → tokens_of parts ≡ tokens_of others → gathered parts ≡ gathered others }
@@ -43,7 +43,7 @@ pub fn lossy_tokens_have_the_document()
     ensures selected { (parts : List Part) (tokens : List Token) → IsSelection true (tokens_of parts) tokens → SayDocument tokens (gathered parts) }
 {}
 
-/// Events of a text are the tokens of parts, and so make items by section, without a filter, and with any that kept each name, separator
+/// Events of a text are the tokens of parts, and so make items by section, without a filter or with any that keeps each name, separator
 /// and value.
 pub fn kept_entries_make_items()
     ensures whole { (text : List ℕ) (list : EventList) → IsWhole text list → (parts : List Part) × (list.tokens ≡ tokens_of parts) }

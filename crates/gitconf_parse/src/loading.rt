@@ -21,7 +21,7 @@ use gitconf_items::items::{Item, Keep};
 use gitconf_items::section_sink::SectionSink;
 use std::alloc::Global;
 
-/// Hands over the sections from the first header on, each with what is kept of its items, as soon as it is read. The items of each go
+/// Hands over the sections from the first header on, each with the items that are kept of it, as soon as it is read. The items of each go
 /// through `scratch`.
 fn push_sections<S: SectionSink>(
     alloc: Global,
@@ -52,7 +52,7 @@ fn push_sections<S: SectionSink>(
     Ok(())
 }
 
-/// What is kept of the items before the first header; the sections are handed over as they are read.
+/// The items that are kept before the first header; the sections are handed over as they are read.
 fn read_items<S: SectionSink>(
     alloc: Global,
     input: &[u8],
@@ -83,17 +83,17 @@ fn read_items<S: SectionSink>(
     Ok(front)
 }
 
-/// What is kept of the items of a text before its first header; its sections are handed over in order, each with what is kept of
-/// its items, as soon as it is read. All spans are offsets of the text.
+/// The items that are kept of a text before its first header; its sections are handed over in order, each with the items that are kept of
+/// it, as soon as it is read. All spans are offsets of the text.
 ///
 /// The text is read once, section by section. Memory is taken for one list that holds the items of a section until they are handed
-/// over, so for those of the longest section; for the items before the first header where they are more than four; and for what the
+/// over, so for those of the longest section; for the items before the first header if there are more than four; and for what the
 /// sections are handed over to.
 ///
 /// # Errors
 ///
-/// Refusal 1 where the text has no document, with the line and the data from where it can't be read on; refusal 27 for
-/// want of memory. Some sections may have been handed over.
+/// Refusal 1 if the text has no document, with the line and the data from where it can't be read on; refusal 27 when
+/// out of memory. Some sections may have been handed over.
 pub fn read_sections<S: SectionSink>(
     alloc: Global,
     input: &[u8],

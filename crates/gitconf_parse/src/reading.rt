@@ -1,4 +1,4 @@
-//! The parser's cursor: each function reads at an offset of the text, adds its events, and answers the offset behind what it read.
+//! The parser's cursor: each function reads at an offset of the text, adds its events, and returns the offset after what it read.
 ghost use Rattle.std.specs.Prelude.{◌≡◌, ◌≤◌, ◌<◌, ◌^◌, ◌==◌, List, [], length, take, drop, count_by};
 ghost use Rattle.gitconf_text.specs.Part.{Part};
 ghost use Rattle.gitconf_text.specs.Document.{unmarked, IsText};
@@ -21,10 +21,13 @@ pub enum Expected {
 /// Where the text was refused.
 #[derive(Clone, Copy, Debug, PartialEq, Eq)]
 pub struct Fault {
+    /// The offset, in bytes, from which on nothing can be read.
     pub at: usize,
+    /// What was looked for there.
     pub expected: Expected,
 }
 
+/// Why a text was not read: a fault of it, or out of memory.
 #[derive(Clone, Copy, Debug, PartialEq, Eq)]
 pub enum ReadError {
     Memory,
@@ -68,8 +71,8 @@ pub fn mark_len(input: &[u8]) -> usize
     }
 }
 
-/// Reads the text into `events`, which hold nothing before: they are its tokens where it has a document, and else the
-/// refusal tells where and why it has none. One pass.
+/// Reads the text into `events`, which are empty before: they are its tokens if it has a document, otherwise the
+/// error says where and why it has none. One pass.
 pub fn read(input: &[u8], events: &mut EventVec) -> Result<(), ReadError>
     requires fits { length input.now < 2 ^ 32 }
     requires empty { events.old ≡ [] }

@@ -1,4 +1,4 @@
-//! Events that stand alone: what each is written as, and shown as.
+//! Events made by hand: what each is written as, and shown as.
 
 use gitconf_items::event_ref::EventRef;
 use std::alloc::Global;
@@ -20,7 +20,7 @@ fn is_written(alloc: Global, event: EventRef<'_>, bytes: &[u8], text: &str) -> R
     )
 }
 
-/// Events, also such as no text has: the bytes that each is written as, and the text that it is shown as.
+/// Events, even such as no text has: the bytes that each is written as, and the text that it is shown as.
 #[test]
 fn events_alone(rt: HostRuntime) -> Result<(), Fail> {
     let rows: [(EventRef<'static>, &[u8], &str); 8] = [
@@ -86,7 +86,7 @@ fn headers_alone(rt: HostRuntime) -> Result<(), Fail> {
     Ok(())
 }
 
-/// A header that isn't in UTF-8 is shown otherwise.
+/// A header that isn't UTF-8 is shown differently.
 #[test]
 fn a_header_not_in_utf8(rt: HostRuntime) -> Result<(), Fail> {
     let header: Header = (b"a", Some(b" "), Some(b"\xc3\xa4\"\xff\xe2\x82\""));

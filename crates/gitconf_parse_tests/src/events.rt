@@ -13,7 +13,7 @@ pub fn read(alloc: Global, text: &[u8]) -> Result<Events, Fail> {
     Ok(Events::from_bytes(alloc, text, None)?)
 }
 
-/// What the events write, all in a row.
+/// What the events write, one after the other.
 pub fn written(alloc: Global, events: EventIter<'_>) -> Result<Vec<u8>, Fail> {
     let mut out = Vec::new(alloc);
     for event in events {
@@ -74,7 +74,7 @@ fn events_are_cut_at_headers_and_copied(rt: HostRuntime) -> Result<(), Fail> {
     Ok(())
 }
 
-/// What is left without values tells the same of itself as a copy. Which texts lose an entry so is told by rows.
+/// What is left without values says the same of itself as its copy does. Rows say which texts lose an entry so.
 #[test]
 fn a_copy_of_events_that_are_left(rt: HostRuntime) -> Result<(), Fail> {
     assert!(rt; is_kept_without_values(rt.alloc(), b"[a]\r\nk = v\\\nw")?);
@@ -82,7 +82,7 @@ fn a_copy_of_events_that_are_left(rt: HostRuntime) -> Result<(), Fail> {
     Ok(())
 }
 
-/// Characters are read as bytes are.
+/// Characters are read as their bytes are.
 #[test]
 fn characters(rt: HostRuntime) -> Result<(), Fail> {
     let events = Events::from_str(rt.alloc(), str::from_utf8(TEXT)?)?;
@@ -90,7 +90,7 @@ fn characters(rt: HostRuntime) -> Result<(), Fail> {
     Ok(())
 }
 
-/// And refused as bytes are.
+/// And refused as their bytes are.
 #[test]
 fn refused_characters(rt: HostRuntime) {
     let told = Events::from_str(rt.alloc(), "[a] k$rest of line").err();
@@ -98,7 +98,7 @@ fn refused_characters(rt: HostRuntime) {
     assert!(rt; told.is_some() && told == again);
 }
 
-/// How many events are left. A loop, since `count` asks that the number fits, which is not told of events here.
+/// How many events are left. A loop, since `count` requires that the number fits, which isn't known of events here.
 fn number_of(events: EventIter) -> usize {
     let mut number: usize = 0;
     for _ in events {
@@ -107,7 +107,7 @@ fn number_of(events: EventIter) -> usize {
     number
 }
 
-/// How many events stand before the first section, how many in all sections, and whether all entries are among them.
+/// How many events come before the first section, how many in all sections, and whether all entries are among them.
 fn counts(events: &Events) -> (usize, usize, bool) {
     let mut in_sections: usize = 0;
     for section in events.sections() {

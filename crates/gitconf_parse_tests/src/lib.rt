@@ -1,5 +1,5 @@
 //! Tests of events: what they write, texts of refusals, the limit of spans, writers that fail, and growths that are refused in
-//! calls that no command makes. Beside them stand the text and the writer that the tests of files use too.
+//! calls that no command makes. Also the text and the writer that the tests of files use too.
 #![tactic(auto)]
 
 #[cfg(test)]

@@ -67,7 +67,7 @@ fn is_written<F: Fn(&mut Narrow) -> Result<(), SinkFault>>(
     answer == Ok(()) && out.taken.as_slice() == text && out.failures == 0
 }
 
-/// Whether a writer with less room answers the fault once, and took what fits of the text.
+/// Whether a writer with less room returns the fault once, and took what fits of the text.
 fn is_cut_off<F: Fn(&mut Narrow) -> Result<(), SinkFault>>(
     text: &[u8],
     mut out: Narrow,
@@ -80,7 +80,7 @@ fn is_cut_off<F: Fn(&mut Narrow) -> Result<(), SinkFault>>(
     answer == Err(SinkFault) && text.get(..room) == Some(out.taken.as_slice()) && out.failures == 1
 }
 
-/// A writer with enough room gets the whole text, however little it takes at a time; one with less room answers the
+/// A writer with enough room gets the whole text, however little it takes at a time; one with less room returns the
 /// fault once, and took what fits of the text.
 pub fn check<F: Fn(&mut Narrow) -> Result<(), SinkFault>>(
     alloc: Global,

@@ -53,7 +53,7 @@ fn events(rt: HostRuntime) -> Result<(), Fail> {
     each_refused(rt.alloc(), "a copy of events", events_copied)
 }
 
-/// How many items stand in all sections.
+/// How many items are in all sections.
 fn items_in(sections: &[Section]) -> usize {
     let mut count: usize = 0;
     for section in sections {

@@ -5,7 +5,7 @@
 pub const TEXT: &[u8] =
     b"\xef\xbb\xbf# x\n; y\r\nf = 0\n[core] # c\n\tk = v\n j\n\tlong = a \\\n  b \\\r\n c ; end\ne = \"x\\ty\" z\n[remote \"or\\\"igin\"]\nurl=u\r\n[Branch.Main]\n  m = 1 # d\n";
 
-/// What is printed of it: nothing but its mark is left out.
+/// What is printed of it: only its mark is left out.
 pub const PRINTED: &[u8] =
     b"# x\n; y\r\nf = 0\n[core] # c\n\tk = v\n j\n\tlong = a \\\n  b \\\r\n c ; end\ne = \"x\\ty\" z\n[remote \"or\\\"igin\"]\nurl=u\r\n[Branch.Main]\n  m = 1 # d\n";
 

@@ -1,4 +1,4 @@
--- Places by what is answered for variables.
+-- Places by what is returned for variables.
 use Rattle.std.proofs.Common.{◌≡◌, ℕ, true, cond, List, Option, Some, None, refl, ap, sym, ◌∙◌}
 use Rattle.std.specs.Str.{bytes_eq}
 use Rattle.gitconf_host.specs.Told.{VariableTold, NotSet, HasText}

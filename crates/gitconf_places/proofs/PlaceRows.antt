@@ -1,4 +1,4 @@
--- Where the configuration of single sources stands, by computation.
+-- Where the configuration of single sources is, by computation.
 use Prim.Native.String.{String}
 use Rattle.std.proofs.Common.{◌≡◌, ℕ, cond, List, Some, None, refl, ap, codes, string_bytes}
 use Rattle.std.specs.Option.{option_map}

@@ -1,6 +1,6 @@
--- Where the configuration of each source stands, by the variables of the environment and the places that a program knows.
--- Source: git-config's manual page, under "FILES" and "ENVIRONMENT". That what is no text and an empty XDG_CONFIG_HOME count as unset are
--- this project's own rules.
+-- Where the configuration of each source is, by the variables of the environment and the places that a program knows.
+-- Source: git-config's manual page, under "FILES" and "ENVIRONMENT". That a variable that isn't UTF-8 and an empty XDG_CONFIG_HOME count
+-- as unset are this project's own rules.
 use Rattle.std.specs.Prelude.{◌≡◌, ℕ, Bool, false, List, [], ◌∷◌, Option, Some, None, codes, if◌then◌else◌, string_bytes}
 use Rattle.std.specs.Option.{option_map, option_or, unwrap_or}
 use Rattle.gitconf_text.specs.Typed.{boolean_of}
@@ -11,13 +11,13 @@ use Rattle.gitconf_host.specs.Told.{VariableTold, NotSet, HasText, NoText}
 pub use Rattle.gitconf_host.specs.Told.{May}
 use Rattle.gitconf_host.specs.declared.host.Places.{Places}
 
--- the text that a variable is set to; what is no text counts as unset
+-- the text that a variable is set to; bytes that aren't UTF-8 count as unset
 abbrev pub text_told : VariableTold → Option (List ℕ)
 text_told NotSet = None
 text_told (HasText text) = Some text
 text_told NoText = None
 
--- whether a text is a true boolean; what is no boolean counts as false
+-- whether a text is a true boolean; one that is not a boolean counts as false
 abbrev pub is_true : (text : List ℕ) → Bool
 is_true text = unwrap_or (boolean_of text) false
 
@@ -31,39 +31,39 @@ unless_empty None = None
 unless_empty (Some []) = None
 unless_empty (Some (b ∷ text)) = Some (b ∷ text)
 
--- a file in a folder, if there is one
+-- the path of a file in a folder, if there is a folder
 abbrev pub in_folder : (file : List ℕ) → (folder : Option (List ℕ)) → Option (List ℕ)
 in_folder file folder = option_map (λ f. join f file) folder
 
--- what was installed with Git, unless that is switched off
+-- the path of what was installed with Git, unless that is switched off
 abbrev pub installation_place : Places → (off : Option (List ℕ)) → Option (List ℕ)
 installation_place places off = if is_on off then None else option_map string_bytes places.installation_config
 
--- the whole machine's, by the variable for it, or below the prefix
+-- the path of the machine's configuration, by its variable, otherwise below the prefix
 abbrev pub machine_place : Places → (system : Option (List ℕ)) → Option (List ℕ)
 machine_place places system = option_or system (Some (join (string_bytes places.system_prefix) (codes "etc/gitconfig")))
 
--- the same, unless that is switched off
+-- the same, unless it is switched off
 abbrev pub system_place : Places → (off system : Option (List ℕ)) → Option (List ℕ)
 system_place places off system = if is_on off then None else machine_place places system
 
--- the user's, in the folder for configuration, or else in the home folder
+-- the path in the folder for configuration, otherwise in the home folder
 abbrev pub folder_place : (folder home : Option (List ℕ)) → Option (List ℕ)
 folder_place folder home = option_or (in_folder (codes "git/config") (unless_empty folder)) (in_folder (codes ".config/git/config") home)
 
--- the same, or by the variable for both of the user's
+-- the same, unless the variable for both files of the user names another path
 abbrev pub git_place : (global folder home : Option (List ℕ)) → Option (List ℕ)
 git_place global folder home = option_or global (folder_place folder home)
 
--- the user's, in the home folder, or by the variable for both
+-- the path of the user's file in the home folder, unless the variable for both names another one
 abbrev pub user_place : (global home : Option (List ℕ)) → Option (List ℕ)
 user_place global home = option_or global (in_folder (codes ".gitconfig") home)
 
--- the text of a variable by its name
+-- the text that a variable is set to, by its name
 abbrev pub text_of : (var : List ℕ → VariableTold) → (name : List ℕ) → Option (List ℕ)
 text_of var name = text_told (var name)
 
--- where the configuration of a source stands
+-- the path of the configuration of a source, if it has one
 abbrev pub place_of : (var : List ℕ → VariableTold) → Places → Source → Option (List ℕ)
 place_of var places GitInstallation = installation_place places (text_of var (codes "GIT_CONFIG_NOSYSTEM"))
 place_of var places System = system_place places (text_of var (codes "GIT_CONFIG_NOSYSTEM")) (text_of var (codes "GIT_CONFIG_SYSTEM"))
@@ -76,11 +76,11 @@ place_of var places Cli = None
 place_of var places Api = None
 place_of var places EnvOverride = None
 
--- A place by what variables are set to: by what the environment tells, if it does. Of one that tells nothing, each variable counts as set to
--- what was answered for it, which is asked once at most.
+-- A place that variables decide: by what the environment says they are set to, if it does. If it doesn't, each variable counts as set to
+-- what was returned for it; each is asked at most once.
 abbrev pub IsPlaced : (variables : Option (List ℕ → VariableTold)) → ((var : List ℕ → VariableTold) → Option (List ℕ)) → (place : Option (List ℕ)) → Type 0
 IsPlaced variables placed place = (var : List ℕ → VariableTold) × May variables (λ told. var ≡ told) × (place ≡ placed var)
 
--- a text is the answer for a variable, where the environment tells what it is set to
+-- if the environment says what the variable is set to, this is its text
 abbrev pub IsText : (variables : Option (List ℕ → VariableTold)) → (name : List ℕ) → (text : Option (List ℕ)) → Type 0
 IsText variables name text = May variables (λ told. text ≡ text_of told name)

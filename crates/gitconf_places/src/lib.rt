@@ -1,4 +1,4 @@
-//! Where the configuration of each source stands.
+//! Where the configuration of each source is.
 #![tactic(auto)]
 
 mod storage;

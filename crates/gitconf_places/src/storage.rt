@@ -1,4 +1,4 @@
-//! Where the configuration of each source stands.
+//! Where the configuration of each source is.
 ghost use Rattle.std.specs.Prelude.{◌≡◌, codes, string_bytes, IfOk};
 ghost use Rattle.std.specs.Option.{option_map};
 ghost use Rattle.gitconf_places.specs.Places as spec;
@@ -12,7 +12,7 @@ use gitconf_values::Boolean;
 use gitconf_values::path::join;
 use std::alloc::Global;
 
-/// Where the configuration of a source stands. The Rust crate has it as a method of the source itself.
+/// Where the configuration of a source is. In the Rust crate it is a method of the source itself.
 pub trait StorageLocation {
     ghost use Rattle.std.specs.Prelude.{◌≡◌, string_bytes, IfOk};
     ghost use Rattle.std.specs.Option.{option_map};
@@ -21,12 +21,12 @@ pub trait StorageLocation {
 
     ghost source: { Self → Source };
 
-    /// The path of the source's configuration, or `None` where it has none. A variable that is set to what is no text counts as unset.
-    /// Each variable is asked once, and only where those before it leave the path open.
+    /// The path of the source's configuration, or `None` if it has none. A variable that is set to bytes that aren't UTF-8 counts as unset.
+    /// Each variable is asked at most once, and only if those before it leave the path open.
     ///
     /// # Errors
     ///
-    /// Only where memory is wanting.
+    /// Only when out of memory.
     fn storage_location<E: Env>(
         self,
         alloc: Global,
@@ -37,7 +37,7 @@ pub trait StorageLocation {
         ensures stays { E.variables env.new ≡ E.variables env.old };
 }
 
-/// The text that a variable is set to, or `None` where it isn't set, or is set to what is no text.
+/// The text that a variable is set to, or `None` if it isn't set, or is set to bytes that aren't UTF-8.
 fn text_of<E: Env>(env: &mut E, name: &str) -> Result<Option<String>, NoMemory>
     ensures told { IfOk result (λ text. IsText (E.variables env.old) name.now (option_map string_bytes text)) }
     ensures stays { E.variables env.new ≡ E.variables env.old }
@@ -48,7 +48,7 @@ fn text_of<E: Env>(env: &mut E, name: &str) -> Result<Option<String>, NoMemory>
     }
 }
 
-/// Whether a text is a true boolean. What is no boolean counts as false.
+/// Whether a text is a true boolean. One that is not a boolean counts as false.
 fn is_true(text: String) -> bool
     ensures { result ≡ spec.is_true (string_bytes text) }
 {
@@ -78,7 +78,7 @@ fn unless_empty(text: Option<String>) -> Option<String>
     }
 }
 
-/// A file in a folder, if there is one.
+/// The path of a file in a folder, if there is a folder.
 fn in_folder(alloc: Global, file: &str, folder: Option<String>) -> Result<Option<String>, NoMemory>
     ensures { IfOk result (λ place. option_map string_bytes place ≡ spec.in_folder file.now (option_map string_bytes folder)) }
 {
@@ -88,7 +88,7 @@ fn in_folder(alloc: Global, file: &str, folder: Option<String>) -> Result<Option
     }
 }
 
-/// The path of what was installed with Git, copied.
+/// A copy of the path of what was installed with Git.
 fn installed(alloc: Global, places: &Places) -> Result<Option<String>, NoMemory>
     ensures { IfOk result (λ place. option_map string_bytes place ≡ option_map string_bytes places.now.installation_config) }
 {
@@ -98,7 +98,7 @@ fn installed(alloc: Global, places: &Places) -> Result<Option<String>, NoMemory>
     }
 }
 
-/// The place of what was installed with Git, unless that is switched off.
+/// The path of what was installed with Git, unless that is switched off.
 fn installation<E: Env>(
     alloc: Global,
     env: &mut E,
@@ -114,7 +114,7 @@ fn installation<E: Env>(
     installed(alloc, places)
 }
 
-/// The place of the whole machine's configuration.
+/// The path of the configuration of the whole machine.
 fn machine<E: Env>(alloc: Global, env: &mut E, places: &Places) -> Result<Option<String>, NoMemory>
     ensures placed { IfOk result (λ place. IsPlaced (E.variables env.old)
         (λ var. machine_place places.now (spec.text_of var (codes "GIT_CONFIG_SYSTEM"))) (option_map string_bytes place)) }
@@ -126,7 +126,7 @@ fn machine<E: Env>(alloc: Global, env: &mut E, places: &Places) -> Result<Option
     }
 }
 
-/// The same, unless that is switched off.
+/// The same, unless it is switched off.
 fn system<E: Env>(alloc: Global, env: &mut E, places: &Places) -> Result<Option<String>, NoMemory>
     ensures placed { IfOk result (λ place. IsPlaced (E.variables env.old)
         (λ var. system_place places.now (spec.text_of var (codes "GIT_CONFIG_NOSYSTEM")) (spec.text_of var (codes "GIT_CONFIG_SYSTEM"))) (option_map string_bytes place)) }
@@ -138,7 +138,7 @@ fn system<E: Env>(alloc: Global, env: &mut E, places: &Places) -> Result<Option<
     machine(alloc, env, places)
 }
 
-/// The place of a file in the home folder.
+/// The path of a file in the home folder.
 fn in_home<E: Env>(alloc: Global, env: &mut E, file: &str) -> Result<Option<String>, NoMemory>
     ensures placed { IfOk result (λ place. IsPlaced (E.variables env.old)
         (λ var. spec.in_folder file.now (spec.text_of var (codes "HOME"))) (option_map string_bytes place)) }
@@ -148,7 +148,7 @@ fn in_home<E: Env>(alloc: Global, env: &mut E, file: &str) -> Result<Option<Stri
     in_folder(alloc, file, home)
 }
 
-/// The place of the user's configuration in the folder for configuration.
+/// The path of the user's configuration in the folder for configuration.
 fn in_config_folder<E: Env>(alloc: Global, env: &mut E) -> Result<Option<String>, NoMemory>
     ensures placed { IfOk result (λ place. IsPlaced (E.variables env.old)
         (λ var. folder_place (spec.text_of var (codes "XDG_CONFIG_HOME")) (spec.text_of var (codes "HOME"))) (option_map string_bytes place)) }
@@ -173,7 +173,7 @@ fn git<E: Env>(alloc: Global, env: &mut E) -> Result<Option<String>, NoMemory>
     }
 }
 
-/// The place of the user's configuration in the home folder, unless a variable names another one.
+/// The path of the user's configuration in the home folder, unless a variable names another one.
 fn user<E: Env>(alloc: Global, env: &mut E) -> Result<Option<String>, NoMemory>
     ensures placed { IfOk result (λ place. IsPlaced (E.variables env.old)
         (λ var. user_place (spec.text_of var (codes "GIT_CONFIG_GLOBAL")) (spec.text_of var (codes "HOME"))) (option_map string_bytes place)) }
@@ -185,7 +185,7 @@ fn user<E: Env>(alloc: Global, env: &mut E) -> Result<Option<String>, NoMemory>
     }
 }
 
-/// A path that stands as it is.
+/// This path, as an owned text.
 fn fixed(alloc: Global, path: &str) -> Result<Option<String>, NoMemory>
     ensures { IfOk result (λ place. option_map string_bytes place ≡ Some path.now) }
 {

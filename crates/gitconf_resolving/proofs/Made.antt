@@ -65,7 +65,7 @@ pub resolves : (asks : Asks) (old new : State) (result : Result Unit Error) → 
     → (r : Reached) × Expands asks.rules.max_depth asks None old r × Leaves includes_number result new r → Resolves includes_number asks old result new
 resolves asks old new result some (r, expands, leaves) = (r, rw (some_depth asks.rules.max_depth some) expands, leaves)
 
--- memory was wanting before anything was done
+-- memory ran out before anything was done
 pub resolves_wanting : (asks : Asks) (old : State) (result : Result Unit Error) → asks.rules.max_depth ≢ 0 → IsErrAnd result (λ r. r ≡ refusals.Memory) → Resolves includes_number asks old result old
 resolves_wanting asks old result some err =
     resolves asks old old result some (Ended 27 old, expands_wanting asks.rules.max_depth asks None old some, leaves_refused result refusals.Memory 27 old old err refl (as_it_was old old refl))

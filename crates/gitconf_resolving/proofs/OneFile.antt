@@ -1,4 +1,4 @@
--- Over one told table a text makes one file, want of memory aside.
+-- Over one table that is told a text makes one file, apart from running out of memory.
 use Rattle.std.proofs.Common.{◌≡◌, ◌≢◌, ℕ, List, Some, None, Result, Ok, Err, IfErr, sym, subst, ◌∙◌}
 use Rattle.gitconf_base.specs.Metadata.{Meta}
 use Rattle.gitconf_host.specs.Told.{FileTold}
@@ -11,7 +11,7 @@ use Rattle.gitconf_expansion.proofs.OneLoad.{one_load}
 use Rattle.gitconf_expansion.proofs.OneOutcome.{one_outcome}
 use Rattle.gitconf_resolving.specs.Resolving.{AreMadeAlike, IsMadeOf, Makes, MakesOf}
 
--- a call that answers has a load and an outcome that are answered
+-- a call that returns has a load and an outcome that are returned
 
 loaded_answered : (asks : Asks) (result : Result State Error) (loaded : Result State ℕ) → IfErr result (λ e. init_number e ≢ 27) → MakesOf init_number asks result loaded → IfErr loaded (λ n. n ≢ 27)
 loaded_answered asks result (Ok state) known makes = tt
@@ -45,7 +45,7 @@ one_made asks files (Ok made) other (Err n) tells known known_too is too = absur
 one_made asks files (Err e) (Ok made) (Err n) tells known known_too is too = absurd too
 one_made asks files (Err e) (Err f) (Err n) tells known known_too is too = sym is ∙ too
 
--- Want of memory aside a text from one place makes one file.
+-- Apart from running out of memory, a text from one place makes one file.
 pub one_file : (asks : Asks) (files : List ℕ → FileTold) (text : List ℕ) (place : Meta) (one other : Result State Error) → asks.table ≡ Some files
     → IfErr one (λ e. init_number e ≢ 27) → IfErr other (λ e. init_number e ≢ 27) → IsMadeOf init_number asks text place one → IsMadeOf init_number asks text place other → AreMadeAlike one other
 one_file asks files text place one other tells known known_too (loaded, load, makes) (loaded_too, load_too, makes_too) =

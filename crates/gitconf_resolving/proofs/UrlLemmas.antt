@@ -11,7 +11,7 @@ use Rattle.gitconf_state.specs.State.{SectionState, State}
 use Rattle.gitconf_expansion.specs.Inclusion.{has_url}
 use Rattle.gitconf_resolving.specs.Urls.{has_url_in}
 
--- some remote's url matches exactly where some section named `remote` has one that does
+-- some remote's url matches if and only if some section named `remote` has one that does
 pub any_remote : (pattern : List ℕ) (state : State) → list_any (has_url_in pattern) (with_name (codes "remote") state.sections) ≡ has_url state pattern
 any_remote pattern state = go state.sections
   where

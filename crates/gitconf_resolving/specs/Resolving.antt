@@ -11,7 +11,7 @@ use Rattle.gitconf_state.specs.State.{State}
 use Rattle.gitconf_expansion.specs.Expansion.{Asks, Ended, Expands, IsLoadOf, On, Reached}
 use Rattle.gitconf_expansion.specs.Outcomes.{CountsFault, IsCause}
 
--- a call makes the expanded file, or refuses by that number
+-- a call makes the expanded file, or is refused with that number
 abbrev pub Makes : {E : Type 0} → (number : E → ℕ) → Result State E → Reached → Type 0
 Makes number (Ok made) (On done) = made ≡ done
 Makes number (Err e) (Ended n file) = n ≡ number e
@@ -33,13 +33,13 @@ abbrev pub MakesCounted : {T : Type 0} → Result T Error → (old new : Option 
 MakesCounted (Ok made) old new = new ≡ old
 MakesCounted (Err e) old new = CountsFault (init_number e) old new
 
--- what a refusal tells beside its number: how the parser refuses the text, and what an include tells
+-- what a refusal says besides its number: how the parser refuses the text, and what the refusal of an include says
 abbrev pub IsMadeCause : Options → Option (List ℕ → FileTold) → (text : List ℕ) → Error → Type 0
 IsMadeCause options table text (Parse e) = IsRefused text e
 IsMadeCause options table text (Includes e) = IsCause options table e
 IsMadeCause options table text e = Unit {0}
 
--- Files that are made are the same; or one number refuses both.
+-- Two calls make the same file, or both are refused with one number.
 abbrev pub AreMadeAlike : (one other : Result State Error) → Type 0
 AreMadeAlike (Ok made) (Ok other) = made ≡ other
 AreMadeAlike (Ok made) (Err f) = ⊥

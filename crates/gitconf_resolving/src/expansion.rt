@@ -21,7 +21,7 @@ use gitconf_views::section::{SectionRef, shared};
 use std::alloc::Global;
 use std::rc::Rc;
 
-/// A store whose sections are visited, with what they include put in behind each.
+/// A store whose sections are visited, with what they include put in after each.
 #[derive(Drop)]
 pub(crate) struct Expansion {
     pub(crate) gathering: Gathering,
@@ -31,7 +31,7 @@ pub(crate) struct Expansion {
 ///
 /// # Errors
 ///
-/// Want of memory.
+/// Out of memory.
 fn directive(section: &SectionRef<'_>, condition: Option<BString>) -> Result<Directive, NoMemory>
     ensures condition { IfOk result (λ d. d.condition ≡ condition) }
     ensures paths { IfOk result (λ d. map bstring_bytes d.paths.items ≡ paths_of (shown section.now)) }
@@ -44,11 +44,11 @@ fn directive(section: &SectionRef<'_>, condition: Option<BString>) -> Result<Dir
     })
 }
 
-/// What a section includes. Takes no memory where it includes nothing.
+/// What a section includes. Takes no memory if it includes nothing.
 ///
 /// # Errors
 ///
-/// Want of memory.
+/// Out of memory.
 fn told(section: &SectionRef<'_>) -> Result<Visited, NoMemory>
     ensures { IfOk result (λ told. TellsInclusion told (shown section.now)) }
 {
@@ -69,7 +69,7 @@ fn told(section: &SectionRef<'_>) -> Result<Visited, NoMemory>
 ///
 /// # Errors
 ///
-/// Want of memory.
+/// Out of memory.
 fn has_url(section: &SectionRef<'_>, pattern: &[u8]) -> Result<bool, NoMemory>
     ensures { IfOk result (λ found. found ≡ has_url_in pattern.now (shown section.now)) }
 {
@@ -81,7 +81,7 @@ fn has_url(section: &SectionRef<'_>, pattern: &[u8]) -> Result<bool, NoMemory>
     Ok(false)
 }
 
-/// The store of a text, which is handed over: of all of it, or of what has a meaning.
+/// The store of a text, all of it or only what has a meaning. The text becomes the store's buffer.
 ///
 /// # Errors
 ///

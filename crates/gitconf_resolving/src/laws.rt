@@ -8,7 +8,8 @@ ghost use Rattle.gitconf_state.specs.State.{State};
 ghost use Rattle.gitconf_expansion.specs.Expansion.{Asks};
 ghost use Rattle.gitconf_resolving.specs.Resolving.{AreMadeAlike, IsMadeOf};
 
-/// Over files that are told, one text from one place makes one file, want of memory aside, or is refused by one number.
+/// If the host says what is at each path, one text from one place makes one file, apart from running out of memory, or is refused with one
+/// number.
 pub fn a_text_makes_one_file()
     ensures { (asks : Asks) (files : List ℕ → FileTold) (text : List ℕ) (place : Meta) (one other : Result State Error) → asks.table ≡ Some files
         → IfErr one (λ e. init_number e ≢ 27) → IfErr other (λ e. init_number e ≢ 27)

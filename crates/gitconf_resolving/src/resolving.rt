@@ -1,4 +1,4 @@
-//! Includes that are resolved.
+//! Resolving includes.
 ghost use Rattle.std.specs.Prelude.{◌≡◌, None, IfErr};
 ghost use Rattle.gitconf_includes.specs.Errors.{includes_number, init_number};
 ghost use Rattle.gitconf_expansion.specs.Expansion.{Expands, Leaves, Reached};
@@ -18,15 +18,17 @@ use gitconf_store::store::Store;
 use std::alloc::Global;
 use std::rc::Rc;
 
-/// A store whose includes were resolved, or were refused, and which then holds what was put in before.
+/// A store whose includes were resolved, or were refused; it then has what was put in before.
 #[derive(Drop)]
 pub struct Resolved {
+    /// The store, with everything that was put in.
     pub store: Store,
+    /// Whether all includes were resolved, or why they were refused.
     pub result: Result<(), Error>,
 }
 
-/// Resolves the includes of a store, as many levels deep as the options say. The time is linear in all that is read, but for the order of the
-/// sections, which is made once at the end.
+/// Resolves the includes of a store, as many levels deep as the options say. The time is linear in all that is read, except for the order
+/// of the sections, which is made once at the end.
 pub fn resolve<F: Files>(
     alloc: Global,
     files: &mut F,
@@ -49,7 +51,7 @@ pub fn resolve<F: Files>(
     }
 }
 
-/// The store of a text, which is handed over, with its includes resolved.
+/// The store of a text, with its includes resolved. The text becomes the store's buffer.
 ///
 /// # Errors
 ///

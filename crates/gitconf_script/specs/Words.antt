@@ -4,7 +4,7 @@ use Rattle.hex.specs.Hex.{encode_lower}
 use Rattle.gitconf_script.specs.declared.words.Word.{Word}
 use Rattle.gitconf_script.specs.declared.words.Word.TheVariants.{Bytes, Plain}
 
--- the word of some bytes: `x` (120) and their digits
+-- the word of some bytes: `x` (120) and their hexadecimal digits
 abbrev pub word_of_bytes : List ℕ → List ℕ
 word_of_bytes bytes = 120 ∷ encode_lower bytes
 

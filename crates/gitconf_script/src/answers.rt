@@ -1,4 +1,4 @@
-//! The words of an answer, each put behind what a line holds.
+//! The words of an answer, each added to a line.
 ghost use Rattle.std.specs.Prelude.{◌≡◌, ◌∷◌, ◌++◌, OnOk, string_bytes};
 ghost use Rattle.hex.specs.Hex.{encode_lower};
 ghost use Rattle.gitconf_script.specs.Words.{word_of_bytes};
@@ -6,7 +6,7 @@ ghost use Rattle.gitconf_script.specs.Words.{word_of_bytes};
 use std::alloc::{AllocError, Global};
 use std::fmt::Write;
 
-/// Whether a growth was refused, as the first word; nothing where that is not told.
+/// Whether a growth was refused, as the first word; nothing if that is not known.
 pub fn put_refused(line: &mut String, refused: Option<bool>) -> Result<(), AllocError> {
     match refused {
         Some(true) => line.push_str("+ "),
@@ -15,7 +15,7 @@ pub fn put_refused(line: &mut String, refused: Option<bool>) -> Result<(), Alloc
     }
 }
 
-/// Bytes as they stand in a script, but for the `x`.
+/// Bytes as they are in a script, without the `x`.
 pub fn put_digits(alloc: Global, line: &mut String, bytes: &[u8]) -> Result<(), AllocError>
     ensures { OnOk result (string_bytes line.new ≡ string_bytes line.old ++ encode_lower bytes.now) }
 {
@@ -23,7 +23,7 @@ pub fn put_digits(alloc: Global, line: &mut String, bytes: &[u8]) -> Result<(), 
     line.push_str(&digits)
 }
 
-/// A word of bytes, behind a blank.
+/// A word of bytes, after a blank.
 pub fn put_bytes(alloc: Global, line: &mut String, bytes: &[u8]) -> Result<(), AllocError>
     ensures { OnOk result (string_bytes line.new ≡ string_bytes line.old ++ 32 ∷ word_of_bytes bytes.now) }
 {
@@ -63,7 +63,7 @@ pub fn put_error(line: &mut String, number: u8) -> Result<(), AllocError> {
     write!(line, "err E{number}")
 }
 
-/// A word that is given with blanks, each of which is written as `-`.
+/// A word that is given with blanks, each of which becomes `-`.
 pub fn put_dashed(line: &mut String, text: &str) -> Result<(), AllocError> {
     line.push(' ')?;
     for letter in text.chars() {

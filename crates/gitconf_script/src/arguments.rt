@@ -1,4 +1,4 @@
-//! What the words behind a command tell, a function for each form of words.
+//! What the words after a command mean, one function for each form of words.
 
 use crate::words::{NotUnderstood, Place, Slot, Word};
 
@@ -21,6 +21,7 @@ pub(crate) fn one_word<'a, 'b>(words: &'a [Word<'b>]) -> Result<&'a Word<'b>, No
 /// Refuses words that aren't bytes.
 pub fn all_bytes(words: &[Word<'_>]) -> Result<(), NotUnderstood> {
     for word in words {
+        // Only that it is bytes matters here.
         let _ = word.bytes()?;
     }
     Ok(())
@@ -36,7 +37,7 @@ pub fn number(words: &[Word<'_>]) -> Result<usize, NotUnderstood> {
     one_word(words)?.number()
 }
 
-/// N, counted from 1: how many come before.
+/// N, counted from 1: how many come before it.
 pub fn count_before(words: &[Word<'_>]) -> Result<usize, NotUnderstood> {
     match number(words)? {
         0 => Err(NotUnderstood),
@@ -54,7 +55,7 @@ pub fn switch(words: &[Word<'_>]) -> Result<bool, NotUnderstood> {
     one_word(words)?.switch()
 }
 
-/// BYTES LETTERS: a text, and the letters; none for `-`.
+/// BYTES LETTERS: a text and letters; no letters for `-`.
 pub fn text_and_letters<'a>(
     words: &'a [Word<'_>],
 ) -> Result<(&'a [u8], Option<&'a [u8]>), NotUnderstood> {
@@ -76,7 +77,7 @@ pub struct EntryNames<'a> {
     pub value: &'a str,
 }
 
-/// The names that three words tell.
+/// The names that three words give.
 fn names_of<'a>(
     section: &'a Word<'_>,
     subsection: &'a Word<'_>,
@@ -131,7 +132,7 @@ pub fn section_names_and_flag<'a>(
     }
 }
 
-/// Those of a section, and those that it gets.
+/// The names of a section, and the names that it gets.
 #[derive(Clone, Copy)]
 pub struct OldAndNew<'a> {
     pub old: SectionNames<'a>,
@@ -251,7 +252,7 @@ pub fn names_and_bytes<'a>(
     }
 }
 
-/// KEY3 and words behind it: the names of entries, and these words.
+/// KEY3 and words after it: the names of entries, and these words.
 pub fn names_and_rest<'a, 'b>(
     words: &'a [Word<'b>],
 ) -> Result<(EntryNames<'a>, &'a [Word<'b>]), NotUnderstood> {

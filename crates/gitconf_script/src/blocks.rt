@@ -1,4 +1,4 @@
-//! What stands in each block of lines that work on one editor, whatever it edits.
+//! What all blocks share of lines that work on one editor, whatever it edits.
 
 use crate::answers::put_refused;
 use crate::play::{Fault, Streams};
@@ -8,9 +8,9 @@ use std::io::{Read, Write};
 /// What a line of a block is for.
 #[derive(Clone, Copy)]
 enum Turn {
-    /// It is asked of the editor.
+    /// It is for the editor.
     Asked,
-    /// It says whether answers tell of refused growths.
+    /// It says whether answers report refused growths.
     Switch(bool),
     /// It ends the block.
     End,
@@ -25,7 +25,7 @@ fn turn_of(line: &[u8]) -> Turn {
     }
 }
 
-/// The next line of a block that is asked of its editor; `None` behind the block, and behind the last line of the script. The lines before
+/// The next line of a block that is for its editor; `None` after the block, and after the last line of the script. The lines before
 /// it, and the one that ends the block, are answered here.
 pub fn next_asked<R: Read + Drop, W: Write + Drop>(
     alloc: Global,

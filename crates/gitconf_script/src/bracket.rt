@@ -1,4 +1,4 @@
-//! How the program tells the shim that refuses growths (`tools/refuse.c`) where a command begins and where it ends: by
+//! How the program shows the shim that refuses growths (`tools/refuse.c`) where a command begins and where it ends: by
 //! the sizes of two blocks, which no command asks for.
 ghost use Rattle.std.specs.Prelude.{◌≡◌, ◌↔◌, true, IfOk, IsSome};
 
@@ -8,14 +8,14 @@ const BEGIN: usize = 999_979;
 
 const END: usize = 999_983;
 
-/// Stands around what a command does, where growths of it may be refused.
+/// Encloses what a command does, in which growths may be refused.
 #[derive(Clone, Copy)]
 pub struct Bracket {
     is_told: bool,
 }
 
 impl Bracket {
-    /// From here on the shim may refuse a growth, where that is told to it.
+    /// From here on the shim may refuse a growth, if `is_told`.
     pub fn open(alloc: Global, is_told: bool) -> Result<Bracket, AllocError>
         ensures { IfOk result (λ b. b.is_told ≡ is_told) }
     {
@@ -25,8 +25,8 @@ impl Bracket {
         Ok(Bracket { is_told })
     }
 
-    /// From here on it refuses none. Answers whether it refused one, since it then refuses this block too; nothing
-    /// where nothing was told to it.
+    /// From here on it refuses none. Returns whether it refused one, since it then refuses this block too; `None`
+    /// if nothing was shown to it.
     pub fn close(self, alloc: Global) -> Option<bool>
         ensures { IsSome result ↔ (self.is_told ≡ true) }
     {

@@ -19,7 +19,7 @@ pub enum Command {
     Loader(LoaderCommand),
 }
 
-/// Commands on texts and names, which ask no file.
+/// Commands on texts and names, which need no file.
 #[derive(Clone, Copy)]
 pub enum TextCommand {
     /// `events`
@@ -36,7 +36,7 @@ pub enum TextCommand {
     Layout,
 }
 
-/// Commands on values and paths, which ask no file.
+/// Commands on values and paths, which need no file.
 #[derive(Clone, Copy)]
 pub enum ValueCommand {
     /// `decode`
@@ -53,7 +53,7 @@ pub enum ValueCommand {
     Interpolate,
 }
 
-/// Commands that look values of a key up.
+/// Commands that look up values of a key.
 #[derive(Clone, Copy)]
 pub enum LookUpCommand {
     /// `string`
@@ -76,7 +76,7 @@ pub enum LookUpCommand {
     Integers,
 }
 
-/// Commands that look values of a key up with their sections, or in a type that the caller names.
+/// Commands that look up values of a key with their sections, or in a type that the caller names.
 #[derive(Clone, Copy)]
 pub enum TypedCommand {
     /// `rawwith`
@@ -118,7 +118,7 @@ pub enum ViewCommand {
     Origin,
 }
 
-/// Commands that look sections up, or compare files.
+/// Commands that look up sections, or compare files.
 #[derive(Clone, Copy)]
 pub enum SectionCommand {
     /// `section`
@@ -225,7 +225,7 @@ pub enum StateCommand {
     Refusals,
 }
 
-/// Commands that tell what lies outside of a file, and those that ask for it.
+/// Commands that set what is outside of a file, and those that use it.
 #[derive(Clone, Copy)]
 pub enum OutsideCommand {
     /// `file`
@@ -250,7 +250,7 @@ pub enum OutsideCommand {
     FailTrust,
 }
 
-/// Commands that make a file of what lies outside, and the one that tells where that stands.
+/// Commands that make a file of what is outside, and the one that shows a place of configuration.
 #[derive(Clone, Copy)]
 pub enum LoaderCommand {
     /// `place`
@@ -269,7 +269,7 @@ pub enum LoaderCommand {
     FromGitDir,
 }
 
-/// The command that the first word names, and the words behind it; nothing, and all words, where there is none such.
+/// The command that the first word names, and the words after it; `None`, and all words, if it names none.
 pub fn command_of<'a, 'b>(words: &'a [Word<'b>]) -> (Option<Command>, &'a [Word<'b>]) {
     match words.split_first() {
         Some((Word::Plain(word), rest)) => (named(word), rest),

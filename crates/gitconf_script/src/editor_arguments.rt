@@ -1,4 +1,4 @@
-//! What the words behind an editor's command tell, a function for each form of words that no other command has.
+//! What the words after an editor's command mean, one function for each form of words that no other command has.
 
 use crate::arguments::{SectionNames, one_word};
 use crate::words::{NotUnderstood, Place, Word};
@@ -61,12 +61,12 @@ pub fn flag(words: &[Word<'_>]) -> Result<bool, NotUnderstood> {
     one_word(words)?.flag()
 }
 
-/// PLACE: that of a section that stands alone.
+/// PLACE: the place of a section that is in no file.
 pub fn place(words: &[Word<'_>]) -> Result<Place, NotUnderstood> {
     one_word(words)?.place()
 }
 
-/// PLACE SEC2: where a section is put that stands alone, and its names.
+/// PLACE SEC2: the place of a section that is in no file, and its names.
 pub fn place_and_section_names<'a>(
     words: &'a [Word<'_>],
 ) -> Result<(Place, SectionNames<'a>), NotUnderstood> {

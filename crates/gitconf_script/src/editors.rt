@@ -1,4 +1,4 @@
-//! The commands of editors: what opens one, and what its lines ask for, up to `end`.
+//! The commands of editors: what opens an editor, and what its lines ask for, up to `end`.
 
 use crate::words::{Word, named_in};
 
@@ -106,7 +106,7 @@ pub enum ValuesLine {
     End,
 }
 
-/// The editor that the first word opens, and the words behind it; nothing, and all words, where it opens none.
+/// The editor that the first word opens, and the words after it; `None`, and all words, if it opens none.
 pub fn opening_of<'a, 'b>(words: &'a [Word<'b>]) -> (Option<Opening>, &'a [Word<'b>]) {
     match words.split_first() {
         Some((Word::Plain(word), rest)) => (named_in(&OPENINGS, word), rest),
@@ -114,7 +114,7 @@ pub fn opening_of<'a, 'b>(words: &'a [Word<'b>]) -> (Option<Opening>, &'a [Word<
     }
 }
 
-/// What a line asks of the editor of a section, and the words behind it; nothing, and all words, for any other line.
+/// What a line asks of the editor of a section, and the words after it; `None`, and all words, for any other line.
 pub fn section_line_of<'a, 'b>(words: &'a [Word<'b>]) -> (Option<SectionLine>, &'a [Word<'b>]) {
     match words.split_first() {
         Some((Word::Plain(word), rest)) => (section_line_named(word), rest),
@@ -122,7 +122,7 @@ pub fn section_line_of<'a, 'b>(words: &'a [Word<'b>]) -> (Option<SectionLine>, &
     }
 }
 
-/// What a line asks of the editor of one value, and the words behind it; nothing, and all words, for any other line.
+/// What a line asks of the editor of one value, and the words after it; `None`, and all words, for any other line.
 pub fn value_line_of<'a, 'b>(words: &'a [Word<'b>]) -> (Option<ValueLine>, &'a [Word<'b>]) {
     match words.split_first() {
         Some((Word::Plain(word), rest)) => (named_in(&VALUE_LINES, word), rest),
@@ -130,7 +130,7 @@ pub fn value_line_of<'a, 'b>(words: &'a [Word<'b>]) -> (Option<ValueLine>, &'a [
     }
 }
 
-/// What a line asks of the editor of all values of a key, and the words behind it; nothing, and all words, for any other
+/// What a line asks of the editor of all values of a key, and the words after it; `None`, and all words, for any other
 /// line.
 pub fn values_line_of<'a, 'b>(words: &'a [Word<'b>]) -> (Option<ValuesLine>, &'a [Word<'b>]) {
     match words.split_first() {

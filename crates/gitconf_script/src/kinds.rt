@@ -2,22 +2,30 @@
 
 use crate::words::NotUnderstood;
 
-// A set of kinds has a bit for each. No filter drops headers, so they have none.
+// A set of kinds has a bit for each kind. No filter drops headers, so headers have none.
 
+/// Names of values.
 pub const NAMES: u8 = 1;
 
+/// Separators, that is `=`.
 pub const SEPARATORS: u8 = 2;
 
+/// Values of one piece.
 pub const VALUES: u8 = 4;
 
+/// Pieces of a value, without the last one.
 pub const PIECES: u8 = 8;
 
+/// Last pieces of a value.
 pub const LAST_PIECES: u8 = 16;
 
+/// Newlines.
 pub const LINE_ENDS: u8 = 32;
 
+/// Blanks.
 pub const BLANKS: u8 = 64;
 
+/// Comments.
 pub const COMMENTS: u8 = 128;
 
 /// The set of the kinds of these letters.

@@ -1,4 +1,4 @@
-//! The words of the command that lays a text out.
+//! The words of the command that lays out a text.
 
 use crate::words::{NotUnderstood, Word};
 
@@ -9,7 +9,7 @@ pub enum Indent {
     Tabs(usize),
 }
 
-/// The line end of a layout.
+/// The line ending of a layout.
 #[derive(Clone, Copy)]
 pub enum LineEnd {
     /// That of the text.
@@ -18,7 +18,7 @@ pub enum LineEnd {
     CrLf,
 }
 
-/// A text, and how it is to be laid out.
+/// A text, and how it is laid out.
 #[derive(Clone, Copy)]
 pub struct Layout<'a> {
     pub text: &'a [u8],
@@ -26,14 +26,14 @@ pub struct Layout<'a> {
     pub comment_indent: Option<Indent>,
     /// Of names.
     pub name_indent: Indent,
-    /// Whether spaces stand round `=`.
+    /// Whether there are spaces around `=`.
     pub is_spaced: bool,
     pub line_end: LineEnd,
-    /// Whether there is a line end at the end.
+    /// Whether there is a line ending at the end.
     pub is_closed: bool,
     /// The limit of blank lines before the first content.
     pub leading: Option<usize>,
-    /// The limit of blank lines behind it.
+    /// The limit of blank lines after it.
     pub consecutive: Option<usize>,
 }
 

@@ -1,5 +1,5 @@
 //! Scripts as lines of words: what is read of a line, what is written of an answer, and the streams of both. It knows
-//! nothing of files; the language is told in docs/scripts.md.
+//! nothing of files; docs/scripts.md has the language.
 #![tactic(auto)]
 
 pub mod answers;

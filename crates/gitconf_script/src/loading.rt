@@ -1,10 +1,10 @@
-//! What the words tell of files that are made of what lies outside.
+//! What the words of commands mean that make files of what is outside.
 
 use crate::arguments::one_word;
 use crate::turns::Turns;
 use crate::words::{NotUnderstood, Word};
 
-/// A word that names something, as a source.
+/// A word that names something, such as a source.
 pub fn name<'a>(words: &'a [Word<'_>]) -> Result<&'a [u8], NotUnderstood> {
     one_word(words)?.plain()
 }
@@ -17,18 +17,18 @@ pub fn path_and_name<'a>(words: &'a [Word<'_>]) -> Result<(&'a str, &'a [u8]), N
     }
 }
 
-/// Paths of files, and how their faults are met.
+/// Paths of files, and what happens at their faults.
 #[derive(Clone, Copy)]
 pub struct Paths<'a, 'b> {
     /// Whether each has to be a file.
     pub must_exist: bool,
-    /// Whether faults are passed over.
+    /// Whether faults are ignored.
     pub ignores_faults: bool,
     /// OPT..: the paths, `-` for none.
     pub paths: &'a [Word<'b>],
 }
 
-/// B B OPT..: paths of files, and how their faults are met.
+/// B B OPT..: paths of files, and what happens at their faults.
 pub fn paths_of<'a, 'b>(words: &'a [Word<'b>]) -> Result<Paths<'a, 'b>, NotUnderstood> {
     match words {
         [must_exist, ignores_faults, paths @ ..] => Ok(Paths {
@@ -40,7 +40,7 @@ pub fn paths_of<'a, 'b>(words: &'a [Word<'b>]) -> Result<Paths<'a, 'b>, NotUnder
     }
 }
 
-/// N, and a word that names something: the turn of a call, counted from 1, and how it fails. No call has the turn 0.
+/// N, and a word that names something: which call fails, counted from 1, and how. No call is number 0.
 pub fn turn_and_name<'a>(words: &'a [Word<'_>]) -> Result<(Turns, &'a [u8]), NotUnderstood> {
     match words {
         [number, name] => Ok((turns_of(number.number()?), name.plain()?)),
@@ -48,7 +48,7 @@ pub fn turn_and_name<'a>(words: &'a [Word<'_>]) -> Result<(Turns, &'a [u8]), Not
     }
 }
 
-/// Counts up to that turn, counted from 1.
+/// Counts up to the call of that number, counted from 1.
 fn turns_of(number: usize) -> Turns {
     match number {
         0 => Turns::none(),

@@ -1,4 +1,4 @@
-//! What the words tell of what lies outside of a file: other files, variables, where a file comes from, and how files that
+//! What the words mean that set what is outside of a file: other files, variables, where a file comes from, and how files that
 //! include others are expanded.
 
 use crate::arguments::one_word;
@@ -9,9 +9,9 @@ use crate::words::{NotUnderstood, Word};
 pub enum Fault {
     /// `open`: it can't be opened.
     Unopened,
-    /// `notfound`: it is told, but not found where it is opened.
+    /// `notfound`: it is listed, but not found when it is opened.
     NotFound,
-    /// `read`: it can be opened, and then not read.
+    /// `read`: it can be opened, but not read.
     Unread,
 }
 
@@ -20,7 +20,7 @@ pub fn optional_text<'a>(words: &'a [Word<'_>]) -> Result<Option<&'a str>, NotUn
     one_word(words)?.optional_text()
 }
 
-/// N: how many includes stand above a file.
+/// N: how many includes led to a file.
 pub fn level(words: &[Word<'_>]) -> Result<u8, NotUnderstood> {
     depth_of(one_word(words)?)
 }
@@ -50,7 +50,7 @@ fn fault_of(word: &[u8]) -> Result<Fault, NotUnderstood> {
     }
 }
 
-/// BYTES OPT: the name of a variable, and its text; none where it is set to what is no text.
+/// BYTES OPT: the name of a variable, and its text; no text if it is set to bytes that aren't UTF-8.
 pub fn variable<'a>(words: &'a [Word<'_>]) -> Result<(&'a str, Option<&'a str>), NotUnderstood> {
     match words {
         [name, text] => Ok((name.text()?, text.optional_text()?)),
@@ -63,15 +63,15 @@ pub fn variable<'a>(words: &'a [Word<'_>]) -> Result<(&'a str, Option<&'a str>),
 pub struct Expansion<'a> {
     /// How many files deep.
     pub max_depth: u8,
-    /// What is refused, and else left out.
+    /// What is refused, and otherwise left out.
     pub refuses: Refuses,
-    /// Whether blanks, line ends and comments are left out.
+    /// Whether blanks, line endings and comments are left out.
     pub lossy: bool,
-    /// What is told to paths and to conditions.
+    /// What paths and conditions know.
     pub told: Told<'a>,
 }
 
-/// What is refused, and else left out.
+/// What is refused, and otherwise left out.
 #[derive(Clone, Copy)]
 pub struct Refuses {
     /// Files that are deeper.
@@ -82,7 +82,7 @@ pub struct Refuses {
     pub no_path: bool,
 }
 
-/// What is told to paths and to conditions.
+/// What paths and conditions know.
 #[derive(Clone, Copy)]
 pub struct Told<'a> {
     /// The home folder.
@@ -91,7 +91,7 @@ pub struct Told<'a> {
     pub install: Option<&'a str>,
     /// The folder of the repository.
     pub git_dir: Option<&'a str>,
-    /// The same with its symbolic links resolved; none where that fails.
+    /// The same with its symbolic links resolved; none if that fails.
     pub real: Option<&'a str>,
     /// The full name of the branch.
     pub branch: Option<&'a str>,

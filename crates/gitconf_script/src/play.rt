@@ -1,4 +1,4 @@
-//! A script is played: what the program does with its streams, whatever these are.
+//! Playing a script: what the program does with its streams, whatever they are.
 ghost use Rattle.std.specs.Prelude.{◌≤◌};
 
 use bstr::io::{BufReadExt, ByteLines};
@@ -7,7 +7,7 @@ use std::io::{BufReader, ErrorKind, Read, Write};
 
 /// What answers the lines of a script.
 pub trait Player {
-    /// Answers a line. Where the line begins a block, such as the lines of an editor, it reads and answers these too, since what a block
+    /// Answers a line. If the line begins a block, such as the lines of an editor, it reads and answers these too, since what a block
     /// works on lives no longer than the call.
     fn answer<R: Read + Drop, W: Write + Drop>(
         &mut self,
@@ -23,7 +23,7 @@ pub enum Fault {
     Input,
     /// Standard output failed.
     Output,
-    /// Memory was wanting, but for the calls that commands make.
+    /// Memory ran out outside of the calls that commands make.
     Memory,
 }
 
@@ -33,11 +33,11 @@ impl From<AllocError> for Fault {
     }
 }
 
-/// The exit status where memory was wanting outside of any command.
+/// The exit status when memory ran out outside of any command.
 pub const NO_MEMORY: u8 = 5;
 
-/// Answers the script that the input is, a line for each of its lines that isn't empty, and each at once. It answers
-/// the exit status: 0 behind the last line, 4 where a stream failed, 5 where memory was wanting outside of any command.
+/// Answers the script that is read, one line for each of its lines that isn't empty, and each at once. Returns
+/// the exit status: 0 after the last line, 4 if a stream failed, 5 when memory ran out outside of any command.
 pub fn play<R: Read + Drop, W: Write + Drop, P: Player>(
     alloc: Global,
     input: R,
@@ -53,7 +53,7 @@ pub fn play<R: Read + Drop, W: Write + Drop, P: Player>(
     }
 }
 
-/// What is read, and what is answered.
+/// What is read, and what is written.
 #[derive(Drop)]
 pub struct Streams<R: Read + Drop, W: Write + Drop> {
     lines: ByteLines<BufReader<R>>,
@@ -71,7 +71,7 @@ impl<R: Read + Drop, W: Write + Drop> Streams<R, W> {
         }
     }
 
-    /// The next line that isn't empty, without its end; `None` behind the last one.
+    /// The next line that isn't empty, without its end; `None` after the last one.
     pub fn next_line(&mut self) -> Result<Option<Vec<u8>>, Fault> {
         for _ in 0..u64::MAX {
             let Some(line) = self.read_line()? else {
@@ -84,7 +84,7 @@ impl<R: Read + Drop, W: Write + Drop> Streams<R, W> {
         Ok(None)
     }
 
-    /// The next line, also an empty one.
+    /// The next line, even an empty one.
     fn read_line(&mut self) -> Result<Option<Vec<u8>>, Fault> {
         match self.lines.next() {
             None => Ok(None),
@@ -94,7 +94,7 @@ impl<R: Read + Drop, W: Write + Drop> Streams<R, W> {
         }
     }
 
-    /// Writes a line, and holds nothing back.
+    /// Writes a line at once.
     pub fn tell(&mut self, line: &str) -> Result<(), Fault> {
         if self.out.write_all(line.as_bytes()).is_err() || self.out.flush().is_err() {
             return Err(Fault::Output);

@@ -1,9 +1,9 @@
-//! Which of many turns is the one.
+//! Which of many turns it is.
 
 /// Counts turns up to one of them.
 #[derive(Clone, Copy)]
 pub struct Turns {
-    /// How many come before that one; none behind it, and where there is no such turn.
+    /// How many turns come before that one; `None` after it, and if there is no such turn.
     before: Option<usize>,
 }
 
@@ -13,14 +13,14 @@ impl Turns {
         Turns { before: None }
     }
 
-    /// The turn behind so many others.
+    /// The turn after that many others.
     pub fn behind(others: usize) -> Turns {
         Turns {
             before: Some(others),
         }
     }
 
-    /// Whether it is that turn, which it is once.
+    /// Whether this is that turn, which is true once.
     pub fn take(&mut self) -> bool {
         match self.before {
             Some(0) => {

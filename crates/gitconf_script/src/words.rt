@@ -21,7 +21,7 @@ pub enum Slot {
     I,
 }
 
-/// The place of a section that stands alone.
+/// The place of a section that is in no file.
 #[derive(Clone, Copy)]
 pub enum Place {
     S,
@@ -33,7 +33,7 @@ pub enum Place {
 pub enum Word<'a> {
     /// The bytes that are written as `x` and pairs of hexadecimal digits.
     Bytes(Vec<u8>),
-    /// Any other word, as it stands.
+    /// Any other word, as it is.
     Plain(&'a [u8]),
 }
 
@@ -118,7 +118,7 @@ impl Word<'_> {
         }
     }
 
-    /// The place of a section that stands alone: `s` or `t`.
+    /// The place of a section that is in no file: `s` or `t`.
     pub fn place(&self) -> Result<Place, NotUnderstood> {
         match self.plain()? {
             b"s" => Ok(Place::S),
@@ -135,7 +135,7 @@ fn utf8(bytes: &[u8]) -> Result<&str, NotUnderstood> {
     }
 }
 
-/// The number that decimal digits tell, without a sign.
+/// The number that decimal digits write, without a sign.
 fn decimal(digits: &[u8]) -> Result<usize, NotUnderstood> {
     let digits = utf8(digits)?;
     if digits.starts_with('+') {
@@ -147,7 +147,7 @@ fn decimal(digits: &[u8]) -> Result<usize, NotUnderstood> {
     }
 }
 
-/// The words of a line, which stand one blank apart.
+/// The words of a line, which are one blank apart.
 pub fn words_of<'a>(alloc: Global, line: &'a [u8]) -> Result<Vec<Word<'a>>, AllocError> {
     let mut words = Vec::new(alloc);
     for word in line.split(|byte| *byte == b' ') {
@@ -156,10 +156,10 @@ pub fn words_of<'a>(alloc: Global, line: &'a [u8]) -> Result<Vec<Word<'a>>, Allo
     Ok(words)
 }
 
-/// A word with its bytes decoded, where it has such.
+/// A word, with its bytes decoded if it has any.
 #[tactic(auto, using(crate::proofs::Digits::are_these))]
 fn word_of<'a>(alloc: Global, word: &'a [u8]) -> Result<Word<'a>, AllocError>
-    // What stands for bytes in an answer stands for the same bytes in a line.
+    // The word that an answer has for bytes means the same bytes in a line.
     ensures { (bytes : List ℕ) → IsBytes bytes → word.now ≡ word_of_bytes bytes → IfOk result (StandsFor bytes) }
 {
     if let Some((b'x', digits)) = word.split_first() {
@@ -170,7 +170,7 @@ fn word_of<'a>(alloc: Global, word: &'a [u8]) -> Result<Word<'a>, AllocError>
     Ok(Word::Plain(word))
 }
 
-/// The bytes that pairs of lower-case digits stand for; none where these are no such pairs.
+/// The bytes that pairs of lower-case digits stand for; `None` if they are not such pairs.
 #[tactic(auto, using(crate::proofs::Digits::digits_are_lower, crate::proofs::Digits::decodes_back))]
 fn decoded(alloc: Global, digits: &[u8]) -> Result<Option<Vec<u8>>, AllocError>
     ensures value { IfOk result (λ found. IfSome found (λ bytes. decode_of digits.now ≡ Ok bytes.items)) }
@@ -192,7 +192,7 @@ fn has_upper_case(text: &[u8]) -> bool
     text.iter().any(|byte| byte.is_ascii_uppercase())
 }
 
-/// Whether one of the words is that name, letters of either case being the same.
+/// Whether one of the words is this name, in either case.
 pub fn is_one_of(words: &[Word<'_>], name: &[u8]) -> bool {
     for word in words {
         if is_name(word, name) {
@@ -209,7 +209,7 @@ fn is_name(word: &Word<'_>, name: &[u8]) -> bool {
     }
 }
 
-/// What a word stands for in a table of words.
+/// What a word means in a table of words.
 pub fn named_in<T: Copy>(table: &[(&[u8], T)], word: &[u8]) -> Option<T> {
     for (name, command) in table {
         if *name == word {

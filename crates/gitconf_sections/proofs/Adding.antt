@@ -1,4 +1,4 @@
--- Sections that are put behind the others, and other names of some.
+-- Sections that are put after the others, and other names of some.
 use Rattle.std.proofs.Common.{◌≡◌, ℕ, zero, suc, ◌+◌, ◌≤◌, ◌<◌, List, [], ◌∷◌, ◌++◌, length, take, drop, map, Option, Some, inl, inr, refl, ap, sym, subst, ◌∙◌, arith, append-nil}
 use Rattle.std.specs.List.{slice_get, AllByRecursion}
 use Rattle.std.specs.Option.{option_map}
@@ -21,7 +21,7 @@ use Rattle.gitconf_sections.proofs.Mapped.{last_mapped, renumbered_mapped}
 pub listed_last : (from to n : ℕ) (es : List (SectionEntry Row)) (e : SectionEntry Row) → from ≤ to → to ≤ n → AreListed from to es → StandsWithin to n e.section.body → AreListed from n (es ++ e ∷ [])
 listed_last from to n es e less more are stands = listed_both from to n es (e ∷ []) less more are ((stands, tt), (tt, tt))
 
--- its items stand behind those of the list
+-- its items follow those of the list
 pub loaded_last : (list items new : List Item) (table : Sections Row) (row : Row) (s : Section) (from len : ℕ) (name : List ℕ) (subsection : Option (List ℕ)) → new ≡ list ++ items → AreListed 0 (length list) table.entries
     → from ≡ length list → len ≡ length items → row.body ≡ Listed from len → (body_items new row.body ≡ items → read new row ≡ s)
     → read_all new (with_last name subsection row table) ≡ with_last name subsection s (read_all list table)
@@ -43,7 +43,7 @@ listed_names from to all [] name subsection are = are
 listed_names from to all (at ∷ places) name subsection are =
     listed_names from to (with_names all at name subsection) places name subsection (same_listed from to all.entries (with_names all at name subsection).entries (bodies_named all.entries at (fold name) subsection) are)
 
--- Bodies of a list that is put behind another.
+-- Bodies of a list that is put after another.
 abbrev pub until_rebased : ℕ → (by : ℕ) → List (SectionEntry Row) → List (SectionEntry Row)
 until_rebased zero by es = es
 until_rebased (suc n) by [] = []
@@ -113,7 +113,7 @@ read_rebased list others (e ∷ es) = λ i. record {
   section = record { header = e.section.header; meta = e.section.meta; items = record { items = body_rebased list others e.section.body i }; held = record { items = e.section.held.items } };
 } ∷ read_rebased list others es i
 
--- all put behind all
+-- all put after all
 behind_all : {A : Type 0} (xs ys : List A) → take (length xs) xs ++ ys ++ drop (length xs) xs ≡ xs ++ ys
 behind_all xs ys =
     (λ i. take_all (length xs) xs (omega arith) i ++ ys ++ drop_all (length xs) xs (omega arith) i) ∙ append-nil (xs ++ ys)
@@ -162,7 +162,7 @@ length-changed f [] at = refl
 length-changed f (e ∷ es) zero = refl
 length-changed f (e ∷ es) (suc at) = ap suc (length-changed f es at)
 
--- a section that is changed before others are put behind all, or behind that
+-- a section that is changed before others are put after all, or after that
 pub edited_before : {T : Type 0} (f : T → T) (all other : Sections T) (at : ℕ) → at < length all.entries
     → edited_at f at (with_all (length all.entries) other all) ≡ with_all (length all.entries) other (edited_at f at all)
 edited_before f all other at within =
@@ -173,7 +173,7 @@ edited_before f all other at within =
     ∙ sym (behind_all (changed_at g all.entries at) ns)
     ∙ (λ i. take (length-changed g all.entries at i) (changed_at g all.entries at) ++ ns ++ drop (length-changed g all.entries at i) (changed_at g all.entries at)))
 
--- what stands before them
+-- what comes before them
 pub there_before : {T : Type 0} (all other : Sections T) (at : ℕ) (s t : T) → section_at at all ≡ Some s → section_at at (with_all (length all.entries) other all) ≡ Some t → t ≡ s
 there_before {T} all other at s t here there = go all.entries at here (subst (λ es. option_map (λ (e : SectionEntry T). e.section) (slice_get es at) ≡ Some t) (behind_all all.entries (numbered_from all.next other.entries)) there)
   where
@@ -199,7 +199,7 @@ no_fewer all other =
     let is = ap length (behind_all all.entries ns) ∙ length-append all.entries ns in
     omega (arith, is)
 
--- what was put at a place stands there
+-- what was put at a place is there
 pub put_there : {T : Type 0} (all : Sections T) (at : ℕ) (s t : T) → section_at at all ≡ Some s → section_at at (with_section all at t) ≡ Some t
 put_there {T} all at s t here = go all.entries at here
   where

@@ -40,7 +40,7 @@ body_within list table at r are here = ends_within 0 (length list) table.entries
 pub undone_row : (old new : List Item) (table : Sections Row) (at : ℕ) (r t : Row) → section_at at table ≡ Some r → new ≡ old → t ≡ r → read_all new (with_section table at t) ≡ read_all old table
 undone_row old new table at r t here same is = (λ i. read_all (same i) (with_section table at (is i))) ∙ ap (read_all old) (put_again table at r here)
 
--- a row with another list for what is held, in which the same stands
+-- a row with another list for what is held, in which the same is
 pub held_row : (list : List Item) (table : Sections Row) (at : ℕ) (r t : Row) → section_at at table ≡ Some r → read list t ≡ read list r → read_all list (with_section table at t) ≡ read_all list table
 held_row list table at r t here is =
     section_mapped (read list) table at t ∙ ap (with_section (read_all list table) at) is

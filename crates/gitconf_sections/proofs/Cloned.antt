@@ -1,4 +1,4 @@
--- Clones of a list and of the rows whose bodies stand in it.
+-- Clones of a list and of the rows whose bodies are in it.
 use Rattle.std.proofs.Common.{◌≡◌, ℕ, zero, suc, List, [], ◌∷◌, length, take, drop, map, refl, ap, arith}
 use Rattle.std.specs.List.{AllZip}
 use Rattle.gitconf_items.specs.declared.items.Item.{Item}
@@ -62,7 +62,7 @@ all_cloned [] (d ∷ ds) all = elim all [ ]
 all_cloned (e ∷ es) [] all = elim all [ ]
 all_cloned (e ∷ es) (d ∷ ds) all = (less_cloned e.section.body d.section.body all.0.section.1.1.0, all_cloned es ds all.1)
 
--- bodies stand where their clones do
+-- bodies are where their clones are
 pub listed_cloned : (from to : ℕ) (es ds : List (SectionEntry Row)) → AllZip (IsEntryClone IsRowClone) es ds → AreListed from to es → AreListed from to ds
 listed_cloned from to es ds all are = listed_less from to es ds (all_cloned es ds all) are
 

@@ -1,4 +1,4 @@
--- A section whose items are taken out, changed and put back.
+-- A section whose items are removed, changed and put back.
 use Rattle.std.proofs.Common.{◌≡◌, ℕ, ◌<◌, zero, suc, arith, length, List, [], ◌∷◌, Option, Some, None, refl, ap, sym, ◌∙◌}
 use Rattle.std.specs.List.{slice_get}
 use Rattle.std.specs.Option.{option_map}
@@ -8,7 +8,7 @@ use Rattle.gitconf_table.specs.Sections.{SectionEntry, Sections, changed_at, edi
 use Rattle.gitconf_table.proofs.SectionLemmas.{section_edited, tables}
 use Rattle.gitconf_sections.specs.Section.{Section, with_items}
 
--- one change behind another
+-- one change after another
 changed_twice : {T : Type 0} (f g : T → T) (es : List (SectionEntry T)) (at : ℕ)
     → changed_at (λ e. record e { section = f e.section }) (changed_at (λ e. record e { section = g e.section }) es at) at ≡ changed_at (λ e. record e { section = f (g e.section) }) es at
 changed_twice f g [] at = refl
@@ -18,7 +18,7 @@ changed_twice f g (e ∷ es) (suc at) = ap (λ ds. e ∷ ds) (changed_twice f g 
 pub edited_twice : {T : Type 0} (f g : T → T) (at : ℕ) (all : Sections T) → edited_at f at (edited_at g at all) ≡ edited_at (λ s. f (g s)) at all
 edited_twice f g at all = λ i. record { entries = changed_twice f g all.entries at i; next = all.next }
 
--- what stands at a place among them
+-- what is at a place among them
 pub there_is : {T : Type 0} (all : Sections T) (at : ℕ) → at < length all.entries → (s : T) × (section_at at all ≡ Some s)
 there_is {T} all at within = go all.entries at within
   where
@@ -27,12 +27,12 @@ there_is {T} all at within = go all.entries at within
     go (e ∷ es) zero within = (e.section, refl)
     go (e ∷ es) (suc n) within = go es n (omega (arith, within))
 
--- of each that may stand there
+-- of each that may be there
 pub if_there : {T : Type 0} {P : T → Type 0} (o : Option T) → ((s : T) → o ≡ Some s → P s) → IfSome o P
 if_there None f = tt
 if_there (Some s) f = f s refl
 
--- what stands at a place put there again
+-- what is at a place put there again
 same_there : {T : Type 0} (es : List (SectionEntry T)) (at : ℕ) (s : T) → option_map (λ (e : SectionEntry T). e.section) (slice_get es at) ≡ Some s → changed_at (λ e. record e { section = s }) es at ≡ es
 same_there [] at s here = refl
 same_there (e ∷ es) zero s here = let is : e.section ≡ s = cc in ap (λ (t : _). record e { section = t } ∷ es) (sym is)

@@ -77,7 +77,7 @@ from_front (p ∷ places) xs =
 pub all_left : {A : Type 0} (places : List (ℕ × ℕ)) (xs : List A) → Ascend 0 places → left_from 0 places xs ≡ without_all places xs
 all_left places xs a = walk_leaves 0 places xs a ∙ from_front places xs
 
--- what stands at a place
+-- what is at a place
 here_next : {A : Type 0} (xs : List A) (at : ℕ) → at < length xs → (x : A) × (drop at xs ≡ x ∷ drop (suc at) xs) × ((d : A) → slice_index_or xs at d ≡ x)
 here_next [] at less = absurd (omega (arith, less))
 here_next (x ∷ xs) zero less = (x, refl, λ d. refl)
@@ -139,6 +139,6 @@ pub walked : {A : Type 0} (kept at : ℕ) (left places : List (ℕ × ℕ)) (xs 
 walked kept at left places xs old past a is =
     sym (append-nil (take kept xs)) ∙ ap (λ ys. take kept xs ++ left_from at left ys) (sym (drop_all at xs past)) ∙ is ∙ all_left places old a
 
--- where there is nothing, nothing is left
+-- if there is nothing, nothing is left
 pub none_of_none : {A : Type 0} (places : List (ℕ × ℕ)) → without_all {A = A} places [] ≡ []
 none_of_none places = sym (from_front places []) ∙ none_left 0 places

@@ -21,7 +21,7 @@ wider a b c d (Listed start len) less more stands = (omega (arith, less, stands.
 wider a b c d (Own own) less more stands = tt
 wider a b c d Nothing less more stands = tt
 
--- two of them, the other way round, and one before a place and one behind it
+-- two of them, the other way round, and one before a place and one after it
 disjoint_back : (a b : Body) → AreDisjoint a b → AreDisjoint b a
 disjoint_back (Listed start len) (Listed from count) apart = elim apart [ inl before ↦ inr before | inr behind ↦ inl behind ]
 disjoint_back (Listed start len) (Own own) apart = tt
@@ -80,7 +80,7 @@ entry_same old new e same = λ i. record {
   section = record { header = e.section.header; meta = e.section.meta; items = record { items = same i }; held = record { items = e.section.held.items } };
 }
 
--- they stand between places further apart
+-- they are between places further apart
 all_wider : (a b c d : ℕ) (bodies : List Body) → c ≤ a → b ≤ d → AllByRecursion (StandsWithin a b) bodies → AllByRecursion (StandsWithin c d) bodies
 all_wider a b c d [] less more all = tt
 all_wider a b c d (x ∷ bodies) less more all = (wider a b c d x less more all.0, all_wider a b c d bodies less more all.1)
@@ -88,7 +88,7 @@ all_wider a b c d (x ∷ bodies) less more all = (wider a b c d x less more all.
 pub listed_later : (from a b : ℕ) (es : List (SectionEntry Row)) → a ≤ b → AreListed from a es → AreListed from b es
 listed_later from a b es less are = (all_wider from a from b (bodies_of es) (omega arith) less are.0, are.1)
 
--- more of them behind
+-- more of them after
 ones_behind : (a mid b : ℕ) (x : Body) (ys : List Body) → StandsWithin a mid x → AllByRecursion (StandsWithin mid b) ys → AllByRecursion (AreDisjoint x) ys
 ones_behind a mid b x [] stands all = tt
 ones_behind a mid b x (y ∷ ys) stands all = (one_behind a mid b x y stands all.0, ones_behind a mid b x ys stands all.1)
@@ -169,7 +169,7 @@ apart_less (x ∷ bodies) (y ∷ less) zip apart = (beside_less x y bodies less 
 pub listed_less : (from to : ℕ) (es ds : List (SectionEntry Row)) → AllZip NeedsNoMore (bodies_of es) (bodies_of ds) → AreListed from to es → AreListed from to ds
 listed_less from to es ds less are = (all_less from to (bodies_of es) (bodies_of ds) less are.0, apart_less (bodies_of es) (bodies_of ds) less are.1)
 
--- they are read the same where items are put behind the list
+-- they are read the same where items are put after the list
 all_more : (list more : List Item) (from to : ℕ) (es : List (SectionEntry Row)) → AllByRecursion (StandsWithin from to) (bodies_of es) → to ≤ length list → map (read_entry (list ++ more)) es ≡ map (read_entry list) es
 all_more list more from to [] all within = refl
 all_more list more from to (e ∷ es) all within =
@@ -178,7 +178,7 @@ all_more list more from to (e ∷ es) all within =
 pub read_more : (list more : List Item) (from to : ℕ) (es : List (SectionEntry Row)) → AreListed from to es → to ≤ length list → map (read_entry (list ++ more)) es ≡ map (read_entry list) es
 read_more list more from to es are within = all_more list more from to es are.0 within
 
--- what stands at a place
+-- what is at a place
 abbrev pub is_at : List (SectionEntry Row) → (at : ℕ) → Row → Type 0
 is_at es at r = option_map (λ (e : SectionEntry Row). e.section) (slice_get es at) ≡ Some r
 

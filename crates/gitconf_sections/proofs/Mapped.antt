@@ -37,7 +37,7 @@ module _ {A B : Type 0} (r : A → B) where
   pub numbered_mapped : (all : Sections A) → IsNumbered all → IsNumbered (all_mapped all)
   numbered_mapped all numbered = record { once = once_mapped all.next all.entries numbered.once; within = numbered.within }
 
-  -- what stands at a place, and under a number
+  -- what is at a place, and under a number
   at_mapped : (es : List (SectionEntry A)) (at : ℕ) → option_map (λ (e : SectionEntry B). e.section) (slice_get (map mapped es) at) ≡ option_map r (option_map (λ (e : SectionEntry A). e.section) (slice_get es at))
   at_mapped [] at = refl
   at_mapped (e ∷ es) zero = refl
@@ -115,7 +115,7 @@ module _ {A B : Type 0} (r : A → B) where
   renumbered_mapped next [] = refl
   renumbered_mapped next (e ∷ es) = ap (λ ds. record { number = next; name = e.name; subsection = e.subsection; section = r e.section } ∷ ds) (renumbered_mapped (next + 1) es)
 
-  -- their numbers with what stands under them
+  -- their numbers with what is under them
   abbrev pub pair : ℕ × A → ℕ × B
   pair p = (p.0, r p.1)
 

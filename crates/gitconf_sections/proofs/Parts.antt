@@ -1,4 +1,4 @@
--- A list of which a part is changed where it stands.
+-- A list of which a part is changed where it is.
 use Rattle.std.proofs.Common.{◌≡◌, ℕ, zero, suc, ◌+◌, ◌<◌, List, [], ◌∷◌, ◌++◌, length, take, drop, get_or, set, refl, ap, sym, ◌∙◌, arith}
 use Rattle.std.proofs.lemmas.List.{length-append}
 use Rattle.gitconf_items.specs.declared.items.Item.{Item}
@@ -43,7 +43,7 @@ but_part old new front behind part changed rest from len was split is first coun
       behind = ap (drop (from + len)) is ∙ rest_is front changed rest (from + len) (omega (arith, first, so)) ∙ sym (ap (drop (from + len)) whole ∙ rest_is front part rest (from + len) (omega (arith, first, count)));
     }
 
--- The next one is taken out of a list, and another stands in its place.
+-- The next one is removed from a list, and another is in its place.
 pub next_taken : {A : Type 0} (at : ℕ) (xs ys : List A) (x z : A) → length ys ≡ length xs → at < length xs → drop at ys ≡ drop at xs → x ≡ get_or ys at x
     → (take (suc at) xs ≡ take at xs ++ x ∷ []) × (drop (suc at) (set ys at z) ≡ drop (suc at) xs)
 next_taken at [] ys x z long within same is = absurd (omega (arith, within))

@@ -1,4 +1,4 @@
--- Sections with their bodies. Those that were loaded stand in one list of items, which the sections share.
+-- Sections with their bodies. The items of loaded sections are in one list, which the sections share.
 use Rattle.std.specs.Prelude.{◌≡◌, ◌⊎◌, ℕ, ◌+◌, ◌-◌, ◌≤◌, List, [], ◌++◌, length, map, take, drop}
 use Rattle.std.specs.List.{AllByRecursion, AllZip}
 use Rattle.std.specs.declared.rc.Rc.{Rc}
@@ -18,27 +18,28 @@ use Rattle.gitconf_sections.specs.declared.row.Section as views
 pub record Items : Type 0 where
   pub items : List Item
 
--- a section: its header, where it comes from, its body, and what is held behind it
+-- a section: its header, where it comes from, its body, and what is held after it
 pub record Section : Type 0 where
   pub header : Header
   pub meta : Rc Meta Global
   pub items : Items
   pub held : Items
 
--- the items of a body that stands in a list, or has a list of its own, or has none
+-- the items of a body: in the shared list, in a list of its own, or none
 abbrev pub body_items : (list : List Item) → Body → List Item
 body_items list (Listed from len) = take len (drop from list)
 body_items list (Own own) = own.value.items
 body_items list Nothing = []
 
--- a section of the table, whose body may stand in the list
+-- a section as it is read from a row of the table, whose body may be in the shared list
 abbrev pub read : (list : List Item) → Row → Section
 read list r = record { header = r.header; meta = r.meta; items = record { items = body_items list r.body }; held = record { items = r.held.items } }
 
+-- an entry of the table as it is read: its number and names, and the section of its row
 abbrev pub read_entry : (list : List Item) → SectionEntry Row → SectionEntry Section
 read_entry list e = record { number = e.number; name = e.name; subsection = e.subsection; section = read list e.section }
 
--- all sections of the table
+-- all sections of the table, as they are read
 abbrev pub read_all : (list : List Item) → Sections Row → Sections Section
 read_all list all = record { entries = map (read_entry list) all.entries; next = all.next }
 
@@ -46,23 +47,23 @@ read_all list all = record { entries = map (read_entry list) all.entries; next =
 abbrev pub seen_as : Header → Rc Meta Global → (items held : List Item) → Section
 seen_as header meta items held = record { header = header; meta = meta; items = record { items = items }; held = record { items = held } }
 
--- the section that is viewed
+-- the section that a view shows
 abbrev pub viewed : views.Section → Section
 viewed v = seen_as v.header.now v.meta.now v.items.now v.held.now
 
--- how many items of the list stand before what is behind a body, if it stands there
+-- the place in the list directly after a body, or `from` if the body isn't in the list
 abbrev pub end_behind : (from : ℕ) → Body → ℕ
 end_behind from (Listed start len) = start + len
 end_behind from (Own own) = from
 end_behind from Nothing = from
 
--- a body stands in the list between two places, if it stands there
+-- a body that is in the list is there between two places
 abbrev pub StandsWithin : (from to : ℕ) → Body → Type 0
 StandsWithin from to (Listed start len) = (from ≤ start) × (start + len ≤ to)
 StandsWithin from to (Own own) = Unit {0}
 StandsWithin from to Nothing = Unit {0}
 
--- a body has none of so many items of the list from a place on
+-- a body has none of `len` items of the list from a place on
 abbrev pub IsBeside : (start len : ℕ) → Body → Type 0
 IsBeside start len (Listed from count) = (start + len ≤ from) ⊎ (from + count ≤ start)
 IsBeside start len (Own own) = Unit {0}
@@ -74,38 +75,39 @@ AreDisjoint (Listed start len) other = IsBeside start len other
 AreDisjoint (Own own) other = Unit {0}
 AreDisjoint Nothing other = Unit {0}
 
--- the bodies of sections
+-- the bodies of sections, in order
 abbrev pub bodies_of : List (SectionEntry Row) → List Body
 bodies_of es = map (λ e. e.section.body) es
 
--- the bodies that stand in the list do so between two places, in whatever order, and no two share an item of it
+-- the bodies that are in the list are there between two places, in any order, and no two share an item
 abbrev pub AreListed : (from to : ℕ) → List (SectionEntry Row) → Type 0
 AreListed from to es = AllByRecursion (StandsWithin from to) (bodies_of es) × EachTwo AreDisjoint (bodies_of es)
 
--- a new section, with nothing held behind it
+-- a new section, with nothing held after it
 abbrev pub made : Header → Rc Meta Global → (items : List Item) → Section
 made header meta items = record { header = header; meta = meta; items = record { items = items }; held = record { items = [] } }
 
--- a section with other items, and one that holds more
+-- the section with these items
 abbrev pub with_items : List Item → Section → Section
 with_items items s = record s { items = record { items = items } }
 
+-- the section, with more items held after it
 abbrev pub holding : (more : List Item) → Section → Section
 holding more s = record s { held = record { items = s.held.items ++ more } }
 
--- two lists are the same but for so many items behind the first ones
+-- two lists are the same except for `len` items after the first `from`
 pub record IsSameBut (from len : ℕ) (old new : List Item) : Type 0 where
   pub long : length new ≡ length old
   pub before : take from new ≡ take from old
   pub behind : drop (from + len) new ≡ drop (from + len) old
 
--- two lists are the same but for what a body has there
+-- two lists are the same except for the items of a body
 abbrev pub IsSameButIn : (old new : List Item) → Body → Type 0
 IsSameButIn old new (Listed from len) = IsSameBut from len old new
 IsSameButIn old new (Own own) = new ≡ old
 IsSameButIn old new Nothing = new ≡ old
 
--- a body needs no more of a list than another
+-- a body needs no more of the list than another
 abbrev pub NeedsNoMore : (body less : Body) → Type 0
 NeedsNoMore (Listed from len) (Listed start count) = (start ≡ from) × (count ≤ len)
 NeedsNoMore (Own own) (Listed start count) = ⊥
@@ -113,23 +115,25 @@ NeedsNoMore Nothing (Listed start count) = ⊥
 NeedsNoMore body (Own own) = Unit {0}
 NeedsNoMore body Nothing = Unit {0}
 
--- a body behind so many items of a list more
+-- a body of a list, after `by` items were put before those of the list
 abbrev pub rebased : (by : ℕ) → Body → Body
 rebased by (Listed start len) = Listed (by + start) len
 rebased by (Own own) = Own own
 rebased by Nothing = Nothing
 
+-- a row whose body is in a list, after `by` items were put before those of the list
 abbrev pub rebased_row : (by : ℕ) → Row → Row
 rebased_row by r = record r { body = rebased by r.body }
 
+-- an entry whose body is in a list, after `by` items were put before those of the list
 abbrev pub rebased_entry : (by : ℕ) → SectionEntry Row → SectionEntry Row
 rebased_entry by e = record { number = e.number; name = e.name; subsection = e.subsection; section = rebased_row by e.section }
 
--- all of them
+-- all sections, after `by` items were put before those of their list
 abbrev pub all_rebased : (by : ℕ) → Sections Row → Sections Row
 all_rebased by all = record { entries = map (rebased_entry by) all.entries; next = all.next }
 
--- the same section with clones of its items
+-- the same section, with clones of its items
 pub record IsSectionClone (s copy : Section) : Type 0 where
   pub header : copy.header ≡ s.header
   pub meta : copy.meta.value ≡ s.meta.value

@@ -17,12 +17,14 @@ shown_section item = (item.0, viewed item.1)
 abbrev pub read_pair : (list : List Item) → ℕ × Row → ℕ × Section
 read_pair list p = (p.0, read list p.1)
 
--- what is left of each walk
+-- what a walk over all sections has left, each under its number
 abbrev pub sections_left : Iter → List (ℕ × Section)
 sections_left it = map (read_pair it.list.now.items) (table.sections_left it.rows)
 
+-- what a walk over the sections of a name and subsection has left
 abbrev pub named_left : Named → List (ℕ × Section)
 named_left it = map (read_pair it.list.now.items) (table.named_left it.rows)
 
+-- what a walk over the sections of a name has left
 abbrev pub with_name_left : WithName → List (ℕ × Section)
 with_name_left it = map (read_pair it.list.now.items) (table.with_name_left it.rows)

@@ -1,24 +1,24 @@
-//! Where the items of a body stand.
+//! Where the items of a body are.
 ghost use Rattle.std.specs.Prelude.{◌≡◌, drop, take};
 ghost use Rattle.gitconf_sections.specs.Section.{body_items};
 
 use gitconf_items::items::Item;
 use std::mem::size_of;
 
-/// Where the items of a body stand.
+/// Where the items of a body are.
 #[derive(Clone, Drop)]
 pub(crate) enum Body {
-    /// In the list that the sections share: so many items behind the first ones.
+    /// In the list that the sections share: `len` items after the first `from`.
     Listed { from: u32, len: u32 },
     /// In a list of its own, as since its first edit.
     Own(Box<Vec<Item>>),
-    /// Nowhere: it has none, or they were taken out.
+    /// Nowhere: it has no items.
     Nothing,
 }
 
 const _: () = prove!(size_of::<Body>() == 16);
 
-/// So many items of a list behind the first ones, as far as it has them.
+/// The `len` items of a list after the first `from`, as far as it has them.
 fn part(list: &[Item], from: usize, len: usize) -> &[Item]
     ensures { result.now ≡ take len (drop from list.now) }
 {

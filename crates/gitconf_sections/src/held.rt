@@ -1,4 +1,4 @@
-//! Items held behind a section.
+//! Items held after a section.
 ghost use Rattle.std.specs.Prelude.{◌≡◌, ◌+◌, ◌-◌, ◌^◌, ◌≤◌, ◌++◌, [], length, OnOk};
 ghost use Rattle.smallvec.specs.SmallVec.{HasRoomFor, small_vec_len};
 ghost use Rattle.gitconf_items.specs.ItemsFit.{AreItemsWithin};
@@ -13,7 +13,7 @@ use std::alloc::{AllocError, Global};
 use std::marker::Model;
 use std::mem::size_of;
 
-/// Puts a line end, if one is given, and others behind the items, within the room that there is.
+/// Adds a line ending, if one is given, and others after the items, within the room that there is.
 pub fn join(items: &mut FewItems, line_end: Option<Span>, others: &mut FewItems)
     requires room { HasRoomFor items.old (small_vec_len others.old + 1) }
     ensures { items.new.items ≡ items.old.items ++ (line_end_item line_end ++ others.old.items) }
@@ -24,8 +24,8 @@ pub fn join(items: &mut FewItems, line_end: Option<Span>, others: &mut FewItems)
     items.append(others).unwrap();
 }
 
-/// The items held behind a section: their list stands in a box, since nearly every section holds none, and up to four take no memory
-/// but the box. It takes 16 bytes.
+/// The items held after a section. Their list is in a box, since nearly every section holds none, and up to four take no memory
+/// besides the box. It takes 16 bytes.
 #[derive(Drop)]
 pub struct Held {
     list: Option<Box<FewItems>>,
@@ -59,11 +59,11 @@ impl Held {
         }
     }
 
-    /// Makes room for so many items more.
+    /// Makes room for that many more items.
     ///
     /// # Errors
     ///
-    /// Want of memory.
+    /// Out of memory.
     pub fn reserve(&mut self, alloc: Global, more: usize) -> Result<(), AllocError>
         ensures items { self.new.items ≡ self.old.items }
         ensures ok { OnOk result (more ≤ self.new.room) }
@@ -77,7 +77,7 @@ impl Held {
         reserved
     }
 
-    /// Puts a line end, if one is given, and others behind the items, within the room that there is.
+    /// Adds a line ending, if one is given, and others after the items, within the room that there is.
     pub fn join(&mut self, line_end: Option<Span>, others: &mut FewItems)
         requires room { small_vec_len others.old + 1 ≤ self.old.room }
         ensures { self.new.items ≡ self.old.items ++ (line_end_item line_end ++ others.old.items) }
@@ -91,7 +91,7 @@ impl Held {
         }
     }
 
-    /// Items of a buffer, where so many bytes stand before those of the buffer. One pass, which takes no memory.
+    /// Moves the items of a buffer, after `by` bytes were put before those of the buffer. One pass, which takes no memory.
     pub fn move_by(&mut self, by: u32)
         requires { AreItemsWithin (2 ^ 32 - 1 - by) self.old.items }
         ensures { AreItemsMoved by self.old.items self.new.items }

@@ -1,4 +1,4 @@
-//! The sections of a git configuration file with their bodies, in file order: the items of those that were loaded stand in one
+//! The sections of a git configuration file with their bodies, in file order. The items of loaded sections are in one
 //! list, which they share.
 #![tactic(auto)]
 

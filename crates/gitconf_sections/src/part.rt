@@ -1,4 +1,4 @@
-//! Items that are changed where they stand: in the list that the sections share, or in a list of their own.
+//! Items that are changed in place: in the list that the sections share, or in a list of their own.
 ghost use Rattle.std.specs.Prelude.{◌≡◌, ◌+◌, ◌-◌, ◌^◌, ◌≤◌, length, drop, take, IfOk, OnErr, OnOk};
 ghost use Rattle.gitconf_items.specs.ItemsFit.{AreItemsWithin};
 ghost use Rattle.gitconf_items.specs.Moves.{AreItemsMoved};
@@ -15,7 +15,7 @@ use gitconf_text::NoMemory;
 use std::alloc::{AllocError, Global};
 use std::mem::replace;
 
-/// Whether the next item to go stands at a place.
+/// Whether the next item to be removed is at a place.
 fn is_at(places: &[(SectionId, usize)], at: usize) -> bool
     ensures { result ≡ is_next at places.now }
 {
@@ -25,7 +25,7 @@ fn is_at(places: &[(SectionId, usize)], at: usize) -> bool
     }
 }
 
-/// Puts the items that stay where those at places go before these, and answers how many stay. One walk over the items, with at most
+/// Puts the items that stay before those at these places, and returns how many stay. One walk over the items, with at most
 /// one swap for each that stays. Takes no memory.
 fn leave_out(items: &mut [Item], places: &[(SectionId, usize)]) -> usize
     requires { Ascend 0 places.now }
@@ -46,7 +46,7 @@ fn leave_out(items: &mut [Item], places: &[(SectionId, usize)]) -> usize
     kept
 }
 
-/// [`leave_out`] of so many items of a list behind the first ones.
+/// [`leave_out`], for `len` items of a list after the first `from`.
 fn leave_out_part(
     list: &mut [Item],
     from: usize,
@@ -64,7 +64,7 @@ fn leave_out_part(
     leave_out(part, places)
 }
 
-/// Moves so many items of a list behind the first ones, as [`move_items`] does.
+/// Moves `len` items of a list after the first `from`, as [`move_items`] does.
 fn move_part(list: &mut [Item], from: usize, len: usize, by: u32)
     requires within { from + len ≤ length list.old }
     requires items { AreItemsWithin (2 ^ 32 - 1 - by) (take len (drop from list.old)) }
@@ -78,11 +78,11 @@ fn move_part(list: &mut [Item], from: usize, len: usize, by: u32)
 
 const NOTHING: Span = Span { start: 0, len: 0 };
 
-/// Takes items out, and leaves some in their places.
+/// Moves items to a list of their own, and leaves line endings of no bytes in their places.
 ///
 /// # Errors
 ///
-/// Want of memory. The items are then as they were.
+/// Out of memory. The items are then as they were.
 fn taken(alloc: Global, items: &mut [Item]) -> Result<Vec<Item>, AllocError>
     ensures ok { IfOk result (λ taken. taken.items ≡ items.old) }
     ensures err { OnErr result (items.new ≡ items.old) }
@@ -95,7 +95,7 @@ fn taken(alloc: Global, items: &mut [Item]) -> Result<Vec<Item>, AllocError>
     Ok(taken)
 }
 
-/// [`taken`] of so many items of a list behind the first ones.
+/// [`taken`], for `len` items of a list after the first `from`.
 fn take_part(
     alloc: Global,
     list: &mut [Item],
@@ -112,7 +112,7 @@ fn take_part(
     taken(alloc, part)
 }
 
-/// Takes the items at places out of a body. Takes no memory.
+/// Removes the items at these places from a body. Takes no memory.
 pub(crate) fn leave_out_of(list: &mut Vec<Item>, body: Body, places: &[(SectionId, usize)]) -> Body
     requires within { end_behind 0 body ≤ length list.old.items }
     requires ascend { Ascend 0 places.now }
@@ -158,11 +158,11 @@ pub(crate) fn move_body(list: &mut Vec<Item>, body: Body, by: u32) -> Body
     }
 }
 
-/// [`take_part`] into a box.
+/// [`take_part`], into a box.
 ///
 /// # Errors
 ///
-/// Want of memory. The list is then as it was.
+/// Out of memory. The list is then as it was.
 fn take_boxed(
     alloc: Global,
     list: &mut Vec<Item>,
@@ -179,11 +179,11 @@ fn take_boxed(
     Ok(own)
 }
 
-/// Takes the items out of a body, which then has none.
+/// Moves the items of a body to a box; the body then has none.
 ///
 /// # Errors
 ///
-/// Want of memory, only where the body has no list of its own. All is then as it was.
+/// Out of memory, only if the body has no list of its own. All is then as it was.
 pub(crate) fn take_out(
     alloc: Global,
     list: &mut Vec<Item>,

@@ -1,4 +1,4 @@
-//! Bodies in a list that is put behind another.
+//! Bodies in a list that is put after another list.
 ghost use Rattle.std.specs.Prelude.{◌≡◌, ◌+◌, ◌-◌, ◌^◌, ◌≤◌};
 ghost use Rattle.gitconf_sections.specs.Section.{all_rebased, end_behind, rebased, AreListed};
 
@@ -7,7 +7,7 @@ use crate::row::Row;
 use gitconf_table::table::SectionTable;
 use std::mem::replace;
 
-/// A body, where so many items stand before those of its list.
+/// A body of a list, after `by` items were put before those of the list.
 fn rebased(body: Body, by: u32) -> Body
     requires { end_behind 0 body + by ≤ 2 ^ 32 - 1 }
     ensures { result ≡ rebased by body }
@@ -22,7 +22,7 @@ fn rebased(body: Body, by: u32) -> Body
     }
 }
 
-/// The bodies of a table, where so many items stand before those of its list. One pass, which takes no memory.
+/// Changes the bodies of a table whose list is put after `by` other items. One pass, which takes no memory.
 pub(crate) fn rebase(table: &mut SectionTable<Row>, by: u32)
     requires { AreListed 0 (2 ^ 32 - 1 - by) table.old.entries }
     ensures { table.new ≡ all_rebased by table.old }

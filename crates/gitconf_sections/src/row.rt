@@ -10,7 +10,7 @@ use gitconf_items::items::Item;
 use std::alloc::Global;
 use std::rc::Rc;
 
-/// A section as the table keeps it: its header, where it comes from, where its body stands, and the items held behind it.
+/// A section as the table keeps it: its header, where it comes from, where its body is, and the items held after it.
 #[derive(Clone, Drop)]
 pub(crate) struct Row {
     pub(crate) header: Header,
@@ -19,18 +19,22 @@ pub(crate) struct Row {
     pub(crate) held: Held,
 }
 
-/// A view of a section: its header, where it comes from, the items of its body, and those held behind it.
+/// A view of a section: its header, where it comes from, the items of its body, and those held after it.
 #[derive(Clone, Copy)]
 pub struct Section<'a> {
-    /// Where memory for what is asked of it comes from.
+    /// Where memory for results comes from.
     pub alloc: Global,
+    /// The section's header.
     pub header: &'a Header,
+    /// Where the section comes from.
     pub meta: &'a Rc<Metadata>,
+    /// The items of its body.
     pub items: &'a [Item],
+    /// The items held after it.
     pub held: &'a [Item],
 }
 
-/// A view of a section, its items among those of a list or in its own.
+/// A view of a section; its items are in the list, or in its own.
 pub(crate) fn read<'a>(list: &'a Vec<Item>, row: &'a Row) -> Section<'a>
     ensures { viewed result ≡ read list.now.items row.now }
 {

@@ -19,7 +19,7 @@ use gitconf_text::NoMemory;
 use std::alloc::Global;
 use std::marker::Model;
 
-/// The sections of a file, each under its number, in file order. The items of sections that were loaded stand in one list; a section
+/// The sections of a file, each under its number, in file order. The items of loaded sections are in one list; a section
 /// gets a list of its own when it is edited.
 #[derive(Drop)]
 pub struct SectionList {
@@ -51,11 +51,11 @@ impl SectionList {
         }
     }
 
-    /// The same sections again, with lists of their own; metadata is shared. Each item is copied once.
+    /// A copy of the sections, with lists of their own; metadata is shared. Each item is copied once.
     ///
     /// # Errors
     ///
-    /// Want of memory.
+    /// Out of memory.
     pub fn try_clone(&self) -> Result<SectionList, NoMemory>
         ensures { IfOk result (IsTableClone IsSectionClone self.now) }
     {
@@ -79,7 +79,7 @@ impl SectionList {
         self.table.is_empty()
     }
 
-    /// The number that the next section gets, if it is not the greatest; and no number was given twice.
+    /// The number that the next section gets, unless it is the greatest number. No number was given twice.
     pub fn next_id(&self) -> SectionId
         ensures value { result ≡ self.now.next }
         ensures numbered { IsNumbered self.now }
@@ -94,7 +94,7 @@ impl SectionList {
         self.table.numbers_left()
     }
 
-    /// The place of a section in file order, or `None` where none has that number. Takes constant time.
+    /// The place of a section in file order, or `None` if none has this number. Takes constant time.
     pub fn position(&self, id: SectionId) -> Option<usize>
         ensures place { result ≡ place_of id self.now }
         ensures within { IfSome result (λ at. at < length self.now.entries) }
@@ -110,7 +110,7 @@ impl SectionList {
         self.table.id_at(position)
     }
 
-    /// The section of that number, or `None` where none has it. Takes constant time.
+    /// The section of this number, or `None` if none has it. Takes constant time.
     pub fn get(&self, id: SectionId) -> Option<Section<'_>>
         ensures { option_map viewed result ≡ section_of id self.now }
     {
@@ -128,14 +128,14 @@ impl SectionList {
         read(&self.list, self.table.at(position))
     }
 
-    /// Whether some section has that name, without ASCII case, and any subsection. Takes constant time but for the bytes of the names.
+    /// Whether some section has this name, without ASCII case, and any subsection. Takes constant time except for the bytes of the names.
     pub fn has_name(&self, name: &str) -> bool
         ensures { result ≡ list_any (has_name name.now) self.now.entries }
     {
         self.table.has_name(name)
     }
 
-    /// Takes the section of that number out, if one has it. Its number is not given again. Takes the time of [`SectionTable::remove`].
+    /// Removes the section of this number, if there is one. Its number is not given again. Takes the time of [`SectionTable::remove`].
     pub fn remove(&mut self, id: SectionId)
         ensures rest { self.new ≡ without id self.old }
     {
@@ -146,7 +146,7 @@ impl SectionList {
     ///
     /// # Errors
     ///
-    /// Want of memory. All is then as it was.
+    /// Out of memory. All is then as it was.
     pub fn rename_each(
         &mut self,
         places: &[usize],

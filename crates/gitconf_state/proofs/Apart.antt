@@ -23,7 +23,7 @@ abbrev pub AreClosed : Option Assigned → Type 0
 AreClosed None = Unit {0}
 AreClosed (Some a) = IsClosed a
 
--- what a part is, wherever it stands; its pieces have their line ends
+-- what a part is, wherever it is; its pieces have their line endings
 abbrev pub IsSound : Part → Type 0
 IsSound (ItemPart (BlanksItem run)) = list_all is_blank run ≡ true
 IsSound (ItemPart (LineEndsItem run)) = (0 < length run) × (are_line_ends run ≡ true)
@@ -31,7 +31,7 @@ IsSound (ItemPart (CommentItem tag text)) = (is_mark tag ≡ true) × (list_all 
 IsSound (ItemPart (EntryItem e)) = (is_value_name e.name ≡ true) × (list_all is_blank e.blanks ≡ true) × AreClosed e.assigned
 IsSound (HeaderPart h) = FitsHeader h
 
--- A header stands where nothing is left open, and a comment not behind a comment.
+-- A header may come if nothing is left open, and a comment not after a comment.
 abbrev pub stands : Open → Part → Bool
 stands before (ItemPart (BlanksItem run)) = true
 stands before (ItemPart (LineEndsItem run)) = true
@@ -39,7 +39,7 @@ stands before (ItemPart (CommentItem tag text)) = elim before [ OpenComment ↦ 
 stands before (ItemPart (EntryItem e)) = may_stand_behind before (EntryItem e)
 stands before (HeaderPart h) = elim before [ Closed ↦ true | _ ↦ false ]
 
--- what is left open behind a part
+-- what is left open after a part
 abbrev pub after_part : Open → Part → Open
 after_part before (ItemPart i) = after before i
 after_part before (HeaderPart h) = Closed
@@ -57,7 +57,7 @@ end_follows OpenKeyAndBlanks = refl
 end_follows OpenValue = refl
 end_follows OpenComment = refl
 
--- a run of line ends begins with one
+-- a run of line endings begins with one
 run_begins : (run rest : List ℕ) → 0 < length run → are_line_ends run ≡ true → begins_line_end (run ++ rest) ≡ true
 run_begins [] rest some all = absurd (omega arith)
 run_begins (b ∷ run) rest some all = line_end_more b run rest (both_true _ _ all).0
@@ -67,7 +67,7 @@ name_follows : (name rest : List ℕ) → is_value_name name ≡ true → may_fo
 name_follows [] rest named = absurd (cc)
 name_follows (b ∷ name) rest named = letter_follows b (name ++ rest) (both_true _ _ named).0
 
--- no comment stands behind a comment
+-- no comment follows a comment
 comment_apart : (before : Open) (tag : ℕ) (text : List ℕ) → stands before (ItemPart (CommentItem tag text)) ≡ true → before ≡ OpenComment → ⊥
 comment_apart Closed tag text h e = absurd (cc)
 comment_apart OpenKey tag text h e = absurd (cc)
@@ -75,7 +75,7 @@ comment_apart OpenKeyAndBlanks tag text h e = absurd (cc)
 comment_apart OpenValue tag text h e = absurd (cc)
 comment_apart OpenComment tag text h e = absurd (cc)
 
--- an entry may follow where it stands
+-- an entry may follow where it is
 entry_follows : (before : Open) (e : Entry) (rest : List ℕ) → stands before (ItemPart (EntryItem e)) ≡ true → is_value_name e.name ≡ true → may_follow before (e.name ++ rest) ≡ true
 entry_follows Closed e rest h named = refl
 entry_follows OpenKeyAndBlanks e rest h named = name_follows e.name rest named
@@ -83,7 +83,7 @@ entry_follows OpenKey e rest h named = absurd (cc)
 entry_follows OpenValue e rest h named = absurd (cc)
 entry_follows OpenComment e rest h named = absurd (cc)
 
--- a part may follow where it stands
+-- a part may follow where it is
 part_follows : (before : Open) (p : Part) (text : List ℕ) → stands before p ≡ true → IsSound p → may_follow (after_part before p) text ≡ true → may_follow before (spelled_part p ++ text) ≡ true
 part_follows before (ItemPart (BlanksItem run)) text stands sound h = blanks_follow before run text sound h
 part_follows before (ItemPart (LineEndsItem run)) text stands sound h = line_end_follows before (run ++ text) (run_begins run text sound.0 sound.1)
@@ -96,7 +96,7 @@ part_follows OpenKeyAndBlanks (HeaderPart h) text stands sound follows = absurd 
 part_follows OpenValue (HeaderPart h) text stands sound follows = absurd (cc)
 part_follows OpenComment (HeaderPart h) text stands sound follows = absurd (cc)
 
--- behind a name and blanks an entry leaves open what it does behind a line end
+-- after a name and blanks an entry leaves open what it does after a line ending
 after_key : (blanks : List ℕ) (a : Option Assigned) → after_entry OpenKeyAndBlanks blanks a ≡ after_entry Closed blanks a
 after_key blanks None = refl
 after_key blanks (Some a) = refl
@@ -137,7 +137,7 @@ fitted_behind before (p ∷ parts) apart =
 pub fitted : (parts : List Part) → AreApart Closed parts → Fitted (spelled parts) (gathered parts) (comments_of parts)
 fitted parts apart = (fitted_behind Closed parts apart).1
 
--- what is left open behind parts
+-- what is left open after parts
 abbrev pub behind_parts : Open → List Part → Open
 behind_parts before [] = before
 behind_parts before (p ∷ parts) = behind_parts (after_part before p) parts

@@ -54,7 +54,7 @@ entry_parts e is =
     let b = both_true (is_value_name e.name) (list_all is_blank e.blanks) a.0 in
     record { name = b.0; blanks = b.1; assigned = a.1 }
 
--- blanks before and behind `=` are spaces and tabs
+-- blanks before and after `=` are spaces and tabs
 pub record FitsSpacing (first second : List ℕ) : Type 0 where
   pub before : list_all is_blank first ≡ true
   pub behind : list_all is_blank second ≡ true
@@ -96,7 +96,7 @@ with_value_is spacing value (EntryItem e) fits is = go e.assigned refl (entry_pa
         let h : (list_all is_blank a.blanks && is_value a.value) ≡ true = ap is_assigned (sym at) ∙ parts.assigned in
         rw at (entry_is e.name e.blanks a.blanks value parts.name parts.blanks (both_true (list_all is_blank a.blanks) (is_value a.value) h).0)
 
--- one line end is a run of line ends
+-- one line ending is a run of line endings
 pub one_line_end : (line_end : List ℕ) → is_line_end line_end ≡ true → is_item (LineEndsItem line_end) ≡ true
 one_line_end line_end is = elim (line_end_is line_end is) [ inl e ↦ rw e refl | inr e ↦ rw e refl ]
 
@@ -109,7 +109,7 @@ new_entry_is spacing line_end key value fits named closes = go spacing.leading r
     go None e = rw e (rw (entry_is key spacing.before spacing.behind value named fits.before fits.behind, one_line_end line_end closes) refl)
     go (Some run) e = rw e (rw (entry_is key spacing.before spacing.behind value named fits.before fits.behind, one_line_end line_end closes) refl)
 
--- two lists that pass, one behind the other
+-- two lists that pass, one after the other
 pub all_append : {A : Type 0} (p : A → Bool) (xs ys : List A) → list_all p xs ≡ true → list_all p ys ≡ true → list_all p (xs ++ ys) ≡ true
 all_append p xs ys first second = list_all-append p xs ys ∙ both_hold (list_all p xs) (list_all p ys) first second
 
@@ -122,7 +122,7 @@ set_value_is line_end key value items named closes all = go (list_any (is_entry_
     go true e = rw (e, set_value) (update_last_all (is_entry_of key) (with_value (spacing_of items) value) is_item (λ i is. with_value_is (spacing_of items) value i (spacing_fits items all) is) items all)
     go false e = rw (e, set_value) (all_append is_item items (new_entry (spacing_of items) line_end key value) all (new_entry_is (spacing_of items) line_end key value (spacing_fits items all) named closes))
 
--- the bytes of a name may stand in a header
+-- the bytes of a name may be in a header
 names_stand : (name : List ℕ) → list_all is_name_byte name ≡ true → list_all is_header_byte name ≡ true
 names_stand [] all = refl
 names_stand (b ∷ name) all =
@@ -148,7 +148,7 @@ pub section_with_is : (line_end key value : List ℕ) (s : SectionState) → is_
 section_with_is line_end key value s named closes has =
     record { header = has.header; items = set_value_is line_end key value s.items named closes has.items; held = has.held }
 
--- the file's line end is one
+-- the file's line ending is one
 pub file_line_end_is : (state : State) → is_line_end (file_line_end state) ≡ true
 file_line_end_is state = is_told_line_end (flat_map item_tokens (state.front ++ flat_map (λ s. s.items) state.sections))
 
@@ -157,7 +157,7 @@ pub new_section_is : (name : List ℕ) (subsection : Option (List ℕ)) (state :
 new_section_is name subsection state made valid =
     record { header = made_header_is name subsection made valid; items = rw (one_line_end (file_line_end state) (file_line_end_is state)) refl; held = refl }
 
--- where none stands, the names are such as a header may have
+-- if none is, the names are such as a header may have
 pub may_be_made : (name : List ℕ) (subsection : Option (List ℕ)) (keeps : Meta → Bool) (state : State) → finds_or_makes name subsection keeps state ≡ true
     → list_any (is_target name subsection keeps) state.sections ≡ false → (is_made_name name ≡ true) × (is_valid_or_none subsection ≡ true)
 may_be_made name subsection keeps state may none =

@@ -41,7 +41,7 @@ mapped_said give test change same (x ∷ xs) none =
     let n = or_parts (test x) (list_any test xs) none in
     ap (λ bs. bs ++ flat_map give (map change xs)) (same x n.0) ∙ ap (λ bs. give x ++ bs) (mapped_said give test change same xs n.1)
 
--- sections that are taken out, which say nothing
+-- sections that are removed, which say nothing
 kept_said : {A B : Type 0} (give : A → List B) (test keep : A → Bool) → ((x : A) → test x ≡ false → keep x ≡ false → give x ≡ [])
     → (xs : List A) → list_any test xs ≡ false → flat_map give (filter keep xs) ≡ flat_map give xs
 kept_said give test keep nothing [] none = refl
@@ -124,7 +124,7 @@ module _ (name : List ℕ) (subsection : Option (List ℕ)) (key : List ℕ) whe
               let fails = first_fails (is_named name subsection (listing s)) (second_fails (s.number == number) (is_named name subsection (listing s) && true) e none) in
               rw e (unnamed_said name subsection key (change s) (stays s fails) ∙ sym (unnamed_said name subsection key s fails))
 
-  -- a section is taken out
+  -- a section is removed
   section_removed : (number : ℕ) (state : State) → is_there number name subsection (λ items. true) state ≡ false
       → said name subsection key (listed (without_numbered number state)) ≡ said name subsection key (listed state)
   section_removed number state none =
@@ -145,7 +145,7 @@ module _ (name : List ℕ) (subsection : Option (List ℕ)) (key : List ℕ) whe
       ∙ ap (λ t. is_same_name name new_name && option_eq bytes_eq t subsection) (made_subsection new_name new_subsection valid)
       ∙ differ
 
-  -- sections under other numbers, with what is held behind the last one
+  -- sections under other numbers, with what is held after the last one
   renumbered : (first : ℕ) (sections : List SectionState) → list_any (λ s. is_named name subsection (listing s)) sections ≡ false → flat_map say (numbered_from first sections) ≡ []
   renumbered first [] none = refl
   renumbered first (s ∷ sections) none =

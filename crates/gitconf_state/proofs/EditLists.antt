@@ -1,4 +1,4 @@
--- The last element that passes a test: where it stands, what a list is when it is changed, and what look-ups then find.
+-- The last element that passes a test: where it is, what a list is when it is changed, and what lookups then find.
 use Rattle.std.proofs.Common.{◌≡◌, Bool, true, false, List, [], ◌∷◌, ◌++◌, Option, Some, None, refl, ap}
 use Rattle.std.specs.Prelude.{◌&&◌, filter, flat_map, map}
 use Rattle.std.specs.List.{list_all, list_any, last_or, filter_map, AllByRecursion}
@@ -7,7 +7,7 @@ use Rattle.gitconf_text.proofs.Tests.{both_true}
 use Rattle.gitconf_state.proofs.LoadingFilters.{both_hold}
 use Rattle.gitconf_state.specs.Edit.{update_last}
 
--- what each change keeps holds of all behind it
+-- what each change keeps holds of all after it
 pub update_last_all : {A : Type 0} (test : A → Bool) (change : A → A) (p : A → Bool) → ((x : A) → p x ≡ true → p (change x) ≡ true)
     → (xs : List A) → list_all p xs ≡ true → list_all p (update_last test change xs) ≡ true
 update_last_all {A} test change p keeps [] all = refl
@@ -32,7 +32,7 @@ update_last_holds {A} test change P keeps (x ∷ xs) all = go (list_any test xs)
     go false true ea et later = rw (ea, et, update_last) (keeps x all.0, all.1)
     go false false ea et later = rw (ea, et, update_last) (all.0, all.1)
 
--- one that passes stands in the list
+-- one that passes is in the list
 pub any_at : {A : Type 0} (test : A → Bool) (before : List A) (x : A) (behind : List A) → test x ≡ true → list_any test (before ++ x ∷ behind) ≡ true
 any_at test [] x behind passes = or_left (test x) (list_any test behind) passes
 any_at test (y ∷ before) x behind passes = or_right (test y) (list_any test (before ++ x ∷ behind)) (any_at test before x behind passes)
@@ -44,7 +44,7 @@ update_last_at test change [] x behind passes none = rw (none, passes, update_la
 update_last_at test change (y ∷ before) x behind passes none =
     rw (any_at test before x behind passes, update_last) (ap (λ t. y ∷ t) (update_last_at test change before x behind passes none))
 
--- where none passes
+-- if none passes
 record NonePass {A : Type 0} (test : A → Bool) (x : A) (xs : List A) : Type 0 where
   here : test x ≡ false
   behind : list_any test xs ≡ false
@@ -57,12 +57,12 @@ none_pass test x xs none = go (test x) (list_any test xs) refl refl
     go true a et ea = absurd (let h = rw et at none in cc)
     go false true et ea = absurd (let h = rw (et, ea) at none in cc)
 
--- Where none passes nothing is changed.
+-- If none passes nothing is changed.
 pub update_last_none : {A : Type 0} (test : A → Bool) (change : A → A) (xs : List A) → list_any test xs ≡ false → update_last test change xs ≡ xs
 update_last_none test change [] none = refl
 update_last_none test change (x ∷ xs) none = let n = none_pass test x xs none in rw (n.behind, n.here, update_last) refl
 
--- where the last one that passes stands
+-- where the last one that passes is
 pub record LastAt {A : Type 0} (test : A → Bool) (xs : List A) : Type 0 where
   pub before : List A
   pub found : A

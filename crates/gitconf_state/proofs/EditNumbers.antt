@@ -43,7 +43,7 @@ filtered next test (s ∷ sections) all = go (test s) refl (filtered next test s
     go true e later = rw (e, filter) (all.0, apart_filtered s.number test sections all.1, later)
     go false e later = rw (e, filter) later
 
--- a section more behind all others, under the next number
+-- a section more after all others, under the next number
 below_apart : (number next : ℕ) → number < next → (next == number) ≡ false
 below_apart number next below = go (next == number) refl
   where

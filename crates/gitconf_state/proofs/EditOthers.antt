@@ -49,7 +49,7 @@ pub same_given : {A B : Type 0} (give : A → List B) (before : List A) (x y : A
 same_given give [] x y behind same = ap (λ bs. bs ++ flat_map give behind) same
 same_given give (z ∷ before) x y behind same = ap (λ bs. give z ++ bs) (same_given give before x y behind same)
 
--- one behind all others that gives nothing
+-- one after all others that gives nothing
 pub nothing_given : {A B : Type 0} (give : A → List B) (xs : List A) (x : A) → give x ≡ [] → flat_map give (xs ++ x ∷ []) ≡ flat_map give xs
 nothing_given give [] x none = ap (λ bs. bs ++ []) none
 nothing_given give (z ∷ xs) x none = ap (λ bs. give z ++ bs) (nothing_given give xs x none)

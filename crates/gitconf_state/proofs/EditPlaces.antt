@@ -10,7 +10,7 @@ use Rattle.gitconf_state.specs.LineEnds.{file_line_end}
 use Rattle.gitconf_state.specs.Edit.{update_last, is_entry_of, spacing_of, with_value, new_entry, set_value, item_raw, old_value, new_section, is_target, section_with, set_raw_value, replaced_value}
 use Rattle.gitconf_state.proofs.EditLists.{any_at, update_last_at, last_passing, filter_none}
 
--- A body in which the key's last entry stands here: it alone is changed.
+-- A body in which the key's last entry is here: it alone is changed.
 pub set_value_at : (line_end key value : List ℕ) (items before : List Item) (i : Item) (behind : List Item) → items ≡ before ++ i ∷ behind
     → is_entry_of key i ≡ true → list_any (is_entry_of key) behind ≡ false
     → set_value line_end key value items ≡ before ++ with_value (spacing_of items) value i ∷ behind
@@ -20,7 +20,7 @@ set_value_at line_end key value items before i behind is passes none =
     same ∙ ap (update_last (is_entry_of key) (with_value (spacing_of items) value)) is
     ∙ update_last_at (is_entry_of key) (with_value (spacing_of items) value) before i behind passes none
 
--- A body without an entry of the key gets a new one behind all others.
+-- A body without an entry of the key gets a new one after all others.
 pub set_value_new : (line_end key value : List ℕ) (items : List Item) → list_any (is_entry_of key) items ≡ false
     → set_value line_end key value items ≡ items ++ new_entry (spacing_of items) line_end key value
 set_value_new line_end key value items none = rw (none, set_value) refl
@@ -55,7 +55,7 @@ set_raw_value_at name subsection key keeps value state before s behind is passes
     with_sections : List SectionState → State
     with_sections sections = record { front = state.front; meta = state.meta; next = state.next; used = state.used; sections = sections }
 
--- Where none is, a new one with the value stands behind all others.
+-- If none is, a new one with the value follows all others.
 pub set_raw_value_new : (name : List ℕ) (subsection : Option (List ℕ)) (key : List ℕ) (keeps : Meta → Bool) (value : List ℕ) (state : State)
     → list_any (is_target name subsection keeps) state.sections ≡ false
     → set_raw_value name subsection key keeps value state

@@ -76,7 +76,7 @@ last_section_changes : printed (apply (set "a" "k" "w") (file (section (PlainHea
     ≡ codes "[a]\nk=1\n[a]\n\tk = w\n"
 last_section_changes = refl
 
--- a value that goes on is put on one line
+-- a value that continues is put on one line
 pieces_change : printed (apply (set "a" "k" "w") (file (section (PlainHeader (codes "a")) (line_ends "\n" ∷ pieces_valued "k" " " " " (piece "x" "\n" ∷ []) "y" ∷ line_ends "\n" ∷ []) ∷ []))) ≡ codes "[a]\nk = w\n"
 pieces_change = refl
 
@@ -84,7 +84,7 @@ pieces_change = refl
 new_entry_is_spaced : printed (apply (set "a" "l" "w") (file (section (PlainHeader (codes "a")) (line_ends "\n" ∷ blanks "  " ∷ valued "k" "" "" "1" ∷ line_ends "\n" ∷ []) ∷ []))) ≡ codes "[a]\n  k=1\n  l=w\n"
 new_entry_is_spaced = refl
 
--- behind an entry without a line end
+-- after an entry without a line ending
 new_entry_on_a_line : printed (apply (set "a" "l" "w") (file (section (PlainHeader (codes "a")) (blanks " " ∷ valued "k" " " " " "v" ∷ []) ∷ []))) ≡ codes "[a]\n k = v \nl = w\n"
 new_entry_on_a_line = refl
 
@@ -104,7 +104,7 @@ dotted_header = refl
 quoted_header : printed (apply (set_in "a" "b" "k" "w") (file (section (QuotedHeader (codes "a") (codes " ") (codes "B")) (line_ends "\n" ∷ []) ∷ []))) ≡ codes "[a \"B\"]\n[a \"b\"]\n\tk = w\n"
 quoted_header = refl
 
--- the file's line end
+-- the file's line ending
 new_section_with_carriage_return : printed (apply (set "b" "k" "w") (file (section (PlainHeader (codes "a")) (line_ends "\r\n" ∷ []) ∷ []))) ≡ codes "[a]\r\n[b]\r\n\tk = w\r\n"
 new_section_with_carriage_return = refl
 
@@ -115,7 +115,7 @@ value_in_quotes = refl
 empty_value : printed (apply (set "a" "k" "") (file [])) ≡ codes "[a]\n\tk = \n"
 empty_value = refl
 
--- two edits, one behind the other
+-- two edits, one after the other
 two_edits : printed (apply_all (set "a" "k" "1" ∷ set "a" "K" "2" ∷ []) (file [])) ≡ codes "[a]\n\tk = 2\n"
 two_edits = refl
 

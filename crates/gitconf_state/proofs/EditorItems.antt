@@ -73,7 +73,7 @@ first_line_ends_all p (LineEndsItem run ∷ items) all = (both_true (p (LineEnds
 first_line_ends_all p (CommentItem tag text ∷ items) all = all
 first_line_ends_all p (EntryItem e ∷ items) all = all
 
--- What is left where an entry is taken out.
+-- What is left where an entry is removed.
 pub removed_all : (p : Item → Bool) (key : List ℕ) (items : List Item) → list_all p items ≡ true → list_all p (removed key items) ≡ true
 removed_all p key items all = go (cut_last (is_entry_of key) items) refl
   where
@@ -90,7 +90,7 @@ popped_all p items all = go (cut_last is_entry items) refl
     go None e = rw (e, popped) refl
     go (Some c) e = rw (e, popped) (last_blanks_all p c.0 (cut_passes p is_entry items all c e).before)
 
--- the key of the entry that is taken out is a name
+-- the key of the entry that is removed is a name
 told_named : (told : List ℕ × List ℕ) (i : Item) → is_item i ≡ true → entry_told i ≡ Some told → is_value_name told.0 ≡ true
 told_named told (BlanksItem run) is same = absurd (cc)
 told_named told (LineEndsItem run) is same = absurd (cc)
@@ -170,7 +170,7 @@ value_set_is editor key value items is named all = go (list_any (is_entry_of key
         (λ i one. with_value_is editor.spacing value i (record { before = is.before; behind = is.behind }) one) items all)
     go false e = rw (e, value_set) (pushed_is editor key (Some value) None items is named all)
 
--- the last line end of pieces is a line end, where there is one
+-- the last line ending of pieces is a line ending, if there is one
 last_line_end_is : (pieces : List Piece) → list_all is_piece pieces ≡ true → list_all is_item (line_end_item (last_line_end pieces)) ≡ true
 last_line_end_is [] all = refl
 last_line_end_is (p ∷ pieces) all =
@@ -218,7 +218,7 @@ behind_old_is keeps (EntryItem e ∷ items) all =
     go true one all = all_append is_item (kept_line_end e.assigned items) items (kept_line_end_is e.assigned items (entry_parts e one).assigned) all
     go false one all = all
 
--- An entry that is written anew.
+-- An entry that is rewritten.
 pub written_at_is : (editor : Editor) (place : ℕ) (stands keeps_line_end : Bool) (key value : List ℕ) (items : List Item) → IsEditor editor → is_value_name key ≡ true → list_all is_item items ≡ true
     → list_all is_item (written_at editor place stands keeps_line_end key value items) ≡ true
 written_at_is editor place stands keeps key value items is named all = go stands

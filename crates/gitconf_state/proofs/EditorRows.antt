@@ -53,7 +53,7 @@ detached number header items = record { section = section number header items; u
 abbrev edited : (number : ℕ) → List (Editor → Edit) → State → State
 edited number edits state = elim (numbered number state) [ None ↦ state | Some s ↦ apply_all (map (λ (make : Editor → Edit). make (editor_of state s)) edits) state ]
 
--- an editor that puts no line ends behind what is pushed
+-- an editor that puts no line endings after what is pushed
 abbrev quiet : Editor → Editor
 quiet e = record { spacing = e.spacing; line_end = e.line_end; ends = false }
 
@@ -64,7 +64,7 @@ place_of number key state = elim (numbered number state) [
   | Some s ↦ elim (cut_last (is_entry_of key) s.items) [ None ↦ 0 | Some c ↦ length c.0 ]
 ]
 
--- the key's last entry is written anew by an editor that is made for it; the last line end of its value may stay
+-- the key's last entry is rewritten by an editor that is made for it; the last line ending of its value may stay
 abbrev write : (number : ℕ) → (key value : List ℕ) → State → State
 write number key value state = edited number ((λ e. WriteAt number e (place_of number key state) true true key value) ∷ []) state
 
@@ -117,7 +117,7 @@ an_editor_keeps_them_behind_a_pop = refl
 a_new_editor_takes_those_of_the_body : printed (edited 0 ((λ e. Push 0 e (codes "j") (Some (codes "2")) None) ∷ []) (file ([]) 1 (section 0 (PlainHeader (codes "a")) (line_ends "\n" ∷ valued "k" "" "" "1" ∷ line_ends "\n" ∷ []) ∷ []))) ≡ codes "[a]\nk=1\nj=2\n"
 a_new_editor_takes_those_of_the_body = refl
 
--- comments behind what is pushed
+-- comments after what is pushed
 comment_in_two_lines : printed (edited 0 ((λ e. Push 0 e (codes "k") None (Some (codes "x\ny"))) ∷ []) (file ([]) 1 (section 0 (PlainHeader (codes "a")) (line_ends "\n" ∷ []) ∷ []))) ≡ codes "[a]\n\tk # x y\n"
 comment_in_two_lines = refl
 
@@ -200,7 +200,7 @@ write_before_a_comment = refl
 write_before_blanks_and_a_comment : printed (write 0 (codes "k") (codes "y") (file ([]) 1 (section 0 (PlainHeader (codes "a")) (line_ends "\n" ∷ pieces_valued "k" " " " " (piece "x" "\n" ∷ []) "" ∷ blanks "  " ∷ comment " c" ∷ line_ends "\n" ∷ []) ∷ []))) ≡ codes "[a]\nk = y\n  # c\n"
 write_before_blanks_and_a_comment = refl
 
--- a filter dropped the last line end of the value, and not the one before it
+-- a filter dropped the last line ending of the value, and not the one before it
 write_before_a_comment_with_a_dropped_line_end : printed (write 0 (codes "k") (codes "v") (file ([]) 1 (section 0 (PlainHeader (codes "a")) (line_ends "\n" ∷ pieces_valued "k" " " " " (piece "x" "\n" ∷ piece "" "" ∷ []) "" ∷ comment " c" ∷ line_ends "\n" ∷ []) ∷ []))) ≡ codes "[a]\nk = v\n# c\n"
 write_before_a_comment_with_a_dropped_line_end = refl
 
@@ -261,7 +261,7 @@ new_behind_a_open_value = refl
 new_behind_a_open_line : printed (apply (NewSection (codes "b") None) (file ([]) 1 (section 0 (PlainHeader (codes "a")) (line_ends "\n" ∷ pieces_valued "k" " " " " (piece "x" "\n" ∷ []) "" ∷ []) ∷ []))) ≡ codes "[a]\nk = x\\\n\n[b]\n"
 new_behind_a_open_line = refl
 
--- sections that are pushed, and taken out
+-- sections that are pushed, and removed
 push_a_section : printed (apply (PushSection (detached 7 (PlainHeader (codes "a")) (blanks "\t" ∷ valued "k" " " " " "v" ∷ []))) (file ([]) 1 (section 0 (PlainHeader (codes "a")) (line_ends "\n" ∷ []) ∷ []))) ≡ codes "[a]\n[a]\n\tk = v\n"
 push_a_section = refl
 
@@ -333,7 +333,7 @@ trust_prints_nothing = refl
 metadata_prints_nothing : printed (apply (SetMeta api_meta) (file ([]) 1 (section 0 (PlainHeader (codes "a")) (line_ends "\n" ∷ []) ∷ []))) ≡ codes "[a]\n"
 metadata_prints_nothing = refl
 
--- answers
+-- results
 answers : answer (Remove 0 (codes "k")) (file ([]) 1 (section 0 (PlainHeader (codes "a")) (line_ends "\n" ∷ blanks " " ∷ pieces_valued "k" " " " " (piece "x" "\n" ∷ []) " y" ∷ line_ends "\n" ∷ blanks " " ∷ valued "j" "" "" "1" ∷ line_ends "\n" ∷ []) ∷ [])) ≡ Raw (Some (codes "x y"))
 answers = refl
 

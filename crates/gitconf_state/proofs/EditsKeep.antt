@@ -74,7 +74,7 @@ renamed_is name subsection may s one =
 renamed_clean : (name : List ℕ) (subsection : Option (List ℕ)) → is_nameless (made_header name subsection) ≡ false → (s : SectionState) → IsCleanSection s → IsCleanSection (renamed name subsection s)
 renamed_clean name subsection named s one = record { named = named; blanks = one.blanks; held_blanks = one.held_blanks; held = one.held }
 
--- Items behind items.
+-- Items after items.
 between_passes : (p : Item → Bool) (line_end : List ℕ) (items others : List Item) → p (LineEndsItem line_end) ≡ true → list_all p (between line_end items others) ≡ true
 between_passes p line_end [] others closes = refl
 between_passes p line_end (i ∷ items) others closes = go (ends_line line_end (i ∷ items) || begins_with line_end others)
@@ -88,7 +88,7 @@ pub joined_passes : (p : Item → Bool) (line_end : List ℕ) (items others : Li
 joined_passes p line_end items others closes first second =
     all_append p items (between line_end items others ++ others) first (all_append p (between line_end items others) others (between_passes p line_end items others closes) second)
 
--- the last section has what is held behind it
+-- the last section has what is held after it
 pub behind_last_holds : (P : SectionState → Type 0) (line_end : List ℕ) (others : List Item)
     → ((s : SectionState) → P s → P (record { number = s.number; header = s.header; meta = s.meta; items = s.items; held = joined line_end s.held others }))
     → (sections : List SectionState) → AllByRecursion P sections → AllByRecursion P (held_behind_last line_end others sections)
@@ -114,7 +114,7 @@ without_entries (LineEndsItem run ∷ items) none = without_entries items none
 without_entries (CommentItem tag text ∷ items) none = without_entries items none
 without_entries (EntryItem e ∷ items) none = absurd (cc)
 
--- what stands apart still does with items without an entry behind it
+-- what is apart still does with items without an entry after it
 apart_behind : (before : Open) (items others : List Item) → stand_apart_behind before items ≡ true → entries_of others ≡ [] → stand_apart_behind before (items ++ others) ≡ true
 apart_behind before [] others apart none = stand_anywhere before others none
 apart_behind before (i ∷ items) others apart none =
@@ -166,7 +166,7 @@ raw_clean name subsection key keeps value state is clean = go (list_any (is_targ
       names = clean.names;
     })
 
--- A section that is taken out.
+-- A section that is removed.
 without_items : (number : ℕ) (state : State) → HasItems state → HasItems (without_numbered number state)
 without_items number state has = record { front = has.front; sections = holds_filtered HasSectionItems (λ s. not (s.number == number)) state.sections has.sections }
 
@@ -290,7 +290,7 @@ apply_clean (SetTrust number trust) state is clean =
     numbered_clean number (with_trust trust) (λ s one. record { named = one.named; blanks = one.blanks; held_blanks = one.held_blanks; held = one.held }) state clean
 apply_clean (SetMeta meta) state is clean = record { sections = clean.sections; blanks = clean.blanks; names = clean.names }
 
--- Edits, one behind the other, leave a state with items.
+-- Edits, one after the other, leave a state with items.
 pub apply_all_items : (edits : List Edit) (state : State) → AreEdits edits state → HasItems state → HasItems (apply_all edits state)
 apply_all_items [] state all has = has
 apply_all_items (edit ∷ edits) state all has = apply_all_items edits (apply edit state) all.1 (apply_items edit state all.0 has)

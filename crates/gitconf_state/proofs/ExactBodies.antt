@@ -1,4 +1,4 @@
--- The items of a text whose keys have lines of their own: no line end is put among them, and none behind their header or their last one.
+-- The items of a text whose keys have lines of their own: no line ending is put among them, and none after their header or their last one.
 use Rattle.std.proofs.Common.{◌≡◌, ℕ, Bool, true, false, not, List, [], ◌∷◌, ◌++◌, map, refl, ap, sym, subst, ◌∙◌, append-nil}
 use Rattle.std.specs.Prelude.{◌||◌}
 use Rattle.std.specs.List.{fold, list_all}
@@ -14,7 +14,7 @@ use Rattle.gitconf_state.proofs.ExactItems.{item_same, last_line_ends}
 use Rattle.gitconf_state.proofs.ExactLineEnds.{holds_line_end}
 use Rattle.gitconf_state.proofs.LastLines.{ends_with, ends_line-is}
 
--- in a body, behind an entry the line is taken
+-- in a body, after an entry the line is taken
 abbrev pub Taken : (in_body : Bool) → Open → (taken : Bool) → Type 0
 Taken false before taken = Unit {0}
 Taken true Closed taken = Unit {0}
@@ -23,14 +23,14 @@ Taken true OpenKey taken = taken ≡ true
 Taken true OpenKeyAndBlanks taken = taken ≡ true
 Taken true OpenValue taken = taken ≡ true
 
--- whether the line is taken behind an item
+-- whether the line is taken after an item
 abbrev pub taken_after : (taken : Bool) → Item → Bool
 taken_after taken (BlanksItem run) = taken
 taken_after taken (LineEndsItem run) = false
 taken_after taken (CommentItem tag text) = taken
 taken_after taken (EntryItem e) = true
 
--- keys behind an item have lines of their own too
+-- keys after an item have lines of their own too
 keys_after : (taken : Bool) (i : Item) (parts : List Part) → keys_have_lines taken (ItemPart i ∷ parts) ≡ true → keys_have_lines (taken_after taken i) parts ≡ true
 keys_after taken (BlanksItem run) parts keys = keys
 keys_after taken (LineEndsItem run) parts keys = keys
@@ -47,7 +47,7 @@ taken_blanks true OpenKeyAndBlanks taken (b ∷ run) is = is
 taken_blanks true OpenValue taken (b ∷ run) is = is
 taken_blanks true OpenComment taken (b ∷ run) is = tt
 
--- what stands behind an entry is open in some way, and the line is taken
+-- what follows an entry is open in some way, and the line is taken
 all_taken : (in_body : Bool) (before : Open) → Taken in_body before true
 all_taken false before = tt
 all_taken true Closed = tt
@@ -56,7 +56,7 @@ all_taken true OpenKeyAndBlanks = refl
 all_taken true OpenValue = refl
 all_taken true OpenComment = tt
 
--- behind each item the line is taken where it has to be
+-- after each item the line is taken if it has to be
 taken_item : (in_body : Bool) (before : Open) (taken : Bool) (i : Item) → Taken in_body before taken → Taken in_body (after before i) (taken_after taken i)
 taken_item in_body before taken (BlanksItem run) is = taken_blanks in_body before taken run is
 taken_item in_body before taken (LineEndsItem run) is = closed in_body
@@ -71,12 +71,12 @@ taken_item in_body before taken (CommentItem tag text) is = comment in_body
     comment true = tt
 taken_item in_body before taken (EntryItem e) is = all_taken in_body (after before (EntryItem e))
 
--- on a line that is taken no key stands
+-- on a line that is taken no key is
 untaken : (taken : Bool) (parts : List Part) (e : Entry) → taken ≡ true → keys_have_lines taken (ItemPart (EntryItem e) ∷ parts) ≡ true → ⊥
 untaken true parts e is keys = cc
 untaken false parts e is keys = cc
 
--- before an item no line end is put
+-- before an item no line ending is put
 no_break : (in_body : Bool) (before : Open) (taken : Bool) (i : Item) (rest : List ℕ) (parts : List Part) → FitsItem i rest → Follows before (spelled_item i ++ rest)
     → Taken in_body before taken → keys_have_lines taken (ItemPart i ∷ parts) ≡ true → breaks_behind in_body before i ≡ false
 no_break in_body Closed taken (BlanksItem run) rest parts fits follows is keys = refl
@@ -114,7 +114,7 @@ items_same in_body line_end before taken (i ∷ items) tail fits follows is keys
     (taken_item in_body before taken i is) (keys_after taken i parts keys) (rest_ends_line (spelled_item i) (spelled parts) line) in
     rw (none, written_items) (ap (λ (x : Item). x ∷ written_items in_body line_end (after before i) items) first ∙ ap (λ xs. i ∷ xs) rest)
 
--- the last item is line ends; fresh: or there is none
+-- the last item is line endings; fresh: or there is none
 abbrev pub ends_fresh : (fresh : Bool) → List Item → Bool
 ends_fresh fresh [] = fresh
 ends_fresh fresh (BlanksItem run ∷ items) = ends_fresh false items
@@ -122,7 +122,7 @@ ends_fresh fresh (LineEndsItem run ∷ items) = ends_fresh true items
 ends_fresh fresh (CommentItem tag text ∷ items) = ends_fresh false items
 ends_fresh fresh (EntryItem e ∷ items) = ends_fresh false items
 
--- where there is one, nothing else tells
+-- if there is one, nothing else says
 pub fresh_again : (fresh other : Bool) (i : Item) (items : List Item) → ends_fresh fresh (i ∷ items) ≡ ends_fresh other (i ∷ items)
 fresh_again fresh other (BlanksItem run) items = refl
 fresh_again fresh other (LineEndsItem run) items = refl
@@ -137,12 +137,12 @@ headers_past fresh (LineEndsItem run ∷ items) tail = headers_past true items t
 headers_past fresh (CommentItem tag text ∷ items) tail = headers_past false items tail
 headers_past fresh (EntryItem e ∷ items) tail = headers_past false items tail
 
--- keys behind items have lines of their own too
+-- keys after items have lines of their own too
 pub keys_past : (taken : Bool) (items : List Item) (tail : List Part) → keys_have_lines taken (map ItemPart items ++ tail) ≡ true → (later : Bool) × (keys_have_lines later tail ≡ true)
 keys_past taken [] tail keys = (taken, keys)
 keys_past taken (i ∷ items) tail keys = keys_past (taken_after taken i) items tail (keys_after taken i (map ItemPart items ++ tail) keys)
 
--- so are values behind items closed
+-- so are values after items closed
 pub values_past : (ended : Bool) (items : List Item) (tail : List Part) → values_are_closed ended (map ItemPart items ++ tail) ≡ true → (later : Bool) × (values_are_closed later tail ≡ true)
 values_past ended [] tail values = (ended, values)
 values_past ended (BlanksItem run ∷ items) tail values = values_past ended items tail values
@@ -150,7 +150,7 @@ values_past ended (LineEndsItem run ∷ items) tail values = values_past false i
 values_past ended (CommentItem tag text ∷ items) tail values = values_past false items tail values
 values_past ended (EntryItem e ∷ items) tail values = values_past _ items tail values
 
--- A body whose last item is line ends begins on a line: no key stands on the header's.
+-- A body whose last item is line endings begins on a line: no key is on the header's.
 pub begins_same : (items : List Item) (tail : List Part) → keys_have_lines true (map ItemPart items ++ tail) ≡ true → ends_fresh false items ≡ true → begins_on_a_line items ≡ true
 begins_same [] tail keys ended = absurd (cc)
 begins_same (BlanksItem run ∷ items) tail keys ended = begins_same items tail keys ended
@@ -163,7 +163,7 @@ pub last_holds : (a b : Bool) → b ≡ true → (a || b) ≡ true
 last_holds true b h = refl
 last_holds false b h = h
 
--- items whose last one is line ends end with the line end that these hold, whatever stands before
+-- items whose last one is line endings end with the line ending that these hold, whatever comes before
 ended_from : (line_end : List ℕ) (fresh ended : Bool) (items : List Item) (tail : List Part) → (fresh ≡ true → ended ≡ true)
     → list_all (holds_line_end line_end) (map ItemPart items ++ tail) ≡ true → ends_fresh fresh items ≡ true → fold (ends_with line_end) ended items ≡ true
 ended_from line_end fresh ended [] tail so all is = so is
@@ -174,12 +174,12 @@ ended_from line_end fresh ended (LineEndsItem run ∷ items) tail so all is =
 ended_from line_end fresh ended (CommentItem tag text ∷ items) tail so all is = ended_from line_end false false items tail (λ h. absurd (cc)) all is
 ended_from line_end fresh ended (EntryItem e ∷ items) tail so all is = ended_from line_end false false items tail (λ h. absurd (cc)) all is
 
--- Items whose last one is line ends end with the line end that these hold.
+-- Items whose last one is line endings end with the line ending that these hold.
 pub ends_same : (line_end : List ℕ) (items : List Item) (tail : List Part) → list_all (holds_line_end line_end) (map ItemPart items ++ tail) ≡ true → ends_fresh false items ≡ true
     → ends_line line_end items ≡ true
 ends_same line_end items tail all is = sym (ends_line-is line_end items) ∙ ended_from line_end false false items tail (λ h. h) all is
 
--- Items at the end of a text that ends a line end with line ends.
+-- Items at the end of a text that ends a line ending with line endings.
 pub last_fresh : (fresh open_value : Bool) (i : Item) (items : List Item) → AreFit (map ItemPart (i ∷ items)) [] → values_are_closed open_value (map ItemPart (i ∷ items)) ≡ true
     → EndsLine (spelled (map ItemPart (i ∷ items))) → ends_fresh fresh (i ∷ items) ≡ true
 last_fresh fresh open_value i [] fits values line =

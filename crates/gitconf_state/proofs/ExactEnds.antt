@@ -1,4 +1,4 @@
--- The last byte of a text, and the items of a text that ends with LF: a piece that goes on has its line end, and the last item is line ends.
+-- The last byte of a text, and the items of a text that ends with LF: a piece that continues has its line ending, and the last item is line endings.
 use Rattle.std.proofs.Common.{◌≡◌, ℕ, Bool, true, false, not, List, [], ◌∷◌, ◌++◌, flat_map, refl, sym, ◌∙◌, inl, inr}
 use Rattle.std.specs.Prelude.{◌⊎◌, ◌==◌}
 use Rattle.std.specs.List.{list_all}
@@ -22,7 +22,7 @@ is_no_feed b = not (b == 10)
 abbrev pub EndsLine : List ℕ → Type 0
 EndsLine text = (text ≡ []) ⊎ (ends is_feed text ≡ true)
 
--- so is its rest, behind any front
+-- so is its rest, after any front
 pub rest_ends_line : (front rest : List ℕ) → EndsLine (front ++ rest) → EndsLine rest
 rest_ends_line [] rest ended = ended
 rest_ends_line (b ∷ []) [] ended = inl refl
@@ -56,7 +56,7 @@ other_class b c is differs = go (b == 10) refl
     go false e = refl
     go true e = absurd (differs (let feed : class_of b ≡ LineFeed = rw (eqb-true b 10 e) refl in sym feed ∙ is))
 
--- units behind others of a value that is paired are paired too
+-- units after others of a value that is paired are paired too
 paired_rest : (quoted : Bool) (units more : List TextUnit) → are_paired quoted (units ++ more) ≡ true → (later : Bool) × (are_paired later more ≡ true)
 paired_rest quoted [] more paired = (quoted, paired)
 paired_rest quoted (Escape b ∷ units) more paired = paired_rest quoted units more (both_true (is_value_escape b) (are_paired quoted (units ++ more)) paired).1

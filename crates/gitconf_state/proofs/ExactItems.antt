@@ -1,4 +1,4 @@
--- Items of a text that ends with LF: each piece that goes on has its line end, and the last item is line ends, where no value is left open there.
+-- Items of a text that ends with LF: each piece that continues has its line ending, and the last item is line endings, if no value is left open there.
 use Rattle.std.proofs.Common.{◌≡◌, ℕ, ◌<◌, Bool, true, false, List, [], ◌∷◌, ◌++◌, flat_map, map, Option, Some, None, refl, ap, subst, ◌∙◌, append_assoc, append-nil, arith, inl, inr}
 use Rattle.std.specs.Char.{is_ascii_alphabetic}
 use Rattle.std.specs.List.{list_all}
@@ -15,7 +15,7 @@ use Rattle.gitconf_state.specs.Inserted.{ends_empty, values_are_closed}
 use Rattle.gitconf_state.proofs.LoadingFilters.{both_hold}
 use Rattle.gitconf_state.proofs.ExactEnds.{is_no_feed, EndsLine, rest_ends_line, no_line_ends, none_feeds, no_feeds, last_piece}
 
--- a piece that has a line end gets none
+-- a piece that has a line ending gets none
 piece_same : (line_end : List ℕ) (p : Piece) → is_line_end p.line_end ≡ true → closed_piece line_end p ≡ p
 piece_same line_end p is = go p.line_end is
   where
@@ -30,7 +30,7 @@ bare_backslash p pieces last rest bare none empty nothing ended =
     let short : EndsLine (p.text ++ 92 ∷ []) = subst EndsLine (rw (bare, none, empty, nothing) (append-nil _ ∙ append-nil _ ∙ append-nil _)) ended in
     no_line_ends 92 [] refl (rest_ends_line p.text (92 ∷ []) short)
 
--- the pieces of a value that ends a line, or before which one ends, have their line ends
+-- the pieces of a value that ends a line, or before which one ends, have their line endings
 pieces_same : (line_end : List ℕ) (pieces : List Piece) (last rest : List ℕ) → IsEnded pieces last rest
     → EndsLine ((flat_map (λ (p : Piece). p.text ++ 92 ∷ p.line_end) pieces ++ last) ++ rest) → map (closed_piece line_end) pieces ≡ pieces
 pieces_same line_end [] last rest ended line = refl
@@ -86,7 +86,7 @@ name_has_none (b ∷ name) is =
     let p = both_true (is_ascii_alphabetic b) (list_all is_name_byte name) is in
     both_hold (is_no_feed b) (list_all is_no_feed name) (rw (apart is_ascii_alphabetic 10 b refl p.0) refl) (none_feeds is_name_byte name refl p.1)
 
--- a text without LF, behind a name, doesn't end a line
+-- a text without LF, after a name, doesn't end a line
 entry_ends_no_line : (name more : List ℕ) → is_value_name name ≡ true → list_all is_no_feed more ≡ true → EndsLine (name ++ more) → ⊥
 entry_ends_no_line [] more is all line = cc
 entry_ends_no_line (b ∷ name) more is all line = no_line_ends b (name ++ more) (no_feeds (b ∷ name) more (name_has_none (b ∷ name) is) all) line
@@ -114,7 +114,7 @@ last_entry e fits line closed = go e.assigned fits.2 line closed
             let later = flat_map (λ (p : Piece). p.text ++ 92 ∷ p.line_end) (p ∷ pieces) in
             no_line_ends b last all (rest_ends_line (e.name ++ (e.blanks ++ 61 ∷ (a.blanks ++ later))) (b ∷ last) (subst EndsLine (regroup e.name e.blanks a.blanks later (b ∷ last)) line))
 
--- The last item of a text that ends a line is line ends, where no value is left open.
+-- The last item of a text that ends a line is line endings, if no value is left open.
 pub last_line_ends : (open_value : Bool) (i : Item) → FitsItem i [] → EndsLine (spelled_item i) → values_are_closed open_value (ItemPart i ∷ []) ≡ true → (run : List ℕ) × (i ≡ LineEndsItem run)
 last_line_ends open_value (BlanksItem []) fits line closed = absurd (let h : 0 < 0 = fits.0 in omega arith)
 last_line_ends open_value (BlanksItem (b ∷ run)) fits line closed = absurd (no_line_ends b run (none_feeds is_blank (b ∷ run) refl fits.1) line)

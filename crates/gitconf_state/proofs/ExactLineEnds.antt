@@ -1,4 +1,4 @@
--- Where line ends are of one kind, the file's line end is of that kind, and each run of line ends holds it.
+-- Where line endings are of one kind, the file's line ending is of that kind, and each run of line endings holds it.
 use Rattle.std.proofs.Common.{◌≡◌, ℕ, ◌<◌, Bool, true, false, List, [], ◌∷◌, ◌++◌, length, flat_map, Option, Some, None, refl, ap, sym, subst, ◌∙◌, arith, inl, inr}
 use Rattle.std.specs.Prelude.{◌⊎◌, ◌&&◌, ◌||◌, ◌==◌}
 use Rattle.std.specs.List.{list_all, list_any}
@@ -18,7 +18,7 @@ use Rattle.gitconf_state.proofs.LoadingFilters.{all_parts, both_hold}
 use Rattle.gitconf_state.proofs.LoadingTokens.{own_parts, own_tokens}
 use Rattle.gitconf_state.proofs.ExactEnds.{is_feed}
 
--- the line ends of a part hold a line end
+-- the line endings of a part hold a line ending
 abbrev pub holds_line_end : (line_end : List ℕ) → Part → Bool
 holds_line_end line_end (ItemPart (LineEndsItem run)) = holds line_end run
 holds_line_end line_end (ItemPart (BlanksItem run)) = true
@@ -41,7 +41,7 @@ parts_hold test line_end shows (p ∷ parts) fits all =
     go (ItemPart (EntryItem e)) fits all = refl
     go (HeaderPart h) fits all = refl
 
--- Line ends that are all LF.
+-- Line endings that are all LF.
 feeds_hold : (run : List ℕ) → list_all is_feed run ≡ true → 0 < length run → holds (10 ∷ []) run ≡ true
 feeds_hold [] all some = absurd (let h : 0 < 0 = some in omega arith)
 feeds_hold (b ∷ run) all some = rw (eqb-true b 10 (both_true (is_feed b) (list_all is_feed run) all).0) refl
@@ -53,7 +53,7 @@ no_return (b ∷ run) all =
     let p = both_true (is_feed b) (list_all is_feed run) all in
     rw (apart is_feed 13 b refl p.0) (no_return run p.1)
 
--- the first of them tells LF, and so does none
+-- the first of them says LF, and so does none
 feeds_told : (tokens : List Token) → list_all (newline_passes (list_all is_feed)) tokens ≡ true → line_end_of tokens ≡ 10 ∷ []
 feeds_told [] all = refl
 feeds_told (NewlineToken run ∷ tokens) all = rw (no_return run (both_true (list_all is_feed run) _ all).0) refl
@@ -66,7 +66,7 @@ feeds_told (ValueDoneToken bytes ∷ tokens) all = feeds_told tokens all
 feeds_told (WhitespaceToken bytes ∷ tokens) all = feeds_told tokens all
 feeds_told (SeparatorToken ∷ tokens) all = feeds_told tokens all
 
--- Line ends that are all CR LF.
+-- Line endings that are all CR LF.
 pairs_begin : (b : ℕ) (run : List ℕ) → are_pairs (b ∷ run) ≡ true → (b ≡ 13) × ((more : List ℕ) × (run ≡ 10 ∷ more))
 pairs_begin b [] pairs = absurd (cc)
 pairs_begin b (c ∷ run) pairs =
@@ -84,11 +84,11 @@ pairs_return : (run : List ℕ) → are_pairs run ≡ true → begins (λ _. tru
 pairs_return [] pairs some = absurd (cc)
 pairs_return (b ∷ run) pairs some = let p = pairs_begin b run pairs in rw p.0 refl
 
--- no token is a line end
+-- no token is a line ending
 abbrev no_newline : Token → Bool
 no_newline t = newline_passes (λ _. false) t
 
--- the first of them tells CR LF, if there is one
+-- the first of them says CR LF, if there is one
 pairs_told : (tokens : List Token) → list_all (newline_passes are_pairs) tokens ≡ true → list_all (newline_passes (begins (λ _. true))) tokens ≡ true
     → (line_end_of tokens ≡ 13 ∷ 10 ∷ []) ⊎ (list_all no_newline tokens ≡ true)
 pairs_told [] all some = inr refl
@@ -115,7 +115,7 @@ blanks_have : (run : List ℕ) → list_all has_byte (filled WhitespaceToken run
 blanks_have [] = refl
 blanks_have (b ∷ run) = refl
 
--- a piece has a newline only where there are bytes for it
+-- a piece has a newline only if there are bytes for it
 pieces_have : (pieces : List Piece) → list_all has_byte (flat_map piece_tokens pieces) ≡ true
 pieces_have [] = refl
 pieces_have (p ∷ pieces) = both_lists (filled NewlineToken p.line_end) (flat_map piece_tokens pieces) (go p.line_end) (pieces_have pieces)
@@ -152,7 +152,7 @@ either : (a b : Bool) → (a || b) ≡ true → (a ≡ true) ⊎ (b ≡ true)
 either true b h = inl refl
 either false b h = inr h
 
--- Where the line ends of a text are of one kind, each run of them holds the line end that the first one tells.
+-- Where the line endings of a text are of one kind, each run of them holds the line ending that the first one says.
 pub one_kind_holds : (parts : List Part) → AreFit parts [] → are_of_one_kind parts ≡ true → list_all (holds_line_end (line_end_of (tokens_of parts))) parts ≡ true
 one_kind_holds parts fits kind = elim (either (list_all (newline_passes (list_all is_feed)) (tokens_of parts)) (list_all (newline_passes are_pairs) (tokens_of parts)) kind) [
   | inl feeds ↦ subst (λ l. list_all (holds_line_end l) parts ≡ true) (sym (feeds_told (tokens_of parts) feeds)) (parts_hold (list_all is_feed) (10 ∷ []) feeds_hold parts fits feeds)
@@ -162,7 +162,7 @@ one_kind_holds parts fits kind = elim (either (list_all (newline_passes (list_al
   ]
 ]
 
--- Headers tell no line end.
+-- Headers say no line ending.
 told_behind : (front : List Token) (tokens others : List Token) → line_end_of tokens ≡ line_end_of others → line_end_of (front ++ tokens) ≡ line_end_of (front ++ others)
 told_behind [] tokens others same = same
 told_behind (NewlineToken run ∷ front) tokens others same = refl
@@ -175,14 +175,14 @@ told_behind (ValueDoneToken bytes ∷ front) tokens others same = told_behind fr
 told_behind (WhitespaceToken bytes ∷ front) tokens others same = told_behind front tokens others same
 told_behind (SeparatorToken ∷ front) tokens others same = told_behind front tokens others same
 
--- the bodies of sections tell the line end that the sections' tokens tell
+-- the bodies of sections say the line ending that the sections' tokens say
 sections_tell : (sections : List SectionState) → line_end_of (flat_map item_tokens (flat_map (λ (s : SectionState). s.items) sections)) ≡ line_end_of (flat_map section_tokens sections)
 sections_tell [] = refl
 sections_tell (s ∷ sections) =
     ap line_end_of (flat_map-append item_tokens s.items (flat_map (λ (s : SectionState). s.items) sections))
     ∙ told_behind (flat_map item_tokens s.items) (flat_map item_tokens (flat_map (λ (s : SectionState). s.items) sections)) (flat_map section_tokens sections) (sections_tell sections)
 
--- A file's line end is the one that the tokens of all its parts tell.
+-- A file's line ending is the one that the tokens of all its parts say.
 pub file_tells : (state : State) → file_line_end state ≡ line_end_of (tokens_of (own_parts state))
 file_tells state =
     ap line_end_of (flat_map-append item_tokens state.front (flat_map (λ (s : SectionState). s.items) state.sections))

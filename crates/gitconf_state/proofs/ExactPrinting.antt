@@ -1,4 +1,4 @@
--- A text that needs no line end is printed byte for byte.
+-- A text that needs no line ending is printed byte for byte.
 use Rattle.std.proofs.Common.{◌≡◌, ℕ, Bool, true, false, not, List, [], ◌∷◌, ◌++◌, flat_map, map, refl, ap, sym, subst, ◌∙◌, append-nil, inr}
 use Rattle.std.specs.Prelude.{◌||◌}
 use Rattle.std.specs.List.{list_all, list_any, AllByRecursion}
@@ -24,7 +24,7 @@ use Rattle.gitconf_state.proofs.ExactLineEnds.{holds_line_end, one_kind_holds, f
 use Rattle.gitconf_state.proofs.ExactBodies.{items_same, last_holds, ends_fresh, fresh_again, headers_past, keys_past, values_past, begins_same, ends_same, last_fresh}
 use Rattle.gitconf_state.proofs.Written.{items_written}
 
--- what holds of the parts from here on, of a text that needs no line end
+-- what holds of the parts from here on, of a text that needs no line ending
 record IsExact (line_end : List ℕ) (fresh taken open_value : Bool) (parts : List Part) : Type 0 where
   fits : AreFit parts []
   headers : headers_begin_lines fresh parts ≡ true
@@ -33,16 +33,16 @@ record IsExact (line_end : List ℕ) (fresh taken open_value : Bool) (parts : Li
   line : EndsLine (spelled parts)
   holds : list_all (holds_line_end line_end) parts ≡ true
 
--- fitting parts behind others
+-- fitting parts after others
 fits_past : (items : List Item) (tail : List Part) → AreFit (map ItemPart items ++ tail) [] → AreFit tail []
 fits_past [] tail fits = fits
 fits_past (i ∷ items) tail fits = fits_past items tail fits.1
 
--- what stands behind items ends the line that all ends
+-- what follows items ends the line that all ends
 line_past : (items : List Item) (tail : List Part) → EndsLine (spelled (map ItemPart items ++ tail)) → EndsLine (spelled tail)
 line_past items tail line = rest_ends_line (spelled (map ItemPart items)) (spelled tail) (subst EndsLine (spelled-append (map ItemPart items) tail) line)
 
--- past items whose last one is line ends
+-- past items whose last one is line endings
 past_items : (line_end : List ℕ) (fresh taken open_value : Bool) (items : List Item) (tail : List Part) → IsExact line_end fresh taken open_value (map ItemPart items ++ tail)
     → ends_fresh fresh items ≡ true → (later : Bool) × (open_later : Bool) × IsExact line_end true later open_later tail
 past_items line_end fresh taken open_value items tail is fresh_is =
@@ -73,13 +73,13 @@ past_header line_end fresh taken open_value s sections is = record {
   holds = is.holds;
 }
 
--- before a section the last item is line ends, and at the end too
+-- before a section the last item is line endings, and at the end too
 ends_before : (line_end : List ℕ) (fresh taken open_value : Bool) (items : List Item) (s : SectionState) (sections : List SectionState)
     → IsExact line_end fresh taken open_value (map ItemPart items ++ flat_map own_section_parts (s ∷ sections)) → ends_fresh fresh items ≡ true
 ends_before line_end fresh taken open_value items s sections is =
     (both_true (ends_fresh fresh items) _ (sym (headers_past fresh items (flat_map own_section_parts (s ∷ sections))) ∙ is.headers)).0
 
--- a section's last item is line ends: a header stands behind it, or the end of the text, and a header alone ends no line
+-- a section's last item is line endings: a header follows it, or the end of the text, and a header alone ends no line
 body_ends : (line_end : List ℕ) (fresh taken open_value : Bool) (s : SectionState) (sections : List SectionState)
     → IsExact line_end fresh taken open_value (flat_map own_section_parts (s ∷ sections)) → ends_fresh false s.items ≡ true
 body_ends line_end fresh taken open_value s (t ∷ sections) is =
@@ -92,7 +92,7 @@ body_ends line_end fresh taken open_value s [] is = go s.items (past_header line
         let none : map ItemPart (i ∷ items) ++ [] ≡ map ItemPart (i ∷ items) = append-nil (map ItemPart (i ∷ items)) in
         last_fresh false false i items (subst (λ ps. AreFit ps []) none body.fits) (ap (values_are_closed false) (sym none) ∙ body.values) (subst (λ ps. EndsLine (spelled ps)) none body.line)
 
--- a body that begins on a line gets none behind its header
+-- a body that begins on a line gets none after its header
 header_same : (line_end : List ℕ) (items : List Item) → begins_on_a_line items ≡ true → behind_header line_end items ≡ []
 header_same line_end [] begins = refl
 header_same line_end (i ∷ items) begins = rw (begins, behind_header) refl
@@ -125,7 +125,7 @@ sections_same line_end taken open_value (s ∷ sections) held is =
     ∙ ap (λ e. HeaderPart s.header ∷ (map ItemPart s.items ++ sections_parts all_sections line_end e sections)) ended
     ∙ ap (λ ps. HeaderPart s.header ∷ (map ItemPart s.items ++ ps)) (sections_same line_end later.0 later.1 sections held.1 later.2)
 
--- behind a front that ends with line ends, and behind one with no section, no line end is put
+-- after a front that ends with line endings, and after one with no section, no line ending is put
 front_end : (line_end : List ℕ) (fresh taken open_value : Bool) (i : Item) (front : List Item) (sections : List SectionState)
     → IsExact line_end fresh taken open_value (map ItemPart (i ∷ front) ++ flat_map own_section_parts sections)
     → (ends_line line_end (i ∷ front) || not (list_any all_sections sections)) ≡ true
@@ -134,7 +134,7 @@ front_end line_end fresh taken open_value i front (s ∷ sections) is =
     let is_fresh = fresh_again false fresh i front ∙ ends_before line_end fresh taken open_value (i ∷ front) s sections is in
     rw (ends_same line_end (i ∷ front) (flat_map own_section_parts (s ∷ sections)) is.holds is_fresh) refl
 
--- the sections behind a front are printed as they are
+-- the sections after a front are printed as they are
 sections_behind : (line_end : List ℕ) (taken open_value : Bool) (front : List Item) (sections : List SectionState) → AllByRecursion (λ s. s.held ≡ []) sections
     → IsExact line_end true taken open_value (map ItemPart front ++ flat_map own_section_parts sections)
     → sections_parts all_sections line_end true sections ≡ flat_map own_section_parts sections
@@ -143,7 +143,7 @@ sections_behind line_end taken open_value front (s ∷ sections) held is =
     let later = past_items line_end true taken open_value front (flat_map own_section_parts (s ∷ sections)) is (ends_before line_end true taken open_value front s sections is) in
     sections_same line_end later.0 later.1 (s ∷ sections) held later.2
 
--- no line end is put behind the front
+-- no line ending is put after the front
 front_same : (front : List Item) (meta : Meta) (next used : ℕ) (sections : List SectionState) (fresh taken open_value : Bool)
     → IsExact (file_line_end (record { front = front; meta = meta; next = next; used = used; sections = sections })) fresh taken open_value (map ItemPart front ++ flat_map own_section_parts sections)
     → behind_front all_sections (record { front = front; meta = meta; next = next; used = used; sections = sections }) ≡ []
@@ -152,7 +152,7 @@ front_same (i ∷ front) meta next used sections fresh taken open_value is =
     let state : State = record { front = i ∷ front; meta = meta; next = next; used = used; sections = sections } in
     ap (λ e. unless e (file_line_end state)) (front_end (file_line_end state) fresh taken open_value i front sections is)
 
--- The parts of a text that needs no line end are printed as they are.
+-- The parts of a text that needs no line ending are printed as they are.
 parts_same : (state : State) → AllByRecursion (λ s. s.held ≡ []) state.sections → IsExact (file_line_end state) true false false (own_parts state)
     → printed_parts all_sections state ≡ own_parts state
 parts_same state held is =
@@ -166,7 +166,7 @@ parts_same state held is =
     ∙ ap (λ (items : List Item). map ItemPart items ++ sections) (append-nil state.front)
     ∙ ap (λ ps. map ItemPart state.front ++ ps) (sections_behind line_end false false state.front state.sections held is)
 
--- A text that needs no line end, loaded whole, is printed byte for byte.
+-- A text that needs no line ending, loaded whole, is printed byte for byte.
 pub byte_for_byte : (text : List ℕ) (parts : List Part) (state : State) → IsText text parts → IsFullLoad parts state → IsByteForByte parts → printed state ≡ unmarked text
 byte_for_byte text parts state is load exact =
     let same = full_load_parts parts state load in

@@ -1,4 +1,4 @@
--- A text in parts that fit, with the document and the comments that they have; and one more blank, line end or other part before it.
+-- A text in parts that fit, with the document and the comments that they have; and one more blank, line ending or other part before it.
 use Rattle.std.proofs.Common.{◌≡◌, ◌<◌, ℕ, Bool, true, false, List, [], ◌∷◌, ◌++◌, length, refl, ap, sym, subst, ◌∙◌, append_assoc, append-nil, arith}
 use Rattle.std.specs.List.{list_all}
 use Rattle.std.proofs.lemmas.List.Folds.{list_all-append}
@@ -21,7 +21,7 @@ pub record Fitted (text : List ℕ) (document : Document) (comments : List (List
   pub document_is : gathered parts ≡ document
   pub comments_are : comments_of parts ≡ comments
 
--- a part that may stand before the text
+-- a part that may come before the text
 pub put : (p : Part) {text : List ℕ} {document : Document} {comments : List (List ℕ)} → FitsPart p text → Fitted text document comments
     → Fitted (spelled_part p ++ text) (with_part p document) (part_comments p ++ comments)
 put p fits f = record {
@@ -36,7 +36,7 @@ put p fits f = record {
 pub respelled : {text other : List ℕ} {document : Document} {comments : List (List ℕ)} → text ≡ other → Fitted text document comments → Fitted other document comments
 respelled same f = record { parts = f.parts; same = f.same ∙ same; fits = f.fits; document_is = f.document_is; comments_are = f.comments_are }
 
--- a text that is cut behind the run at its front
+-- a text that is cut after the run at its front
 pub record Cut (is_run begins_run : List ℕ → Bool) (text : List ℕ) (document : Document) (comments : List (List ℕ)) : Type 0 where
   pub run : List ℕ
   pub rest : List ℕ
@@ -45,7 +45,7 @@ pub record Cut (is_run begins_run : List ℕ → Bool) (text : List ℕ) (docume
   pub stops : begins_run rest ≡ false
   pub behind : Fitted rest document comments
 
--- no run stands at the front
+-- no run is at the front
 uncut : (is_run begins_run : List ℕ → Bool) {text : List ℕ} {document : Document} {comments : List (List ℕ)} → is_run [] ≡ true → begins_run text ≡ false → Fitted text document comments
     → Cut is_run begins_run text document comments
 uncut is_run begins_run {text} none stops f = record { run = []; rest = text; whole = refl; passes = none; stops = stops; behind = f }
@@ -63,12 +63,12 @@ cut_first is_run begins_run run parts same passes stops fits document comments =
   behind = record { parts = parts; same = refl; fits = fits; document_is = document; comments_are = comments };
 }
 
--- a name begins with neither a blank nor a line end
+-- a name begins with neither a blank nor a line ending
 name_no_blank : (name rest : List ℕ) → is_value_name name ≡ true → begins is_blank (name ++ rest) ≡ false
 name_no_blank [] rest h = absurd (cc)
 name_no_blank (b ∷ name) rest h = letter_no_blank b (both_true _ _ h).0
 
--- a name begins with no line end
+-- a name begins with no line ending
 name_no_line_end : (name rest : List ℕ) → is_value_name name ≡ true → begins_line_end (name ++ rest) ≡ false
 name_no_line_end [] rest h = absurd (cc)
 name_no_line_end (b ∷ name) rest h = letter_no_line_end b (name ++ rest) (both_true _ _ h).0
@@ -79,18 +79,18 @@ header_no_blank (PlainHeader name) rest = refl
 header_no_blank (DottedHeader name subsection) rest = refl
 header_no_blank (QuotedHeader name blanks spelling) rest = refl
 
--- a header begins with no line end
+-- a header begins with no line ending
 header_no_line_end : (h : Header) (rest : List ℕ) → begins_line_end (spelled_header h ++ rest) ≡ false
 header_no_line_end (PlainHeader name) rest = refl
 header_no_line_end (DottedHeader name subsection) rest = refl
 header_no_line_end (QuotedHeader name blanks spelling) rest = refl
 
--- line ends begin with no blank
+-- line endings begin with no blank
 line_ends_no_blank : (run rest : List ℕ) → 0 < length run → are_line_ends run ≡ true → begins is_blank (run ++ rest) ≡ false
 line_ends_no_blank [] rest some h = absurd (omega arith)
 line_ends_no_blank (b ∷ run) rest some h = line_end_no_blank b run (both_true _ _ h).0
 
--- blanks begin with no line end
+-- blanks begin with no line ending
 blanks_no_line_end : (run rest : List ℕ) → 0 < length run → list_all is_blank run ≡ true → begins_line_end (run ++ rest) ≡ false
 blanks_no_line_end [] rest some h = absurd (omega arith)
 blanks_no_line_end (b ∷ run) rest some h = blank_cases (λ b. begins_line_end (b ∷ (run ++ rest)) ≡ false) refl refl b (both_true (is_blank b) (list_all is_blank run) h).0
@@ -110,7 +110,7 @@ cut_blanks {text} {document} {comments} f = go f.parts f.same f.fits f.document_
     go (ItemPart (EntryItem e) ∷ parts) same fits d c = without (subst (λ t. begins is_blank t ≡ false) (sym (append_assoc e.name _ _) ∙ same) (name_no_blank e.name _ fits.0.0))
     go (HeaderPart h ∷ parts) same fits d c = without (subst (λ t. begins is_blank t ≡ false) same (header_no_blank h (spelled parts)))
 
--- the line ends at the front of a text
+-- the line endings at the front of a text
 pub cut_line_ends : {text : List ℕ} {document : Document} {comments : List (List ℕ)} → Fitted text document comments → Cut are_line_ends begins_line_end text document comments
 cut_line_ends {text} {document} {comments} f = go f.parts f.same f.fits f.document_is f.comments_are
   where
@@ -133,12 +133,12 @@ put_blanks run {text} {document} {comments} all f = let c = cut_blanks f in resp
     go [] all stops f = f
     go (b ∷ joined) all stops f = put (ItemPart (BlanksItem (b ∷ joined))) (omega arith, all, stops) f
 
--- two runs of line ends are one
+-- two runs of line endings are one
 pub line_ends-append : (run other : List ℕ) → are_line_ends run ≡ true → are_line_ends other ≡ true → are_line_ends (run ++ other) ≡ true
 line_ends-append [] other all also = also
 line_ends-append (b ∷ run) other all also = let q = both_true (begins_line_end (b ∷ run)) (are_line_ends run) all in rw (line_end_more b run other q.0) (line_ends-append run other q.1 also)
 
--- line ends are joined with those that follow them
+-- line endings are joined with those that follow them
 pub put_line_ends : (run : List ℕ) {text : List ℕ} {document : Document} {comments : List (List ℕ)} → 0 < length run → are_line_ends run ≡ true → Fitted text document comments
     → Fitted (run ++ text) document comments
 put_line_ends [] some all f = absurd (omega arith)

@@ -52,7 +52,7 @@ cut_last [] h = absurd (cc)
 cut_last (b ∷ []) h = ([], ap (λ b. b ∷ []) (eqb-true b 13 h))
 cut_last (b ∷ c ∷ text) h = let k = cut_last (c ∷ text) h in (b ∷ k.0, ap (λ t. b ∷ t) k.1)
 
--- a CR before a LF belongs to the line ends
+-- a CR before a LF belongs to the line endings
 put_return : (rest : List ℕ) {document : Document} {comments : List (List ℕ)} → Fitted (10 ∷ rest) document comments → Fitted (13 ∷ 10 ∷ rest) document comments
 put_return rest {document} {comments} f = let c = cut_line_ends f in go c.run c.rest c.whole c.passes c.stops c.behind
   where
@@ -86,7 +86,7 @@ put_line tag words {text} {document} {comments} mark all line = line_end_cases
         (recommented (ap (λ t. (tag ∷ t) ∷ comments) (sym (ap without_white_end k.1 ∙ stripped-append k.0 (13 ∷ []) refl)))
         (put_ended tag k.0 mark front_all refl (put_return rest f)))
 
--- a comment that ends before a line end or at the end
+-- a comment that ends before a line ending or at the end
 put_comment_line : (tag : ℕ) (words text : List ℕ) {document : Document} {comments : List (List ℕ)} → is_mark tag ≡ true → list_all (λ b. not (b == 10)) words ≡ true
     → begins is_blank text ≡ false → may_follow_comment text ≡ true → Fitted text document comments → Fitted (tag ∷ (words ++ text)) document ((tag ∷ without_white_end words) ∷ comments)
 put_comment_line tag words [] mark all stops follows f = put_ended tag words mark all refl f

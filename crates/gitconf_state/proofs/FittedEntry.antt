@@ -15,7 +15,7 @@ use Rattle.gitconf_state.proofs.Follows.{may_follow, may_follow_key, blanks_foll
 use Rattle.gitconf_state.proofs.Fitted.{Fitted, put, respelled, cut_blanks}
 use Rattle.gitconf_state.specs.Writing.{OpenKey, after_blanks}
 
--- what is assigned has a value that a text may have, each piece with its line end
+-- what is assigned has a value that a text may have, each piece with its line ending
 pub record IsClosed (a : Assigned) : Type 0 where
   pub blanks : list_all is_blank a.blanks ≡ true
   pub front : begins is_blank (spelled_value a.value) ≡ false
@@ -27,12 +27,12 @@ pub record IsClosed (a : Assigned) : Type 0 where
 blanks-append : (run other : List ℕ) → list_all is_blank run ≡ true → list_all is_blank other ≡ true → list_all is_blank (run ++ other) ≡ true
 blanks-append run other all also = rw (list_all-append is_blank run other, all) also
 
--- behind a name and all blanks stands no `=`
+-- after a name and all blanks is no `=`
 no_equals : (rest : List ℕ) → begins is_blank rest ≡ false → may_follow_key rest ≡ true → begins (λ b. b == 61) rest ≡ false
 no_equals [] stops follows = refl
 no_equals (b ∷ rest) stops follows = false_not (b == 61) (rw (stops, may_follow_key) at follows)
 
--- blanks behind an entry without `=` are its own
+-- blanks after an entry without `=` are its own
 regrouped : (name blanks run rest : List ℕ) → (name ++ ((blanks ++ run) ++ [])) ++ rest ≡ (name ++ (blanks ++ [])) ++ (run ++ rest)
 regrouped name blanks run rest = simp (append_assoc, append-nil)
 
@@ -50,16 +50,16 @@ put_key name blanks {text} {document} {comments} named all follows f =
     respelled (regrouped name blanks c.run c.rest ∙ ap (λ t. (name ++ (blanks ++ [])) ++ t) (sym c.whole))
     (put (ItemPart (EntryItem (record { name = name; blanks = blanks ++ c.run; assigned = None }))) (named, joined, (apart, c.stops, no_equals c.rest c.stops behind)) c.behind)
 
--- the end of a value whose pieces have their line ends
+-- the end of a value whose pieces have their line endings
 ended : (pieces : List Piece) (last rest : List ℕ) → list_all (λ (p : Piece). is_line_end p.line_end) pieces ≡ true → ends is_white last ≡ false → may_follow_value rest ≡ true → IsEnded pieces last rest
 ended [] last rest all white follows = (white, follows)
 ended (p ∷ pieces) last rest all white follows = let q = both_true (is_line_end p.line_end) _ all in inl (q.0, ended pieces last rest q.1 white follows)
 
--- such a value may stand before what may follow a value
+-- such a value may come before what may follow a value
 closed_fits : (a : Assigned) (rest : List ℕ) → IsClosed a → begins is_blank (spelled_value a.value ++ rest) ≡ false → may_follow_value rest ≡ true → FitsValue a.value rest
 closed_fits a rest closed front follows = record { front = front; units = closed.units; end = ended a.value.pieces a.value.last rest closed.pieces closed.last follows }
 
--- blanks behind an entry with an empty value are those behind its `=`
+-- blanks after an entry with an empty value are those after its `=`
 value_regrouped : (name blanks between value run rest : List ℕ) → value ≡ [] → (name ++ (blanks ++ 61 ∷ ((between ++ run) ++ value))) ++ rest ≡ (name ++ (blanks ++ 61 ∷ (between ++ value))) ++ (run ++ rest)
 value_regrouped name blanks between value run rest none = rw none (simp (append_assoc, append-nil))
 

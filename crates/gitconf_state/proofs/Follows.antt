@@ -12,17 +12,17 @@ use Rattle.gitconf_text.proofs.Tests.{both_true, apart}
 use Rattle.gitconf_text.proofs.ByteLaws.{letter_no_blank}
 use Rattle.gitconf_state.specs.Writing.{Open, Closed, OpenKey, OpenKeyAndBlanks, OpenValue, OpenComment, after_blanks}
 
--- blanks, and then a line end or the end
+-- blanks, and then a line ending or the end
 abbrev pub may_follow_comment : List ℕ → Bool
 may_follow_comment [] = true
 may_follow_comment (b ∷ rest) = elim (is_blank b) [ true ↦ may_follow_comment rest | false ↦ begins_line_end (b ∷ rest) ]
 
--- behind blanks no `=`
+-- after blanks no `=`
 abbrev pub may_follow_key : List ℕ → Bool
 may_follow_key [] = true
 may_follow_key (b ∷ rest) = elim (is_blank b) [ true ↦ may_follow_key rest | false ↦ not (b == 61) ]
 
--- the text may stand behind what is left open
+-- the text may follow what is left open
 abbrev pub may_follow : Open → List ℕ → Bool
 may_follow Closed text = true
 may_follow OpenKey text = not (begins is_name_byte text) && may_follow_key text
@@ -56,7 +56,7 @@ mark_cases P semicolon hash b h = go (b == 59) refl (b == 35) refl
     go false e true k = subst P (sym (eqb-true b 35 k)) hash
     go false e false k = absurd (let x : true ≡ false = sym h ∙ neither e k (is_whitespace b) refl in cc)
 
--- what holds of LF and of CR and LF, whatever stands behind, holds of a text that begins with a line end
+-- what holds of LF and of CR and LF, whatever follows, holds of a text that begins with a line ending
 pub line_end_cases : (P : List ℕ → Type 0) → ((rest : List ℕ) → P (10 ∷ rest)) → ((rest : List ℕ) → P (13 ∷ 10 ∷ rest)) → (text : List ℕ) → begins_line_end text ≡ true → P text
 line_end_cases P feed both [] h = absurd (cc)
 line_end_cases P feed both (b ∷ rest) h = go (b == 10) refl
@@ -76,19 +76,19 @@ skips : (test : List ℕ → Bool) → ((b : ℕ) (rest : List ℕ) → is_blank
 skips test one [] rest all = refl
 skips test one (b ∷ run) rest all = let q = both_true (is_blank b) (list_all is_blank run) all in one b (run ++ rest) q.0 ∙ skips test one run rest q.1
 
--- what may follow a comment may follow it behind blanks
+-- what may follow a comment may follow it after blanks
 pub comment_skips : (run rest : List ℕ) → list_all is_blank run ≡ true → may_follow_comment (run ++ rest) ≡ may_follow_comment rest
 comment_skips = skips may_follow_comment (λ b rest h. blank_cases (λ b. may_follow_comment (b ∷ rest) ≡ may_follow_comment rest) refl refl b h)
 
--- what may follow a name may follow it behind more blanks
+-- what may follow a name may follow it after more blanks
 pub key_skips : (run rest : List ℕ) → list_all is_blank run ≡ true → may_follow_key (run ++ rest) ≡ may_follow_key rest
 key_skips = skips may_follow_key (λ b rest h. blank_cases (λ b. may_follow_key (b ∷ rest) ≡ may_follow_key rest) refl refl b h)
 
--- what may follow a value may follow it behind blanks
+-- what may follow a value may follow it after blanks
 pub value_skips : (run rest : List ℕ) → list_all is_blank run ≡ true → may_follow_value (run ++ rest) ≡ may_follow_value rest
 value_skips = skips may_follow_value (λ b rest h. blank_cases (λ b. may_follow_value (b ∷ rest) ≡ may_follow_value rest) refl refl b h)
 
--- blanks may follow where, behind them, what is behind them may
+-- blanks may follow where, after them, what is after them may
 pub blanks_follow : (before : Open) (run rest : List ℕ) → list_all is_blank run ≡ true → may_follow (after_blanks run before) rest ≡ true → may_follow before (run ++ rest) ≡ true
 blanks_follow before [] rest all h = h
 blanks_follow Closed (b ∷ run) rest all h = refl
@@ -104,7 +104,7 @@ blanks_follow OpenKeyAndBlanks (b ∷ run) rest all h = key_skips (b ∷ run) re
 blanks_follow OpenValue (b ∷ run) rest all h = value_skips (b ∷ run) rest all ∙ h
 blanks_follow OpenComment (b ∷ run) rest all h = comment_skips (b ∷ run) rest all ∙ h
 
--- a line end may follow all
+-- a line ending may follow all
 pub line_end_follows : (before : Open) (text : List ℕ) → begins_line_end text ≡ true → may_follow before text ≡ true
 line_end_follows Closed text h = refl
 line_end_follows OpenKey text h = line_end_cases (λ text. may_follow OpenKey text ≡ true) (λ rest. refl) (λ rest. refl) text h

@@ -1,4 +1,4 @@
--- A state that holds nothing is printed as the texts of its tokens, with line ends put behind some of them.
+-- A state that holds nothing is printed as the texts of its tokens, with line endings put after some of them.
 use Rattle.std.proofs.Common.{◌≡◌, ℕ, Bool, true, false, List, [], ◌∷◌, ◌++◌, flat_map, map, cond, refl, ap, sym, subst, ◌∙◌, append_assoc, append-nil, inl, inr}
 use Rattle.std.proofs.lemmas.Grind.{flat_map-append}
 use Rattle.std.proofs.lemmas.List.{map-append}
@@ -16,7 +16,7 @@ use Rattle.gitconf_state.specs.Inserted.{Inserted}
 use Rattle.gitconf_state.specs.Loads.{section_tokens, state_tokens}
 use Rattle.gitconf_state.proofs.InsertingTexts.{Behind, texts_before, texts_before-append, same_whole, put_text, put_unless, put_item}
 
--- the line end that tokens tell is one
+-- the line ending that tokens say is one
 pub is_told_line_end : (tokens : List Token) → is_line_end (line_end_of tokens) ≡ true
 is_told_line_end [] = refl
 is_told_line_end (NewlineToken run ∷ tokens) = go (list_any (λ b. b == 13) run)
@@ -33,7 +33,7 @@ is_told_line_end (ValueDoneToken bytes ∷ tokens) = is_told_line_end tokens
 is_told_line_end (WhitespaceToken bytes ∷ tokens) = is_told_line_end tokens
 is_told_line_end (SeparatorToken ∷ tokens) = is_told_line_end tokens
 
--- parts put together are spelled one behind the other
+-- parts put together are spelled one after the other
 pub spelled-append : (parts others : List Part) → spelled (parts ++ others) ≡ spelled parts ++ spelled others
 spelled-append parts others = flat_map-append spelled_part parts others
 
@@ -51,7 +51,7 @@ put_item_before line_end i tokens items texts whole is_end is =
     (put_item line_end i (texts_before tokens texts) (items_text items ++ whole) is_end is)
     (sym (append_assoc (spelled_item (closed_item line_end i)) (items_text items) whole)))
 
--- items as they are printed, before others; before a name or a comment a line end may stand
+-- items as they are printed, before others; before a name or a comment a line ending may be
 put_items : (in_body : Bool) (line_end : List ℕ) (before : List Item) (items : List Item) (texts : List (List ℕ)) (whole : List ℕ) → is_line_end line_end ≡ true → Behind texts whole
     → Behind (texts_before (flat_map item_tokens items) texts) (items_text (printed_items in_body line_end before items) ++ whole)
 put_items in_body line_end before [] texts whole is_end is = is
@@ -67,7 +67,7 @@ put_items in_body line_end before (i ∷ items) texts whole is_end is =
     go false e broken same = rw (e, printed_items) (
         inl (put_item_before line_end i (flat_map item_tokens items) (printed_items in_body line_end (line_after before i) items) texts whole is_end same))
 
--- before the first of items no line end is put
+-- before the first of items no line ending is put
 none_first : (in_body : Bool) (i : Item) → breaks in_body [] i ≡ false
 none_first in_body (BlanksItem run) = refl
 none_first in_body (LineEndsItem run) = refl
@@ -75,7 +75,7 @@ none_first in_body (CommentItem tag text) = refl
 none_first true (EntryItem e) = refl
 none_first false (EntryItem e) = refl
 
--- the items of a list that is not empty, with no line end before them
+-- the items of a list that is not empty, with no line ending before them
 put_first_items : (in_body : Bool) (line_end : List ℕ) (i : Item) (items : List Item) (texts : List (List ℕ)) (whole : List ℕ) → is_line_end line_end ≡ true → Behind texts whole
     → Inserted (texts_before (flat_map item_tokens (i ∷ items)) texts) (items_text (printed_items in_body line_end [] (i ∷ items)) ++ whole)
 put_first_items in_body line_end i items texts whole is_end is =
@@ -83,7 +83,7 @@ put_first_items in_body line_end i items texts whole is_end is =
     put_item_before line_end i (flat_map item_tokens items) (printed_items in_body line_end (line_after [] i) items) texts whole is_end
     (put_items in_body line_end (line_after [] i) items texts whole is_end is))
 
--- a section's body, behind its header
+-- a section's body, after its header
 put_body : (line_end : List ℕ) (items : List Item) (texts : List (List ℕ)) (whole : List ℕ) → is_line_end line_end ≡ true → Behind texts whole
     → Behind (texts_before (flat_map item_tokens items) texts) (items_text (behind_header line_end items ++ printed_items true line_end [] items) ++ whole)
 put_body line_end [] texts whole is_end is = is
@@ -107,7 +107,7 @@ put_section s texts whole is =
 abbrev pub all_sections : SectionState → Bool
 all_sections s = true
 
--- a line end before sections, where one is missing
+-- a line ending before sections, where one is missing
 missing_first : (line_end : List ℕ) (ended : Bool) (sections : List SectionState)
     → spelled (sections_parts all_sections line_end ended sections) ≡ items_text (unless ended line_end) ++ spelled (sections_parts all_sections line_end true sections)
 missing_first line_end ended [] = sym (append-nil (items_text (unless ended line_end)))
@@ -152,7 +152,7 @@ put_front (i ∷ front) meta next used sections held =
         ∙ ap (λ t. t ++ whole) (sym (ap spelled (map-append ItemPart items between) ∙ spelled-append (map ItemPart items) (map ItemPart between)))
         ∙ sym is
 
--- What is printed of a state that holds nothing is the texts of its tokens, with line ends put in.
+-- What is printed of a state that holds nothing is the texts of its tokens, with line endings put in.
 pub printed_inserted : (state : State) → AllByRecursion (λ s. s.held ≡ []) state.sections → Inserted (map spelled_token (state_tokens state)) (printed state)
 printed_inserted state held =
     subst (λ ts. Inserted ts (printed state))

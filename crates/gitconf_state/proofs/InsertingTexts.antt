@@ -1,4 +1,4 @@
--- Texts with line ends put in, from the last one on: a text goes before others, and between them a line end may stand.
+-- Texts with line endings put in, from the last one on: a text goes before others, and between them a line ending may be.
 use Rattle.std.proofs.Common.{◌≡◌, ℕ, Bool, true, false, List, [], ◌∷◌, ◌++◌, flat_map, map, Option, Some, None, refl, ap, sym, subst, ◌∙◌, append_assoc, append-nil, inl, inr}
 use Rattle.std.specs.Prelude.{◌⊎◌}
 use Rattle.std.proofs.lemmas.List.{map-append}
@@ -9,7 +9,7 @@ use Rattle.gitconf_text.specs.Token.{Token, ValueDoneToken, NewlineToken, Whites
 use Rattle.gitconf_state.specs.Printing.{closed_piece, closed_assigned, closed_item, unless}
 use Rattle.gitconf_state.specs.Inserted.{Inserted}
 
--- the same, where a line end may stand before them all too
+-- the same, where a line ending may come before them all too
 abbrev pub Behind : (texts : List (List ℕ)) → (whole : List ℕ) → Type 0
 Behind texts whole = Inserted texts whole ⊎ ((line_end : List ℕ) × (rest : List ℕ) × (is_line_end line_end ≡ true) × Inserted texts rest × (whole ≡ line_end ++ rest))
 
@@ -17,7 +17,7 @@ Behind texts whole = Inserted texts whole ⊎ ((line_end : List ℕ) × (rest : 
 abbrev pub texts_before : List Token → List (List ℕ) → List (List ℕ)
 texts_before tokens texts = map spelled_token tokens ++ texts
 
--- tokens put together have their texts one behind the other
+-- tokens put together have their texts one after the other
 pub texts_before-append : (tokens others : List Token) (texts : List (List ℕ)) → texts_before (tokens ++ others) texts ≡ texts_before tokens (texts_before others texts)
 texts_before-append tokens others texts = ap (λ t. t ++ texts) (map-append spelled_token tokens others) ∙ append_assoc (map spelled_token tokens) (map spelled_token others) texts
 
@@ -30,27 +30,27 @@ pub put_text : (text : List ℕ) (texts : List (List ℕ)) (whole : List ℕ) �
 put_text text texts whole (inl is) = (whole, is, inl refl)
 put_text text texts whole (inr more) = (more.1, more.3, inr (more.0, more.2, ap (λ t. text ++ t) more.4))
 
--- a line end before others
+-- a line ending before others
 pub put_line_end : (line_end : List ℕ) (texts : List (List ℕ)) (whole : List ℕ) → is_line_end line_end ≡ true → Inserted texts whole → Behind texts (line_end ++ whole)
 put_line_end line_end texts whole is_end is = inr (line_end, whole, is_end, is, refl)
 
--- a line end, where one is missing
+-- a line ending, where one is missing
 pub put_unless : (given : Bool) (line_end : List ℕ) (texts : List (List ℕ)) (whole : List ℕ) → is_line_end line_end ≡ true → Inserted texts whole
     → Behind texts (spelled (map ItemPart (unless given line_end)) ++ whole)
 put_unless true line_end texts whole is_end is = inl is
 put_unless false line_end texts whole is_end is = inr (line_end, whole, is_end, is, ap (λ t. t ++ whole) (append-nil line_end))
 
--- blanks, which have a token where there are some
+-- blanks, which have a token if there are some
 put_blanks : (run : List ℕ) (texts : List (List ℕ)) (whole : List ℕ) → Inserted texts whole → Inserted (texts_before (filled WhitespaceToken run) texts) (run ++ whole)
 put_blanks [] texts whole is = is
 put_blanks (b ∷ run) texts whole is = put_text (b ∷ run) texts whole (inl is)
 
--- the text of a value behind its first piece, put together another way
+-- the text of a value after its first piece, put together another way
 regroup : (text line_end pieces last whole : List ℕ)
     → (text ++ 92 ∷ []) ++ (line_end ++ ((pieces ++ last) ++ whole)) ≡ (((text ++ 92 ∷ line_end) ++ pieces) ++ last) ++ whole
 regroup text line_end pieces last whole = simp append_assoc
 
--- a piece, which gets a line end where it has none
+-- a piece, which gets a line ending if it has none
 put_piece : (line_end : List ℕ) (p : Piece) (others : List Token) (texts : List (List ℕ)) (whole : List ℕ) → is_line_end line_end ≡ true → Inserted (texts_before others texts) whole
     → Inserted (texts_before (piece_tokens p ++ others) texts) ((p.text ++ 92 ∷ []) ++ ((closed_piece line_end p).line_end ++ whole))
 put_piece line_end p others texts whole is_end is = put_text (p.text ++ 92 ∷ []) (texts_before (filled NewlineToken p.line_end ++ others) texts) _ (go p.line_end)

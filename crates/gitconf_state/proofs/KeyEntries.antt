@@ -1,4 +1,4 @@
--- The entries of a key that items have, behind what editors write: those of every other key stay.
+-- The entries of a key that items have, after what editors write: those of every other key stay.
 use Rattle.std.proofs.Common.{◌≡◌, ℕ, ◌+◌, Bool, true, false, List, [], ◌∷◌, ◌++◌, take, drop, Option, Some, None, refl, ap, sym, subst, ◌∙◌, append-nil, take-append-drop, drop-drop}
 use Rattle.std.specs.Prelude.{filter, flat_map, if◌then◌else◌}
 use Rattle.std.specs.List.{list_any, last_or}
@@ -30,7 +30,7 @@ pub passed_by : (key : List ℕ) (i : Item) (items : List Item) → is_entry_of 
 passed_by key i items other =
     of_key-append key (i ∷ []) items ∙ ap (λ es. es ++ of_key key items) (of_key-none key (i ∷ []) (rw other refl))
 
--- items without an entry of the key behind others
+-- items without an entry of the key after others
 pub added : (key : List ℕ) (items more : List Item) → of_key key more ≡ [] → of_key key (items ++ more) ≡ of_key key items
 added key items more none = of_key-append key items more ∙ ap (λ es. of_key key items ++ es) none ∙ append-nil (of_key key items)
 
@@ -95,7 +95,7 @@ value_set_leaves key edited editor value items other apart = go (list_any (is_en
 some_is : {A : Type 0} (x y : A) → Some x ≡ Some y → x ≡ y
 some_is x y is = cc
 
--- a list that is cut is what stands before, the element and what stands behind, and no element behind passes
+-- a list that is cut is what comes before, the element and what follows, and no element after passes
 record IsCut (test : Item → Bool) (items : List Item) (c : List Item × (Item × List Item)) : Type 0 where
   is : items ≡ c.0 ++ c.1.0 ∷ c.1.1
   passes : test c.1.0 ≡ true
@@ -201,7 +201,7 @@ deleted_leaves place key items other =
     ∙ ap (of_key key) (drop-drop 1 place items)))
     ∙ sym (at_place place key items)
 
--- the line end that is kept of an old value is no entry
+-- the line ending that is kept of an old value is no entry
 kept_none : (key : List ℕ) (o : Option Assigned) (behind : List Item) → of_key key (kept_line_end o behind) ≡ []
 kept_none key None behind = refl
 kept_none key (Some a) behind = go a.value.last refl (is_before_comment behind) (last_line_end a.value.pieces)

@@ -7,7 +7,7 @@ use Rattle.gitconf_text.specs.Part.{Item, BlanksItem, LineEndsItem, CommentItem,
 use Rattle.gitconf_state.specs.State.{Cut, cut_last, is_comment, is_entry}
 use Rattle.gitconf_state.specs.LineEnds.{holds, holds_line_end, ends_line}
 
--- whether a line end stands at the end, with one more item
+-- whether a line ending is at the end, with one more item
 abbrev pub ends_with : (line_end : List ℕ) → Bool → Item → Bool
 ends_with line_end ended i = elim i [
   | BlanksItem run ↦ ended
@@ -18,7 +18,7 @@ ends_with line_end ended i = elim i [
 abbrev has_words : Item → Bool
 has_words i = is_comment i || is_entry i
 
--- among what stands behind the cut, or without one among all, or before
+-- among what follows the cut, or without one among all, or before
 abbrev held_behind : (line_end : List ℕ) (ended : Bool) (items : List Item) → Cut → Bool
 held_behind line_end ended items cut = elim cut [ None ↦ ended || list_any (holds_line_end line_end) items | Some c ↦ list_any (holds_line_end line_end) c.1.1 ]
 
@@ -36,7 +36,7 @@ ended_from line_end ended (i ∷ items) = ended_from line_end (ends_with line_en
     go None e = one i ∙ rw (e, cut_last) refl
     go (Some c) e = rw (e, cut_last) refl
 
--- Items end with a line end where the last run does, blanks aside.
+-- Items end with a line ending where the last run does, blanks aside.
 pub ends_line-is : (line_end : List ℕ) (items : List Item) → fold (ends_with line_end) false items ≡ ends_line line_end items
 ends_line-is line_end items = ended_from line_end false items ∙ go (cut_last has_words items)
   where

@@ -1,4 +1,4 @@
--- What look-ups find, by the sections of a state.
+-- What lookups find, by the sections of a state.
 use Rattle.std.proofs.Common.{◌≡◌, ℕ, Bool, true, false, List, [], ◌∷◌, ◌++◌, Option, None, refl, ap, sym, ◌∙◌}
 use Rattle.std.specs.Prelude.{filter, map, flat_map, if◌then◌else◌}
 use Rattle.std.specs.Option.{option_map}
@@ -14,7 +14,7 @@ use Rattle.gitconf_state.specs.Loads.{IsFullLoad, IsLoad}
 use Rattle.gitconf_state.proofs.LoadingDocument.{full_document, lossy_document}
 use Rattle.gitconf_state.specs.Lookup.{Listed, listing, listed, is_named, named, entries_of_key, Said, said_by, said, deciding, last_value}
 
--- what a section says of a key, where it has the name and subsection
+-- what a section says of a key, if it has the name and subsection
 abbrev pub says : (name : List ℕ) → (subsection : Option (List ℕ)) → (key : List ℕ) → SectionState → List Said
 says name subsection key s = if is_named name subsection (listing s) then said_by key (listing s) else []
 

@@ -95,7 +95,7 @@ sections_are_clean (s ∷ sections) held all =
     let c = both_true (is_clean_part (HeaderPart s.header)) (list_all is_clean_part (map ItemPart s.items)) b.0 in
     (record { named = false_not (is_nameless s.header) c.0; blanks = items_pass is_clean_part s.items c.1; held_blanks = rw held.0 refl; held = rw held.0 refl }, sections_are_clean sections held.1 b.1)
 
--- a state of clean parts, which holds none and whose names stand where they may
+-- a state of clean parts, which holds none and whose names are where they may
 state_is_clean : (state : State) → AllByRecursion (λ s. s.held ≡ []) state.sections → list_all is_clean_part (own_parts state) ≡ true → stand_apart_behind Closed state.front ≡ true → IsClean state
 state_is_clean state held all names =
     let b = all_parts is_clean_part (map ItemPart state.front) (flat_map own_section_parts state.sections) all in
@@ -109,7 +109,7 @@ full_is_clean parts state fits load =
     state_is_clean state load.held (ap (list_all is_clean_part) same ∙ parts_are_clean parts fits)
     (names_stand Closed state.front (flat_map own_section_parts state.sections) own_fit tt)
 
--- without an entry, all may stand anywhere
+-- without an entry, all may be anywhere
 pub stand_anywhere : (before : Open) (items : List Item) → entries_of items ≡ [] → stand_apart_behind before items ≡ true
 stand_anywhere before [] none = refl
 stand_anywhere before (BlanksItem run ∷ items) none = rw (stands_anywhere before (BlanksItem run) refl) (stand_anywhere _ items none)

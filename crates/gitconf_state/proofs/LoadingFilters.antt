@@ -1,4 +1,4 @@
--- Some of the tokens of a text: those that blanks, line ends and comments were dropped from.
+-- Some of the tokens of a text: those that blanks, line endings and comments were dropped from.
 use Rattle.std.proofs.Common.{◌≡◌, ℕ, Bool, true, false, List, [], ◌∷◌, ◌++◌, refl, ap, sym, ◌∙◌, inl, inr}
 use Rattle.std.specs.Prelude.{◌&&◌, ◌⊎◌}
 use Rattle.std.specs.List.{list_all}
@@ -31,7 +31,7 @@ cut (t ∷ front) others tokens s = elim s [
   | inr missing ↦ let r = cut front others tokens missing.1 in (r.0, r.1, r.2, inr (missing.0, r.3), r.4)
 ]
 
--- a token of a run, where there are bytes for it, is there or missing
+-- a token of a run, if there are bytes for it, is there or missing
 pub run_left : (token : List ℕ → Token) (run : List ℕ) (tokens : List Token) → IsSelection true (filled token run) tokens
     → (left : List ℕ) × (tokens ≡ filled token left) × ((left ≡ run) ⊎ (left ≡ []))
 run_left token [] tokens s = ([], s, inl refl)
@@ -40,7 +40,7 @@ run_left token (b ∷ run) tokens s = elim s [
   | inr missing ↦ ([], missing.1, inr refl)
 ]
 
--- Fitting parts pass a test that each part passes where it may stand.
+-- Fitting parts pass a test that each part passes where it may be.
 pub fit_parts_pass : (test : Part → Bool) → ((p : Part) (rest : List ℕ) → FitsPart p rest → test p ≡ true) → (parts : List Part) → AreFit parts [] → list_all test parts ≡ true
 fit_parts_pass test each [] fits = refl
 fit_parts_pass test each (p ∷ parts) fits = both_hold (test p) (list_all test parts) (each p (spelled parts ++ []) fits.0) (fit_parts_pass test each parts fits.1)

@@ -26,7 +26,7 @@ not_of_false : (a : Bool) → a ≡ false → not a ≡ true
 not_of_false true h = absurd (cc)
 not_of_false false h = refl
 
--- the front of a text tells how the text begins
+-- the front of a text says how the text begins
 begins_front : (test : ℕ → Bool) (front rest : List ℕ) → begins test (front ++ rest) ≡ false → begins test front ≡ false
 begins_front test [] rest h = refl
 begins_front test (b ∷ front) rest h = h
@@ -71,7 +71,7 @@ header_is (DottedHeader name subsection) fits = both_hold _ _ fits.0 fits.1
 header_is (QuotedHeader name blanks spelling) fits =
     both_hold _ _ (both_hold _ _ (both_hold _ _ fits.0 (filled_begins blanks fits.1)) fits.2) fits.3
 
--- A part that may stand in a text is one of a state.
+-- A part that may be in a text is one of a state.
 pub part_is : (p : Part) (rest : List ℕ) → FitsPart p rest → is_part p ≡ true
 part_is (ItemPart (BlanksItem run)) rest fits = refl
 part_is (ItemPart (LineEndsItem run)) rest fits = both_hold _ _ (filled_begins run fits.0) fits.1

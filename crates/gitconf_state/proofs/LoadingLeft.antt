@@ -1,4 +1,4 @@
--- What is left of the parts of a text when blanks, line ends and comments are missing, also blanks and line ends within entries.
+-- What is left of the parts of a text when blanks, line endings and comments are missing, also blanks and line endings within entries.
 use Rattle.std.proofs.Common.{◌≡◌, ℕ, Bool, true, false, not, List, [], ◌∷◌, ◌++◌, flat_map, Option, Some, None, refl, ap, sym, subst, ◌∙◌, append_assoc, append-nil, inl, inr}
 use Rattle.std.specs.Prelude.{◌&&◌, ◌⊎◌}
 use Rattle.std.specs.List.{list_all}
@@ -26,17 +26,17 @@ is_clean_part (HeaderPart h) = not (is_nameless h)
 passes_left : (test : List ℕ → Bool) (run left : List ℕ) → test [] ≡ true → (left ≡ run) ⊎ (left ≡ []) → test run ≡ true → test left ≡ true
 passes_left test run left none is h = elim is [ inl same ↦ ap test same ∙ h | inr empty ↦ ap test empty ∙ none ]
 
--- a token, what is left of some, and what is left behind them
+-- a token, what is left of some, and what is left after them
 joined : (t : Token) (tokens rest some more others : List Token) {first : List Token} → tokens ≡ t ∷ rest → rest ≡ some ++ more → some ≡ first → more ≡ others → tokens ≡ t ∷ (first ++ others)
 joined t tokens rest some more others {first} is cut_is some_is more_is = is ∙ ap (λ ts. t ∷ ts) (cut_is ∙ ap (λ ts. ts ++ more) some_is ∙ ap (λ ts. first ++ ts) more_is)
 
--- and the last one behind these
+-- and the last one after these
 joined_before : (t : Token) (tokens rest some more others done : List Token) {first : List Token} → tokens ≡ t ∷ rest → rest ≡ some ++ more → some ≡ first → more ≡ others ++ done
     → tokens ≡ t ∷ ((first ++ others) ++ done)
 joined_before t tokens rest some more others done {first} is cut_is some_is more_is =
     joined t tokens rest some more (others ++ done) is cut_is some_is more_is ∙ ap (λ ts. t ∷ ts) (sym (append_assoc first others done))
 
--- a piece and those behind it, of which line ends may be missing
+-- a piece and those after it, of which line endings may be missing
 record PiecesLeft (p : Piece) (pieces : List Piece) (last : List ℕ) (tokens : List Token) : Type 0 where
   pub first : Piece
   pub left : List Piece
@@ -45,7 +45,7 @@ record PiecesLeft (p : Piece) (pieces : List Piece) (last : List ℕ) (tokens : 
   pub units : flat_map (λ (p : Piece). units_of p.text) left ≡ flat_map (λ (p : Piece). units_of p.text) pieces
   pub are : list_all is_piece (p ∷ pieces) ≡ true → list_all is_piece (first ∷ left) ≡ true
 
--- the pieces behind one
+-- the pieces after one
 record MoreLeft (pieces : List Piece) (last : List ℕ) (tokens : List Token) : Type 0 where
   pub left : List Piece
   pub tokens_are : tokens ≡ flat_map piece_tokens left ++ ValueDoneToken last ∷ []
@@ -86,7 +86,7 @@ pieces_left (p ∷ pieces) last tokens s =
       are = l.are;
     }
 
--- how a value begins is told by its first piece and the backslash behind it
+-- how a value begins is told by its first piece and the backslash after it
 same_front : (p : Piece) (pieces : List Piece) (last : List ℕ) (first : Piece) (left : List Piece) → first.text ≡ p.text
     → begins is_blank (spelled_value (record { pieces = first ∷ left; last = last })) ≡ begins is_blank (spelled_value (record { pieces = p ∷ pieces; last = last }))
 same_front p pieces last first left same = go first.text p.text first.line_end p.line_end _ _ same
@@ -147,7 +147,7 @@ assigned_left (Some a) tokens s =
       is = λ h. (let b = both_true (list_all is_blank a.blanks) (is_value a.value) h in both_hold _ _ (passes_left (list_all is_blank) a.blanks l.0 refl l.2 b.0) (v.is b.1));
     }
 
--- parts of which blanks, line ends and comments may be missing: they are parts of a state, and clean, where all were
+-- parts of which blanks, line endings and comments may be missing: they are parts of a state, and clean, where all were
 pub record PartsLeft (parts : List Part) (tokens : List Token) : Type 0 where
   pub left : List Part
   pub tokens_are : tokens ≡ tokens_of left

@@ -1,4 +1,4 @@
--- What may stand behind each item of a text, and that its names stand where they may.
+-- What may follow each item of a text, and that its names are where they may be.
 use Rattle.std.proofs.Common.{◌≡◌, ℕ, ◌<◌, Bool, true, false, not, List, [], ◌∷◌, ◌++◌, length, map, Option, Some, None, refl, ap, sym, subst, ◌∙◌, append_assoc, append-nil, arith, inl, inr}
 use Rattle.std.specs.Prelude.{◌==◌}
 use Rattle.std.proofs.lemmas.Bool.{eqb-true}
@@ -17,12 +17,12 @@ use Rattle.gitconf_text.proofs.ByteLaws.{letter_no_line_end, letter_name_byte, m
 use Rattle.gitconf_state.specs.State.{is_entry}
 use Rattle.gitconf_state.specs.Writing.{Open, Closed, OpenKey, OpenKeyAndBlanks, OpenValue, OpenComment, after_blanks, after_entry, after, may_stand_behind, stand_apart_behind}
 
--- the text is empty, or begins with a line end
+-- the text is empty, or begins with a line ending
 abbrev pub is_line_closed : List ℕ → Bool
 is_line_closed [] = true
 is_line_closed (b ∷ rest) = begins_line_end (b ∷ rest)
 
--- what stands behind items, told by what they leave open
+-- what follows items, told by what they leave open
 abbrev pub Follows : Open → List ℕ → Type 0
 Follows Closed rest = Unit {0}
 Follows OpenKey rest = begins is_name_byte rest ≡ false
@@ -80,7 +80,7 @@ value_end (p ∷ pieces) last rest ended = elim ended [
   | inr bare ↦ rw bare.3 refl
 ]
 
--- behind a comment stands a line end, or nothing
+-- after a comment is a line ending, or nothing
 comment_end : (text rest : List ℕ) → Stops is_comment_text rest → is_line_closed rest ≡ true
 comment_end text [] stops = refl
 comment_end text (b ∷ rest) stops = go (begins_line_end (b ∷ rest)) stops
@@ -89,7 +89,7 @@ comment_end text (b ∷ rest) stops = go (begins_line_end (b ∷ rest)) stops
     go true h = refl
     go false h = absurd (cc)
 
--- Of the items only line ends may stand behind a comment.
+-- Of the items only line endings may follow a comment.
 pub only_line_ends : (i : Item) (rest : List ℕ) → FitsItem i rest → is_line_closed (spelled_item i ++ rest) ≡ true → (run : List ℕ) × (i ≡ LineEndsItem run)
 only_line_ends (BlanksItem []) rest fits closed = absurd (let h : 0 < 0 = fits.0 in omega arith)
 only_line_ends (BlanksItem (b ∷ run)) rest fits closed =
@@ -102,7 +102,7 @@ only_line_ends (EntryItem e) rest fits closed = absurd (
     let k = letter_no_line_end f.0 f.1 f.3 in
     cc)
 
--- blanks behind what is open
+-- blanks after what is open
 behind_blanks : (before : Open) (run rest : List ℕ) → 0 < length run → list_all is_blank run ≡ true → Follows before (run ++ rest) → Follows (after_blanks run before) rest
 behind_blanks before [] rest some all h = absurd (let h : 0 < 0 = some in omega arith)
 behind_blanks Closed (b ∷ run) rest some all h = tt
@@ -116,17 +116,17 @@ behind_key : (blanks rest : List ℕ) → begins is_name_byte (blanks ++ rest) �
 behind_key [] rest h = h
 behind_key (b ∷ blanks) rest h = tt
 
--- what an entry leaves open, where no comment stands before on its line
+-- what an entry leaves open, if no comment comes before on its line
 behind_closed : (blanks : List ℕ) (assigned : Option Assigned) (rest : List ℕ) → FitsAssigned blanks assigned rest → Follows (after_entry Closed blanks assigned) rest
 behind_closed blanks None rest fits = behind_key blanks rest fits.0
 behind_closed blanks (Some a) rest fits = value_end a.value.pieces a.value.last rest fits.1.end
 
--- the same behind an entry without `=` and blanks
+-- the same after an entry without `=` and blanks
 behind_key_and_blanks : (blanks : List ℕ) (assigned : Option Assigned) (rest : List ℕ) → FitsAssigned blanks assigned rest → Follows (after_entry OpenKeyAndBlanks blanks assigned) rest
 behind_key_and_blanks blanks None rest fits = behind_key blanks rest fits.0
 behind_key_and_blanks blanks (Some a) rest fits = value_end a.value.pieces a.value.last rest fits.1.end
 
--- A name stands where it may, and behind it stands what may.
+-- A name is where it may be, and what follows it may.
 behind_entry : (before : Open) (e : Entry) (rest : List ℕ) → FitsItem (EntryItem e) rest → Follows before (spelled_item (EntryItem e) ++ rest)
     → (may_stand_behind before (EntryItem e) ≡ true) × Follows (after before (EntryItem e)) rest
 behind_entry Closed e rest fits h = (refl, behind_closed e.blanks e.assigned rest fits.2)
@@ -141,7 +141,7 @@ behind_entry OpenValue e rest fits h = absurd (
     letter_behind_value f.0 f.1 f.3 (ap may_follow_value (sym f.2 ∙ sym (append_assoc e.name _ rest)) ∙ h))
 behind_entry OpenComment e rest fits h = absurd (let r = only_line_ends (EntryItem e) rest fits h in let k = r.1 in cc)
 
--- what is no entry may stand anywhere
+-- what is no entry may be anywhere
 pub stands_anywhere : (before : Open) (i : Item) → is_entry i ≡ false → may_stand_behind before i ≡ true
 stands_anywhere before (EntryItem e) none = absurd (cc)
 stands_anywhere before (BlanksItem run) none = go before
@@ -169,7 +169,7 @@ stands_anywhere before (CommentItem tag text) none = go before
     go OpenValue = refl
     go OpenComment = refl
 
--- An item stands where it may, and behind it stands what may.
+-- An item is where it may be, and what follows it may.
 pub behind_item : (before : Open) (i : Item) (rest : List ℕ) → FitsItem i rest → Follows before (spelled_item i ++ rest)
     → (may_stand_behind before i ≡ true) × Follows (after before i) rest
 behind_item before (BlanksItem run) rest fits h = (stands_anywhere before (BlanksItem run) refl, behind_blanks before run rest fits.0 fits.1 h)
@@ -178,7 +178,7 @@ behind_item before (CommentItem tag text) rest fits h =
     (stands_anywhere before (CommentItem tag text) refl, comment_end text rest (comment_places text rest fits.1 fits.2).1)
 behind_item before (EntryItem e) rest fits h = behind_entry before e rest fits h
 
--- The names of a text's front stand where they may.
+-- The names of a text's front are where they may be.
 pub names_stand : (before : Open) (items : List Item) (tail : List Part) → AreFit (map ItemPart items ++ tail) [] → Follows before (spelled (map ItemPart items ++ tail))
     → stand_apart_behind before items ≡ true
 names_stand before [] tail fits h = refl

@@ -8,7 +8,7 @@ use Rattle.gitconf_text.specs.Token.{Token, CommentToken, HeaderToken, NameToken
 use Rattle.gitconf_state.specs.State.{SectionState, State}
 use Rattle.gitconf_state.specs.Loads.{section_tokens, state_tokens}
 
--- what the tokens from here on make: parts; or, before them, a value, with the blanks before it; a value before which a line end stands;
+-- what the tokens from here on make: parts; or, before them, a value, with the blanks before it; a value before which a line ending is;
 -- a separator and what is assigned, with the blanks before it
 pub data Made : Type 0 where
   MadeParts : List Part → Made
@@ -48,7 +48,7 @@ made-append : (xs ys : List Token) (m : Made) → made (xs ++ ys) m ≡ made xs 
 made-append [] ys m = refl
 made-append (x ∷ xs) ys m = ap (put x) (made-append xs ys m)
 
--- a piece with its line end, before a value
+-- a piece with its line ending, before a value
 made_piece : (p : Piece) (v : Value) (parts : List Part) → made (piece_tokens p) (MadeValue [] v parts) ≡ MadeValue [] (record { pieces = p ∷ v.pieces; last = v.last }) parts
 made_piece p v parts = go p.text p.line_end
   where
@@ -56,7 +56,7 @@ made_piece p v parts = go p.text p.line_end
     go text [] = refl
     go text (b ∷ bytes) = refl
 
--- pieces with their line ends, and the last one
+-- pieces with their line endings, and the last one
 made_pieces : (pieces : List Piece) (last : List ℕ) (parts : List Part)
     → made (flat_map piece_tokens pieces ++ ValueDoneToken last ∷ []) (MadeParts parts) ≡ MadeValue [] (record { pieces = pieces; last = last }) parts
 made_pieces [] last parts = refl

@@ -1,4 +1,4 @@
--- No printed item runs into the next, and where they end with a line end nothing is left open.
+-- No printed item runs into the next, and where they end with a line ending nothing is left open.
 use Rattle.std.proofs.Common.{◌≡◌, ℕ, Bool, true, false, List, [], ◌∷◌, map, refl, ap, sym, subst, ◌∙◌}
 use Rattle.std.specs.Prelude.{◌&&◌}
 use Rattle.std.specs.List.{list_all, fold}
@@ -15,12 +15,12 @@ use Rattle.gitconf_state.proofs.PrintedItem.{line_end_sound, item_sound, item_af
 use Rattle.gitconf_state.proofs.LastLines.{ends_with, ends_line-is}
 use Rattle.gitconf_state.proofs.Written.{items_written}
 
--- in a front the names stand apart
+-- in a front the names are apart
 abbrev pub ArePlaced : (in_body : Bool) → Open → List Item → Type 0
 ArePlaced true before items = Unit {0}
 ArePlaced false before items = stand_apart_behind before items ≡ true
 
--- an item stands where no line end is put before it
+-- an item may be where no line ending is put before it
 item_stands : (in_body : Bool) (line_end : List ℕ) (before : Open) (i : Item) (items : List Item) → ArePlaced in_body before (i ∷ items) → breaks_behind in_body before i ≡ false
     → stands before (ItemPart (closed_item line_end i)) ≡ true
 item_stands in_body line_end before (BlanksItem run) items placed e = refl
@@ -33,25 +33,25 @@ item_stands false line_end Closed (EntryItem entry) items placed e = refl
 item_stands false line_end OpenKeyAndBlanks (EntryItem entry) items placed e = refl
 item_stands false line_end before (EntryItem entry) items placed e = absurd (let p : (false && stand_apart_behind (after before (EntryItem entry)) items) ≡ true = placed in cc)
 
--- each item stands behind a line end
+-- each item follows a line ending
 closed_stands : (line_end : List ℕ) (i : Item) → stands Closed (ItemPart (closed_item line_end i)) ≡ true
 closed_stands line_end (BlanksItem run) = refl
 closed_stands line_end (LineEndsItem run) = refl
 closed_stands line_end (CommentItem tag text) = refl
 closed_stands line_end (EntryItem e) = refl
 
--- in a front a line end is put before a comment alone
+-- in a front a line ending is put before a comment alone
 broken_after : (before : Open) (i : Item) → breaks_behind false before i ≡ true → after Closed i ≡ after before i
 broken_after OpenComment (EntryItem e) h = absurd (cc)
 broken_after before (CommentItem tag text) h = refl
 broken_after before i h = absurd (cc)
 
--- the items behind one that is placed are placed
+-- the items after one that is placed are placed
 placed_after : (in_body : Bool) (before : Open) (i : Item) (items : List Item) → ArePlaced in_body before (i ∷ items) → ArePlaced in_body (after before i) items
 placed_after true before i items placed = tt
 placed_after false before i items placed = (both_true (may_stand_behind before i) _ placed).1
 
--- so they are where a line end was put before it
+-- so they are where a line ending was put before it
 placed_behind_break : (in_body : Bool) (before : Open) (i : Item) (items : List Item) → ArePlaced in_body before (i ∷ items) → breaks_behind in_body before i ≡ true → ArePlaced in_body (after Closed i) items
 placed_behind_break true before i items placed e = tt
 placed_behind_break false before i items placed e = subst (λ b. stand_apart_behind b items ≡ true) (sym (broken_after before i e)) (both_true (may_stand_behind before i) _ placed).1
@@ -82,7 +82,7 @@ written_apart in_body line_end before (i ∷ items) closes are blanks placed =
       subst (λ b. AreApart b (map ItemPart (written_items in_body line_end (after before i) items))) (sym (item_after line_end before i)) (later (after before i) (placed_after in_body before i items placed)),
     )
 
--- nothing is left open behind an item that ends with a line end
+-- nothing is left open after an item that ends with a line ending
 item_ended : (line_end : List ℕ) (before : Open) (ended : Bool) (i : Item) → (ended ≡ true → before ≡ Closed) → ends_with line_end ended i ≡ true → after before i ≡ Closed
 item_ended line_end before ended (BlanksItem run) told h = ap (after_blanks run) (told h) ∙ go run
   where
@@ -93,7 +93,7 @@ item_ended line_end before ended (LineEndsItem run) told h = refl
 item_ended line_end before ended (CommentItem tag text) told h = absurd (cc)
 item_ended line_end before ended (EntryItem e) told h = absurd (cc)
 
--- nothing is left open behind written items that end with a line end, of either kind
+-- nothing is left open after written items that end with a line ending, of either kind
 written_ended : (in_body : Bool) (line_end kind : List ℕ) (before : Open) (ended : Bool) (items : List Item) → (ended ≡ true → before ≡ Closed) → fold (ends_with kind) ended items ≡ true
     → behind_parts before (map ItemPart (written_items in_body line_end before items)) ≡ Closed
 written_ended in_body line_end kind before ended [] told h = told h
@@ -112,7 +112,7 @@ pub items_apart : (in_body : Bool) (line_end : List ℕ) (items : List Item) →
 items_apart in_body line_end items closes are blanks placed =
     subst (λ is. AreApart Closed (map ItemPart is)) (sym (items_written in_body line_end items)) (written_apart in_body line_end Closed items closes are blanks placed)
 
--- Nothing is left open behind printed items that end with a line end, of either kind.
+-- Nothing is left open after printed items that end with a line ending, of either kind.
 pub items_ended : (in_body : Bool) (line_end kind : List ℕ) (items : List Item) → ends_line kind items ≡ true
     → behind_parts Closed (map ItemPart (printed_items in_body line_end [] items)) ≡ Closed
 items_ended in_body line_end kind items h =

@@ -15,7 +15,7 @@ use Rattle.gitconf_state.specs.Printing.{line_after, breaks, closed_item, printe
 use Rattle.gitconf_state.proofs.PrintedItem.{item_entries-is, item_comments-is}
 use Rattle.gitconf_state.proofs.SectionsApart.{with_held, with_front}
 
--- what is told by items, but neither by line ends nor by those within values
+-- what is told by items, but neither by line endings nor by those within values
 pub record IsKept {A : Type 0} (f : Item → List A) : Type 0 where
   pub lines : (run : List ℕ) → f (LineEndsItem run) ≡ []
   pub closed : (line_end : List ℕ) (i : Item) → f (closed_item line_end i) ≡ f i
@@ -28,7 +28,7 @@ entries_kept = record { lines = λ run. refl; closed = item_entries-is }
 pub comments_kept : IsKept item_comments
 comments_kept = record { lines = λ run. refl; closed = item_comments-is }
 
--- printed items tell what the items do
+-- printed items say what the items do
 items_tell : {A : Type 0} (f : Item → List A) → IsKept f → (in_body : Bool) (line_end : List ℕ) (before : List Item) (items : List Item)
     → flat_map f (printed_items in_body line_end before items) ≡ flat_map f items
 items_tell f kept in_body line_end before [] = refl
@@ -39,24 +39,24 @@ items_tell f kept in_body line_end before (i ∷ items) = go (breaks in_body bef
     go true e later = rw (e, printed_items, kept.lines line_end, kept.closed line_end i) (ap (λ t. f i ++ t) (later (line_after [] i)))
     go false e later = rw (e, printed_items, kept.closed line_end i) (ap (λ t. f i ++ t) (later (line_after before i)))
 
--- a line end that is put in tells nothing
+-- a line ending that is put in says nothing
 line_tells : {A : Type 0} (f : Item → List A) → IsKept f → (ended : Bool) (line_end : List ℕ) → flat_map f (unless ended line_end) ≡ []
 line_tells f kept true line_end = refl
 line_tells f kept false line_end = append-nil (f (LineEndsItem line_end)) ∙ kept.lines line_end
 
--- a line end behind a header tells nothing
+-- a line ending after a header says nothing
 header_line_tells : {A : Type 0} (f : Item → List A) → IsKept f → (line_end : List ℕ) (items : List Item) → flat_map f (behind_header line_end items) ≡ []
 header_line_tells f kept line_end [] = refl
 header_line_tells f kept line_end (i ∷ items) = line_tells f kept (begins_on_a_line (i ∷ items)) line_end
 
--- a printed body tells what the items do
+-- a printed body says what the items do
 pub body_tells : {A : Type 0} (f : Item → List A) → IsKept f → (s : SectionState) → flat_map f (printed_body s) ≡ flat_map f s.items
 body_tells f kept s =
     flat_map-append f (behind_header (section_line_end s) s.items) (printed_items true (section_line_end s) [] s.items)
     ∙ ap (λ t. t ++ flat_map f (printed_items true (section_line_end s) [] s.items)) (header_line_tells f kept (section_line_end s) s.items)
     ∙ items_tell f kept true (section_line_end s) [] s.items
 
--- held items tell, as they are printed, what they do
+-- held items say, as they are printed, what they do
 held_tells : {A : Type 0} (f : Item → List A) → IsKept f → (line_end : List ℕ) (s : SectionState) (held : List Item) → flat_map f (held_items line_end (with_held s held)) ≡ flat_map f held
 held_tells f kept line_end s [] = refl
 held_tells f kept line_end s (i ∷ held) =
@@ -64,12 +64,12 @@ held_tells f kept line_end s (i ∷ held) =
     ∙ ap (λ t. t ++ flat_map f (printed_items false line_end [] (i ∷ held))) (line_tells f kept (ends_line line_end s.items) line_end)
     ∙ items_tell f kept false line_end [] (i ∷ held)
 
--- a line end behind the front tells nothing
+-- a line ending after the front says nothing
 behind_front_tells : {A : Type 0} (f : Item → List A) → IsKept f → (keeps : SectionState → Bool) (state : State) (front : List Item) → flat_map f (behind_front keeps (with_front state front)) ≡ []
 behind_front_tells f kept keeps state [] = refl
 behind_front_tells f kept keeps state (i ∷ front) = line_tells f kept (ends_line (file_line_end (with_front state (i ∷ front))) (i ∷ front) || not (list_any keeps state.sections)) _
 
--- a printed front tells what the front does
+-- a printed front says what the front does
 front_tells : {A : Type 0} (f : Item → List A) → IsKept f → (keeps : SectionState → Bool) (state : State)
     → flat_map f (printed_items false (file_line_end state) [] state.front ++ behind_front keeps state) ≡ flat_map f state.front
 front_tells f kept keeps state =
@@ -111,7 +111,7 @@ section_document-is s = ap gathered (sym (append-nil (section_parts s))) ∙ gat
 abbrev sections_document : (SectionState → Bool) → List SectionState → Document
 sections_document keeps sections = record { front = []; sections = map section_document (filter keeps sections) }
 
--- a line end that is put in leaves the document
+-- a line ending that is put in leaves the document
 line_document : (ended : Bool) (line_end : List ℕ) (rest : List Part) → gathered (map ItemPart (unless ended line_end) ++ rest) ≡ gathered rest
 line_document true line_end rest = refl
 line_document false line_end rest = refl
@@ -158,7 +158,7 @@ section_comments s = comments_of_items (printed_body s) ∙ body_tells item_comm
 abbrev sections_comments : (SectionState → Bool) → List SectionState → List (List ℕ)
 sections_comments keeps sections = flat_map (λ s. flat_map item_comments (s.items ++ s.held)) (filter keeps sections)
 
--- a line end that is put in leaves the comments
+-- a line ending that is put in leaves the comments
 line_comments : (ended : Bool) (line_end : List ℕ) (rest : List Part) → comments_of (map ItemPart (unless ended line_end) ++ rest) ≡ comments_of rest
 line_comments true line_end rest = refl
 line_comments false line_end rest = refl

@@ -20,7 +20,7 @@ use Rattle.gitconf_state.specs.Printing.{closed_piece, closed_assigned, closed_i
 use Rattle.gitconf_state.specs.Writing.{Open, OpenValue, OpenComment, after, after_entry}
 use Rattle.gitconf_state.proofs.Apart.{AreClosed, IsSound}
 
--- the line end of tokens is one line end
+-- the line ending of tokens is one line ending
 pub line_end_of-is : (tokens : List Token) → is_line_end (line_end_of tokens) ≡ true
 line_end_of-is [] = refl
 line_end_of-is (NewlineToken run ∷ tokens) = go (list_any (λ b. b == 13) run)
@@ -30,7 +30,7 @@ line_end_of-is (NewlineToken run ∷ tokens) = go (list_any (λ b. b == 13) run)
     go false = refl
 line_end_of-is (t ∷ tokens) = line_end_of-is tokens
 
--- one line end is a run of them
+-- one line ending is a run of them
 pub line_end_sound : (line_end : List ℕ) → is_line_end line_end ≡ true → IsSound (ItemPart (LineEndsItem line_end))
 line_end_sound [] h = absurd (cc)
 line_end_sound (b ∷ []) h = (omega arith, rw h refl)
@@ -39,12 +39,12 @@ line_end_sound (b ∷ c ∷ []) h =
     (omega arith, subst (λ b. are_line_ends (b ∷ c ∷ []) ≡ true) (sym (eqb-true b 13 q.0)) (subst (λ c. are_line_ends (13 ∷ c ∷ []) ≡ true) (sym (eqb-true c 10 q.1)) refl))
 line_end_sound (b ∷ c ∷ d ∷ rest) h = absurd (cc)
 
--- a piece keeps its text, and has a line end
+-- a piece keeps its text, and has a line ending
 piece_text : (line_end text own : List ℕ) → (closed_piece line_end (record { text = text; line_end = own })).text ≡ text
 piece_text line_end text [] = refl
 piece_text line_end text (b ∷ own) = refl
 
--- a printed piece has a line end
+-- a printed piece has a line ending
 piece_closed : (line_end text own : List ℕ) → is_line_end line_end ≡ true → is_piece (record { text = text; line_end = own }) ≡ true
     → is_line_end (closed_piece line_end (record { text = text; line_end = own })).line_end ≡ true
 piece_closed line_end text [] closes h = closes

@@ -96,21 +96,21 @@ m3 = refl
 m4 : printed (st [] (record { number = 0; header = QuotedHeader (codes "hello") (codes " ") (codes "foo\\\\bar\\\""); meta = api_meta; items = []; held = [] } ∷ [])) ≡ codes "[hello \"foo\\\\bar\\\"\"]\n"
 m4 = refl
 
--- an open continuation alone in the front: with the line end that was read, and without
+-- an open continuation alone in the front: with the line ending that was read, and without
 c12 : printed (st (vs "k" " " " " (p "x" "" ∷ []) "" ∷ []) []) ≡ codes "k = x\\\n"
 c12 = refl
 
 c12e : printed (st (vs "k" " " " " (p "x" "\n" ∷ []) "" ∷ []) []) ≡ codes "k = x\\\n"
 c12e = refl
 
--- mixed line ends
+-- mixed line endings
 e1 : printed (st [] (sec 0 "a" (n "\r\n" ∷ v "k" "" "" "1" ∷ n "\n" ∷ []) [] ∷ [])) ≡ codes "[a]\r\nk=1\n\r\n"
 e1 = refl
 
 e2 : printed (st [] (sec 0 "a" (b " " ∷ vs "k" " " " " (p "x" "\r\n" ∷ []) "y" ∷ n "\n" ∷ []) [] ∷ [])) ≡ codes "[a]\r\n k = x\\\r\ny\n\r\n"
 e2 = refl
 
--- a section without a line end of its own in a file with CR LF
+-- a section without a line ending of its own in a file with CR LF
 e3 : printed (st [] (sec 0 "a" (n "\r\n" ∷ []) [] ∷ sec 1 "b" (b " " ∷ k "k" "" ∷ []) [] ∷ [])) ≡ codes "[a]\r\n[b]\n k\r\n"
 e3 = refl
 
@@ -144,11 +144,11 @@ f2 = refl
 f3c : stand_apart [] (k "j" "" ∷ v "k" "" "" "2" ∷ []) ≡ false
 f3c = refl
 
--- two comments without a line end between: front, body, held
+-- two comments without a line ending between: front, body, held
 g1 : printed (st (c 35 "a" ∷ c 59 "b" ∷ n "\n" ∷ []) []) ≡ codes "#a\n;b\n"
 g1 = refl
 
--- held behind a section without a line end
+-- held after a section without a line ending
 j1 : printed (st [] (sec 0 "a" (n "\n" ∷ v "k" "" "" "1" ∷ []) (c 35 " c" ∷ []) ∷ sec 1 "b" (n "\n" ∷ []) [] ∷ [])) ≡ codes "[a]\nk=1\n# c\n[b]\n"
 j1 = refl
 

@@ -34,7 +34,7 @@ unmarked_run : (run rest : List ℕ) → 0 < length run → list_all is_blank ru
 unmarked_run [] rest some all = absurd (omega arith)
 unmarked_run (b ∷ run) rest some all = unmarked_byte is_blank b (run ++ rest) refl (both_true (is_blank b) (list_all is_blank run) all).0
 
--- line ends are no mark
+-- line endings are no mark
 unmarked_line_ends : (run rest : List ℕ) → 0 < length run → are_line_ends run ≡ true → unmarked (run ++ rest) ≡ run ++ rest
 unmarked_line_ends [] rest some all = absurd (omega arith)
 unmarked_line_ends (b ∷ run) rest some all = unmarked_byte (λ b. begins_line_end (b ∷ run)) b (run ++ rest) refl (both_true (begins_line_end (b ∷ run)) (are_line_ends run) all).0

@@ -27,38 +27,38 @@ pub all_mapped : {A : Type 0} (P Q : A → Type 0) (xs : List A) → ((x : A) �
 all_mapped P Q [] h ps = tt
 all_mapped P Q (x ∷ xs) h ps = (h x ps.0, all_mapped P Q xs h ps.1)
 
--- what is left open behind two lists
+-- what is left open after two lists
 behind-append : (before : Open) (parts others : List Part) → behind_parts before (parts ++ others) ≡ behind_parts (behind_parts before parts) others
 behind-append before [] others = refl
 behind-append before (HeaderPart h ∷ parts) others = behind-append Closed parts others
 behind-append before (ItemPart i ∷ parts) others = behind-append (after before i) parts others
 
--- a line end that is put where one is missing closes what is open
+-- a line ending that is put where one is missing closes what is open
 closed_off : (ended : Bool) (line_end : List ℕ) (before : Open) (rest : List Part) → is_line_end line_end ≡ true → (ended ≡ true → before ≡ Closed) → AreApart Closed rest
     → AreApart before (map ItemPart (unless ended line_end) ++ rest)
 closed_off true line_end before rest closes told apart = subst (λ b. AreApart b rest) (sym (told refl)) apart
 closed_off false line_end before rest closes told apart = (refl, line_end_sound line_end closes, apart)
 
--- nothing is left open behind a line end that is put where one is missing
+-- nothing is left open after a line ending that is put where one is missing
 behind_unless : (ended : Bool) (line_end : List ℕ) (before : Open) → (ended ≡ true → before ≡ Closed) → behind_parts before (map ItemPart (unless ended line_end)) ≡ Closed
 behind_unless true line_end before told = told refl
 behind_unless false line_end before told = refl
 
--- what stands apart behind a line end stands apart behind a header and its line end
+-- what is apart after a line ending is apart after a header and its line ending
 header_line_apart : (line_end : List ℕ) (items : List Item) (rest : List Part) → is_line_end line_end ≡ true → AreApart Closed rest → AreApart Closed (map ItemPart (behind_header line_end items) ++ rest)
 header_line_apart line_end [] rest closes apart = apart
 header_line_apart line_end (i ∷ items) rest closes apart = closed_off (begins_on_a_line (i ∷ items)) line_end Closed rest closes (λ _. refl) apart
 
--- nothing is left open behind a header and its line end
+-- nothing is left open after a header and its line ending
 behind_header_line : (line_end : List ℕ) (items : List Item) → behind_parts Closed (map ItemPart (behind_header line_end items)) ≡ Closed
 behind_header_line line_end [] = refl
 behind_header_line line_end (i ∷ items) = behind_unless (begins_on_a_line (i ∷ items)) line_end Closed (λ _. refl)
 
--- the printed items of a body, without the line end before them
+-- the printed items of a body, without the line ending before them
 abbrev body_of : SectionState → List Item
 body_of s = printed_items true (section_line_end s) [] s.items
 
--- a printed body is a line end, where one is missing, and the printed items
+-- a printed body is a line ending, where one is missing, and the printed items
 body_parts : (s : SectionState) → map ItemPart (printed_body s) ≡ map ItemPart (behind_header (section_line_end s) s.items) ++ map ItemPart (body_of s)
 body_parts s = map-append ItemPart (behind_header (section_line_end s) s.items) (body_of s)
 
@@ -74,7 +74,7 @@ section_apart s is =
     (header_line_apart (section_line_end s) s.items _ closes (items_apart true (section_line_end s) s.items closes is.0.items is.1.blanks tt)) in
     (refl, header_sound s.header is.0.header is.1.named, body)
 
--- Nothing is left open behind a section that ends with a line end.
+-- Nothing is left open after a section that ends with a line ending.
 section_ended : (line_end : List ℕ) (s : SectionState) → ends_line line_end s.items ≡ true → behind_parts Closed (section_parts s) ≡ Closed
 section_ended line_end s ended =
     ap (behind_parts Closed) (body_parts s)
@@ -82,20 +82,20 @@ section_ended line_end s ended =
     ∙ ap (λ b. behind_parts b (map ItemPart (body_of s))) (behind_header_line (section_line_end s) s.items)
     ∙ items_ended true (section_line_end s) line_end s.items ended
 
--- all but an entry may stand where it does
+-- all but an entry may be where it is
 others_stand : (before : Open) (i : Item) → not (is_entry i) ≡ true → may_stand_behind before i ≡ true
 others_stand before (EntryItem e) h = absurd (cc)
 others_stand Closed i h = refl
 others_stand before i h = refl
 
--- items without an entry stand apart
+-- items without an entry are apart
 without_entries : (before : Open) (items : List Item) → list_all (λ i. not (is_entry i)) items ≡ true → stand_apart_behind before items ≡ true
 without_entries before [] h = refl
 without_entries before (i ∷ items) h =
     let q = both_true (not (is_entry i)) (list_all (λ i. not (is_entry i)) items) h in
     rw (others_stand before i q.0) (without_entries (after before i) items q.1)
 
--- the section with these items held behind it
+-- the section with these items held after it
 abbrev pub with_held : SectionState → List Item → SectionState
 with_held s held = record { number = s.number; header = s.header; meta = s.meta; items = s.items; held = held }
 
@@ -107,7 +107,7 @@ held_apart line_end before s (i ∷ held) closes told are blanks none =
     subst (AreApart before) (sym (map-append ItemPart (unless (ends_line line_end s.items) line_end) (printed_items false line_end [] (i ∷ held))))
     (closed_off (ends_line line_end s.items) line_end before _ closes told (items_apart false line_end (i ∷ held) closes are blanks (without_entries Closed (i ∷ held) none)))
 
--- nothing is left open behind a section's end and its held items where these end with a line end
+-- nothing is left open after a section's end and its held items where these end with a line ending
 held_ended : (line_end : List ℕ) (before : Open) (s : SectionState) (held : List Item) → (ends_line line_end s.items ≡ true → before ≡ Closed)
     → ends_with_line line_end (with_held s held) ≡ true → behind_parts before (map ItemPart (held_items line_end (with_held s held))) ≡ Closed
 held_ended line_end before s [] told ended = told ended
@@ -137,7 +137,7 @@ sections_apart keeps line_end ended before (s ∷ sections) closes told all =
         (later (ends_with_line line_end s) _ (held_ended line_end _ s s.held (section_ended line_end s))))
     go later false e = later ended Closed (λ _. refl)
 
--- where no section is kept nothing stands behind the front
+-- if no section is kept nothing follows the front
 none_kept : (keeps : SectionState → Bool) (line_end : List ℕ) (sections : List SectionState) → list_any keeps sections ≡ false → sections_parts keeps line_end true sections ≡ []
 none_kept keeps line_end [] none = refl
 none_kept keeps line_end (s ∷ sections) none = go (keeps s) refl none (none_kept keeps line_end sections)
@@ -147,7 +147,7 @@ none_kept keeps line_end (s ∷ sections) none = go (keeps s) refl none (none_ke
     go true e none later = absurd (cc)
     go false e none later = rw (e, sections_parts) (later none)
 
--- what stands behind the front, with the line end that is put before it
+-- what follows the front, with the line ending that is put before it
 behind_front_apart : (keeps : SectionState → Bool) (line_end : List ℕ) (ended : Bool) (before : Open) (sections : List SectionState) → is_line_end line_end ≡ true → (ended ≡ true → before ≡ Closed)
     → AllByRecursion IsSection sections → AreApart before (map ItemPart (unless (ended || not (list_any keeps sections)) line_end) ++ sections_parts keeps line_end true sections)
 behind_front_apart keeps line_end ended before sections closes told all = go (list_any keeps sections) refl

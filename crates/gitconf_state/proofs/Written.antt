@@ -1,4 +1,4 @@
--- The words of a writer agree with those of printing: what it remembers tells of the items behind the last line end what is asked of them.
+-- The words of a writer agree with those of printing: what it remembers says of the items after the last line ending what is asked of them.
 use Rattle.std.proofs.Common.{◌≡◌, ℕ, Bool, true, false, not, List, [], ◌∷◌, ◌++◌, Option, Some, None, refl, ap, sym, subst, ◌∙◌, append-nil}
 use Rattle.std.specs.Prelude.{◌&&◌, ◌||◌, filter}
 use Rattle.std.specs.List.{last_or, list_any}
@@ -40,7 +40,7 @@ and_false : (b : Bool) → (b && false) ≡ false
 and_false true = refl
 and_false false = refl
 
--- one item more
+-- one more item
 any_more : (p : Item → Bool) (line : List Item) (i : Item) → list_any p (line ++ i ∷ []) ≡ (list_any p line || p i)
 any_more p line i = list_any-append p line (i ∷ []) ∙ ap (λ b. list_any p line || b) (or-false (p i))
 
@@ -56,7 +56,7 @@ or_true false = refl
 any_now : (p : Item → Bool) (line : List Item) (i : Item) → p i ≡ true → list_any p (line ++ i ∷ []) ≡ true
 any_now p line i e = any_more p line i ∙ (ap (λ b. list_any p line || b) e ∙ or_true (list_any p line))
 
--- what is remembered for printing tells of the line
+-- what is remembered for printing says of the line
 record Agrees (line : List Item) (before : Open) : Type 0 where
   comment : list_any is_comment line ≡ is_comment_open before
   words : list_any has_words line ≡ is_open before
@@ -77,7 +77,7 @@ blanks_open (b ∷ run) OpenKeyAndBlanks = refl
 blanks_open (b ∷ run) OpenValue = refl
 blanks_open (b ∷ run) OpenComment = refl
 
--- an entry is open, and a comment before it stays unless its value goes on
+-- an entry is open, and a comment before it stays unless its value continues
 entry_open : (before : Open) (blanks : List ℕ) (assigned : Option Assigned) → is_open (after_entry before blanks assigned) ≡ true
 entry_open OpenComment blanks None = refl
 entry_open OpenComment blanks (Some a) = go a.value.pieces refl
@@ -111,7 +111,7 @@ entry_comment OpenKey blanks (Some a) = sym (and_false (not (has_pieces (Some a)
 entry_comment OpenKeyAndBlanks blanks (Some a) = sym (and_false (not (has_pieces (Some a))))
 entry_comment OpenValue blanks (Some a) = sym (and_false (not (has_pieces (Some a))))
 
--- both agree behind the next item
+-- both agree after the next item
 agrees_behind : (line : List Item) (before : Open) (i : Item) → Agrees line before → Agrees (line_after line i) (after before i)
 agrees_behind line before (BlanksItem run) same = record {
   comment = any_same is_comment line (BlanksItem run) refl ∙ (same.comment ∙ sym (blanks_comment run before));
@@ -134,7 +134,7 @@ agrees_behind line before (EntryItem e) same = go (has_pieces e.assigned) refl
       words = any_now has_words line (EntryItem e) refl ∙ sym (entry_open before e.blanks e.assigned);
     })
 
--- a line end is put where it is written
+-- a line ending is put where it is written
 breaks_same : (in_body : Bool) (line : List Item) (before : Open) (i : Item) → Agrees line before → breaks in_body line i ≡ breaks_behind in_body before i
 breaks_same in_body line before (BlanksItem run) same = blanks_break before
   where
@@ -192,12 +192,12 @@ written in_body line_end line before (i ∷ items) same = go (breaks_behind in_b
 pub items_written : (in_body : Bool) (line_end : List ℕ) (items : List Item) → printed_items in_body line_end [] items ≡ written_items in_body line_end Closed items
 items_written in_body line_end items = written in_body line_end [] Closed items (record { comment = refl; words = refl })
 
--- what is remembered for names tells of the line
+-- what is remembered for names says of the line
 record NamesAgree (line : List Item) (before : Open) : Type 0 where
   text : list_any has_text line ≡ is_text_open before
   name : ends_with_name line ≡ is_key_open before
 
--- the last item that passes, behind one item more
+-- the last item that passes, after one more item
 last_more : (p : Item → Bool) (line : List Item) (i : Item) → last_or None (filter p (line ++ i ∷ [])) ≡ elim (p i) [ true ↦ Some i | false ↦ last_or None (filter p line) ]
 last_more p [] i = go (p i) refl
   where
@@ -242,7 +242,7 @@ blanks_key b run OpenKeyAndBlanks = refl
 blanks_key b run OpenValue = refl
 blanks_key b run OpenComment = refl
 
--- behind an entry that may stand where it does
+-- after an entry that may be where it is
 entry_behind : (line : List Item) (before : Open) (e : Entry) → list_any has_text line ≡ false
     → ((blanks : List ℕ) → after_entry before blanks None ≡ after_blanks blanks OpenKey) → ((blanks : List ℕ) (a : Assigned) → after_entry before blanks (Some a) ≡ OpenValue)
     → NamesAgree (line_after line (EntryItem e)) (after_entry before e.blanks e.assigned)
@@ -276,7 +276,7 @@ entry_behind line before e none alone valued = go e.assigned refl
     })
     go (Some a) at = subst (NamesAgree (line_after line (EntryItem e))) (sym (ap (after_entry before e.blanks) at ∙ valued e.blanks a)) (placed a at (has_pieces e.assigned) refl)
 
--- both agree behind the next item, where it may stand
+-- both agree after the next item, where it may be
 names_behind : (line : List Item) (before : Open) (i : Item) → NamesAgree line before → may_stand_behind before i ≡ true → NamesAgree (line_after line i) (after before i)
 names_behind line before (BlanksItem []) same stands = record {
   text = any_same has_text line (BlanksItem []) refl ∙ same.text;
@@ -297,7 +297,7 @@ names_behind line OpenKey (EntryItem e) same stands = absurd (cc)
 names_behind line OpenValue (EntryItem e) same stands = absurd (cc)
 names_behind line OpenComment (EntryItem e) same stands = absurd (cc)
 
--- an item may stand where a writer may put it
+-- an item may be where a writer may put it
 stands_same : (line : List Item) (before : Open) (i : Item) → NamesAgree line before → may_stand line i ≡ may_stand_behind before i
 stands_same line before (BlanksItem run) same = others before
   where
@@ -343,6 +343,6 @@ apart line before (i ∷ items) same =
     go true e is later = rw (is, e, stand_apart, stand_apart_behind) (later e)
     go false e is later = rw (is, e, stand_apart, stand_apart_behind) refl
 
--- Names stand apart where a writer may put them.
+-- Names are apart where a writer may put them.
 pub names_apart : (items : List Item) → stand_apart [] items ≡ stand_apart_behind Closed items
 names_apart items = apart [] Closed items (record { text = refl; name = refl })

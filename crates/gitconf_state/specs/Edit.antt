@@ -1,4 +1,4 @@
--- Edits: each is one update of the list of sections, and its answer.
+-- The edit that sets a value by the names of a section and a key, and the words for edits: each is one update of the state, and its result.
 -- Source: gix-config; that an entry without `=` gets one is this project's own rule.
 use Rattle.std.specs.Prelude.{ℕ, ◌+◌, Bool, true, false, List, [], ◌∷◌, ◌++◌, ◌&&◌, filter, Option, Some, None, length, flat_map}
 use Rattle.std.specs.List.{slice_index_or, filter_map, last_or, list_any}
@@ -14,7 +14,7 @@ use Rattle.gitconf_state.specs.State.{SectionState, State, is_entry}
 use Rattle.gitconf_state.specs.LineEnds.{file_line_end}
 use Rattle.gitconf_state.specs.Lookup.{is_named, listing}
 
--- the last element that passes is changed
+-- the list with a change of the last element that passes
 abbrev pub update_last : {A : Type 0} → (A → Bool) → (A → A) → List A → List A
 update_last test change [] = []
 update_last test change (x ∷ xs) = elim (list_any test xs) [
@@ -27,13 +27,13 @@ abbrev pub is_entry_of : (key : List ℕ) → Item → Bool
 is_entry_of key (EntryItem e) = is_same_name key e.name
 is_entry_of key _ = false
 
--- the blanks that an editor uses: before a key, and before and behind `=`
+-- the blanks that an editor uses: before a key, and before and after `=`
 pub record Spacing : Type 0 where
   pub leading : Option (List ℕ)
   pub before : List ℕ
   pub behind : List ℕ
 
--- the bytes of blanks
+-- the bytes of an item of blanks; none for any other item
 abbrev pub blanks_of : Option Item → Option (List ℕ)
 blanks_of (Some (BlanksItem run)) = Some run
 blanks_of _ = None
@@ -48,16 +48,16 @@ before_entry (i ∷ items) = i ∷ before_entry items
 abbrev pub leading_blanks : List Item → Option (List ℕ)
 leading_blanks items = blanks_of (last_or None (before_entry items))
 
--- the blanks before and behind an entry's `=`
+-- the blanks before and after an entry's `=`
 abbrev pub blanks_around : Item → Option (List ℕ × List ℕ)
 blanks_around (EntryItem e) = option_map (λ a. (e.blanks, a.blanks)) e.assigned
 blanks_around _ = None
 
--- those of the first `=`
+-- the blanks around the first `=` of the items
 abbrev pub separator_blanks : List Item → List ℕ × List ℕ
 separator_blanks items = slice_index_or (filter_map blanks_around items) 0 ([], [])
 
--- those that a body has; a body without entries gives a tab, a space and a space
+-- the blanks that a body uses; for a body without entries a tab, a space and a space
 abbrev pub spacing_of : List Item → Spacing
 spacing_of items = elim (list_any is_entry items) [
   | true ↦ record { leading = leading_blanks items; before = (separator_blanks items).0; behind = (separator_blanks items).1 }
@@ -68,7 +68,7 @@ spacing_of items = elim (list_any is_entry items) [
 abbrev pub assigned_value : (blanks value : List ℕ) → Option Assigned
 assigned_value blanks value = Some (record { blanks = blanks; value = record { pieces = []; last = escaped value } })
 
--- an entry with another value: where it has `=`, the blanks there stay; else it gets those of the body
+-- an entry with another value: its blanks around `=` stay, if it has `=`; otherwise it gets those of the body
 abbrev pub with_value : Spacing → (value : List ℕ) → Item → Item
 with_value spacing value (EntryItem e) = elim e.assigned [
   | Some a ↦ EntryItem (record { name = e.name; blanks = e.blanks; assigned = assigned_value a.blanks value })
@@ -76,7 +76,7 @@ with_value spacing value (EntryItem e) = elim e.assigned [
 ]
 with_value spacing value i = i
 
--- blanks, if there are any
+-- an item of these blanks, if there are any
 abbrev pub leading_item : Option (List ℕ) → List Item
 leading_item None = []
 leading_item (Some run) = BlanksItem run ∷ []
@@ -88,7 +88,7 @@ new_entry spacing line_end key value =
     ++ EntryItem (record { name = key; blanks = spacing.before; assigned = assigned_value spacing.behind value })
     ∷ LineEndsItem line_end ∷ []
 
--- a body in which the key's last entry has the value, or a new one at the end
+-- a body whose last entry of the key has the value, or with a new entry at its end
 abbrev pub set_value : (line_end key value : List ℕ) → List Item → List Item
 set_value line_end key value items = elim (list_any (is_entry_of key) items) [
   | true ↦ update_last (is_entry_of key) (with_value (spacing_of items) value) items
@@ -104,12 +104,12 @@ item_raw _ = []
 abbrev pub old_value : (key : List ℕ) → List Item → Option (List ℕ)
 old_value key items = elim (last_or None (filter (is_entry_of key) items)) [ None ↦ None | Some i ↦ Some (item_raw i) ]
 
--- a header that is made: with a subsection in quotes behind a space
+-- a header that is made: with the subsection, if there is one, in quotes after a space
 abbrev pub made_header : (name : List ℕ) → (subsection : Option (List ℕ)) → Header
 made_header name None = PlainHeader name
 made_header name (Some subsection) = QuotedHeader name (32 ∷ []) (escaped_subsection subsection)
 
--- a new section: its body is one line end, and it comes from where the file does
+-- a new section: its body is one line ending, and it comes from where the file comes from
 abbrev pub new_section : (name : List ℕ) → (subsection : Option (List ℕ)) → State → SectionState
 new_section name subsection state = record {
   number = state.next;
@@ -119,11 +119,11 @@ new_section name subsection state = record {
   held = [];
 }
 
--- a section that has the name and subsection and passes
+-- a section that has the name and subsection, and whose metadata passes
 abbrev pub is_target : (name : List ℕ) → (subsection : Option (List ℕ)) → (keeps : Meta → Bool) → SectionState → Bool
 is_target name subsection keeps s = is_named name subsection (listing s) && keeps s.meta
 
--- a section with the value
+-- a section after the value was set in it
 abbrev pub section_with : (line_end key value : List ℕ) → SectionState → SectionState
 section_with line_end key value s = record {
   number = s.number;
@@ -133,7 +133,7 @@ section_with line_end key value s = record {
   held = s.held;
 }
 
--- the last passing section of the name and subsection with the value, or a new one
+-- the state after the value was set in the last passing section of the name and subsection, or in a new one
 abbrev pub set_raw_value : (name : List ℕ) → (subsection : Option (List ℕ)) → (key : List ℕ) → (keeps : Meta → Bool) → (value : List ℕ) → State → State
 set_raw_value name subsection key keeps value state = elim (list_any (is_target name subsection keeps) state.sections) [
   | true ↦ record {
@@ -152,12 +152,12 @@ set_raw_value name subsection key keeps value state = elim (list_any (is_target 
   }
 ]
 
--- what `set_raw_value` answers: the raw text that was there
+-- what `set_raw_value` returns: the raw text that was there, if any
 abbrev pub replaced_value : (name : List ℕ) → (subsection : Option (List ℕ)) → (key : List ℕ) → (keeps : Meta → Bool) → State → Option (List ℕ)
 replaced_value name subsection key keeps state =
     elim (last_or None (filter (is_target name subsection keeps) state.sections)) [ None ↦ None | Some s ↦ old_value key s.items ]
 
--- the tokens of a value that is set: those of `=` and its blanks too, where there is no `=`
+-- the tokens of a value that is set: also those of `=` and its blanks, if there is no `=`
 abbrev pub value_tokens_of : Spacing → (value : List ℕ) → Item → List Token
 value_tokens_of spacing value (EntryItem e) = elim e.assigned [
   | Some a ↦ ValueToken (escaped value) ∷ []
@@ -165,7 +165,7 @@ value_tokens_of spacing value (EntryItem e) = elim e.assigned [
 ]
 value_tokens_of spacing value i = []
 
--- the tokens that setting a value makes in a body
+-- the tokens that setting a value adds to a body
 abbrev pub set_tokens : (line_end key value : List ℕ) → List Item → List Token
 set_tokens line_end key value items = elim (last_or None (filter (is_entry_of key) items)) [
   | None ↦ flat_map item_tokens (new_entry (spacing_of items) line_end key value)
@@ -177,45 +177,45 @@ abbrev pub new_section_tokens : (line_end name : List ℕ) → (subsection : Opt
 new_section_tokens line_end name subsection key value =
     HeaderToken (made_header name subsection) ∷ NewlineToken line_end ∷ set_tokens line_end key value (LineEndsItem line_end ∷ [])
 
--- the tokens that setting a value makes
+-- the tokens that setting a value adds to a state
 abbrev pub set_raw_value_tokens : (name : List ℕ) → (subsection : Option (List ℕ)) → (key : List ℕ) → (keeps : Meta → Bool) → (value : List ℕ) → State → List Token
 set_raw_value_tokens name subsection key keeps value state = elim (last_or None (filter (is_target name subsection keeps) state.sections)) [
   | None ↦ new_section_tokens (file_line_end state) name subsection key value
   | Some s ↦ set_tokens (file_line_end state) key value s.items
 ]
 
--- the bytes of tokens
+-- how many bytes tokens have
 abbrev pub token_bytes : List Token → ℕ
 token_bytes tokens = length (flat_map spelled_token tokens)
 
--- How many bytes an edit puts behind those of the buffer: its tokens' without those that stand there already. The blanks of a body that has
--- entries are used again; else a tab and a space are put, and the space stands on both sides of `=`.
+-- How many bytes an edit adds to the buffer: those of its tokens that are not there already. The blanks of a body that has
+-- entries are used again; otherwise a tab and a space are added, and the space is used on both sides of `=`.
 abbrev pub blank_bytes : List Item → ℕ
 blank_bytes items = elim (list_any is_entry items) [ true ↦ 0 | false ↦ 2 ]
 
--- of a value that is set in a body
+-- how many bytes setting a value in a body adds to the buffer
 abbrev pub set_bytes : (line_end key value : List ℕ) → List Item → ℕ
 set_bytes line_end key value items = elim (list_any (is_entry_of key) items) [
   | true ↦ length (escaped value)
   | false ↦ blank_bytes items + (length key + length (escaped value) + length line_end)
 ]
 
--- of a header that is made: its brackets and quotes stand in no buffer
+-- how many bytes a made header adds to the buffer: its brackets and quotes are in no buffer
 abbrev pub header_bytes : (name : List ℕ) → (subsection : Option (List ℕ)) → ℕ
 header_bytes name None = length name
 header_bytes name (Some subsection) = length name + (1 + length (escaped_subsection subsection))
 
--- of a new section with the value
+-- how many bytes a new section with the value adds to the buffer
 abbrev pub new_section_bytes : (line_end name : List ℕ) → (subsection : Option (List ℕ)) → (key value : List ℕ) → ℕ
 new_section_bytes line_end name subsection key value = length line_end + (set_bytes line_end key value (LineEndsItem line_end ∷ []) + header_bytes name subsection)
 
--- of a value that is set in a state
+-- how many bytes setting a value in a state adds to the buffer
 abbrev pub set_raw_value_bytes : (name : List ℕ) → (subsection : Option (List ℕ)) → (key : List ℕ) → (keeps : Meta → Bool) → (value : List ℕ) → State → ℕ
 set_raw_value_bytes name subsection key keeps value state = elim (last_or None (filter (is_target name subsection keeps) state.sections)) [
   | None ↦ new_section_bytes (file_line_end state) name subsection key value
   | Some s ↦ set_bytes (file_line_end state) key value s.items
 ]
 
--- a state whose buffer has so many bytes
+-- the same state, with a buffer of this many bytes
 abbrev pub with_used : (used : ℕ) → State → State
 with_used used state = record { front = state.front; meta = state.meta; next = state.next; used = used; sections = state.sections }

@@ -1,4 +1,4 @@
--- What editors of a section write among its items: pushed entries and line ends, values that are set, entries that are taken out.
+-- What editors of a section change among its items: lines that are pushed, values that are set, entries that are removed.
 -- Source: gix-config; that separator blanks keep their order, and that an entry without `=` gets one, are this project's own rules.
 use Rattle.std.specs.Prelude.{ℕ, ◌+◌, Bool, true, false, not, List, [], ◌∷◌, ◌++◌, ◌==◌, map, take, drop, Option, Some, None, if◌then◌else◌}
 use Rattle.std.specs.List.{list_any}
@@ -10,16 +10,17 @@ use Rattle.gitconf_state.specs.State.{SectionState, State, is_entry, cut_last}
 use Rattle.gitconf_state.specs.LineEnds.{file_line_end, section_line_end}
 use Rattle.gitconf_state.specs.Edit.{Spacing, spacing_of, leading_item, assigned_value, with_value, is_entry_of, update_last, item_raw}
 
--- An editor: the blanks that it writes, as they were when it was made, the line end, and whether one stands behind what is pushed.
+-- An editor: the blanks that it writes, as they were when it was made, its line ending, and whether one follows what is pushed.
 pub record Editor : Type 0 where
   pub spacing : Spacing
   pub line_end : List ℕ
   pub ends : Bool
 
--- the editor of a section in a file uses the file's line end, that of a section alone its own
+-- the editor of a section in a file, which uses the file's line ending
 abbrev pub editor_of : State → SectionState → Editor
 editor_of state s = record { spacing = spacing_of s.items; line_end = file_line_end state; ends = true }
 
+-- the editor of a section that is in no file, which uses the section's own line ending
 abbrev pub editor_alone : SectionState → Editor
 editor_alone s = record { spacing = spacing_of s.items; line_end = section_line_end s; ends = true }
 
@@ -28,16 +29,16 @@ abbrev pub entry_made : Spacing → (key : List ℕ) → (value : Option (List �
 entry_made spacing key None = EntryItem (record { name = key; blanks = []; assigned = None })
 entry_made spacing key (Some value) = EntryItem (record { name = key; blanks = spacing.before; assigned = assigned_value spacing.behind value })
 
--- the text of a comment that is made: behind a space where it doesn't begin with white space, each LF turned to a space
+-- the text of a comment that is made: after a space, unless it begins with white space, with each LF turned to a space
 abbrev pub comment_text : List ℕ → List ℕ
 comment_text text = (if begins (λ b. not (is_whitespace b)) text then 32 ∷ [] else []) ++ map (λ b. if b == 10 then 32 else b) text
 
--- a comment behind an entry that is made
+-- a comment that is made after an entry, if there is one
 abbrev pub comment_made : Option (List ℕ) → List Item
 comment_made None = []
 comment_made (Some text) = BlanksItem (32 ∷ []) ∷ CommentItem 35 (comment_text text) ∷ []
 
--- the line end behind what is pushed, unless it is switched off
+-- the line ending after what is pushed, unless it is switched off
 abbrev pub end_made : Editor → List Item
 end_made editor = if editor.ends then LineEndsItem editor.line_end ∷ [] else []
 
@@ -46,10 +47,11 @@ abbrev pub line_made : Editor → (key : List ℕ) → (value comment : Option (
 line_made editor key value comment =
     leading_item editor.spacing.leading ++ entry_made editor.spacing key value ∷ (comment_made comment ++ end_made editor)
 
+-- the items with such a line after them
 abbrev pub pushed : Editor → (key : List ℕ) → (value comment : Option (List ℕ)) → List Item → List Item
 pushed editor key value comment items = items ++ line_made editor key value comment
 
--- a line end is pushed by itself
+-- the items with a line ending after them
 abbrev pub line_end_pushed : Editor → List Item → List Item
 line_end_pushed editor items = items ++ LineEndsItem editor.line_end ∷ []
 
@@ -60,30 +62,30 @@ value_set editor key value items = elim (list_any (is_entry_of key) items) [
   | false ↦ pushed editor key (Some value) None items
 ]
 
--- an item that is no blanks
+-- the item, unless it is blanks
 abbrev pub unless_blanks : Item → List Item
 unless_blanks (BlanksItem run) = []
 unless_blanks i = i ∷ []
 
--- the items but for blanks at their end
+-- the items without the blanks at their end
 abbrev pub without_last_blanks : List Item → List Item
 without_last_blanks [] = []
 without_last_blanks (i ∷ []) = unless_blanks i
 without_last_blanks (i ∷ j ∷ items) = i ∷ without_last_blanks (j ∷ items)
 
--- the items but for line ends at their front
+-- the items without the line endings at their front
 abbrev pub without_first_line_ends : List Item → List Item
 without_first_line_ends (LineEndsItem run ∷ items) = items
 without_first_line_ends items = items
 
--- the key's last entry is taken out, with the blanks directly before it and the line ends directly behind it
+-- the key's last entry is removed, with the blanks directly before it and the line endings directly after it
 abbrev pub removed : (key : List ℕ) → List Item → List Item
 removed key items = elim (cut_last (is_entry_of key) items) [
   | None ↦ items
   | Some c ↦ without_last_blanks c.0 ++ without_first_line_ends c.1.1
 ]
 
--- the last entry is taken out, with the blanks directly before it and all that stands behind it; without an entry all is
+-- the last entry is removed, with the blanks directly before it and everything after it; without an entry, all items are
 abbrev pub popped : List Item → List Item
 popped items = elim (cut_last is_entry items) [ None ↦ [] | Some c ↦ without_last_blanks c.0 ]
 
@@ -92,51 +94,51 @@ abbrev pub entry_told : Item → Option (List ℕ × List ℕ)
 entry_told (EntryItem e) = Some (e.name, plain (item_raw (EntryItem e)))
 entry_told _ = None
 
--- the key and the meaning of the entry that `popped` takes out; no value counts as an empty one
+-- the key and the meaning of the entry that `popped` removes; no value counts as an empty one
 abbrev pub popped_entry : List Item → Option (List ℕ × List ℕ)
 popped_entry items = elim (cut_last is_entry items) [
   | None ↦ None
   | Some c ↦ entry_told c.1.0
 ]
 
--- bytes, or others where there are none
+-- these bytes, or the others if there are none
 abbrev pub unless_empty : List ℕ → (others : List ℕ) → List ℕ
 unless_empty [] others = others
 unless_empty (b ∷ bytes) others = b ∷ bytes
 
--- the last line end among pieces: a filter of events may have dropped that of one or of all
+-- the last line ending among pieces; a filter of events may have dropped some of them or all
 abbrev pub last_line_end : List Piece → List ℕ
 last_line_end [] = []
 last_line_end (p ∷ pieces) = unless_empty (last_line_end pieces) p.line_end
 
--- a comment comes next, blanks aside
+-- a comment follows, apart from blanks
 abbrev pub is_before_comment : List Item → Bool
 is_before_comment (BlanksItem run ∷ items) = is_before_comment items
 is_before_comment (CommentItem tag text ∷ items) = true
 is_before_comment _ = false
 
--- a line end as an item, where there is one
+-- a line ending as an item, if it has bytes
 abbrev pub line_end_item : List ℕ → List Item
 line_end_item [] = []
 line_end_item (b ∷ run) = LineEndsItem (b ∷ run) ∷ []
 
--- the last line end of a value that ends in an empty last piece, where a comment comes next: it keeps the comment off the new value
+-- the last line ending of a value whose last piece is empty, if a comment follows: it keeps the comment off the new value
 abbrev pub kept_line_end : Option Assigned → (behind : List Item) → List Item
 kept_line_end None behind = []
 kept_line_end (Some a) behind = elim a.value.last [ [] ↦ if is_before_comment behind then line_end_item (last_line_end a.value.pieces) else [] | b ∷ last ↦ [] ]
 
--- what stays of the entry at the front when its value is written anew: its last line end or nothing; and the items behind it
+-- what stays of the entry at the front when its value is rewritten: its last line ending or nothing; and then the items after it
 abbrev pub behind_old : (keeps_line_end : Bool) → List Item → List Item
 behind_old keeps_line_end (EntryItem e ∷ behind) = (if keeps_line_end then kept_line_end e.assigned behind else []) ++ behind
 behind_old keeps_line_end behind = behind
 
--- An entry is written anew at a place, by the name that is given and with the editor's blanks: in place of the one that stands there, or
--- where one was taken out.
+-- An entry is written at a place, with this name and the editor's blanks: in place of the one that is there (`stands`), or
+-- where one was removed.
 abbrev pub written_at : Editor → (place : ℕ) → (stands keeps_line_end : Bool) → (key value : List ℕ) → List Item → List Item
 written_at editor place stands keeps_line_end key value items =
     take place items ++ entry_made editor.spacing key (Some value)
     ∷ (if stands then behind_old keeps_line_end (drop place items) else drop place items)
 
--- the entry at a place is taken out alone
+-- only the entry at a place is removed
 abbrev pub deleted_at : (place : ℕ) → List Item → List Item
 deleted_at place items = take place items ++ drop (place + 1) items

@@ -1,4 +1,4 @@
--- The edits of a file: each is one update of its state, and its answer.
+-- The edits of a file: each is one update of its state, and its result.
 -- Source: gix-config.
 use Rattle.std.specs.Prelude.{◌≡◌, ℕ, ◌+◌, Bool, true, false, not, List, [], ◌∷◌, ◌++◌, ◌&&◌, ◌||◌, ◌==◌, nat_eq, filter, map, Option, Some, None, length, flat_map, take, drop, if◌then◌else◌}
 use Rattle.std.specs.List.{fold, last_or, list_all, list_any, starts_with}
@@ -19,12 +19,12 @@ use Rattle.gitconf_state.specs.Clean.{is_nameless, IsClean, IsCleanSection}
 use Rattle.gitconf_state.specs.Edit.{made_header, new_section, is_target, is_entry_of, set_raw_value, set_raw_value_tokens, replaced_value, old_value, token_bytes, value_tokens_of}
 use Rattle.gitconf_state.specs.Editors.{Editor, entry_made, pushed, line_made, line_end_pushed, value_set, removed, popped, popped_entry, written_at, deleted_at}
 
--- a section that stands in no file, and the bytes of its buffer
+-- a section that is in no file, and how many bytes its buffer has
 pub record Detached : Type 0 where
   pub section : SectionState
   pub used : ℕ
 
--- the section of a number is changed
+-- the state with a change of the section of a number
 abbrev pub change_numbered : (number : ℕ) → (SectionState → SectionState) → State → State
 change_numbered number change state = record {
   front = state.front;
@@ -34,15 +34,16 @@ change_numbered number change state = record {
   sections = map (λ s. if s.number == number then change s else s) state.sections;
 }
 
--- the items of the section of a number are changed
+-- the state with a change of the items of the section of a number
 abbrev pub change_items : (number : ℕ) → (List Item → List Item) → State → State
 change_items number change =
     change_numbered number (λ s. record { number = s.number; header = s.header; meta = s.meta; items = change s.items; held = s.held })
 
--- a section with a header that is made
+-- a section with another header, made of these names
 abbrev pub renamed : (name : List ℕ) → (subsection : Option (List ℕ)) → SectionState → SectionState
 renamed name subsection s = record { number = s.number; header = made_header name subsection; meta = s.meta; items = s.items; held = s.held }
 
+-- a section with another trust
 abbrev pub with_trust : Trust → SectionState → SectionState
 with_trust trust s = record {
   number = s.number;
@@ -56,7 +57,7 @@ with_trust trust s = record {
 abbrev pub with_sections : List SectionState → State → State
 with_sections sections state = record { front = state.front; meta = state.meta; next = state.next; used = state.used; sections = sections }
 
--- the state with a section more behind all others, under the next number
+-- the state with one more section after all others, under the next number
 abbrev pub with_last : SectionState → State → State
 with_last s state = record {
   front = state.front;
@@ -70,11 +71,11 @@ with_last s state = record {
 abbrev pub picked : (name : List ℕ) → (subsection : Option (List ℕ)) → (keeps : Meta → Bool) → State → Option ℕ
 picked name subsection keeps state = elim (last_or None (filter (is_target name subsection keeps) state.sections)) [ None ↦ None | Some s ↦ Some s.number ]
 
--- the state without the section of a number; what is held behind it goes with it
+-- the state without the section of a number; what is held after it goes with it
 abbrev pub without_numbered : (number : ℕ) → State → State
 without_numbered number state = with_sections (filter (λ s. not (s.number == number)) state.sections) state
 
--- Items behind items: where these aren't empty and don't end with a line end, one goes between, unless the others begin with it.
+-- the items begin with a line ending, or there are none
 abbrev pub begins_with : (line_end : List ℕ) → List Item → Bool
 begins_with line_end [] = true
 begins_with line_end (BlanksItem run ∷ items) = starts_with nat_eq run line_end
@@ -82,28 +83,31 @@ begins_with line_end (LineEndsItem run ∷ items) = starts_with nat_eq run line_
 begins_with line_end (CommentItem tag text ∷ items) = false
 begins_with line_end (EntryItem e ∷ items) = false
 
+-- what goes between items and others after them: a line ending, if the items aren't empty and don't end with one and the others don't begin
+-- with one
 abbrev pub between : (line_end : List ℕ) → (items others : List Item) → List Item
 between line_end [] others = []
 between line_end (i ∷ items) others =
     if ends_line line_end (i ∷ items) || begins_with line_end others then [] else LineEndsItem line_end ∷ []
 
+-- the others after the items, with a line ending between if one is needed
 abbrev pub joined : (line_end : List ℕ) → (items others : List Item) → List Item
 joined line_end items others = items ++ (between line_end items others ++ others)
 
--- the items are held behind the last section
+-- the items are held after the last section
 abbrev pub held_behind_last : (line_end : List ℕ) → (others : List Item) → List SectionState → List SectionState
 held_behind_last line_end others [] = []
 held_behind_last line_end others (s ∷ []) =
     record { number = s.number; header = s.header; meta = s.meta; items = s.items; held = joined line_end s.held others } ∷ []
 held_behind_last line_end others (s ∷ t ∷ sections) = s ∷ held_behind_last line_end others (t ∷ sections)
 
--- sections under numbers from the first one on
+-- the same sections, numbered from `first` on
 abbrev pub numbered_from : (first : ℕ) → List SectionState → List SectionState
 numbered_from first [] = []
 numbered_from first (s ∷ sections) =
     record { number = first; header = s.header; meta = s.meta; items = s.items; held = s.held } ∷ numbered_from (first + 1) sections
 
--- The other's sections stand last, under new numbers. Its front is held behind our last section, or joins our front where we have none.
+-- The other's sections come last, under new numbers. Its front is held after our last section, or joins our front if we have no section.
 abbrev pub appended : (other : State) → State → State
 appended other state = record {
   front = elim state.sections [ [] ↦ joined (file_line_end state) state.front other.front | s ∷ sections ↦ state.front ];
@@ -113,7 +117,7 @@ appended other state = record {
   sections = held_behind_last (file_line_end state) other.front state.sections ++ numbered_from state.next other.sections;
 }
 
--- The edits of a file. An editor stands on a section by its number, the editors of values on a place among its items.
+-- The edits of a file. An editor of a section is given by the section's number, the editors of values by a place among its items.
 pub data Edit : Type 0 where
   SetRawValue : (name : List ℕ) (subsection : Option (List ℕ)) (key : List ℕ) (keeps : Meta → Bool) (value : List ℕ) → Edit
   Push : (number : ℕ) (editor : Editor) (key : List ℕ) (value comment : Option (List ℕ)) → Edit
@@ -133,7 +137,7 @@ pub data Edit : Type 0 where
   SetTrust : (number : ℕ) (trust : Trust) → Edit
   SetMeta : Meta → Edit
 
--- an edit that was done
+-- the state that an edit leaves
 abbrev pub apply : Edit → State → State
 apply (SetRawValue name subsection key keeps value) state = set_raw_value name subsection key keeps value state
 apply (Push number editor key value comment) state = change_items number (pushed editor key value comment) state
@@ -154,7 +158,7 @@ apply (Append other) state = appended other state
 apply (SetTrust number trust) state = change_numbered number (with_trust trust) state
 apply (SetMeta meta) state = record { front = state.front; meta = meta; next = state.next; used = state.used; sections = state.sections }
 
--- edits, one behind the other
+-- the state that edits leave, done one after the other
 abbrev pub apply_all : List Edit → State → State
 apply_all edits state = fold (λ s e. apply e s) state edits
 
@@ -162,11 +166,11 @@ apply_all edits state = fold (λ s e. apply e s) state edits
 abbrev pub numbered : (number : ℕ) → State → Option SectionState
 numbered number state = last_or None (filter (λ s. s.number == number) state.sections)
 
--- what an edit tells of a section's items
+-- what is said of the items of the section of a number
 abbrev pub told_of : {A : Type 0} → (number : ℕ) → (List Item → Option A) → State → Option A
 told_of number told state = elim (numbered number state) [ None ↦ None | Some s ↦ told s.items ]
 
--- what edits answer: nothing, a raw text that was there, a key and a meaning, a number, a section that was taken out
+-- what edits return: nothing, a raw text that was there, a key and a meaning, a number, a section that was removed
 pub data Answer : Type 0 where
   Done : Answer
   Raw : Option (List ℕ) → Answer
@@ -174,7 +178,7 @@ pub data Answer : Type 0 where
   Number : ℕ → Answer
   Gone : Option SectionState → Answer
 
--- the answer of an edit, by the state before it
+-- what an edit returns, by the state before it
 abbrev pub answer : Edit → State → Answer
 answer (SetRawValue name subsection key keeps value) state = Raw (replaced_value name subsection key keeps state)
 answer (SetValue number editor key value) state = Raw (told_of number (old_value key) state)
@@ -186,7 +190,7 @@ answer (RemoveSection name subsection keeps) state = Gone (last_or None (filter 
 answer (RemoveNumbered number) state = Gone (numbered number state)
 answer _ state = Done
 
--- the tokens that setting a value makes by an editor: those of `=` and its blanks too, where the entry has none
+-- the tokens that setting a value with an editor adds: also those of `=` and its blanks, if the entry has none
 abbrev pub value_set_tokens : Editor → (key value : List ℕ) → List Item → List Token
 value_set_tokens editor key value items = elim (last_or None (filter (is_entry_of key) items)) [
   | None ↦ flat_map item_tokens (line_made editor key (Some value) None)
@@ -197,7 +201,7 @@ value_set_tokens editor key value items = elim (last_or None (filter (is_entry_o
 abbrev pub items_of_numbered : (number : ℕ) → State → List Item
 items_of_numbered number state = elim (numbered number state) [ None ↦ [] | Some s ↦ s.items ]
 
--- How many bytes the tokens have that an edit makes; of a section or a file that is put in, its buffer's bytes and a line end.
+-- How many bytes the tokens have that an edit adds; for a section or a file that is put in, the bytes of its buffer and of a line ending.
 abbrev pub new_bytes : Edit → State → ℕ
 new_bytes (SetRawValue name subsection key keeps value) state = token_bytes (set_raw_value_tokens name subsection key keeps value state)
 new_bytes (Push number editor key value comment) state = token_bytes (flat_map item_tokens (line_made editor key value comment))
@@ -212,17 +216,17 @@ new_bytes (PushSection detached) state = detached.used + length (file_line_end s
 new_bytes (Append other) state = other.used + length (file_line_end state)
 new_bytes _ state = 0
 
--- a section that passes stands, or one may be made of these names
+-- a section of these names passes, or one may be made
 abbrev pub finds_or_makes : (name : List ℕ) → (subsection : Option (List ℕ)) → (keeps : Meta → Bool) → State → Bool
 finds_or_makes name subsection keeps state = list_any (is_target name subsection keeps) state.sections || (is_made_name name && is_valid_or_none subsection)
 
--- An editor writes blanks round `=`, and line ends.
+-- An editor's blanks around `=`, and its line ending, are such as a text may have.
 pub record IsEditor (editor : Editor) : Type 0 where
   pub before : list_all is_blank editor.spacing.before ≡ true
   pub behind : list_all is_blank editor.spacing.behind ≡ true
   pub line_end : (begins (λ _. true) editor.line_end && are_line_ends editor.line_end) ≡ true
 
--- what an edit writes may stand in a text: the names of values and of sections, and what comes from elsewhere
+-- what an edit writes may be in a text: the names of values and of sections, and what comes from another buffer
 abbrev pub IsEdit : Edit → State → Type 0
 IsEdit (SetRawValue name subsection key keeps value) state = (is_value_name key && finds_or_makes name subsection keeps state) ≡ true
 IsEdit (Push number editor key value comment) state = IsEditor editor × (is_value_name key ≡ true)
@@ -236,7 +240,7 @@ IsEdit (PushSection detached) state = HasSectionItems detached.section
 IsEdit (Append other) state = HasItems other
 IsEdit _ state = Unit {0}
 
--- blanks that are pushed before a key are spaces and tabs
+-- the blanks that an editor pushes before a key are spaces and tabs
 abbrev pub has_blank_leading : Editor → Bool
 has_blank_leading editor = elim editor.spacing.leading [ None ↦ true | Some run ↦ list_all is_blank run ]
 
@@ -253,11 +257,12 @@ IsCleanEdit (PushSection detached) = IsCleanSection detached.section
 IsCleanEdit (Append other) = IsClean other × (entries_of other.front ≡ [])
 IsCleanEdit _ = Unit {0}
 
--- those of edits, one behind the other
+-- each edit, on the state that those before it leave, writes what may be in a text
 abbrev pub AreEdits : List Edit → State → Type 0
 AreEdits [] state = Unit {0}
 AreEdits (edit ∷ edits) state = IsEdit edit state × AreEdits edits (apply edit state)
 
+-- each edit leaves a clean state clean
 abbrev pub AreCleanEdits : List Edit → Type 0
 AreCleanEdits [] = Unit {0}
 AreCleanEdits (edit ∷ edits) = IsCleanEdit edit × AreCleanEdits edits
@@ -275,7 +280,7 @@ edited_number (Rename number name subsection) = Some number
 edited_number (SetTrust number trust) = Some number
 edited_number _ = None
 
--- All but the section of a number is as it was, and each section has the number that it had.
+-- Only the section of a number changed, and each section has the number that it had.
 pub record IsOneChanged (number : ℕ) (old new : State) : Type 0 where
   pub front : new.front ≡ old.front
   pub meta_stays : new.meta ≡ old.meta
@@ -284,22 +289,23 @@ pub record IsOneChanged (number : ℕ) (old new : State) : Type 0 where
   pub numbers : map (λ s. s.number) new.sections ≡ map (λ s. s.number) old.sections
   pub others : filter (λ s. not (s.number == number)) new.sections ≡ filter (λ s. not (s.number == number)) old.sections
 
--- whether a section of the first name and subsection has the other name and subsection
+-- a section of the first name and subsection has the other name and subsection
 abbrev pub is_same_section : (name : List ℕ) → (subsection : Option (List ℕ)) → (other : List ℕ) → (other_subsection : Option (List ℕ)) → Bool
 is_same_section name subsection other other_subsection = is_same_name other name && option_eq bytes_eq subsection other_subsection
 
--- whether the section of a number has the name and subsection, and its items pass
+-- the section of a number has the name and subsection, and its items pass
 abbrev pub is_there : (number : ℕ) → (name : List ℕ) → (subsection : Option (List ℕ)) → (test : List Item → Bool) → State → Bool
 is_there number name subsection test state = list_any (λ s. s.number == number && (is_named name subsection (listing s) && test s.items)) state.sections
 
--- whether the last entry of items, or the one at a place, is one of the key
+-- the last entry of the items is one of the key
 abbrev pub is_last_of : (key : List ℕ) → List Item → Bool
 is_last_of key items = elim (last_or None (filter is_entry items)) [ None ↦ false | Some i ↦ is_entry_of key i ]
 
+-- the item at a place is an entry of the key
 abbrev pub is_one_at : (place : ℕ) → (key : List ℕ) → List Item → Bool
 is_one_at place key items = list_any (is_entry_of key) (take 1 (drop place items))
 
--- whether an edit is about a key: it names the key in a section of this name and subsection, or it names such a section as a whole
+-- an edit is about a key: it names the key in a section of this name and subsection, or it names such a section as a whole
 abbrev pub is_about : Edit → (name : List ℕ) → (subsection : Option (List ℕ)) → (key : List ℕ) → State → Bool
 is_about (SetRawValue edited edited_subsection edited_key keeps value) name subsection key state =
     is_same_name edited_key key && is_same_section edited edited_subsection name subsection

@@ -1,6 +1,6 @@
--- A file under expansion: the sections that were visited, with what their paths gave behind each, and those that are still to be
--- visited. What a path gives so stands behind all that is done.
--- Source: git, which reads an included file in the place of its include; the rule of the front is that of appended files.
+-- A file under expansion: the sections that were visited, with what their paths gave after each, and those that are still to be
+-- visited. What a path gives comes after everything that is done.
+-- Source: git, which reads an included file in place of its include; the rule of the front is that of appended files.
 use Rattle.std.specs.Prelude.{ℕ, ◌+◌, ◌^◌, Bool, List, [], ◌∷◌, ◌++◌, ◌&&◌, length, ltb, leb}
 use Rattle.gitconf_table.specs.Sections.{no_number}
 use Rattle.gitconf_state.specs.Appending.{items_before, line_bytes}
@@ -12,24 +12,24 @@ use Rattle.gitconf_state.specs.State.{SectionState, State}
 abbrev pub with_sections : List SectionState → State → State
 with_sections sections state = record { front = state.front; meta = state.meta; next = state.next; used = state.used; sections = sections }
 
--- the whole file, as it stands: what is done, and behind it what is still to be visited
+-- the whole file, as it is: what is done, and after it what is still to be visited
 abbrev pub whole : (done : State) → (rest : List SectionState) → State
 whole done rest = with_sections (done.sections ++ rest) done
 
--- one section more was visited
+-- one more section is done
 abbrev pub visited : (done : State) → SectionState → State
 visited done s = with_sections (done.sections ++ s ∷ []) done
 
--- how many bytes an included file puts behind those of the buffer: its own, and those of the line end that goes before its front
+-- how many bytes an included file adds to the buffer: its own, and those of the line ending before its front
 abbrev pub spliced_bytes : (other : State) → (rest : List SectionState) → (done : State) → ℕ
 spliced_bytes other rest done =
     other.used + length (line_bytes (file_line_end (whole done rest)) (between (file_line_end (whole done rest)) (items_before done) other.front))
 
--- whether there is room for it: its bytes stand below 4294967296, and there are numbers for its sections
+-- there is room for it: the buffer stays below 4294967296 bytes, and there are numbers for its sections
 abbrev pub has_room : (other : State) → (rest : List SectionState) → (done : State) → Bool
 has_room other rest done = ltb (done.used + spliced_bytes other rest done) (2 ^ 32) && leb (done.next + length other.sections) no_number
 
--- the included file's sections stand behind all that is done, under new numbers; its front is held behind the last section that is done
+-- the included file's sections come after everything that is done, under new numbers; its front is held after the last section that is done
 abbrev pub spliced : (other : State) → (rest : List SectionState) → (done : State) → State
 spliced other rest done = record {
   front = done.front;

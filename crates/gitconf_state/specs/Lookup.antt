@@ -1,4 +1,4 @@
--- What look-ups find: filters of the plain list of sections, each with its number, where it comes from, and its document.
+-- What lookups find: selections from the plain list of sections, each with its number, where it comes from, and its document.
 -- Source: the git-config manual; gix-config.
 use Rattle.std.specs.Prelude.{ℕ, Bool, not, List, [], ◌∷◌, ◌&&◌, map, filter, flat_map, Option, Some, None, if◌then◌else◌}
 use Rattle.std.specs.Option.{option_eq, option_map}
@@ -10,12 +10,13 @@ use Rattle.gitconf_text.specs.Document.{DocumentEntry, DocumentSection}
 use Rattle.gitconf_base.specs.Metadata.{Meta}
 use Rattle.gitconf_state.specs.State.{SectionState, State, section_document}
 
--- a section as look-ups see it: its number, where it comes from, and its document
+-- a section as lookups see it: its number, where it comes from, and its document
 pub record Listed : Type 0 where
   pub number : ℕ
   pub meta : Meta
   pub document : DocumentSection
 
+-- a section as lookups see it
 abbrev pub listing : SectionState → Listed
 listing s = record { number = s.number; meta = s.meta; document = section_document s }
 
@@ -23,11 +24,11 @@ listing s = record { number = s.number; meta = s.meta; document = section_docume
 abbrev pub listed : State → List Listed
 listed state = map listing state.sections
 
--- whether a section has the name, without case
+-- the section has the name, without ASCII case
 abbrev pub has_name : (name : List ℕ) → Listed → Bool
 has_name name s = is_same_name name s.document.name
 
--- whether it has the name, and exactly the subsection
+-- the section has the name, and exactly this subsection
 abbrev pub is_named : (name : List ℕ) → (subsection : Option (List ℕ)) → Listed → Bool
 is_named name subsection s = has_name name s && option_eq bytes_eq s.document.subsection subsection
 
@@ -35,15 +36,15 @@ is_named name subsection s = has_name name s && option_eq bytes_eq s.document.su
 abbrev pub named : (name : List ℕ) → (subsection : Option (List ℕ)) → List Listed → List Listed
 named name subsection sections = filter (is_named name subsection) sections
 
--- their numbers
+-- the numbers of the sections of a name and subsection, in file order
 abbrev pub ids : (name : List ℕ) → (subsection : Option (List ℕ)) → List Listed → List ℕ
 ids name subsection sections = map (λ s. s.number) (named name subsection sections)
 
--- those whose metadata passes
+-- the sections of a name and subsection whose metadata passes, in file order
 abbrev pub passing : (name : List ℕ) → (subsection : Option (List ℕ)) → (keeps : Meta → Bool) → List Listed → List Listed
 passing name subsection keeps sections = filter (λ s. keeps s.meta) (named name subsection sections)
 
--- the last passing section
+-- the last of these sections
 abbrev pub pick : (name : List ℕ) → (subsection : Option (List ℕ)) → (keeps : Meta → Bool) → List Listed → Option Listed
 pick name subsection keeps sections = last_or None (passing name subsection keeps sections)
 
@@ -57,31 +58,32 @@ pub record Said : Type 0 where
   pub meta : Meta
   pub entries : List DocumentEntry
 
--- nothing, where it has no entry of the key
+-- what a section says of a key, if it has an entry of it
 abbrev pub said_of : (number : ℕ) → Meta → List DocumentEntry → List Said
 said_of number meta [] = []
 said_of number meta (e ∷ entries) = (record { number = number; meta = meta; entries = e ∷ entries }) ∷ []
 
+-- what a section says of a key: one element with its entries, or none
 abbrev pub said_by : (key : List ℕ) → Listed → List Said
 said_by key s = said_of s.number s.meta (entries_of_key key s)
 
--- what the sections of a name and subsection say of a key, in file order: look-ups of a key ask nothing else
+-- what the sections of a name and subsection say of a key, in file order: lookups of a key depend on nothing else
 abbrev pub said : (name : List ℕ) → (subsection : Option (List ℕ)) → (key : List ℕ) → List Listed → List Said
 said name subsection key sections = flat_map (said_by key) (named name subsection sections)
 
--- that of the sections whose metadata passes
+-- what those of them say whose metadata passes
 abbrev pub said_passing : (name : List ℕ) → (subsection : Option (List ℕ)) → (key : List ℕ) → (keeps : Meta → Bool) → List Listed → List Said
 said_passing name subsection key keeps sections = filter (λ s. keeps s.meta) (said name subsection key sections)
 
--- the raw text that decides among the entries of a key: that of the last one, if it has one
+-- the raw text that decides among the entries of a key: that of the last entry, if it has one
 abbrev pub deciding : List DocumentEntry → Option (List ℕ)
 deciding entries = elim (last_or None entries) [ None ↦ None | Some e ↦ e.raw ]
 
--- the meaning of the raw text that decides in the last passing section where one does
+-- the value that a lookup finds: the meaning of the raw text that decides in the last passing section that has such a text
 abbrev pub last_value : (name : List ℕ) → (subsection : Option (List ℕ)) → (key : List ℕ) → (keeps : Meta → Bool) → List Listed → Option (List ℕ)
 last_value name subsection key keeps sections = option_map plain (last_or None (filter_map (λ s. deciding s.entries) (said_passing name subsection key keeps sections)))
 
--- what an entry means: no value counts as an empty one
+-- what an entry means; without `=` it counts as empty
 abbrev pub meaning : DocumentEntry → List ℕ
 meaning e = elim e.raw [ None ↦ [] | Some raw ↦ plain raw ]
 
@@ -89,12 +91,13 @@ meaning e = elim e.raw [ None ↦ [] | Some raw ↦ plain raw ]
 abbrev pub all_values : (name : List ℕ) → (subsection : Option (List ℕ)) → (key : List ℕ) → (keeps : Meta → Bool) → List Listed → List (List ℕ)
 all_values name subsection key keeps sections = map meaning (flat_map (λ s. s.entries) (said_passing name subsection key keeps sections))
 
--- what a look-up misses: no section has the name, or none of these has the subsection, or these have no value of the key
+-- what is missing: no section has the name, or none of these has the subsection, or these have no value of the key
 pub data Miss : Type 0 where
   SectionMissing : Miss
   SubSectionMissing : Miss
   KeyMissing : Miss
 
+-- what is missing, where a lookup by these names finds nothing
 abbrev pub miss_of : (name : List ℕ) → (subsection : Option (List ℕ)) → List Listed → Miss
 miss_of name subsection sections =
     if not (list_any (has_name name) sections) then SectionMissing

@@ -6,7 +6,7 @@ use Rattle.gitconf_base.specs.Metadata.{Meta}
 use Rattle.gitconf_state.specs.State.{State}
 use Rattle.gitconf_state.specs.Loads.{state_tokens}
 
--- A state of these tokens: all of it comes from one place, nothing is held, and the sections have the numbers from 0 on.
+-- A state made of these tokens: all of it comes from one place, nothing is held, and the sections are numbered from 0.
 pub record IsMade (tokens : List Token) (place : Meta) (bytes : ℕ) (state : State) : Type 0 where
   pub tokens_are : state_tokens state ≡ tokens
   pub held : AllByRecursion (λ s. s.held ≡ []) state.sections

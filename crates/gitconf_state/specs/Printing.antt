@@ -1,4 +1,4 @@
--- The text of a state: its parts, with a line end put in where two of them would else run together.
+-- The text of a state: its parts, with a line ending inserted where two of them would otherwise run together.
 -- Source: this project's profile.
 use Rattle.std.specs.Prelude.{ℕ, Bool, true, false, not, List, [], ◌∷◌, ◌++◌, ◌&&◌, ◌||◌, map, Option, Some, None}
 use Rattle.std.specs.List.{list_any}
@@ -7,39 +7,42 @@ use Rattle.gitconf_text.specs.Part.{Assigned, Item, BlanksItem, LineEndsItem, Co
 use Rattle.gitconf_state.specs.State.{SectionState, State, is_comment, is_entry}
 use Rattle.gitconf_state.specs.LineEnds.{section_line_end, file_line_end, ends_line}
 
--- the value goes on behind a line end
+-- the value has more than one piece
 abbrev pub has_pieces : Option Assigned → Bool
 has_pieces None = false
 has_pieces (Some a) = elim a.value.pieces [ [] ↦ false | p ∷ pieces ↦ true ]
 
--- the items behind the last line end, one item further; an entry whose value goes on ends on a line of its own
+-- the items since the last line ending, after one more item; an entry whose value has several pieces ends on a line of its own
 abbrev pub line_after : (line : List Item) → Item → List Item
 line_after line (LineEndsItem run) = []
 line_after line (EntryItem e) = elim (has_pieces e.assigned) [ true ↦ EntryItem e ∷ [] | false ↦ line ++ EntryItem e ∷ [] ]
 line_after line i = line ++ i ∷ []
 
--- A line end is put before a comment behind a comment of its line, and in a body before an entry behind a comment or an entry of its line.
+-- A line ending is inserted before a comment after a comment on its line, and in a body before an entry after a comment or an entry on its
+-- line.
 abbrev pub breaks : (in_body : Bool) → (line : List Item) → Item → Bool
 breaks in_body line (CommentItem tag text) = list_any is_comment line
 breaks in_body line (EntryItem e) = in_body && list_any (λ i. is_comment i || is_entry i) line
 breaks in_body line i = false
 
--- a piece that goes on without a line end gets one
+-- a piece without a line ending gets one
 abbrev pub closed_piece : (line_end : List ℕ) → Piece → Piece
 closed_piece line_end p = elim p.line_end [ [] ↦ record { text = p.text; line_end = line_end } | b ∷ bs ↦ p ]
 
+-- what is assigned, in which each piece that has no line ending gets one
 abbrev pub closed_assigned : (line_end : List ℕ) → Option Assigned → Option Assigned
 closed_assigned line_end None = None
 closed_assigned line_end (Some a) =
     Some (record { blanks = a.blanks; value = record { pieces = map (closed_piece line_end) a.value.pieces; last = a.value.last } })
 
+-- the item, in which each piece of a value that has no line ending gets one
 abbrev pub closed_item : (line_end : List ℕ) → Item → Item
 closed_item line_end (BlanksItem run) = BlanksItem run
 closed_item line_end (LineEndsItem run) = LineEndsItem run
 closed_item line_end (CommentItem tag text) = CommentItem tag text
 closed_item line_end (EntryItem e) = EntryItem (record { name = e.name; blanks = e.blanks; assigned = closed_assigned line_end e.assigned })
 
--- the items of a list as they are printed; line: those behind the last line end
+-- items as they are printed; `line`: the items since the last line ending
 abbrev pub printed_items : (in_body : Bool) → (line_end : List ℕ) → (line : List Item) → List Item → List Item
 printed_items in_body line_end line [] = []
 printed_items in_body line_end line (i ∷ items) = elim (breaks in_body line i) [
@@ -47,7 +50,7 @@ printed_items in_body line_end line (i ∷ items) = elim (breaks in_body line i)
   | false ↦ closed_item line_end i ∷ printed_items in_body line_end (line_after line i) items
 ]
 
--- the items hold a line end before their first entry, or, without one, any
+-- there is a line ending before the first entry
 abbrev pub begins_on_a_line : List Item → Bool
 begins_on_a_line [] = false
 begins_on_a_line (BlanksItem run ∷ items) = begins_on_a_line items
@@ -55,17 +58,17 @@ begins_on_a_line (LineEndsItem run ∷ items) = true
 begins_on_a_line (CommentItem tag text ∷ items) = begins_on_a_line items
 begins_on_a_line (EntryItem e ∷ items) = false
 
--- a line end, where one is missing
+-- a line ending, unless there is one
 abbrev pub unless : Bool → (line_end : List ℕ) → List Item
 unless true line_end = []
 unless false line_end = LineEndsItem line_end ∷ []
 
--- Behind a header stands a line end, but where the body is empty.
+-- After a header a line ending is inserted, unless the body is empty or begins on a line of its own.
 abbrev pub behind_header : (line_end : List ℕ) → List Item → List Item
 behind_header line_end [] = []
 behind_header line_end (i ∷ items) = unless (begins_on_a_line (i ∷ items)) line_end
 
--- a section's body as it is printed, with its own line end
+-- a section's body as it is printed, with its own line ending
 abbrev pub printed_body : SectionState → List Item
 printed_body s = behind_header (section_line_end s) s.items ++ printed_items true (section_line_end s) [] s.items
 
@@ -73,19 +76,19 @@ printed_body s = behind_header (section_line_end s) s.items ++ printed_items tru
 abbrev pub section_parts : SectionState → List Part
 section_parts s = HeaderPart s.header ∷ map ItemPart (printed_body s)
 
--- what a section and the items held behind it end with
+-- a section, with the items held after it, ends with a line ending
 abbrev pub ends_with_line : (line_end : List ℕ) → SectionState → Bool
 ends_with_line line_end s = elim s.held [ [] ↦ ends_line line_end s.items | i ∷ held ↦ ends_line line_end s.held ]
 
--- the items held behind a section, on a line of their own
+-- the items held after a section, printed on a line of their own
 abbrev pub held_items : (line_end : List ℕ) → SectionState → List Item
 held_items line_end s = elim s.held [
   | [] ↦ []
   | i ∷ held ↦ unless (ends_line line_end s.items) line_end ++ printed_items false line_end [] s.held
 ]
 
--- The sections in order. Where the last printed one, what is held behind it counted in, ended without a line end, one stands before each
--- section, also before one that is not printed, and at the end.
+-- The printed sections in order. If the last printed one, with what is held after it, ended without a line ending, one comes before each
+-- section, even before one that is not printed, and at the end.
 abbrev pub sections_parts : (keeps : SectionState → Bool) → (line_end : List ℕ) → (ended : Bool) → List SectionState → List Part
 sections_parts keeps line_end ended [] = map ItemPart (unless ended line_end)
 sections_parts keeps line_end ended (s ∷ sections) = map ItemPart (unless ended line_end) ++ elim (keeps s) [
@@ -93,14 +96,14 @@ sections_parts keeps line_end ended (s ∷ sections) = map ItemPart (unless ende
   | false ↦ sections_parts keeps line_end ended sections
 ]
 
--- A line end stands behind a front that is not empty and has none at its end, where a section is printed.
+-- A line ending follows a front that is not empty and doesn't end with one, if a section is printed.
 abbrev pub behind_front : (keeps : SectionState → Bool) → State → List Item
 behind_front keeps state = elim state.front [
   | [] ↦ []
   | i ∷ front ↦ unless (ends_line (file_line_end state) state.front || not (list_any keeps state.sections)) (file_line_end state)
 ]
 
--- the parts of what is written with a filter of sections: the front, and the sections that it keeps
+-- the parts of what is printed with a filter of sections: the front, and the sections that it keeps
 abbrev pub printed_parts : (keeps : SectionState → Bool) → State → List Part
 printed_parts keeps state =
     map ItemPart (printed_items false (file_line_end state) [] state.front ++ behind_front keeps state)

@@ -1,4 +1,4 @@
--- The state of a file: what stands before its first section, and its sections, as spelled; and the document that it says.
+-- The state of a file: what comes before its first section, and its sections, as spelled; and the document that it has.
 use Rattle.std.specs.Prelude.{◌≡◌, ◌<◌, ◌≤◌, ℕ, Bool, true, false, not, List, [], ◌∷◌, ◌&&◌, ◌==◌, map, filter, flat_map, Option, Some, None}
 use Rattle.std.specs.List.{list_all, AllByRecursion}
 use Rattle.gitconf_text.specs.Bytes.{is_blank, is_name_byte, is_header_byte}
@@ -12,7 +12,7 @@ use Rattle.gitconf_text.specs.Document.{DocumentEntry, DocumentSection, Document
 use Rattle.gitconf_base.specs.Metadata.{Meta}
 use Rattle.gitconf_table.specs.Sections.{no_number}
 
--- a section: its number, its header as spelled, where it comes from, its body, and the items held behind it, which were
+-- a section: its number, its header as spelled, where it comes from, its body, and the items held after it, which were
 -- the front of a file that was appended
 pub record SectionState : Type 0 where
   pub number : ℕ
@@ -29,18 +29,21 @@ pub record State : Type 0 where
   pub used : ℕ
   pub sections : List SectionState
 
+-- the item is an entry
 abbrev pub is_entry : Item → Bool
 is_entry (EntryItem e) = true
 is_entry _ = false
 
+-- the item is a comment
 abbrev pub is_comment : Item → Bool
 is_comment (CommentItem tag text) = true
 is_comment _ = false
 
--- a list cut at its last element that passes: what stands before it, and behind it
+-- a list cut at its last element that passes: what comes before it, that element, and what comes after it
 abbrev pub Cut : Type 0
 Cut = Option (List Item × (Item × List Item))
 
+-- the items cut at the last one that passes; none if none passes
 abbrev pub cut_last : (Item → Bool) → List Item → Cut
 cut_last test [] = None
 cut_last test (i ∷ items) = elim (cut_last test items) [
@@ -57,6 +60,7 @@ item_entries _ = []
 abbrev pub entries_of : List Item → List DocumentEntry
 entries_of items = flat_map item_entries items
 
+-- the section of the document: its name, its subsection, and the entries of its items
 abbrev pub section_document : SectionState → DocumentSection
 section_document s = record { name = name_of s.header; subsection = subsection_of s.header; entries = entries_of s.items }
 
@@ -64,11 +68,11 @@ section_document s = record { name = name_of s.header; subsection = subsection_o
 abbrev pub document_of_kept : (SectionState → Bool) → State → Document
 document_of_kept keeps state = record { front = entries_of state.front; sections = map section_document (filter keeps state.sections) }
 
--- the document that a state says: the entries of the front and of each section
+-- the document that a state has: the entries of the front, and of each section
 abbrev pub document_of : State → Document
 document_of state = record { front = entries_of state.front; sections = map section_document state.sections }
 
--- A piece that goes on: behind its backslash stands one line end, or, where a filter dropped it, none.
+-- A piece that a text may have: after its backslash is one line ending, or, if a filter dropped it, none.
 abbrev pub is_piece : Piece → Bool
 is_piece p = elim p.line_end [ [] ↦ true | b ∷ bs ↦ is_line_end p.line_end ]
 
@@ -76,11 +80,12 @@ is_piece p = elim p.line_end [ [] ↦ true | b ∷ bs ↦ is_line_end p.line_end
 abbrev pub is_value : Value → Bool
 is_value v = not (begins is_blank (spelled_value v)) && are_paired false (value_units v) && list_all is_piece v.pieces && not (ends is_white v.last)
 
+-- what is assigned is such as a text may have: blanks, and a value
 abbrev pub is_assigned : Option Assigned → Bool
 is_assigned None = true
 is_assigned (Some a) = list_all is_blank a.blanks && is_value a.value
 
--- what an item of a state is, wherever it stands
+-- an item is one that a text may have, wherever it is
 abbrev pub is_item : Item → Bool
 is_item (BlanksItem run) = true
 is_item (LineEndsItem run) = begins (λ _. true) run && are_line_ends run
@@ -94,18 +99,18 @@ is_header (DottedHeader name subsection) = list_all is_name_byte name && list_al
 is_header (QuotedHeader name blanks spelling) =
     list_all is_header_byte name && begins (λ _. true) blanks && list_all is_blank blanks && is_spelling spelling
 
--- what holds of the tokens of every section
+-- the header and the items of a section are such as a text may have
 pub record HasSectionItems (s : SectionState) : Type 0 where
   pub header : is_header s.header ≡ true
   pub items : list_all is_item s.items ≡ true
   pub held : list_all is_item s.held ≡ true
 
--- what holds of the tokens of every state
+-- the items of a state are such as a text may have
 pub record HasItems (state : State) : Type 0 where
   pub front : list_all is_item state.front ≡ true
   pub sections : AllByRecursion HasSectionItems state.sections
 
--- each number is below the next one to be given, and stands once
+-- each number is below the next one, and no number is given twice
 abbrev pub AreNumbered : (next : ℕ) → List SectionState → Type 0
 AreNumbered next [] = Unit {0}
 AreNumbered next (s ∷ sections) = (s.number < next) × AllByRecursion (λ t. (t.number == s.number) ≡ false) sections × AreNumbered next sections

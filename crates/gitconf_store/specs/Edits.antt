@@ -24,7 +24,7 @@ update_at at change [] = []
 update_at zero change (x ∷ xs) = change x ∷ xs
 update_at (suc at) change (x ∷ xs) = x ∷ update_at at change xs
 
--- the state with the value in the section at the place
+-- the state after the value was set in the section at the place
 abbrev pub set_at : (at : ℕ) → (key value : List ℕ) → State → State
 set_at at key value state = record {
   front = state.front;
@@ -34,7 +34,7 @@ set_at at key value state = record {
   sections = update_at at (section_with (file_line_end state) key value) state.sections;
 }
 
--- the state with a section more that has the value
+-- the state with one more section, which has the value
 abbrev pub set_new : (name : List ℕ) → (subsection : Option (List ℕ)) → (key value : List ℕ) → State → State
 set_new name subsection key value state = record {
   front = state.front;
@@ -44,21 +44,21 @@ set_new name subsection key value state = record {
   sections = state.sections ++ section_with (file_line_end state) key value (new_section name subsection state) ∷ [];
 }
 
--- At most so many bytes more are used, and refusal 3 is answered only where they would pass the limit, or no number is left.
+-- At most that many more bytes are used; refusal 3 comes only if they would pass the limit, or no number is left.
 pub record EditGrows {T E : Type 0} (result : Result T E) (number : E → ℕ) (count : ℕ) (old new : State) : Type 0 where
   pub grown : new.used ≤ old.used + count
   pub too_large : IfErr result (λ e. number e ≡ 3 → (2 ^ 32 ≤ old.used + count) ⊎ (old.next ≡ no_number))
 
--- the refusal of the number
+-- the result is a refusal with this number
 abbrev pub IsRefusal : {T : Type 0} → Result T Error → ℕ → Type 0
 IsRefusal result number = IsErrAnd result (λ e. set_number e ≡ number)
 
--- the refusals that setting a value has
+-- the numbers of the refusals that setting a value can have
 abbrev pub set_numbers : List ℕ
 set_numbers = 3 ∷ 4 ∷ 5 ∷ 6 ∷ 27 ∷ []
 
--- How a value is set: as the edit says, with the raw text that it replaced. Refusals 4 and 5 are of a section that has to be made. Refusal 3
--- comes where the bytes that are put would pass the limit, and else only where a section has to be made and no number is left.
+-- How a value is set: as the edit says, with the raw text that it replaced. Refusals 4 and 5 come only if a section has to be made. Refusal 3
+-- comes if the new bytes would pass the limit, otherwise only if a section has to be made and no number is left.
 pub record IsSet (name : List ℕ) (subsection : Option (List ℕ)) (key : List ℕ) (keeps : Meta → Bool) (value : List ℕ) (result : Result (Option BString) Error) (old new : State) : Type 0 where
   pub invalid_name : IsErrOf result (Header InvalidName)
       ↔ ((is_value_name key ≡ true) × (list_any (is_target name subsection keeps) old.sections ≡ false) × (is_made_name name ≡ false))
@@ -73,7 +73,7 @@ pub record IsSet (name : List ℕ) (subsection : Option (List ℕ)) (key : List 
       → 2 ^ 32 ≤ old.used + set_raw_value_bytes name subsection key keeps value old → IsRefusal result 3
   pub known : IfErr result (λ e. list_any (λ number. number == set_number e) set_numbers ≡ true)
 
--- Whatever a filter answers: the value is set in a section that has the name and subsection, or in a new one behind all others.
+-- For any filter: the value is set in a section that has the name and subsection, or in a new one after all others.
 abbrev pub IsSetSomewhere : (name : List ℕ) → (subsection : Option (List ℕ)) → (key value : List ℕ) → (old new : State) → Type 0
 IsSetSomewhere name subsection key value old new =
     ((at : ℕ) × (option_map (λ s. is_named name subsection (listing s)) (slice_get old.sections at) ≡ Some true) × (new ≡ with_used new.used (set_at at key value old)))

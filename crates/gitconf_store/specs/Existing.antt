@@ -1,4 +1,4 @@
--- The value of an entry that stands, set anew.
+-- Setting the value of an existing entry.
 use Rattle.std.specs.Prelude.{◌≡◌, ◌↔◌, ◌==◌, ◌+◌, ◌≤◌, ◌^◌, ℕ, true, false, List, [], ◌∷◌, Option, Some, None, Result, Err, IfErr, OnErr, OnOk}
 use Rattle.std.specs.List.{list_any}
 use Rattle.gitconf_text.specs.Names.{is_value_name}
@@ -13,20 +13,20 @@ use Rattle.gitconf_finding.specs.Lookups.{miss_at}
 use Rattle.gitconf_store.specs.SetErrors.{of_existing, set_number}
 use Rattle.gitconf_finding.specs.ValuePlaces.{editor_of_numbered, refusal_of, value_place}
 
--- the entry at a place is written anew, by the name that is given, with the blanks of its section; the line end of its value that keeps a
--- comment off stays
+-- the entry at a place is rewritten, with this name and the blanks of its section; the line ending of its value that keeps a
+-- comment off it stays
 abbrev pub rewriting : (place : ℕ × ℕ) → (key value : List ℕ) → State → Edit
 rewriting place key value state = WriteAt place.0 (editor_of_numbered place.0 state) place.1 true true key value
 
--- how many bytes it puts behind those of the buffer
+-- how many bytes that adds to the buffer
 abbrev pub rewriting_bytes : (place : ℕ × ℕ) → (key value : List ℕ) → State → ℕ
 rewriting_bytes place key value state = rewritten_put key value (items_of_numbered place.0 state)
 
--- the refusals that it has
+-- the numbers of the refusals that it can have
 abbrev pub rewriting_numbers : List ℕ
 rewriting_numbers = 3 ∷ 6 ∷ 27 ∷ []
 
--- How it is done: as the edit says. A name that is none is refused by 6, bytes that would pass the limit by 3, before any growth.
+-- How it is done: as the edit says. An invalid name is refused by 6, bytes that would pass the limit by 3, before any growth.
 pub record IsRewritten (place : ℕ × ℕ) (key value : List ℕ) (result : Result (Unit {0}) Error) (old new : State) : Type 0 where
   pub ok : OnOk result (new ≡ with_used new.used (apply (rewriting place key value old) old))
   pub err : OnErr result (new ≡ with_used new.used old)
@@ -35,11 +35,11 @@ pub record IsRewritten (place : ℕ × ℕ) (key value : List ℕ) (result : Res
   pub too_large : IsRefusal result 3 ↔ ((is_value_name key ≡ true) × (2 ^ 32 ≤ old.used + rewriting_bytes place key value old))
   pub known : IfErr result (λ e. list_any (λ number. number == set_number e) rewriting_numbers ≡ true)
 
--- where an entry of the key was found, and where none was
+-- setting a value, if an entry of the key was found at this place, and if none was
 abbrev pub IsSetWhere : Option (ℕ × ℕ) → Key → (value : List ℕ) → Result (Unit {0}) Error → (old new : State) → Type 0
 IsSetWhere None key value result old new = (result ≡ Err (of_existing (refusal_of (miss_at key old) (is_value_name key.name)))) × (new ≡ old)
 IsSetWhere (Some place) key value result old new = IsRewritten place key.name value result old new
 
--- The last entry of the key gets the value, with `=` or without it; or the look-up's refusal tells why there is none.
+-- The last entry of the key gets the value, whether it has `=` or not; or the lookup's refusal says why there is none.
 abbrev pub IsSetExisting : Key → (value : List ℕ) → Result (Unit {0}) Error → (old new : State) → Type 0
 IsSetExisting key value result old new = IsSetWhere (value_place key (λ _. true) old) key value result old new

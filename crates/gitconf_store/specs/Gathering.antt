@@ -1,5 +1,5 @@
--- A file under expansion, as it is kept: the sections of the beginning in order, and behind them all that were put in, in the order in
--- which they came. Runs tell the order that they have in the file.
+-- A file under expansion, as it is kept: the sections of the beginning in order, and after them all that were put in, in the order in
+-- which they came. Runs give the order that they have in the file.
 use Rattle.std.specs.Prelude.{◌≡◌, ℕ, ◌+◌, ◌-◌, ◌<◌, ◌≤◌, Bool, List, [], ◌∷◌, length, take, drop, is_some}
 use Rattle.std.specs.Option.{option_or}
 use Rattle.gitconf_table.specs.declared.runs.Run.{Run}
@@ -19,14 +19,15 @@ pub record Gathered : Type 0 where
   pub done : State
   pub rest : List SectionState
 
--- of the sections that are kept those that are done, in the order that they have in the file, and those of the beginning that are left
+-- those of the kept sections that are done, in the order that they have in the file
 abbrev pub done_in : {A : Type 0} → (count at : ℕ) → List Run → List A → List A
 done_in count at runs sections = weave runs (take at sections) (drop count sections)
 
+-- those of the beginning that are still to be visited
 abbrev pub rest_in : {A : Type 0} → (count at : ℕ) → List A → List A
 rest_in count at sections = drop at (take count sections)
 
--- what a store stands for with so many sections of the beginning, of which so many were visited
+-- the file that a store is, of whose sections the first `count` are those of the beginning, `at` of them visited
 abbrev pub gathered : (count at : ℕ) → List Run → State → Gathered
 gathered count at runs store = record { done = with_sections (done_in count at runs store.sections) store; rest = rest_in count at store.sections }
 
@@ -36,7 +37,7 @@ update_last change [] = []
 update_last change (x ∷ []) = change x ∷ []
 update_last change (x ∷ y ∷ xs) = x ∷ update_last change (y ∷ xs)
 
--- The section at a place stands last of all that are done, whatever stands in so long a list.
+-- The section at a place comes last of all that are done, whatever sections a list of that length has.
 pub record IsLastDone (count at : ℕ) (runs : List Run) (last long : ℕ) : Type 0 where
   pub within : last < long
   pub changes : (change : SectionState → SectionState) (sections : List SectionState) → length sections ≡ long
@@ -44,12 +45,12 @@ pub record IsLastDone (count at : ℕ) (runs : List Run) (last long : ℕ) : Typ
   pub stays : (change : SectionState → SectionState) (sections : List SectionState) → length sections ≡ long
       → rest_in count at (update_at last change sections) ≡ rest_in count at sections
 
--- whether a front and sections tell a line end
+-- a front and sections have a newline, which gives their line ending
 abbrev pub tells : (front : List parts.Item) → List SectionState → Bool
 tells front sections = is_some (option_or (first_newline (tokens_in front)) (first_newline_of_bodies sections))
 
--- What is kept beside the store fits it: the runs take all that were put in, and so many were visited behind them; the place of the last
--- section that is done; the line end of the whole file, and whether what is done tells it.
+-- What is kept besides the store is right: the runs take all that were put in, and `ahead` sections were visited after them; the place of
+-- the last section that is done; the line ending of the whole file, and whether what is done gives it.
 pub record GatheringFits (count at ahead last : ℕ) (runs : List Run) (line_end : LineEnd) (told : Bool) (store : State) : Type 0 where
   pub visited : at ≤ count
   pub within : count ≤ length store.sections

@@ -1,4 +1,4 @@
--- Whether a section may be made behind those of a state.
+-- Whether a section may be added to those of a state.
 use Rattle.std.specs.Prelude.{◌≡◌, ◌⊎◌, ◌↔◌, ◌+◌, ◌≤◌, ◌^◌, ℕ, true, false, List, length, Option, Result, IfErr, IsErrOf}
 use Rattle.gitconf_text.specs.Names.{is_made_name, is_valid_or_none}
 use Rattle.gitconf_text.specs.declared.parse.section.header.Error.{Error as HeaderError}
@@ -8,11 +8,11 @@ use Rattle.gitconf_state.specs.Edit.{header_bytes}
 use Rattle.gitconf_state.specs.LineEnds.{file_line_end}
 use Rattle.gitconf_state.specs.State.{State}
 
--- its line end and its header would pass the limit, or no number is left
+-- the section's line ending and header would pass the limit, or no number is left
 abbrev pub HasNoPlace : (name : List ℕ) → (subsection : Option (List ℕ)) → State → Type 0
 HasNoPlace name subsection state = (2 ^ 32 ≤ state.used + (length (file_line_end state) + header_bytes name subsection)) ⊎ (state.next ≡ no_number)
 
--- Each refusal has its cause: first those of the names, then that there is no place.
+-- Each refusal has its cause: first those of the names, then that there is no room.
 pub record IsSectionChecked (name : List ℕ) (subsection : Option (List ℕ)) (state : State) (result : Result (Unit {0}) HeaderError) : Type 0 where
   pub invalid_name : IsErrOf result InvalidName ↔ (is_made_name name ≡ false)
   pub invalid_subsection : IsErrOf result InvalidSubSection ↔ ((is_made_name name ≡ true) × (is_valid_or_none subsection ≡ false))

@@ -1,4 +1,4 @@
--- What is left where a section was taken out, and what is handed out.
+-- What is left after a section was removed, and what is returned.
 use Rattle.std.specs.Prelude.{◌≡◌, ◌≢◌, Option, Some, None, Result, IfOk, OnErr, OnOk}
 use Rattle.std.specs.Option.{option_map}
 use Rattle.gitconf_state.specs.Edits.{Detached, without_numbered}
@@ -10,7 +10,7 @@ abbrev pub without_section : Option SectionState → State → State
 without_section None state = state
 without_section (Some s) state = without_numbered s.number state
 
--- This section was taken out and handed out alone, if there is one; a refusal comes only where there is.
+-- This section was removed and returned alone, if there is one; a refusal comes only if there is.
 pub record IsTakenOut {E : Type 0} (section : Option SectionState) (result : Result (Option Detached) E) (old new : State) : Type 0 where
   pub ok : OnOk result (new ≡ without_section section old)
   pub gone : IfOk result (λ gone. option_map (λ d. d.section) gone ≡ option_map alone section)

@@ -9,21 +9,22 @@ use Rattle.gitconf_store.specs.declared.rename_section.Error.{Error}
 use Rattle.gitconf_store.specs.declared.rename_section.Error.TheVariants.{Lookup, Section, Memory}
 use Rattle.gitconf_finding.specs.Misses.{existing_number}
 
--- the number of each
+-- the number of each refusal
 abbrev pub rename_number : Error → ℕ
 rename_number (Lookup e) = existing_number e
 rename_number (Section e) = header_number e
 rename_number Memory = 27
 
--- what a refusal of a look-up is, and of a header: want of memory has a case of its own
+-- the refusal for what a lookup misses; running out of memory has a case of its own
 abbrev pub of_lookup : LookupError → Error
 of_lookup lookups.Memory = Memory
 of_lookup e = Lookup e
 
+-- the refusal for a header that can't be made
 abbrev pub of_header : HeaderError → Error
 of_header headers.Memory = Memory
 of_header e = Section e
 
--- and of a place
+-- the refusal for a refused span
 abbrev pub of_span : (number : ℕ) → Error
 of_span number = if number == 27 then Memory else Section (headers.Span number)

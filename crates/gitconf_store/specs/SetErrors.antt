@@ -9,7 +9,7 @@ use Rattle.gitconf_finding.specs.declared.existing.Error.{Error as ExistingError
 use Rattle.gitconf_finding.specs.declared.existing.Error.TheVariants as existing
 use Rattle.gitconf_finding.specs.Misses.{existing_number}
 
--- the number of each
+-- the number of each refusal
 abbrev pub set_number : Error → ℕ
 set_number (Lookup e) = existing_number e
 set_number (Header e) = header_number e
@@ -17,17 +17,17 @@ set_number (ValueName number) = number
 set_number (Span number) = number
 set_number Memory = 27
 
--- what a refusal of a look-up is: a name that is none, and want of memory, have cases of their own
+-- the refusal for that of a lookup; an invalid name and running out of memory have cases of their own
 abbrev pub of_existing : ExistingError → Error
 of_existing (existing.ValueName number) = ValueName number
 of_existing existing.Memory = Memory
 of_existing e = Lookup e
 
--- what a refusal of a header is: want of memory has a case of its own
+-- the refusal for a header that can't be made; running out of memory has a case of its own
 abbrev pub of_header : HeaderError → Error
 of_header headers.Memory = Memory
 of_header e = Header e
 
--- what a refusal of a place is
+-- the refusal for a refused span
 abbrev pub of_span : (number : ℕ) → Error
 of_span number = if number == 27 then Memory else Span number

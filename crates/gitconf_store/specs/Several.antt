@@ -1,4 +1,4 @@
--- Several values of entries that stand: set anew, deleted, and what they mean.
+-- Several values of existing entries: set again, deleted, and what they mean.
 use Rattle.std.specs.Prelude.{◌≡◌, ◌≢◌, ◌⊎◌, ◌+◌, ◌-◌, ◌==◌, ◌&&◌, nat_lt, if◌then◌else◌, ◌≤◌, ◌<◌, ◌^◌, ℕ, true, false, List, [], ◌∷◌, length, map, take, Some, None, Result, Err, IfErr, OnErr, OnOk}
 use Rattle.gitconf_text.specs.Names.{is_value_name}
 use Rattle.gitconf_base.specs.Key.{Key}
@@ -11,25 +11,25 @@ use Rattle.gitconf_store.specs.declared.set_raw_value.Error.{Error}
 use Rattle.gitconf_store.specs.SetErrors.{of_existing, set_number}
 use Rattle.gitconf_finding.specs.ValuePlaces.{AreInOrder, ArePlaces, editor_of_numbered, key_places, meaning_at}
 
--- one of several entries is written anew, by the name that is given, with the blanks of its section as it then stands; nothing stays of its
+-- one of several entries is rewritten, with this name and the blanks of its section as it then is; nothing stays of its
 -- old value
 abbrev pub one_rewriting : (key : List ℕ) → (place : ℕ × ℕ) → (value : List ℕ) → State → Edit
 one_rewriting key place value state = WriteAt place.0 (editor_of_numbered place.0 state) place.1 true false key value
 
--- entries get values, one behind the other, up to the end of the shorter list
+-- the state after the entries at these places get these values, one after the other, up to the end of the shorter list
 abbrev pub all_rewritten : (key : List ℕ) → List (ℕ × ℕ) → List (List ℕ) → State → State
 all_rewritten key [] values state = state
 all_rewritten key (place ∷ places) [] state = state
 all_rewritten key (place ∷ places) (value ∷ values) state = all_rewritten key places values (apply (one_rewriting key place value state) state)
 
--- how many bytes that puts behind those of the buffer
+-- how many bytes that adds to the buffer
 abbrev pub all_bytes : (key : List ℕ) → List (ℕ × ℕ) → List (List ℕ) → State → ℕ
 all_bytes key [] values state = 0
 all_bytes key (place ∷ places) [] state = 0
 all_bytes key (place ∷ places) (value ∷ values) state =
     rewritten_put key value (items_of_numbered place.0 state) + all_bytes key places values (apply (one_rewriting key place value state) state)
 
--- Some of the first entries got their values, and one more should have: it was refused.
+-- The first entries got their values, and the next one was refused.
 abbrev pub IsStopped : (key : List ℕ) → List (ℕ × ℕ) → List (List ℕ) → (old new : State) → Type 0
 IsStopped key places values old new =
     (done : ℕ) × (done < length places) × (done < length values) × (new ≡ with_used new.used (all_rewritten key (take done places) values old))
@@ -42,23 +42,23 @@ pub record AreRewritten {E : Type 0} (number : E → ℕ) (key : List ℕ) (plac
   pub too_large : IfErr result (λ e. number e ≡ 3 → 2 ^ 32 ≤ old.used + all_bytes key places values old)
   pub known : IfErr result (λ e. (number e ≡ 3) ⊎ (number e ≡ 27))
 
--- The look-up of the entries was refused, and all is as it was.
+-- The lookup of the entries was refused, and everything is as it was.
 abbrev pub IsUnset : Key → List (ℕ × ℕ) → Result (Unit {0}) Error → (old new : State) → Type 0
 IsUnset key places result old new =
     (refusal : ExistingError) × ArePlaces {Z = Unit {0}} key old places (Err refusal) × (result ≡ Err (of_existing refusal)) × (new ≡ old)
 
--- They were found, and get values in order.
+-- The entries were found, and get the values in order.
 abbrev pub AreSet : Key → List (ℕ × ℕ) → List (List ℕ) → Result (Unit {0}) Error → (old new : State) → Type 0
 AreSet key places values result old new =
     (is_value_name key.name ≡ true) × (places ≢ []) × (ordered : List (ℕ × ℕ)) × AreInOrder places ordered
     × AreRewritten set_number key.name ordered values result old new
 
--- The entries of the key get the values; or the look-up's refusal tells why there is none.
+-- The entries of the key get the values; or the lookup's refusal says why there is none.
 abbrev pub AreSetExisting : Key → List (List ℕ) → Result (Unit {0}) Error → (old new : State) → Type 0
 AreSetExisting key values result old new =
     IsUnset key (key_places key (λ _. true) old) result old new ⊎ AreSet key (key_places key (λ _. true) old) values result old new
 
--- what the entry at a place means; no value counts as an empty one
+-- what the entry at a place means; without a value it counts as empty
 abbrev pub meaning_of_place : State → (place : ℕ × ℕ) → List ℕ
 meaning_of_place state place = elim (told_of place.0 (meaning_at place.1) state) [ None ↦ [] | Some text ↦ text ]
 
@@ -66,11 +66,11 @@ meaning_of_place state place = elim (told_of place.0 (meaning_at place.1) state)
 abbrev pub all_meanings : List (ℕ × ℕ) → State → List (List ℕ)
 all_meanings places state = map (meaning_of_place state) places
 
--- where an entry stands when another one is gone: one place nearer to the front, where that one stood before it in the same section
+-- where an entry is after another one was removed: one place nearer to the front, if that one came before it in the same section
 abbrev pub moved_up : (gone place : ℕ × ℕ) → ℕ × ℕ
 moved_up gone place = (place.0, if place.0 == gone.0 && nat_lt gone.1 place.1 then place.1 - 1 else place.1)
 
--- entries are deleted, the last one first, so that those before it keep their places
+-- the state after entries are deleted, the last one first, so that those before it keep their places
 abbrev pub all_deleted : List (ℕ × ℕ) → State → State
 all_deleted [] state = state
 all_deleted (place ∷ places) state = apply (DeleteAt place.0 place.1) (all_deleted places state)

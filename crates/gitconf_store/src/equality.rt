@@ -13,8 +13,8 @@ impl PartialEq for Store {
 
     ghost laws = { same_state_partial };
 
-    /// Whether both have the same headers in order, names without ASCII case, with the same keys, without ASCII case, that mean
-    /// the same; an entry without `=` means nothing. Fronts and metadata aren't compared. One walk over both, up to the first
+    /// Whether both have the same headers in order, with names compared without ASCII case, and the same keys, without ASCII case, that mean
+    /// the same; an entry without `=` counts as empty. Fronts and metadata aren't compared. One walk over both, up to the first
     /// difference, which takes no memory.
     #[tactic(auto, using(gitconf_finding::proofs::SameStates::same_are_equal))]
     fn eq(&self, other: &Store) -> bool

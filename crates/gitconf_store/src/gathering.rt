@@ -1,4 +1,4 @@
-//! A file while what it includes is put in.
+//! A file under expansion.
 ghost use Rattle.std.specs.Prelude.{◌≡◌, ◌==◌, ◌-◌, ◌≤◌, ◌||◌, if◌then◌else◌, is_some, None, option_map};
 ghost use Rattle.gitconf_text.specs.LineEnds.{bytes_of_line_end};
 ghost use Rattle.gitconf_items.specs.Items.{tokens_in};
@@ -14,9 +14,9 @@ use gitconf_views::section::SectionRef;
 use gitconf_write::line_end::first_line_end;
 use std::marker::Model;
 
-/// A file whose sections are visited one by one, with what others put in behind each; so what is put in goes behind all that is done, and
-/// the sections that were put in are not visited. Nothing goes into the middle before the end: the sections of the beginning stand in a
-/// store, and behind them all that were put in, and runs tell their order.
+/// A file whose sections are visited one by one, with other files put in after each. So what is put in goes after everything that is done,
+/// and the sections that were put in are not visited. Nothing goes into the middle before the end: the sections of the beginning are in a
+/// store, and after them all that were put in, and runs give their order.
 #[derive(Drop)]
 pub struct Gathering {
     store: Store,
@@ -24,15 +24,15 @@ pub struct Gathering {
     count: usize,
     /// How many of these were visited.
     at: usize,
-    /// The order of all that is done: of each run so many of the beginning, and then so many that were put in.
+    /// The order of everything that is done: for each run that many of the beginning, and then that many that were put in.
     runs: Vec<Run>,
-    /// How many were visited behind the last run.
+    /// How many were visited after the last run.
     ahead: usize,
-    /// The place of the section that stands last of all that are done.
+    /// The place of the section that comes last of all that are done.
     last: usize,
-    /// The line end that the file uses.
+    /// The line ending that the file uses.
     line_end: LineEnd,
-    /// Whether what is done tells it.
+    /// Whether what is done gives it.
     told: bool,
 }
 
@@ -46,28 +46,28 @@ impl Model for Gathering {
     ghost invariant = { λ g. GatheringFits g.count g.at g.ahead g.last g.runs.items g.line_end g.told g.store };
 }
 
-/// The line end that another file's sections tell, where what is done tells none.
+/// The line ending that another file's sections give, if what is done gives none.
 fn newly_told(told: bool, other: &Store) -> Option<LineEnd>
     ensures { option_map bytes_of_line_end result ≡ (if told then None else first_newline_of_bodies other.now.sections) }
 {
     if told { None } else { other.bodies_line_end() }
 }
 
-/// Whether a line end is told, where it was, or is found.
+/// Whether a line ending is known: it was before, or it was found.
 fn is_told(told: bool, found: Option<LineEnd>) -> bool
     ensures { result ≡ (told || is_some found) }
 {
     told || found.is_some()
 }
 
-/// Whether a line ending is told with this section done as well. The section is looked at only where none is told yet.
+/// Whether a line ending is known once this section is done as well. The section is looked at only if none is known yet.
 fn tells_with(told: bool, section: &SectionRef<'_>) -> bool
     ensures { result ≡ (told || is_some (first_newline (tokens_in (shown section.now).items))) }
 {
     told || first_line_end(section.buffer, section.items).is_some()
 }
 
-/// The place of the section that stands last, where so many were put in behind all others.
+/// The place of the section that comes last, after `count` were put in after all others.
 fn last_place(last: usize, long: usize, count: usize) -> usize
     requires { count ≤ long }
     ensures { result ≡ (if count == 0 then last else long - 1) }
@@ -100,7 +100,7 @@ impl Gathering {
         }
     }
 
-    /// The first of the sections that are still to be visited; `None` where all are done. Takes constant time, and no memory.
+    /// The first of the sections that are still to be visited; `None` if all are done. Takes constant time, and no memory.
     pub fn next_section(&self) -> Option<SectionRef<'_>>
         ensures { option_map shown result ≡ slice_get self.now.rest 0 }
     {
@@ -111,8 +111,8 @@ impl Gathering {
         }
     }
 
-    /// Takes the next section to what is done. Takes no memory, and constant time, but for a walk over the section up to its first newline
-    /// where no line ending was found before.
+    /// Counts the next section as done. Takes no memory, and constant time, but for a walk over the section up to its first newline
+    /// while no line ending is known.
     pub fn advance(&mut self)
         requires { 0 < length self.old.rest }
         ensures { (s : SectionState) × (self.old.rest ≡ s ∷ self.new.rest) × (self.new.done ≡ visited self.old.done s) }
@@ -124,13 +124,13 @@ impl Gathering {
         self.ahead += 1;
     }
 
-    /// Puts another file behind all that is done, and holds its front behind the last section that is done, with a line end between where
-    /// one is needed. The time is linear in the other file.
+    /// Puts another file after everything that is done, and holds its front after the last section that is done, with a line ending between
+    /// if one is needed. The time is linear in the other file.
     ///
     /// # Errors
     ///
-    /// A [`span::Error`]: number 3 exactly where the buffer would be longer than 4294967295 bytes or fewer numbers are left than the other
-    /// has sections, before any growth, and else 27 for want of memory. The other is then dropped, and the file as it was, but that its
+    /// A [`span::Error`]: number 3 if and only if the buffer would be longer than 4294967295 bytes or fewer numbers are left than the other
+    /// has sections, before any growth, otherwise 27 when out of memory. The other is then dropped, and the file as it was, except that its
     /// buffer may have grown.
     pub fn include(&mut self, other: Gathering) -> Result<(), span::Error>
         requires { 0 < length self.old.done.sections }
@@ -157,8 +157,8 @@ impl Gathering {
         Ok(())
     }
 
-    /// The sections of the whole file, as it stands, that have the name, without ASCII case, and any subsection, in some order; `None` where
-    /// there is none. They are found by an index: constant time but for the bytes of the names, and no memory.
+    /// The sections of the whole file, as it is, that have the name, without ASCII case, and any subsection, in any order; `None` if
+    /// there is none. They are found by an index: constant time except for the bytes of the names, and no memory.
     pub fn sections_by_name<'a, 'n>(&'a self, name: &'n str) -> Option<SectionsByName<'a, 'n>>
         ensures none { IsNone result → (p : SectionState → Bool) → list_any p (with_name name.now (whole self.now.done self.now.rest).sections) ≡ false }
         ensures some { IfSome result (λ it. (p : SectionState → Bool) → list_any p (by_name_left it) ≡ list_any p (with_name name.now (whole self.now.done self.now.rest).sections)) }

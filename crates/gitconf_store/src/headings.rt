@@ -1,4 +1,4 @@
-//! Sections of a table that get other headers: where they stand, and their headers.
+//! Sections of a table that get other headers: their places, and their headers.
 ghost use Rattle.std.specs.Fn.{ComputesKey};
 ghost use Rattle.std.specs.List.{list_any, AllByRecursion};
 ghost use Rattle.std.specs.Option.{option_copied};
@@ -16,11 +16,11 @@ use gitconf_text::NoMemory;
 use gitconf_views::lists::put;
 use std::alloc::Global;
 
-/// Puts the place of the section of a number, if one has it, behind others.
+/// Adds the place of the section of a number, if one has it, to others.
 ///
 /// # Errors
 ///
-/// Want of memory. The places are then as they were.
+/// Out of memory. The places are then as they were.
 fn put_place(table: &SectionList, id: SectionId, places: &mut Vec<usize>) -> Result<(), NoMemory>
     ensures ok { OnOk result (IfSome (place_of id table.now) (λ at. places.new.items ≡ places.old.items ++ at ∷ [])) }
     ensures err { OnErr result (places.new.items ≡ places.old.items) }
@@ -31,12 +31,12 @@ fn put_place(table: &SectionList, id: SectionId, places: &mut Vec<usize>) -> Res
     }
 }
 
-/// The places of the sections of the name and subsection whose metadata passes the filter, in file order. The filter is asked of each
+/// The places of the sections of the name and subsection whose metadata passes the filter, in file order. The filter is asked about each
 /// section of these names. They are found by the names: a walk over them alone, which takes memory for the places.
 ///
 /// # Errors
 ///
-/// Want of memory, only where a section passes.
+/// Out of memory, only if a section passes.
 pub(crate) fn passing_places<F: FnMut(&Metadata) -> bool>(
     alloc: Global,
     table: &SectionList,
@@ -54,7 +54,7 @@ pub(crate) fn passing_places<F: FnMut(&Metadata) -> bool>(
 {
     let mut filter = filter;
     let mut places = Vec::new(alloc);
-    // No number was given twice, so the place of each is that of its section.
+    // The contract of `next_id` says that no number was given twice, so the place of each is that of its section.
     prove!(table.next_id() == table.next_id());
     let mut left = table.named(name, subsection);
     while let Some(found) = left.next() {
@@ -65,7 +65,7 @@ pub(crate) fn passing_places<F: FnMut(&Metadata) -> bool>(
     Ok(places)
 }
 
-/// Gives the sections at these places a header. What else they have stays.
+/// Gives the sections at these places a header. All else stays as it is.
 pub(crate) fn set_headers(table: &mut SectionList, places: &[usize], header: Header)
     requires { AllByRecursion (λ at. at < length table.old.entries) places.now }
     ensures { table.new ≡ with_headers header places.now table.old }

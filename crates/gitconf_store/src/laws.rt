@@ -23,25 +23,25 @@ ghost use Rattle.gitconf_store.specs.Editors.{given_editor};
 ghost use Rattle.gitconf_store.specs.Several.{meaning_of_place, moved_up};
 ghost use Rattle.gitconf_finding.specs.ValuePlaces.{editor_of_numbered, meaning_at};
 
-/// Bytes that are appended to a buffer change nothing of what spans within it stand for, and these stand within the longer one.
+/// Bytes that are added to a buffer change nothing of what spans within it say, and these are within the longer one.
 pub fn appending_leaves_every_view()
     ensures items { (buffer more : List ℕ) (items : List Item) → AreItemsWithin (length buffer) items → items_of (buffer ++ more) items ≡ items_of buffer items }
     ensures headers { (buffer more : List ℕ) (h : Header) → HeaderFits (length buffer) h → header_of (buffer ++ more) h ≡ header_of buffer h }
     ensures within { (buffer more : List ℕ) (items : List Item) → AreItemsWithin (length buffer) items → AreItemsWithin (length (buffer ++ more)) items }
 {}
 
-/// What an edit puts into the buffer is no longer than the tokens that it makes.
+/// What an edit adds to the buffer is no longer than the tokens that it makes.
 pub fn edits_put_no_more_than_their_tokens()
     ensures { (name : List ℕ) (subsection : Option (List ℕ)) (key : List ℕ) (keeps : Meta → Bool) (value : List ℕ) (state : State)
         → set_raw_value_bytes name subsection key keeps value state ≤ new_bytes (SetRawValue name subsection key keeps value) state }
 {}
 
-/// What an appended file puts into the buffer is no longer than its own buffer and a line end.
+/// What an appended file adds to the buffer is no longer than its own buffer and a line ending.
 pub fn appended_files_put_no_more_than_their_bytes()
     ensures { (other state : State) → appended_bytes other state ≤ new_bytes (Append other) state }
 {}
 
-/// What an editor puts into the buffer is no longer than the tokens that it makes: for a line that is pushed, for a value that is set, and
+/// What an editor adds to the buffer is no longer than the tokens that it makes: for a line that is pushed, for a value that is set, and
 /// for an entry that is written at a place, with blanks of the editor's own or with those that the section has.
 pub fn editors_put_no_more_than_their_tokens()
     ensures pushed { (number : ℕ) (editor : Editor) (key : List ℕ) (value comment : Option (List ℕ)) (state : State)
@@ -61,13 +61,13 @@ pub fn written_values_are_read()
         → meaning_at place (written_at editor place stands keeps_line_end key value items) ≡ Some value }
 {}
 
-/// The entries that are left when another one is deleted mean what they did, at the places where they then stand.
+/// The entries that are left when another one is deleted mean what they did, at the places where they then are.
 pub fn deletions_leave_other_values()
     ensures { (gone place : ℕ × ℕ) (state : State) → place ≢ gone
         → meaning_of_place (apply (DeleteAt gone.0 gone.1) state) (moved_up gone place) ≡ meaning_of_place state place }
 {}
 
-/// What a header puts into the buffer is no longer than its tokens, for one section that is renamed and for all that pass.
+/// What a header adds to the buffer is no longer than its tokens, for one section that is renamed and for all that pass.
 pub fn headers_put_no_more_than_their_tokens()
     ensures one { (number : ℕ) (name : List ℕ) (subsection : Option (List ℕ)) (state : State)
         → header_bytes name subsection ≤ new_bytes (Rename number name subsection) state }
@@ -76,8 +76,8 @@ pub fn headers_put_no_more_than_their_tokens()
         → header_bytes new_name new_subsection ≤ new_bytes (RenameAll name subsection keeps new_name new_subsection) state }
 {}
 
-/// A section that is edited where it stands alone, and then put into a file, stands there as if it had been put there first, and edited by
-/// the number that it got: whatever becomes of its items, its header or its trust.
+/// A section that is edited while it is in no file, and then put into a file, is there as if it had been put there first, and edited by
+/// the number that it got: whatever happens to its items, its header or its trust.
 pub fn sections_are_edited_alone_as_in_a_file()
     ensures items { (change : List parts.Item → List parts.Item) (detached : Detached) (state : State) → AreNumbered state.next state.sections
         → change_items state.next change (apply (PushSection detached) state) ≡ apply (PushSection (record detached { section = with_items change detached.section })) state }

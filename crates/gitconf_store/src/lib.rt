@@ -1,4 +1,4 @@
-//! The state of a git-config file behind one buffer with spans: how it is made, looked up, edited and printed.
+//! The state of a git-config file over one buffer with spans: how it is made, looked up, edited and printed.
 #![tactic(auto)]
 
 mod equality;

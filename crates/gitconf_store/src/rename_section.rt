@@ -1,4 +1,4 @@
-//! How sections are refused that are to be renamed.
+//! Why sections are not renamed.
 ghost use Rattle.std.specs.Prelude.{◌≡◌};
 
 use gitconf_finding::existing;
@@ -7,7 +7,7 @@ use gitconf_text::parse::section::header;
 use gitconf_text::parse::span;
 use thiserror::Error;
 
-/// How sections are refused that are to be renamed.
+/// Why sections are not renamed.
 #[derive(Debug, Drop, Error)]
 pub enum Error {
     /// No section has the names, or none of these passes: refusal 7, 8 or 9.

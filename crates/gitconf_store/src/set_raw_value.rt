@@ -1,4 +1,4 @@
-//! How setting a raw value is refused.
+//! Why a raw value is not set.
 ghost use Rattle.std.specs.Prelude.{◌≡◌};
 
 use gitconf_finding::existing;
@@ -7,19 +7,19 @@ use gitconf_text::parse::section::{ValueNameError, header};
 use gitconf_text::parse::span;
 use thiserror::Error;
 
-/// How setting a raw value is refused.
+/// Why a raw value is not set.
 #[derive(Debug, Drop, Error)]
 pub enum Error {
-    /// No such value stands, and none may be made: refusal 7, 8 or 9.
+    /// There is no such value, and none may be made: refusal 7, 8 or 9.
     #[error(transparent)]
     Lookup(existing::Error),
     /// A section has to be made, and can't be: refusal 3, 4 or 5.
     #[error(transparent)]
     Header(header::Error),
-    /// The name of the value is none: refusal 6.
+    /// The name of the value is invalid: refusal 6.
     #[error(transparent)]
     ValueName(ValueNameError),
-    /// The new bytes have no place in the text: refusal 3.
+    /// There is no room for the new bytes: refusal 3.
     #[error(transparent)]
     Span(span::Error),
     /// A growth was refused: refusal 27.

@@ -1,4 +1,4 @@
-//! The state of a file behind one buffer.
+//! The state of a file over one buffer.
 mod appending;
 mod editing;
 mod existing;
@@ -119,7 +119,7 @@ impl Store {
         }
     }
 
-    /// The state of a text that was loaded: what stands before its first header, and its sections.
+    /// The state of a text that was loaded: what comes before its first header, and its sections.
     fn of_loading(buffer: Vec<u8>, front: FewItems, loading: Loading) -> Store
         requires room { length buffer.items < 2 ^ 32 }
         requires front { AreItemsWithin (length buffer.items) front.items }
@@ -141,21 +141,21 @@ impl Store {
         }
     }
 
-    /// The state of the events of a text, all of them or those that a filter kept: its front, and its sections under the
-    /// numbers from 0 on, each from `meta`. What the filter dropped is not in it.
+    /// The state of the events of a text, all of them or those that a filter kept: its front, and its sections numbered
+    /// from 0, each from `meta`. What the filter dropped is not in it.
     ///
-    /// It asks that all names, separators and values were kept ([`Events::keeps_entries`]). One pass; the text is handed
-    /// over, and of it only the names and subsections of sections are copied.
+    /// It requires that all names, separators and values were kept ([`Events::keeps_entries`]). One pass; the text becomes the
+    /// buffer, and of it only the names and subsections of sections are copied.
     ///
     /// # Errors
     ///
-    /// Want of memory.
+    /// Out of memory.
     pub fn from_events(alloc: Global, events: Events, meta: Rc<Metadata>) -> Result<Store, NoMemory>
         requires { events.keeps_entries ≡ true }
         ensures made { IfOk result (λ s. IsMade events.tokens meta.value events.used s) }
         ensures document { IfOk result (λ s. (text : List ℕ) → IsSelected text events → Reads text (document_of s)) }
         ensures clean { IfOk result (λ s. entries_of s.front ≡ [] → IsClean s) }
-        // Where nothing was dropped it is clean, and its text is the one that was parsed, but for line ends put in.
+        // If nothing was dropped, the state is clean, and its text is the one that was parsed, except for inserted line endings.
         ensures whole_clean { IfOk result (λ s. (text : List ℕ) → IsWhole text events → IsClean s) }
         ensures inserted { IfOk result (λ s. (text : List ℕ) (parts : List Part) → IsWhole text events → IsText text parts
             → Inserted (map spelled_token (tokens_of parts)) (printed s)) }
@@ -168,8 +168,8 @@ impl Store {
         Ok(Store::of_loading(buffer, front, loading))
     }
 
-    /// The state of what is kept of a text: its front, and its sections under the numbers from 0 on, each from `meta`. The text is
-    /// handed over. One pass, section by section.
+    /// The state of what is kept of a text: its front, and its sections numbered from 0, each from `meta`. The text becomes
+    /// the buffer. One pass, section by section.
     ///
     /// # Errors
     ///
@@ -184,18 +184,18 @@ impl Store {
         Ok(Store::of_loading(text, front, loading))
     }
 
-    /// The state of a text, all of it: its front, and its sections under the numbers from 0 on, each from `meta`. The text is
-    /// handed over. One pass, section by section.
+    /// The state of a text, all of it: its front, and its sections numbered from 0, each from `meta`. The text becomes
+    /// the buffer. One pass, section by section.
     ///
     /// # Errors
     ///
-    /// Refusal 1 where the text has no document, with the line and the data from where it can't be read on; refusal 2
-    /// for more than 4294967295 bytes; refusal 27 for want of memory.
+    /// Refusal 1 if the text has no document, with the line and the data from where it can't be read on; refusal 2
+    /// for more than 4294967295 bytes; refusal 27 when out of memory.
     pub fn from_text(alloc: Global, text: Vec<u8>, meta: Rc<Metadata>) -> Result<Store, Error>
         ensures made { IfOk result (λ s. (parts : List Part) × IsText text.items parts × IsMade (tokens_of parts) meta.value (length text.items) s) }
         ensures document { IfOk result (λ s. Reads text.items (document_of s)) }
         ensures clean { IfOk result IsClean }
-        // Printed, it is the text with line ends put in, and the text itself, its mark aside, where it needs none.
+        // Printed, it is the text with line endings inserted; and the text itself, apart from its mark, if it needs none.
         ensures inserted { IfOk result (λ s. (parts : List Part) → IsText text.items parts → Inserted (map spelled_token (tokens_of parts)) (printed s)) }
         ensures byte_for_byte { IfOk result (λ s. (parts : List Part) → IsText text.items parts → IsByteForByte parts → printed s ≡ unmarked text.items) }
         ensures refused { IfErr result (IsRefused text.items) }
@@ -203,7 +203,7 @@ impl Store {
         Store::of_text(alloc, text, Keep::All, meta)
     }
 
-    /// The state of a text without its blanks, line ends and comments, which has the same document. The text is handed over. One
+    /// The state of a text without its blanks, line endings and comments, which has the same document. The text becomes the buffer. One
     /// pass, section by section; no memory is taken for what isn't kept.
     ///
     /// # Errors
@@ -219,8 +219,8 @@ impl Store {
         Store::of_text(alloc, text, Keep::Meaning, meta)
     }
 
-    /// The state of a text as [`Store::from_text`] makes it, of a copy with some room behind the text, so that a first edit
-    /// copies nothing.
+    /// The state of a text as [`Store::from_text`] makes it, of a copy with some room after the text, so that the first edits
+    /// copy nothing.
     ///
     /// # Errors
     ///
@@ -229,7 +229,7 @@ impl Store {
         ensures made { IfOk result (λ s. (parts : List Part) × IsText input.now parts × IsMade (tokens_of parts) meta.value (length input.now) s) }
         ensures document { IfOk result (λ s. Reads input.now (document_of s)) }
         ensures clean { IfOk result IsClean }
-        // Printed, it is the text with line ends put in, and the text itself, its mark aside, where it needs none.
+        // Printed, it is the text with line endings inserted; and the text itself, apart from its mark, if it needs none.
         ensures inserted { IfOk result (λ s. (parts : List Part) → IsText input.now parts → Inserted (map spelled_token (tokens_of parts)) (printed s)) }
         ensures byte_for_byte { IfOk result (λ s. (parts : List Part) → IsText input.now parts → IsByteForByte parts → printed s ≡ unmarked input.now) }
         ensures refused { IfErr result (IsRefused input.now) }
@@ -239,7 +239,7 @@ impl Store {
         Store::from_text(alloc, text, meta)
     }
 
-    /// The state of a text as [`Store::from_text_lossy`] makes it, of a copy as [`Store::from_bytes`] takes it.
+    /// The state of a text as [`Store::from_text_lossy`] makes it, of such a copy as [`Store::from_bytes`] makes.
     ///
     /// # Errors
     ///
@@ -256,11 +256,11 @@ impl Store {
         Store::from_text_lossy(alloc, text, meta)
     }
 
-    /// The same state again, with a buffer of its own; metadata is shared. Each byte and each item is copied once.
+    /// A copy of the state, with a buffer of its own; metadata is shared. Each byte and each item is copied once.
     ///
     /// # Errors
     ///
-    /// Want of memory.
+    /// Out of memory.
     pub fn try_clone(&self) -> Result<Store, NoMemory>
         ensures { IfOk result (λ s. s ≡ self.now) }
     {
@@ -290,48 +290,48 @@ impl Store {
         *self.buffer.allocator()
     }
 
-    /// The same metadata as [`Store::meta`], shared.
+    /// The same metadata as [`Store::meta`], with one more owner.
     ///
     /// # Errors
     ///
-    /// No other owner can be counted any more.
+    /// The count of owners is at its limit, which counts as out of memory.
     pub fn meta_owned(&self) -> Result<Rc<Metadata>, NoMemory>
         ensures { IfOk result (λ m. m.value ≡ self.now.meta) }
     {
         shared(&self.meta)
     }
 
-    /// Says where the file comes from, and each section that is made from now on. Those that stand keep theirs.
+    /// Sets where the file comes from, and each section that is made from now on. Existing sections keep theirs.
     pub fn set_meta(&mut self, meta: Rc<Metadata>)
         ensures { self.new ≡ record self.old { meta = meta.value } }
     {
         self.meta = meta;
     }
 
-    /// The line end that the file uses: that of the first newline of its front, or else of its sections' bodies in
-    /// order, those within values too; LF where there is none. What is held behind sections isn't asked.
+    /// The line ending that the file uses: that of the first newline of its front, otherwise of its sections' bodies in
+    /// order, including those within values; LF if there is none. What is held after sections doesn't count.
     pub fn line_end(&self) -> LineEnd
         ensures { bytes_of_line_end result ≡ file_line_end self.now }
     {
         tokens::file_line_end(&self.buffer, &self.front, self.sections())
     }
 
-    /// The line end that the file uses, LF or CR LF: that of the first newline of its front, or else of its
-    /// sections' bodies in order, those within values too; LF where there is none. Takes no memory.
+    /// The line ending that the file uses, LF or CR LF: that of the first newline of its front, otherwise of its
+    /// sections' bodies in order, including those within values; LF if there is none. Takes no memory.
     pub fn detect_newline_style(&self) -> &'static [u8]
         ensures { result.now ≡ file_line_end self.now }
     {
         self.line_end().as_bytes()
     }
 
-    /// Whether no section has anything in its body. Takes no memory.
+    /// Whether all bodies are empty. Takes no memory.
     pub fn is_void(&self) -> bool
         ensures { result ≡ are_void self.now.sections }
     {
         tokens::are_void(self.sections())
     }
 
-    /// How many entries the sections have, those of the front not counted; the greatest number where they are more. Takes no memory, and a
+    /// How many entries the sections have, without those of the front, or `usize::MAX` if there are more. Takes no memory, and a
     /// walk over all.
     pub fn num_values(&self) -> usize
         ensures { result ≡ min (length (section_entries self.now.sections)) (2 ^ 64 - 1) }
@@ -339,15 +339,15 @@ impl Store {
         tokens::value_count(self.sections())
     }
 
-    /// Writes the front and the sections that `filter` keeps, with line ends put in where parts would else run
+    /// Writes the front and the sections that `filter` keeps, with line endings inserted where parts would otherwise run
     /// together. One pass, which takes no memory of its own.
     ///
-    /// The filter is asked about each section in file order; and before that, where the front isn't empty and doesn't
-    /// end with a line end, about the sections up to the first that it keeps.
+    /// The filter is called for each section in file order; and before that, if the front isn't empty and doesn't
+    /// end with a line ending, for the sections up to the first that it keeps.
     ///
     /// # Errors
     ///
-    /// A write failed, or took nothing. It is not tried again, and a beginning of the text was written.
+    /// A write failed, or took nothing. It is not tried again, and a beginning of the text may have been written.
     #[tactic(auto, using(gitconf_state::proofs::ReadsBack::kept_reads_back, gitconf_laws::proofs::CommentLaws::kept_comments))]
     pub fn write_to_filter<W: Sink, F: FnMut(&SectionRef<'_>) -> bool>(
         &self,
@@ -355,13 +355,13 @@ impl Store {
         filter: F,
     ) -> Result<(), SinkFault>
         requires { F.IsAlwaysCallable filter }
-        // For a filter that answers by what it is shown.
+        // For a filter whose result depends only on what it is shown.
         ensures exact { (keeps : SectionState → Bool) → ComputesKey F.FnMut (λ r. keeps (shown r)) filter
             → Writes result (printed_kept keeps self.now) (W.told out.old) (W.told out.new) }
         ensures reads { (keeps : SectionState → Bool) → IsClean self.now → Reads (printed_kept keeps self.now) (document_of_kept keeps self.now) }
         ensures comments { (keeps : SectionState → Bool) → IsClean self.now
             → (parts : List Part) → IsText (printed_kept keeps self.now) parts → comments_of parts ≡ comments_of_kept keeps self.now }
-        // For every filter, also one that changes its mind.
+        // For any filter, even one that changes its mind.
         ensures some { (text : List ℕ) × IsTextOfSomeSections self.now text × Writes result text (W.told out.old) (W.told out.new) }
         ensures counted { Counts result (W.faults out.old) (W.faults out.new) }
     {
@@ -399,7 +399,7 @@ impl Store {
     ///
     /// # Errors
     ///
-    /// Want of memory.
+    /// Out of memory.
     #[tactic(auto, using(crate::proofs::ReadBack::text_reads, crate::proofs::ReadBack::text_comments))]
     pub fn to_bstring(&self) -> Result<BString, NoMemory>
         ensures text { IfOk result (λ text. bstring_bytes text ≡ printed self.now) }
@@ -414,7 +414,7 @@ impl Store {
         }
     }
 
-    /// The events of what stands before the first section, in order.
+    /// The events of what comes before the first section, in order.
     pub fn front(&self) -> ItemEvents<'_>
         ensures { events_left result ≡ map shown_token (tokens_in self.now.front) }
     {
@@ -453,7 +453,7 @@ impl Store {
         let Some(section) = last_passing(sections, filter) else {
             return None;
         };
-        // No number was given twice, so its place is that of the section.
+        // The contract of `next_id` says that no number was given twice, so its place is that of the section.
         prove!(section.id < self.sections.next_id());
         self.sections.position(section.id)
     }
@@ -481,7 +481,7 @@ impl Store {
         set
     }
 
-    /// Makes a section with the value, behind all others.
+    /// Makes a section with the value, after all others.
     fn set_in_new(
         &mut self,
         section_name: &str,
@@ -525,21 +525,21 @@ impl Store {
     }
 
     /// Gives a key a value: in the last section that has the name, without ASCII case, and exactly the subsection, and whose metadata
-    /// passes the filter. Its last entry of the key gets the value, spelled as a file has it; `=` is put in where the entry has none. A
-    /// section without an entry of the key gets one behind all others, with the blanks that it uses. Where no section passes, one is made
-    /// behind all others, with the file's line end and metadata.
+    /// passes the filter. Its last entry of the key gets the value, as a file spells it; `=` is added if the entry has none. A
+    /// section without an entry of the key gets a new one after all others, with the blanks that it uses. If no section passes, one is made
+    /// after all others, with the file's line ending and metadata.
     ///
-    /// Answers the raw text of the value that was there: its pieces joined, not decoded; nothing for an entry without `=`; `None` where
+    /// Returns the raw text of the value that was there: its pieces joined, not decoded; no bytes for an entry without `=`; `None` if
     /// there was no entry. All other sections, entries and comments stay as they are.
     ///
-    /// The section is found by its names: it takes a walk over the sections of the name and subsection alone, from the last one on up to
-    /// that one, then one over its items and one over the file's up to the first line end. New bytes are put behind the buffer's.
+    /// The section is found by its names: it takes a walk over the sections of the name and subsection alone, from the last one up to
+    /// that one, then one over its items and one over the file's up to the first line ending. New bytes are added to the buffer.
     ///
     /// # Errors
     ///
-    /// Refusal 6 for a name of a value that is none, before anything else; 4 and 5 where a section has to be made of a name or a
-    /// subsection that can't be; 3 where the buffer would be longer than 4294967295 bytes, which is asked before any growth, or there is no
-    /// number for a section; 27 for want of memory. The file is then as it was, but that its buffer may have grown.
+    /// Refusal 6 for an invalid value name, before anything else; 4 and 5 if a section has to be made of a name or a subsection that can't
+    /// be one; 3 if the buffer would be longer than 4294967295 bytes, which is checked before any growth, or there is no number for a
+    /// section; 27 when out of memory. The file is then as it was, except that its buffer may have grown.
     pub fn set_raw_value_filter_by<F: FnMut(&Metadata) -> bool>(
         &mut self,
         section_name: &str,
@@ -550,10 +550,10 @@ impl Store {
     ) -> Result<Option<BString>, set_raw_value::Error>
         requires { F.IsAlwaysCallable filter }
         ensures value_name { IsRefusal result 6 ↔ (is_value_name value_name.now ≡ false) }
-        // For a filter that answers by what it is shown.
+        // For a filter whose result depends only on what it is shown.
         ensures exact { (keeps : Meta → Bool) → ComputesKey F.FnMut keeps filter
             → IsSet section_name.now (option_copied subsection_name.entry) value_name.now keeps new_value.now result self.old self.new }
-        // For every filter, also one that changes its mind.
+        // For any filter, even one that changes its mind.
         ensures somewhere { OnOk result (IsSetSomewhere section_name.now (option_copied subsection_name.entry) value_name.now new_value.now self.old self.new) }
         ensures err { OnErr result (self.new ≡ with_used self.new.used self.old) }
     {

@@ -4,7 +4,7 @@ use Rattle.std.proofs.lemmas.Bool.{cases_eq, cases_lt}
 use Rattle.gitconf_table.specs.Links.{IsFirst, IsBehindLast, AreChained, no_place}
 
 module _ (g : ℕ → ℕ) where
-  -- no place of the bucket stands first
+  -- no place of the bucket comes first
   first_none : (b a n j : ℕ) → j ≡ no_place → n < no_place → IsFirst g b a n j → (k : ℕ) → a ≤ k → k < n → g k ≢ b
   first_none b a n j e fits h k l u = h.passed k l u (omega (arith, e, u, fits))
 

@@ -1,4 +1,4 @@
--- Worked rows: which numbers the plain list has under names, before and behind a rename and a removal.
+-- Worked rows: which numbers the plain list has under names, before and after a rename and a removal.
 use Rattle.std.proofs.Common.{◌≡◌, ℕ, [], ◌∷◌, Some, None, refl, codes}
 use Rattle.gitconf_table.specs.Sections.{ids, with_last, with_names, without, Sections}
 
@@ -38,7 +38,7 @@ renamed_under_a = refl
 renamed_under_b : ids (codes "core") (Some (codes "b")) renamed ≡ 4 ∷ []
 renamed_under_b = refl
 
--- and then the one under b is taken out
+-- and then the one under b is removed
 removed_under_b : ids (codes "core") (Some (codes "b")) (without 4 renamed) ≡ []
 removed_under_b = refl
 

@@ -15,12 +15,12 @@ no_link = record { word = 0; next = 0; before = 0 }
 abbrev pub no_ends : Bucket
 no_ends = record { first = 0; behind = 0 }
 
--- what stands behind the last place of a bucket stands behind no more than all places
+-- what follows the last place of a bucket follows no more than all places
 pub behind_within : (g : ℕ → ℕ) (b n behind : ℕ) → IsBehindLast g b n behind → behind ≤ n
 behind_within g b n zero h = omega arith
 behind_within g b n (suc k) h = let s = (h.stands k (omega arith)).0 in omega (arith, s)
 
--- nothing is led on from where nothing stands before
+-- nothing is led on from if nothing comes before
 pub led_none : (links : List Link) (behind at : ℕ) → behind ≤ 0 → IsLed links behind at links
 led_none links behind at none = record {
   words = λ k. refl;
@@ -131,7 +131,7 @@ behind_along g g' b n m e within same h = record {
   stands = λ k is. let s = h.stands k is in (s.0, sym (same k (omega (arith, s.0, within))) ∙ s.1);
 }
 
--- one more link behind the others leaves their chains
+-- one more link after the others leaves their chains
 pub linked_along : (n : ℕ) (links more : List Link) (buckets : List Bucket) → ((k : ℕ) → k < n → link_at links k ≡ link_at more k) → AreLinked n links buckets → AreLinked n more buckets
 linked_along n links more buckets same h =
     let g : ℕ → ℕ = λ k. bucket_of (length buckets) (link_at links k).word in
@@ -160,7 +160,7 @@ words_between links added at =
     ∙ (λ j. map-append (λ (l : Link). l.word) (take at links) added j ++ sym (drop-map (λ (l : Link). l.word) at links) j)
     ∙ (λ j. sym (take-map (λ (l : Link). l.word) at links) j ++ words_of added ++ drop at (words_of links))
 
--- links that are put behind all others leave their chains
+-- links that are put after all others leave their chains
 pub linked_behind : (links added : List Link) (buckets : List Bucket) (at : ℕ) → at ≡ length links → AreLinked (length links) links buckets
     → AreLinked at (take at links ++ added ++ drop at links) buckets
 linked_behind links added buckets at whole h = subst (λ n. AreLinked n (take n links ++ added ++ drop n links) buckets) (sym whole)

@@ -1,4 +1,4 @@
--- A place that is taken out of its chain, and one that is put into another.
+-- A place that is removed from its chain, and one that is put into another.
 use Rattle.std.proofs.Common.{◌≡◌, ◌≢◌, ℕ, ◌+◌, ◌-◌, ◌<◌, ◌≤◌, ◌⊎◌, inl, inr, refl, sym, ap, subst, ◌∙◌, arith, min, List, length, set, slice_index}
 use Rattle.std.proofs.lemmas.Bool.{cases_eq, cases_lt, eq-eqb}
 use Rattle.std.proofs.lemmas.List.{get_or-set_same, get_or-set_other}
@@ -11,7 +11,7 @@ use Rattle.gitconf_table.specs.Moves.{AreChainedBut, AreLinkedBut, IsLedBack, Le
 use Rattle.gitconf_table.proofs.LinkLemmas.{behind_within, no_link, shown_set, words_other}
 use Rattle.gitconf_table.proofs.Walks.{differs, word_is}
 
--- the next place of a bucket stands behind
+-- the next place of a bucket follows
 pub later : (g : ℕ → ℕ) (b at n j : ℕ) → n ≤ no_place → at < n → IsFirst g b (at + 1) n j → at < j
 later g b at n j fits within next = go (cases_eq j no_place)
   where
@@ -19,7 +19,7 @@ later g b at n j fits within next = go (cases_eq j no_place)
     go (inl none) = omega (arith, none, fits, within)
     go (inr stands) = let s = next.stands stands in omega (arith, s.0)
 
--- A place `at` gets another bucket. Between `e` and `j` no other place of bucket b stands.
+-- A place `at` gets another bucket. Between `e` and `j` no other place of bucket b is.
 module _ (g h : ℕ → ℕ) (at b n e j : ℕ) (fits : n ≤ no_place) (within : at < n) (same : (k : ℕ) → k ≢ at → h k ≡ g k)
     (prev : IsBehindLast g b at e) (next : IsFirst g b (at + 1) n j) where
   e_within : e ≤ at
@@ -28,7 +28,7 @@ module _ (g h : ℕ → ℕ) (at b n e j : ℕ) (fits : n ≤ no_place) (within 
   j_behind : at < j
   j_behind = later g b at n j fits within next
 
-  -- no place of the bucket stands between `a`, which is behind one of the bucket, and the place: so `a` is `e`
+  -- no place of the bucket is between `a`, which is after one of the bucket, and the place: so `a` is `e`
   no_more : (a : ℕ) → a ≤ at → ((k : ℕ) → a ≡ k + 1 → g k ≡ b) → ((k : ℕ) → a ≤ k → k < at → g k ≢ b) → e ≢ a → ⊥
   no_more a before is none other = go (cases_lt e a)
     where
@@ -156,7 +156,7 @@ module _ (g h : ℕ → ℕ) (at b : ℕ) (same : (k : ℕ) → k ≢ at → h k
     stands = λ k s. let o = f.stands k s in (o.0, same k (λ here. was (ap g (sym here) ∙ o.1)) ∙ o.1);
   }
 
--- what stands on either side of the place, before it comes or behind its leaving
+-- what is on either side of the place, before it comes or after its leaving
 pub first_beside : (g h : ℕ → ℕ) (at b n j : ℕ) → ((k : ℕ) → k ≢ at → h k ≡ g k) → IsFirst g b (at + 1) n j → IsFirst h b (at + 1) n j
 first_beside g h at b n j same f = record {
   passed = λ k l u under of. f.passed k l u under (sym (same k (λ here. omega (arith, here, l))) ∙ of);
@@ -169,7 +169,7 @@ last_beside g h at b e same f = record {
   stands = λ k s. let o = f.stands k s in (o.0, same k (λ here. omega (arith, here, o.0)) ∙ o.1);
 }
 
--- The place is taken out of its chain: those beside it lead to each other.
+-- The place is removed from its chain: those beside it lead to each other.
 pub chain_out : (g h : ℕ → ℕ) (at : ℕ) (first behind next before first' behind' next' before' : ℕ → ℕ) (size n : ℕ)
     → n ≤ no_place → at < n → ((k : ℕ) → k ≢ at → h k ≡ g k) → g at < size → h at ≡ size → ((k : ℕ) → g k < size)
     → AreChained g first behind next before size n
@@ -294,7 +294,7 @@ out_of size at links = rw (eq-eqb at at refl) refl
 pub others_of : (size at k : ℕ) (links : List Link) → k ≢ at → bucket_but size at links k ≡ bucket_of size (link_at links k).word
 others_of size at k links other = rw (differs k at other) refl
 
--- the links and buckets behind the steps that take a place out
+-- the links and buckets after the steps that take a place out
 pub taken_out : (links led back : List Link) (buckets ends closed : List Bucket) (at b n : ℕ) → at < length links → length links ≤ no_place → 0 < length buckets
     → length led ≡ length links → length back ≡ length links → length closed ≡ length buckets → b ≡ bucket_of (length buckets) (link_at links at).word → n ≡ length links
     → words_of back ≡ words_of links → IsLed links (link_at links at).before (link_at links at).next led → IsLedBack led (link_at links at).next (link_at links at).before back
@@ -321,7 +321,7 @@ taken_out links led back buckets ends closed at b n within fits some long long' 
     (λ k. (link_at back k).next) (λ k. (link_at back k).before) size count in
     subst (Chained (length closed)) (sym long') (subst (λ size. Chained size (length links)) (sym wide) chained)
 
--- the links and buckets behind the steps that put it in under a word
+-- the links and buckets after the steps that put it in under a word
 pub put_between : (links led back : List Link) (buckets ends closed : List Bucket) (at word b n e j : ℕ) → at < length links → length links ≤ no_place → 0 < length buckets
     → length led ≡ length links → length back ≡ length links → length closed ≡ length buckets → b ≡ bucket_of (length buckets) word → n ≡ length links
     → words_of back ≡ words_of (set links at (record { word = word; next = j; before = e })) → IsLed (set links at (record { word = word; next = j; before = e })) e at led → IsLedBack led j (at + 1) back
@@ -358,7 +358,7 @@ put_between links led back buckets ends closed at word b n e j within fits some 
     subst (λ size. AreChained (λ k. bucket_of size (link_at back k).word) (λ i. (ends_of closed i).first) (λ i. (ends_of closed i).behind)
     (λ k. (link_at back k).next) (λ k. (link_at back k).before) size (length links)) (sym wide) chained
 
--- where it stands in the other chain, told before it is taken out and behind that
+-- where it is in the other chain, told before it is removed and after that
 module _ (links out : List Link) (size size' at word b : ℕ) (same : size' ≡ size) (is : b ≡ bucket_of size word) (words : words_of out ≡ words_of links) where
   as_before : (k : ℕ) → k ≢ at → bucket_but size at out k ≡ bucket_at size links k
   as_before k other = others_of size at k out other ∙ ap (bucket_of size) (same_word out links k words)
@@ -382,7 +382,7 @@ linked_again links buckets at new within bucket next before h =
     (subst (λ nexts. Chained g nexts (λ k. (link_at links k).before)) (λ j k. shown (λ l. l.next) next k j)
     (subst (λ g. Chained g (λ k. (link_at links k).next) (λ k. (link_at links k).before)) (λ j k. shown (λ l. bucket_of (length buckets) l.word) bucket k j) h))
 
--- the word that was put at a place stands there, and is its bucket's
+-- the word that was put at a place is there, and is its bucket's
 pub now_of : (links new : List Link) (size at word k : ℕ) → at < length links → words_of new ≡ set (words_of links) at word → at + 1 ≡ k + 1 → bucket_at size new k ≡ bucket_of size word
 now_of links new size at word k within is e =
     let here : k ≡ at = omega (arith, e) in

@@ -27,7 +27,7 @@ first_within n at places rest is all = let both : AllByRecursion (λ at. at < n)
 pub word_set : (words places rest : List ℕ) (at word : ℕ) → places ≡ at ∷ rest → set_each words places word ≡ set_each (set words at word) rest word
 word_set words places rest at word is = ap (λ ps. set_each words ps word) is
 
--- where there is no word, none is set
+-- if there is no word, none is set
 none_each : (places : List ℕ) (word : ℕ) → [] ≡ set_each [] places word
 none_each [] word = refl
 none_each (at ∷ places) word = none_each places word
@@ -78,7 +78,7 @@ module _ {T : Type 0} where
       table_each next (changed_at (λ e. record e { name = fold name; subsection = s }) es i) at places (set names i (name_word seed name)) (set full i (full_word seed name s)) name s
       (table_renamed next i es _ places names _ full _ name s refl refl refl h)
 
-  -- the table with names that were put behind the letters
+  -- the table with names that were put after the letters
   pub each_renamed : (letters letters2 name : List ℕ) (s : Option (List ℕ)) (names : Names) → ArePut (fold name) s letters letters2 names → (next : ℕ) (rows : List (Row T)) (at : List ℕ) → RowsFit (length letters) rows
       → (record { entries = entries_of letters2 (named_each names rows at); next = next }) ≡ with_names_at (record { entries = entries_of letters rows; next = next }) at name s
   each_renamed letters letters2 name s names put next rows at fit =

@@ -17,7 +17,7 @@ use Rattle.gitconf_table.specs.Tables.{numbers_of, AreApart, ArePlaced}
 use Rattle.gitconf_table.proofs.SectionLemmas.{changed_numbered, placed_section, placed_removed}
 use Rattle.gitconf_table.proofs.TableLemmas.{numbers_within, numbered_apart}
 
--- what stood at a place stays where letters are put behind
+-- what was at a place stays where letters are put after
 pub part_more : (letters more : List ℕ) (p : Part) → PartFits (length letters) p → part_of (letters ++ more) p ≡ part_of letters p
 part_more letters more p fits =
     ap (take p.len) (drop-append-le p.start letters more (omega (arith, fits)))
@@ -27,7 +27,7 @@ subsection_more : (letters more : List ℕ) (s : Option Part) → SubsectionFits
 subsection_more letters more None fits = refl
 subsection_more letters more (Some p) fits = ap (λ (b : List ℕ). Some b) (part_more letters more p fits)
 
--- so it does behind others
+-- so it does after others
 abbrev moved_part : (by : ℕ) → Part → Part
 moved_part by p = record { start = by + p.start; len = p.len }
 
@@ -169,14 +169,14 @@ module _ {T : Type 0} where
       let count : length (numbers_in rows) ≡ length rows = length-map rows (λ (r : Row T). r.id) in
       ap (λ (x : Row T). x.id) is ∙ sym (get_or-map (λ (r : Row T). r.id) rows at r) ∙ get_or_default (numbers_in rows) at r.id 0 (omega (arith, count, within))
 
-  -- rows are read the same where letters are put behind theirs
+  -- rows are read the same where letters are put after theirs
   pub entries_more : (letters more : List ℕ) (rows : List (Row T)) → RowsFit (length letters) rows → entries_of (letters ++ more) rows ≡ entries_of letters rows
   entries_more letters more [] fit = refl
   entries_more letters more (r ∷ rows) fit = λ j.
       record { number = r.id; name = part_more letters more (name_part r.names) fit.0.0 j; subsection = subsection_more letters more (subsection_part r.names) fit.0.1 j; section = r.section }
       ∷ entries_more letters more rows fit.1 j
 
-  -- rows of another table behind these letters
+  -- rows of another table after these letters
   pub entries_moved : (before letters : List ℕ) (next : ℕ) (rows : List (Row T)) → entries_of (before ++ letters) (moved_rows next (length before) rows) ≡ numbered_from next (entries_of letters rows)
   entries_moved before letters next [] = refl
   entries_moved before letters next (r ∷ rows) =
@@ -184,7 +184,7 @@ module _ {T : Type 0} where
       let subsection = ap (option_map (part_of (before ++ letters))) part ∙ subsection_moved before letters (subsection_part r.names) in
       λ j. record { number = next; name = part_moved before letters (name_part r.names) j; subsection = subsection j; section = r.section } ∷ entries_moved before letters (next + 1) rows j
 
-  -- the first n rows under the numbers from `next` on, with their names behind others
+  -- the first n rows under the numbers from `next` on, with their names after others
   abbrev pub moved_until : ℕ → (next by : ℕ) → List (Row T) → List (Row T)
   moved_until zero next by rows = rows
   moved_until (suc n) next by [] = []
@@ -229,7 +229,7 @@ module _ {T : Type 0} where
     set_changes f (x ∷ rows) zero r new is e = ap (λ y. y ∷ entries_of letters rows) (e ∙ ap (λ y. f (entry_of_row letters y)) is)
     set_changes f (x ∷ rows) (suc i) r new is e = ap (λ ys. entry_of_row letters x ∷ ys) (set_changes f rows i r new is e)
 
-    -- the words of one row more
+    -- the words of one more row
     words_suc : (f : SectionEntry T → ℕ) (rows : List (Row T)) (n : ℕ) (r : Row T) → n < length rows → r ≡ get_or rows n r
         → take (suc n) (map f (entries_of letters rows)) ≡ take n (map f (entries_of letters rows)) ++ f (entry_of_row letters r) ∷ []
     words_suc f [] n r within is = absurd (omega (arith, within))
@@ -277,7 +277,7 @@ module _ {T : Type 0} where
         ∙ (λ j. map-append (entry_of_row letters) (take at rows) added j ++ sym (drop-map (entry_of_row letters) at rows) j)
         ∙ (λ j. sym (take-map (entry_of_row letters) at rows) j ++ entries_of letters added ++ drop at (entries_of letters rows))
 
-    -- the row of the number is taken out
+    -- the row of the number is removed
     pub removed : (n next : ℕ) (rows : List (Row T)) (i : ℕ) (r : Row T) → AreNumbered next (entries_of letters rows) → Some i ≡ position (has_number n) (entries_of letters rows) → r ≡ get_or rows i r
         → (Some r.section ≡ option_map (λ (e : SectionEntry T). e.section) (find (has_number n) (entries_of letters rows))) × (entries_of letters (remove rows i) ≡ filter (λ e. not (has_number n e)) (entries_of letters rows))
     removed n next rows i r k h is = (
@@ -303,7 +303,7 @@ module _ {T : Type 0} where
 pub longer : (letters letters2 name : List ℕ) (s : Option (List ℕ)) (names : Names) → ArePut name s letters letters2 names → length letters ≤ length letters2
 longer letters letters2 name s names put = let count : length letters2 ≡ length letters + length put.more = ap length put.new_is ∙ rw length-append refl in omega (arith, count)
 
--- a row that is put among others, with names that were put behind the letters
+-- a row that is put among others, with names that were put after the letters
 module _ {T : Type 0} (letters letters2 name : List ℕ) (s : Option (List ℕ)) (names : Names) (put : ArePut (fold name) s letters letters2 names) where
   pub entries_same : (rows : List (Row T)) → RowsFit (length letters) rows → entries_of letters2 rows ≡ entries_of letters rows
   entries_same rows fit = ap (λ (l : List ℕ). entries_of l rows) put.new_is ∙ entries_more letters put.more rows fit
@@ -340,7 +340,7 @@ module _ {T : Type 0} (letters letters2 name : List ℕ) (s : Option (List ℕ))
   pub fit_renamed : (at : ℕ) (rows : List (Row T)) (r : Row T) → RowsFit (length letters) rows → RowsFit (length letters2) (set rows at (record r { names = names }))
   fit_renamed at rows r fit = fit_set (length letters2) rows at (record r { names = names }) (rows_fit (length letters) (length letters2) rows (longer letters letters2 (fold name) s names put) fit) put.fit
 
--- the rows of another table, put among these, with their letters behind these
+-- the rows of another table, put among these, with their letters after these
 module _ {T : Type 0} (letters theirs letters2 : List ℕ) (by : ℕ) (is : letters2 ≡ letters ++ theirs) (behind : by ≡ length letters) where
   pub entries_joined : (at next : ℕ) (rows added more rows2 : List (Row T)) → more ≡ moved_rows next by added → rows2 ≡ take at rows ++ more ++ drop at rows → RowsFit (length letters) rows
       → entries_of letters2 rows2 ≡ take at (entries_of letters rows) ++ numbered_from next (entries_of theirs added) ++ drop at (entries_of letters rows)

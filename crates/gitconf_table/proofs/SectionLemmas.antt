@@ -132,14 +132,14 @@ module _ {T : Type 0} where
   others_none n [] k = refl
   others_none n (e ∷ es) k = rw k.0 (others_none n es k.1)
 
-  -- where a number has no place, it has no section, and nothing is taken out
+  -- where a number has no place, it has no section, and nothing is removed
   pub absent_section : (n : ℕ) (es : List (SectionEntry T)) → position (has_number n) es ≡ None → option_map (λ (e : SectionEntry T). e.section) (find (has_number n) es) ≡ None
   absent_section n es h = rw (others_none n es (none_has n es (not_placed _ _ h))) refl
 
   pub absent_kept : (n : ℕ) (es : List (SectionEntry T)) → position (has_number n) es ≡ None → filter (λ e. not (has_number n e)) es ≡ es
   absent_kept n es h = others_kept n es (none_has n es (not_placed _ _ h))
 
-  -- at its place stands its section, and the others stay
+  -- at its place is its section, and the others stay
   pub placed_section : (n : ℕ) (es : List (SectionEntry T)) (i : ℕ) (e : SectionEntry T) → position (has_number n) es ≡ Some i → e ≡ get_or es i e → find (has_number n) es ≡ Some e
   placed_section n es i e h is =
       find_at (has_number n) es ∙ ap (slice_get es) (placed _ _ _ h) ∙ slice_get_read es (length es) i e refl (position-Some (has_number n) es i e h).0 is
@@ -184,7 +184,7 @@ module _ {T : Type 0} where
   pub length-shown : (p : SectionEntry T → Bool) (es : List (SectionEntry T)) → length (map shown (filter p es)) ≤ length es
   length-shown p es = rw length-map (omega (arith, length-filter_both p (λ e. not (p e)) (λ e. refl) es))
 
-  -- at its place stands the section of a number: for callers that know a place
+  -- at its place is the section of a number: for callers that know a place
   pub section_of-place : (id : ℕ) (all : Sections T) (at : ℕ) → place_of id all ≡ Some at → section_of id all ≡ section_at at all
   section_of-place id all at h =
       ap (option_map (λ (e : SectionEntry T). e.section)) (find_at (has_number id) all.entries ∙ ap (slice_get all.entries) (placed _ _ _ h))

@@ -256,7 +256,7 @@ module _ {T : Type 0} {seed : ℕ} where
         ∙ (λ j. take at (sym h.full j) ++ (renumbered (word_of_names seed) (λ e n. refl) next fs ∙ sym h2.full) j ++ drop at (sym h.full j)));
   }
 
-  -- the place under a number that stands
+  -- the place under a number that is
   pub place_under : (next id : ℕ) (es : List (SectionEntry T)) (places names full : List ℕ) (at : ℕ) → IsTable seed next es places names full
       → position (has_number id) es ≡ Some at → (at < length es) × (id < length places) × (slice_index places id ≡ at)
   place_under next id [] places names full at h stands = absurd (cc)

@@ -67,7 +67,7 @@ pub other_word : (size : ℕ) (links : List Link) (word b k : ℕ) → b ≡ buc
 other_word size links word b k is other same = other (ap (bucket_of size) (sym (word_is links k) ∙ same) ∙ sym is)
 
 module _ (size : ℕ) (links : List Link) (word front behind : ℕ) (h : IsWalk size links word front behind) (left : front < behind) where
-  -- the next place of the bucket stands behind
+  -- the next place of the bucket follows
   pub next_later : front < (link_at links front).next
   next_later = go (cases_eq (link_at links front).next no_place)
     where
@@ -131,7 +131,7 @@ module _ (size : ℕ) (links : List Link) (word front at : ℕ) (h : IsWalk size
       (λ k l u above. other_word size links word (bucket_at size links at) k (h.back_is at (omega arith) left) (chain.passed k l (omega (arith, u, d))))) in
       rw count (places_more (words_of links) word front (at - front) ∙ rw (last, word_is links at, skipped) refl)
 
--- where no place is left
+-- if no place is left
 pub left_none : (words : List ℕ) (word front behind : ℕ) → behind ≤ front → places_in words word front (behind - front) ≡ []
 left_none words word front behind past = let count : behind - front ≡ 0 = omega (arith, past) in rw count refl
 

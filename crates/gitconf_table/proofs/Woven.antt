@@ -51,7 +51,7 @@ right_runs l r all first others count h sum cut =
     let b : all.count ≡ (total l).count = ap (λ (run : Run). run.count) sum in
     along r (first - (total l).ahead) (first - all.ahead) (others - (total l).count) (count - (first - all.ahead)) (omega (arith, a)) (omega (arith, a, b, cut, h.ahead, h.count)) h.right
 
--- where there are no others, nothing goes
+-- if there are no others, nothing goes
 pub none_woven : {A : Type 0} → (runs : List Run) (xs : List A) → weave runs xs [] ≡ xs
 none_woven [] xs = append-nil xs
 none_woven (r ∷ runs) xs =
@@ -65,7 +65,7 @@ module _ {A : Type 0} where
   regroup : (a b c d : List A) → a ++ (b ++ (c ++ d)) ≡ (a ++ (b ++ c)) ++ d
   regroup a b c d = simp append_assoc
 
-  -- the woven halves stand one behind the other
+  -- the woven halves are one after the other
   pub weave-append : (l r : List Run) (first others : List A)
       → weave (l ++ r) first others
       ≡ weave l (take (total l).ahead first) (take (total l).count others) ++ weave r (drop (total l).ahead first) (drop (total l).count others)

@@ -5,21 +5,21 @@ use Rattle.std.specs.List.{slice_index_or}
 use Rattle.gitconf_table.specs.declared.index.Link.{Link}
 use Rattle.gitconf_table.specs.declared.index.Bucket.{Bucket}
 
--- stands for no place in `next` and `first`; there are at most so many links
+-- stands for no place in `next` and `first`; so there are at most that many links
 abbrev pub no_place : ℕ
 no_place = 4294967295
 
--- the first place of the bucket from `from` on and below `count`, or `no_place`
+-- the first place of the bucket that is not before `from` and below `count`, or `no_place`
 pub record IsFirst (bucket_at : ℕ → ℕ) (bucket from count place : ℕ) : Type 0 where
   pub passed : (k : ℕ) → from ≤ k → k < count → k < place → bucket_at k ≢ bucket
   pub stands : place ≢ no_place → (from ≤ place) × (place < count) × (bucket_at place ≡ bucket)
 
--- directly behind the last place of the bucket below `count`, or 0
+-- directly after the last place of the bucket below `count`, or 0
 pub record IsBehindLast (bucket_at : ℕ → ℕ) (bucket count behind : ℕ) : Type 0 where
   pub passed : (k : ℕ) → behind ≤ k → k < count → bucket_at k ≢ bucket
   pub stands : (k : ℕ) → behind ≡ k + 1 → (k < count) × (bucket_at k ≡ bucket)
 
--- the first `count` places, each with the next and the previous one of its bucket, and the ends of each bucket
+-- each of the first `count` places has the next and the previous one of its bucket, and each bucket has its first and its last one
 pub record AreChained (bucket_at first behind next before : ℕ → ℕ) (size count : ℕ) : Type 0 where
   pub firsts : (b : ℕ) → b < size → IsFirst bucket_at b 0 count (first b)
   pub lasts : (b : ℕ) → b < size → IsBehindLast bucket_at b count (behind b)
@@ -30,15 +30,15 @@ pub record AreChained (bucket_at first behind next before : ℕ → ℕ) (size c
 abbrev pub link_at : List Link → ℕ → Link
 link_at links k = slice_index_or links k (record { word = 0; next = 0; before = 0 })
 
--- the ends of a bucket
+-- the first place of a bucket, and one more than its last one
 abbrev pub ends_of : List Bucket → ℕ → Bucket
 ends_of buckets b = slice_index_or buckets b (record { first = 0; behind = 0 })
 
--- the words in the order of their places
+-- the words of the links, in the order of their places
 abbrev pub words_of : List Link → List ℕ
 words_of links = map (λ l. l.word) links
 
--- the bucket of a word, of so many
+-- the bucket of a word, of `size` buckets
 abbrev pub bucket_of : ℕ → ℕ → ℕ
 bucket_of size word = bit_and word (size - 1)
 

@@ -22,16 +22,16 @@ pub record Sections (T : Type 0) : Type 0 where
 abbrev pub no_number : ℕ
 no_number = 18446744073709551615
 
--- a new section
+-- a new section, with its name in lower case
 abbrev pub entry_of : {T : Type 0} → ℕ → List ℕ → Option (List ℕ) → T → SectionEntry T
 entry_of number name subsection section = record { number = number; name = fold name; subsection = subsection; section = section }
 
--- each number is below the next one to be given, and stands once
+-- each number is below the next one, and no number is given twice
 abbrev pub AreNumbered : {T : Type 0} → ℕ → List (SectionEntry T) → Type 0
 AreNumbered next [] = Unit {0}
 AreNumbered next (e ∷ es) = (e.number < next) × AllByRecursion (λ f. (f.number == e.number) ≡ false) es × AreNumbered next es
 
--- the numbers of a table: none was given twice, and the greatest was not given
+-- the numbers of a table are in order: none was given twice, and the greatest was not given
 pub record IsNumbered {T : Type 0} (all : Sections T) : Type 0 where
   pub once : AreNumbered all.next all.entries
   pub within : all.next ≤ no_number
@@ -40,21 +40,21 @@ pub record IsNumbered {T : Type 0} (all : Sections T) : Type 0 where
 abbrev pub with_last : {T : Type 0} → List ℕ → Option (List ℕ) → T → Sections T → Sections T
 with_last name subsection section all = record { entries = all.entries ++ entry_of all.next name subsection section ∷ []; next = all.next + 1 }
 
--- the list with a new section behind the one at a place
+-- the list with a new section directly after the one at a place
 abbrev pub with_behind : {T : Type 0} → ℕ → List ℕ → Option (List ℕ) → T → Sections T → Sections T
 with_behind at name subsection section all = record { entries = insert all.entries (at + 1) (entry_of all.next name subsection section); next = all.next + 1 }
 
--- the sections under the numbers from `next` on
+-- the same sections, numbered from `next` on
 abbrev pub numbered_from : {T : Type 0} → ℕ → List (SectionEntry T) → List (SectionEntry T)
 numbered_from next [] = []
 numbered_from next (e ∷ es) = record e { number = next } ∷ numbered_from (next + 1) es
 
--- the list with all sections of another one behind the first ones, under the next numbers
+-- the list with all sections of another one after the first `position` ones, under the next numbers
 abbrev pub with_all : {T : Type 0} → ℕ → Sections T → Sections T → Sections T
 with_all at other all =
     record { entries = take at all.entries ++ numbered_from all.next other.entries ++ drop at all.entries; next = all.next + length other.entries }
 
--- whether a section has the number
+-- the section has the number
 abbrev pub has_number : {T : Type 0} → ℕ → SectionEntry T → Bool
 has_number id e = e.number == id
 
@@ -101,11 +101,11 @@ with_names all at name subsection =
 abbrev pub sections_of : {T : Type 0} → Sections T → List (ℕ × T)
 sections_of all = map (λ e. (e.number, e.section)) all.entries
 
--- whether a section has the name
+-- the section has the name
 abbrev pub has_name : {T : Type 0} → List ℕ → SectionEntry T → Bool
 has_name name e = is_same_name name e.name
 
--- whether a section has the name, and exactly the subsection
+-- the section has the name, and exactly this subsection
 abbrev pub is_named : {T : Type 0} → List ℕ → Option (List ℕ) → SectionEntry T → Bool
 is_named name subsection e = has_name name e && option_eq bytes_eq e.subsection subsection
 
@@ -121,14 +121,14 @@ named name subsection all = map (λ e. (e.number, e.section)) (filter (is_named 
 abbrev pub all_named : {T : Type 0} → List ℕ → Sections T → List (ℕ × T)
 all_named name all = map (λ e. (e.number, e.section)) (filter (has_name name) all.entries)
 
--- a section under the same number and names, with a clone of what it holds
+-- a section with the same number and names, and a clone of what it holds
 pub record IsEntryClone {T : Type 0} (IsClone : T → T → Type 0) (entry copy : SectionEntry T) : Type 0 where
   pub number : copy.number ≡ entry.number
   pub name : copy.name ≡ entry.name
   pub subsection : copy.subsection ≡ entry.subsection
   pub section : IsClone entry.section copy.section
 
--- a table with such sections, and with the same number to be given next
+-- a table of such sections, with the same next number
 pub record IsTableClone {T : Type 0} (IsClone : T → T → Type 0) (all copy : Sections T) : Type 0 where
   pub next : copy.next ≡ all.next
   pub entries : AllZip (IsEntryClone IsClone) all.entries copy.entries

@@ -1,4 +1,4 @@
--- When the places and words that a table keeps beside its sections are theirs.
+-- When the places and words that a table keeps besides its sections are right.
 use Rattle.std.specs.Prelude.{◌≡◌, ◌≢◌, ℕ, ◌<◌, List, map, length, slice_index}
 use Rattle.gitconf_table.specs.Sections.{SectionEntry, IsNumbered}
 use Rattle.gitconf_table.specs.declared.table.Row.{Row}
@@ -9,26 +9,27 @@ use Rattle.gitconf_table.specs.Word.{full_word, name_word}
 abbrev pub numbers_of : {T : Type 0} → List (SectionEntry T) → List ℕ
 numbers_of entries = map (λ e. e.number) entries
 
--- no number stands at two places
+-- no number is at two places
 abbrev pub AreApart : List ℕ → Type 0
 AreApart numbers = (i k : ℕ) → i < k → k < length numbers → slice_index numbers i ≢ slice_index numbers k
 
--- the first `count` numbers have their places
+-- for the first `count` numbers, the place of each is written down
 abbrev pub ArePlacedTo : ℕ → List ℕ → List ℕ → Type 0
 ArePlacedTo count numbers places = (k : ℕ) → k < count → slice_index places (slice_index numbers k) ≡ k
 
--- each number has its place
+-- for each number, its place is written down
 abbrev pub ArePlaced : List ℕ → List ℕ → Type 0
 ArePlaced numbers places = ArePlacedTo (length numbers) numbers places
 
--- the word of a section's name, and that of its name and subsection, each from a seed
+-- the word of a section's name, made from a seed
 abbrev pub word_of_name : {T : Type 0} → (seed : ℕ) → SectionEntry T → ℕ
 word_of_name seed e = name_word seed e.name
 
+-- the word of a section's name and subsection, made from a seed
 abbrev pub word_of_names : {T : Type 0} → (seed : ℕ) → SectionEntry T → ℕ
 word_of_names seed e = full_word seed e.name e.subsection
 
--- the numbers are in order, each number that stands has its place, and each section its words
+-- the numbers are in order, each number has its place, and each section has its words
 pub record IsTable {T : Type 0} (seed next : ℕ) (entries : List (SectionEntry T)) (places words full_words : List ℕ) : Type 0 where
   pub numbered : IsNumbered (record { entries = entries; next = next })
   pub counted : length places ≡ next
@@ -36,7 +37,7 @@ pub record IsTable {T : Type 0} (seed next : ℕ) (entries : List (SectionEntry 
   pub names : words ≡ map (word_of_name seed) entries
   pub full : full_words ≡ map (word_of_names seed) entries
 
--- what a table keeps beside its rows is theirs, and their names stand among its letters
+-- what a table keeps besides its rows is right, and their names are among its letters
 pub record IsKept {T : Type 0} (seed next : ℕ) (letters : List ℕ) (rows : List (Row T)) (places words full_words : List ℕ) : Type 0 where
   pub table : IsTable seed next (entries_of letters rows) places words full_words
   pub fit : RowsFit (length letters) rows

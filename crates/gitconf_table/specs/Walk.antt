@@ -5,11 +5,11 @@ use Rattle.gitconf_table.specs.declared.index.Places.TheInside.{Inside}
 use Rattle.gitconf_table.specs.Links.{IsFirst, IsBehindLast, bucket_of, link_at, no_place, words_of}
 use Rattle.gitconf_table.specs.Words.{places_in}
 
--- the bucket of a place, of so many
+-- the bucket of a place, of `size` buckets
 abbrev pub bucket_at : ℕ → List Link → ℕ → ℕ
 bucket_at size links k = bucket_of size (link_at links k).word
 
--- each place leads to its neighbours in its bucket, and while places are left both ends of the walk are of the word's bucket
+-- each place leads to its neighbors in its bucket, and while places are left both ends of the walk are in the word's bucket
 pub record IsWalk (size : ℕ) (links : List Link) (word front behind : ℕ) : Type 0 where
   pub nexts : (k : ℕ) → k < length links → IsFirst (bucket_at size links) (bucket_at size links k) (k + 1) (length links) (link_at links k).next
   pub befores : (k : ℕ) → k < length links → IsBehindLast (bucket_at size links) (bucket_at size links k) k (link_at links k).before
@@ -22,6 +22,6 @@ pub record IsWalk (size : ℕ) (links : List Link) (word front behind : ℕ) : T
 abbrev pub left_of : Inside → List ℕ
 left_of p = places_in (words_of p.links.now) p.word p.front (p.behind - p.front)
 
--- for some number of buckets
+-- the walk is right for some number of buckets
 abbrev pub IsPlaces : Inside → Type 0
 IsPlaces p = (size : ℕ) × IsWalk size p.links.now p.word p.front p.behind

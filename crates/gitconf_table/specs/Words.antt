@@ -1,4 +1,4 @@
--- Words at the places of a list, and where one stands.
+-- Words at the places of a list, and where one is.
 use Rattle.std.specs.Prelude.{ℕ, ◌==◌, List, filter, length, slice_index}
 use Rattle.std.specs.List.{range_with_len}
 
@@ -7,7 +7,7 @@ pub record Words : Type 0 where
   pub words : List ℕ
   pub room : ℕ
 
--- of the `count` places from `from` on those with the word, in order
+-- the places with this word, in order, of the `count` places from `from` on
 abbrev pub places_in : List ℕ → ℕ → ℕ → ℕ → List ℕ
 places_in words word from count = filter (λ at. slice_index words at == word) (range_with_len from count)
 

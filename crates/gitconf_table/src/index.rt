@@ -1,4 +1,4 @@
-//! An index over a list of words: the places of a word without a walk over the others.
+//! An index over a list of words: it finds the places of a word without a walk over the others.
 ghost use Rattle.std.specs.Prelude.{◌≡◌, ◌+◌, ◌-◌, ◌<◌, ◌≤◌, [], ◌∷◌, ◌++◌, drop, insert, length, remove, slice_set, take, true, vec_capacity, vec_len, IfOk, OnOk};
 ghost use Rattle.std.specs.Iterator.{item_count, YieldsFirst, YieldsLast};
 ghost use Rattle.std.specs.List.{AllByRecursion};
@@ -19,7 +19,7 @@ mod moving;
 // Stands for no place: the greatest number of 32 bits. So a list has at most as many words.
 const NO_PLACE: u32 = u32::MAX;
 
-// A place of the list: its word, the next place of its bucket, or `NO_PLACE`, and what is directly behind the previous
+// A place of the list: its word, the next place of its bucket or `NO_PLACE`, and one more than the previous
 // place of its bucket, or 0.
 #[derive(Clone, Copy)]
 struct Link {
@@ -28,7 +28,7 @@ struct Link {
     before: u32,
 }
 
-// The first place of a bucket, or `NO_PLACE`, and what is directly behind its last place, or 0.
+// The first place of a bucket or `NO_PLACE`, and one more than its last place, or 0.
 #[derive(Clone, Copy)]
 struct Bucket {
     first: u32,
@@ -45,7 +45,7 @@ const EMPTY: Bucket = Bucket {
     behind: 0,
 };
 
-// The bucket of a word, of so many.
+// The bucket of a word, of `size` buckets.
 #[inline(always)]
 fn bucket_of(word: u32, size: usize) -> usize
     requires { 0 < size }
@@ -55,7 +55,7 @@ fn bucket_of(word: u32, size: usize) -> usize
     word as usize & (size - 1)
 }
 
-// Leads from the place before `behind`, if there is one, on to the place.
+// Makes the place before `behind`, if there is one, lead on to the place `at`.
 #[inline(always)]
 fn lead(links: &mut [Link], behind: u32, at: u32)
     requires { behind ≤ length links.old }
@@ -67,7 +67,7 @@ fn lead(links: &mut [Link], behind: u32, at: u32)
     }
 }
 
-// Puts the place behind the last one of its bucket.
+// Puts the place at the end of its bucket's chain.
 #[inline(always)]
 fn chain(links: &mut [Link], buckets: &mut [Bucket], at: u32)
     requires within { at < length links.old }
@@ -92,7 +92,7 @@ fn chain(links: &mut [Link], buckets: &mut [Bucket], at: u32)
     };
 }
 
-// Chains the places from one on, behind those before it, which are chained.
+// Chains the places from `from` on, after those before it, which are chained.
 fn link_from(links: &mut [Link], buckets: &mut [Bucket], from: usize)
     requires within { from ≤ length links.old }
     requires long { length links.old ≤ no_place }
@@ -106,7 +106,7 @@ fn link_from(links: &mut [Link], buckets: &mut [Bucket], from: usize)
     }
 }
 
-// Chains all places anew.
+// Chains all places again.
 fn relink(links: &mut [Link], buckets: &mut [Bucket])
     requires long { length links.old ≤ no_place }
     requires some { 0 < length buckets.old }
@@ -119,7 +119,7 @@ fn relink(links: &mut [Link], buckets: &mut [Bucket])
     link_from(links, buckets, 0);
 }
 
-// Chains the places of a list from one on, behind those before it, which are chained.
+// Chains the places of a list from `from` on, after those before it, which are chained.
 fn link_rest(links: &mut Vec<Link>, buckets: &mut Vec<Bucket>, from: usize)
     requires within { from ≤ length links.old.items }
     requires long { vec_len links.old ≤ no_place }
@@ -133,7 +133,7 @@ fn link_rest(links: &mut Vec<Link>, buckets: &mut Vec<Bucket>, from: usize)
     link_from(links, buckets, from);
 }
 
-// Chains all places of a list anew.
+// Chains all places of a list again.
 fn relink_all(links: &mut Vec<Link>, buckets: &mut Vec<Bucket>)
     requires long { vec_len links.old ≤ no_place }
     requires some { 0 < vec_len buckets.old }
@@ -145,7 +145,7 @@ fn relink_all(links: &mut Vec<Link>, buckets: &mut Vec<Bucket>)
     relink(links, buckets);
 }
 
-// Empty buckets for so many places: a power of two, and no fewer than the places.
+// Empty buckets for that many places: a power of two, at least as many as places.
 fn empty_buckets(alloc: Global, places: usize) -> Result<Vec<Bucket>, AllocError>
     ensures some { IfOk result (λ buckets. 0 < vec_len buckets) }
     ensures empty { IfOk result (λ buckets. AreEmpty buckets.items) }
@@ -157,7 +157,7 @@ fn empty_buckets(alloc: Global, places: usize) -> Result<Vec<Bucket>, AllocError
     vec![in alloc; EMPTY; size]
 }
 
-/// A list of at most 4294967295 words, with its places by word. Takes 12 bytes for each word that there is room for, and 8
+/// A list of at most 4294967295 words, with the places of each word. Takes 12 bytes for each word that there is room for, and 8
 /// for each bucket.
 #[derive(Drop)]
 pub struct WordIndex {
@@ -188,12 +188,12 @@ impl WordIndex {
         }
     }
 
-    /// Makes room for so many more words, and for no fewer buckets than there will be words. Words that are put last one
-    /// by one so take constant time and memory on average.
+    /// Makes room for that many more words, and for at least as many buckets as words. So words that are added at the end one
+    /// by one take constant time and memory on average.
     ///
     /// # Errors
     ///
-    /// Want of memory, also where there would be more than 4294967295 words. The words are as they were.
+    /// Out of memory, or there would be more than 4294967295 words. The words are as they were.
     #[cold]
     pub fn reserve(&mut self, more: usize) -> Result<(), AllocError>
         ensures words { self.new.words ≡ self.old.words }
@@ -212,7 +212,7 @@ impl WordIndex {
         self.links.reserve(more)
     }
 
-    /// Whether one word more can be put last with no fewer buckets than words, so that [`WordIndex::reserve`] has nothing to do.
+    /// Whether one more word can be added with at least as many buckets as words, so that [`WordIndex::reserve`] has nothing to do.
     #[inline(always)]
     pub fn has_room(&self) -> bool
         ensures room { result ≡ true → 0 < self.now.room }
@@ -222,7 +222,7 @@ impl WordIndex {
         count < self.buckets.len() && count < self.links.capacity() && count < NO_PLACE as usize
     }
 
-    /// Puts a word last, in constant time.
+    /// Adds a word at the end, in constant time.
     #[inline(always)]
     pub fn push(&mut self, word: u32)
         requires { 0 < self.old.room }
@@ -234,7 +234,7 @@ impl WordIndex {
         chain(&mut self.links, &mut self.buckets, at);
     }
 
-    /// Takes all words out. Their memory stays, as room for others. Takes time for the buckets.
+    /// Removes all words. Their memory stays, as room for others. Takes time for the buckets.
     pub fn clear(&mut self)
         ensures words { self.new.words ≡ [] }
         ensures room { length self.old.words + self.old.room ≤ self.new.room }
@@ -256,7 +256,7 @@ impl WordIndex {
         relink_all(&mut self.links, &mut self.buckets);
     }
 
-    /// Takes the word at a place out. Takes time for all words.
+    /// Removes the word at a place. Takes time for all words.
     pub fn remove(&mut self, at: usize)
         requires { at < length self.old.words }
         ensures words { self.new.words ≡ remove self.old.words at }
@@ -274,8 +274,8 @@ impl WordIndex {
         self.set_each(&[at], word);
     }
 
-    /// Puts another word at all these places. Where they ascend, takes time for them and, once, for the places of the word's
-    /// bucket; each one that stands before the one named last takes the time of that bucket anew.
+    /// Puts another word at all these places. If they ascend, takes time for them and, once, for the places of the word's
+    /// bucket; each one that is less than the one before it takes the time of that bucket again.
     pub fn set_each(&mut self, places: &[usize], word: u32)
         requires { AllByRecursion (λ at. at < length self.old.words) places.now }
         ensures { self.new.words ≡ set_each self.old.words places.now word }
@@ -286,7 +286,7 @@ impl WordIndex {
         move_each(&mut self.links, &mut self.buckets, places, word);
     }
 
-    /// Puts all words of another list behind the first `at` ones. Takes time for all words; behind all others, for the other list's alone.
+    /// Puts all words of another list after the first `at` ones. Takes time for all words; after all others, only for the other list's.
     pub fn insert_all(&mut self, at: usize, other: WordIndex)
         requires room { length other.words ≤ self.old.room }
         requires within { at ≤ length self.old.words }
@@ -308,7 +308,7 @@ impl WordIndex {
         }
     }
 
-    /// Weaves the words from `first` on among those before them. Takes no memory, and time for all words: those between them
+    /// Weaves the words from `first` on among those before them. Takes no memory, and time for all words: those between the runs
     /// are moved once for each time that the runs can be halved, and all are linked once.
     pub fn weave(&mut self, first: usize, runs: &[Run])
         requires within { first ≤ length self.old.words }
@@ -323,11 +323,11 @@ impl WordIndex {
         relink_all(&mut self.links, &mut self.buckets);
     }
 
-    /// The same words again. Takes memory for the places and buckets at once.
+    /// A copy of the words. Takes the memory for the links and for the buckets at once.
     ///
     /// # Errors
     ///
-    /// Want of memory.
+    /// Out of memory.
     pub fn try_clone(&self) -> Result<WordIndex, AllocError>
         ensures { IfOk result (λ copy. copy.words ≡ self.now.words) }
     {
@@ -374,7 +374,7 @@ fn unlinked(word: u32) -> Link
     }
 }
 
-/// The places of a word in the list, in order, from either end. What is left of a walk is the list of places.
+/// The places of a word in the list, in order, from either end.
 #[derive(Drop)]
 pub struct Places<'a> {
     links: &'a [Link],

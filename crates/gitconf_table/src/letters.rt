@@ -1,4 +1,4 @@
-//! Names one behind the other in one list of bytes, and the places at which they stand there.
+//! Names one after the other in one list of bytes, and their places there.
 ghost use Rattle.std.specs.Prelude.{◌≡◌, ◌+◌, ◌<◌, ◌≤◌, ◌^◌, drop, length, take, vec_capacity, vec_len, IfOk, OnOk, OnErr};
 ghost use Rattle.std.specs.Option.{option_copied, option_map};
 ghost use Rattle.gitconf_text.specs.Bytes.{fold};
@@ -9,15 +9,15 @@ use crate::word::Mixing;
 use std::alloc::AllocError;
 use std::mem::size_of;
 
-/// Where bytes stand: the place of the first one, and how many there are.
+/// A place: the offset of its first byte, and how many bytes there are.
 #[derive(Clone, Copy)]
 pub(crate) struct Part {
     pub(crate) start: u32,
     pub(crate) len: u32,
 }
 
-/// Where the name of a section stands, in ASCII lower case, and how many bytes its subsection has, if it has one. That
-/// stands directly behind the name.
+/// Where the name of a section is, in ASCII lower case, and how many bytes its subsection has, if it has one. The subsection
+/// directly follows the name.
 #[derive(Clone, Copy)]
 pub(crate) struct Names {
     pub(crate) start: u32,
@@ -25,10 +25,10 @@ pub(crate) struct Names {
     pub(crate) subsection_len: Option<u32>,
 }
 
-// Each row of a table has its own.
+// Each row of a table has such a value, so its size counts.
 const _: () = prove!(size_of::<Names>() == 16);
 
-/// So many bytes from a place on.
+/// The `len` bytes from `start` on.
 fn bytes_from(letters: &[u8], start: usize, len: usize) -> &[u8]
     ensures { result.now ≡ take len (drop start letters.now) }
 {
@@ -54,11 +54,11 @@ pub(crate) fn subsection_at(letters: &[u8], names: Names) -> Option<&[u8]>
     }
 }
 
-/// Makes room for so many bytes more.
+/// Makes room for that many more bytes.
 ///
 /// # Errors
 ///
-/// Want of memory, also where more than 4294967295 bytes would stand there.
+/// Out of memory, or there would be more than 4294967295 bytes.
 pub(crate) fn make_room(letters: &mut Vec<u8>, more: usize) -> Result<(), AllocError>
     ensures items { letters.new.items ≡ letters.old.items }
     ensures len { vec_len letters.new ≡ vec_len letters.old }
@@ -72,7 +72,7 @@ pub(crate) fn make_room(letters: &mut Vec<u8>, more: usize) -> Result<(), AllocE
     letters.reserve(more)
 }
 
-/// Puts bytes behind the others, within the room that there is, and answers their place.
+/// Puts bytes after the others, within the room that there is, and returns their place.
 pub(crate) fn put(letters: &mut Vec<u8>, bytes: &[u8]) -> Part
     requires room { vec_len letters.old + length bytes.now ≤ vec_capacity letters.old }
     requires places { vec_len letters.old + length bytes.now < 2 ^ 32 }
@@ -88,8 +88,8 @@ pub(crate) fn put(letters: &mut Vec<u8>, bytes: &[u8]) -> Part
     }
 }
 
-/// Puts a name in ASCII lower case behind the other bytes, as [`put`] does, and answers its place and the state behind it. A
-/// name is short, so each byte is read and written once, in place of a copy that is put in lower case and read again.
+/// Puts a name in ASCII lower case after the other bytes, as [`put`] does, and returns its place and the state after it. A
+/// name is short, so each byte is read and written once, instead of a copy that is put in lower case and read again.
 #[tactic(auto, unfolding(crate::specs::Word::name_state))]
 #[inline(always)]
 fn put_folded(letters: &mut Vec<u8>, seed: u64, name: &[u8]) -> (Part, u64)
@@ -123,7 +123,7 @@ fn names_len(name: &[u8], subsection: Option<&[u8]>) -> Result<usize, AllocError
     }
 }
 
-/// Puts a subsection behind the other bytes, if there is one, and answers how many bytes it has.
+/// Puts a subsection after the other bytes, if there is one, and returns how many bytes it has.
 fn put_subsection(letters: &mut Vec<u8>, subsection: Option<&[u8]>) -> Option<u32>
     requires room { vec_len letters.old + subsection_len (option_copied subsection) ≤ vec_capacity letters.old }
     requires places { vec_len letters.old + subsection_len (option_copied subsection) < 2 ^ 32 }
@@ -135,12 +135,12 @@ fn put_subsection(letters: &mut Vec<u8>, subsection: Option<&[u8]>) -> Option<u3
     }
 }
 
-/// Puts the name, in ASCII lower case, and the subsection behind the other bytes, and answers their places and the state
-/// behind the name.
+/// Puts the name, in ASCII lower case, and the subsection after the other bytes, and returns their places and the state
+/// after the name.
 ///
 /// # Errors
 ///
-/// Want of memory, also where more than 4294967295 bytes would stand there. The bytes are as they were.
+/// Out of memory, or there would be more than 4294967295 bytes. The bytes are as they were.
 pub(crate) fn put_names(
     letters: &mut Vec<u8>,
     seed: u64,
@@ -166,7 +166,7 @@ impl Names {
     ghost use Rattle.std.specs.Prelude.{◌≡◌, ◌-◌, ◌^◌};
     ghost use Rattle.gitconf_table.specs.Letters.{moved_names, NamesFit};
 
-    /// The same places among bytes that stand behind so many others.
+    /// The same places, after `by` bytes were put before.
     pub(crate) fn moved(self, by: u32) -> Names
         requires { NamesFit (2 ^ 32 - 1 - by) self }
         ensures { result ≡ moved_names by self }

@@ -1,4 +1,4 @@
-//! The sections of a git configuration file under numbers, in file order, found by number and by name.
+//! The sections of a git configuration file, in file order, found by number and by name.
 #![tactic(auto)]
 
 mod index;

@@ -1,10 +1,10 @@
-//! What lists lack.
+//! Operations on lists that `Vec` lacks.
 ghost use Rattle.std.specs.Prelude.{◌≡◌, ◌+◌, ◌-◌, ◌^◌, ◌<◌, ◌≤◌, [], ◌∷◌, ◌++◌, drop, length, take, vec_capacity, vec_len};
 ghost use Rattle.gitconf_table.specs.Runs.{total, woven, AreRuns};
 
 use crate::runs::Run;
 
-/// Moves the added elements behind the first `at` ones, within the room that there is.
+/// Moves the elements of `added` after the first `at` ones, within the room that there is.
 pub(crate) fn put_at<T>(list: &mut Vec<T>, at: usize, added: &mut Vec<T>)
     requires within { at ≤ vec_len list.old }
     requires room { vec_len list.old + vec_len added.old ≤ vec_capacity list.old }
@@ -35,7 +35,7 @@ pub(crate) fn weave<T>(list: &mut Vec<T>, first: usize, runs: &[Run])
     weave_halves(list, first, runs);
 }
 
-// The same of a slice. The first half of the runs is one run at first, so each half has its part of the list.
+// The same for a slice. First the first half of the runs is moved as one run, so that each half has its part of the list.
 fn weave_halves<T>(list: &mut [T], first: usize, runs: &[Run])
     requires within { first ≤ length list.old }
     requires runs { AreRuns runs.now first (length list.old - first) }
@@ -58,7 +58,7 @@ fn weave_halves<T>(list: &mut [T], first: usize, runs: &[Run])
     weave_halves(behind, first - all.ahead, right);
 }
 
-// The same of one run.
+// The same for one run.
 fn weave_run<T>(list: &mut [T], first: usize, run: Run)
     requires ahead { run.ahead ≤ first }
     requires count { first + run.count ≤ length list.old }
@@ -70,7 +70,7 @@ fn weave_run<T>(list: &mut [T], first: usize, run: Run)
     part.rotate_left(behind);
 }
 
-// All runs as one.
+// All runs put together to one.
 fn total(runs: &[Run]) -> Run
     requires ahead { (total runs.now).ahead < 2 ^ 64 }
     requires count { (total runs.now).count < 2 ^ 64 }

@@ -1,6 +1,6 @@
-//! What was put behind a list goes among its elements, run by run.
+//! What was added at the end of a list goes among its elements, run by run.
 
-/// So many of the first elements, and then so many of the others.
+/// That many of the first elements, and then that many of the others.
 #[derive(Clone, Copy)]
 pub struct Run {
     /// How many of the first.

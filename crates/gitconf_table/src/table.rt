@@ -1,5 +1,5 @@
-//! The table of a file's sections and their numbers. Its contracts speak of the plain list in file order. Behind it
-//! stand the place of each number, and indexes by name and by name and subsection, so that no look-up walks over all.
+//! The table of a file's sections and their numbers. Its contracts speak of the plain list in file order. Besides it, it
+//! keeps the place of each number, and indexes by name and by name and subsection, so that no lookup walks over all sections.
 ghost use Rattle.std.specs.Prelude.{◌≡◌, ℕ, ◌+◌, ◌-◌, ◌^◌, ◌<◌, ◌≤◌, ◌==◌, ◌↔◌, [], ◌++◌, drop, length, map, slice_get, slice_index, take, vec_capacity, vec_len, IfErr, IfOk, IfSome, OnOk, OnErr, IsErrOf};
 ghost use Rattle.std.specs.Iterator.{item_count, YieldsFirst, YieldsFirstBy, YieldsLast, YieldsLastBy};
 ghost use Rattle.std.specs.List.{list_any};
@@ -34,7 +34,7 @@ mod weaving;
 pub use by_name::{Named, WithName};
 use reseeding::change_words;
 
-/// The number of a section, by which it is found whatever comes before or behind it. The default is the
+/// The number of a section, by which it is found whatever is added or removed around it. The default is the
 /// greatest number, which no section gets from a table.
 #[derive(Clone, Copy, PartialEq, Eq, PartialOrd, Ord, Hash, Debug)]
 pub struct SectionId {
@@ -68,7 +68,7 @@ struct Row<T> {
     section: T,
 }
 
-// 24 bytes beside what the section holds.
+// 24 bytes besides what the section holds.
 const _: () = prove!(size_of::<Row<u64>>() == 32);
 
 impl<T: Clone> Clone for Row<T> {
@@ -85,16 +85,16 @@ impl<T: Clone> Clone for Row<T> {
     }
 }
 
-/// The sections of a file, each with its number, in file order. At most 4294967295 of them stand at a time: one more is
-/// refused for want of memory.
+/// The sections of a file, each with its number, in file order. There are at most 4294967295 of them at a time: one more
+/// counts as out of memory.
 #[derive(Drop)]
 pub struct SectionTable<T> {
     rows: Vec<Row<T>>,
-    // The names and subsections of all rows, also those that no row has any more.
+    // The names and subsections of all rows, and of rows that were removed or renamed.
     letters: Vec<u8>,
-    // The place of each number that stands; of another one some place. Of 32 bits, since the indexes take no more words.
+    // For each number that a section has, its place; for another number any place. 32 bits, since the indexes take no more words.
     places: Vec<u32>,
-    // The rows by the words of their names, and by those of their names and subsections; what the words are made from.
+    // The rows by the words of their names, and by those of their names and subsections; and the seed of the words.
     names: WordIndex,
     full: WordIndex,
     seed: u64,
@@ -116,8 +116,8 @@ impl<T> Model for SectionTable<T> {
 impl<T> SectionTable<T> {
     ghost use Rattle.gitconf_table.specs.SectionLoan.{LendsSection};
 
-    /// A table without sections, whose first one gets the number 0. The words by which names are found are made from a seed
-    /// that everyone may know: see [`SectionTable::reseed`].
+    /// A table without sections; the first one gets the number 0. The words by which names are found are made from a seed
+    /// that everyone can know: see [`SectionTable::reseed`].
     pub fn new(alloc: Global) -> SectionTable<T>
         ensures empty { result.entries ≡ [] }
         ensures first { result.next ≡ 0 }
@@ -133,12 +133,12 @@ impl<T> SectionTable<T> {
         }
     }
 
-    /// The same table again: its sections under their numbers and names, with clones of what they hold, and the same seed.
+    /// A copy of the table: its sections with their numbers and names, clones of what they hold, and the same seed.
     /// Takes memory for the names, the places and the indexes at once.
     ///
     /// # Errors
     ///
-    /// Want of memory, here or in a clone.
+    /// Out of memory, here or in a clone.
     pub fn try_clone(&self) -> Result<SectionTable<T>, NoMemory>
     where
         T: Clone,
@@ -169,7 +169,7 @@ impl<T> SectionTable<T> {
         self.rows.is_empty()
     }
 
-    /// The number that the next section gets, if it is not the greatest; and no number was given twice.
+    /// The number that the next section gets, unless it is the greatest number. No number was given twice.
     pub fn next_id(&self) -> SectionId
         ensures value { result ≡ self.now.next }
         ensures numbered { IsNumbered self.now }
@@ -184,7 +184,7 @@ impl<T> SectionTable<T> {
         usize::MAX - self.next
     }
 
-    /// The place of a section in file order, or `None` where none has that number. Takes constant time.
+    /// The place of a section in file order, or `None` if none has this number. Takes constant time.
     pub fn position(&self, id: SectionId) -> Option<usize>
         ensures place { result ≡ place_of id self.now }
         ensures within { IfSome result (λ at. at < length self.now.entries) }
@@ -200,7 +200,7 @@ impl<T> SectionTable<T> {
         if row.id == id { Some(at) } else { None }
     }
 
-    /// What the section of that number holds, or `None` where none has it. Takes constant time.
+    /// What the section of this number holds, or `None` if none has it. Takes constant time.
     pub fn get(&self, id: SectionId) -> Option<&T>
         ensures { option_copied result ≡ section_of id self.now }
     {
@@ -217,8 +217,8 @@ impl<T> SectionTable<T> {
         SectionIter { rows: &self.rows }
     }
 
-    /// The numbers of the sections of that name, without ASCII case, and exactly that subsection, in file
-    /// order. Takes no memory, and constant time but for the bytes of the names; each step too takes the time of the
+    /// The numbers of the sections of this name, without ASCII case, and exactly this subsection, in file
+    /// order. Takes no memory, and constant time except for the bytes of the names; each step takes the time of the
     /// sections that share a bucket, one or two on average besides those that are asked for.
     pub fn ids<'a, 'n, 's>(
         &'a self,
@@ -237,7 +237,7 @@ impl<T> SectionTable<T> {
         }
     }
 
-    /// The sections of that name, without ASCII case, and exactly that subsection, in file order, each as its
+    /// The sections of this name, without ASCII case, and exactly this subsection, in file order, each as its
     /// number and what it holds. Takes the time of [`SectionTable::ids`], and no memory.
     pub fn named<'a, 'n, 's>(
         &'a self,
@@ -256,7 +256,7 @@ impl<T> SectionTable<T> {
         }
     }
 
-    /// The sections of that name, without ASCII case, and any subsection, in file order, each as its number and
+    /// The sections of this name, without ASCII case, and any subsection, in file order, each as its number and
     /// what it holds. Takes the time of [`SectionTable::ids`], and no memory.
     pub fn with_name<'a, 'n>(&'a self, name: &'n str) -> WithName<'a, 'n, T>
         ensures left { with_name_left result ≡ all_named name.now self.now }
@@ -270,7 +270,7 @@ impl<T> SectionTable<T> {
         }
     }
 
-    /// Whether some section has that name, without ASCII case, and any subsection. Takes constant time but for the
+    /// Whether some section has this name, without ASCII case, and any subsection. Takes constant time except for the
     /// bytes of the names.
     pub fn has_name(&self, name: &str) -> bool
         ensures { result ≡ list_any (has_name name.now) self.now.entries }
@@ -299,7 +299,7 @@ impl<T> SectionTable<T> {
         &row.section
     }
 
-    /// What the section at a place holds, to be changed in place. Its number and names stay.
+    /// What the section at a place holds, to change it in place. Its number and names stay.
     pub fn at_mut(&mut self, position: usize) -> &mut T
         requires { position < length self.old.entries }
         ensures* writes_back { sem 𝓛 (LendsSection T.row self.entry position result) }
@@ -309,12 +309,12 @@ impl<T> SectionTable<T> {
         &mut row.section
     }
 
-    /// Makes room at once for so many more sections, for their places and for the indexes; each of them that is put last
-    /// then takes memory for its names alone.
+    /// Makes room at once for that many more sections, for their places and for the indexes; each of them that is then added at the end
+    /// takes memory for its names alone.
     ///
     /// # Errors
     ///
-    /// Want of memory, also where there would be more than 4294967295 sections. The table is as it was.
+    /// Out of memory, or there would be more than 4294967295 sections. The table is as it was.
     pub fn reserve(&mut self, more: usize) -> Result<(), NoMemory>
     where
         T: Drop,
@@ -327,11 +327,11 @@ impl<T> SectionTable<T> {
         Ok(())
     }
 
-    /// Puts a section last, under the next number and `name` in ASCII lower case, and answers that number.
+    /// Adds a section at the end, under the next number and `name` in ASCII lower case, and returns that number.
     /// Takes memory for the names, and constant time and memory on average for its place and the indexes.
     ///
-    /// Errors: a [`span::Error`], number 3 where only the greatest number is left, and else 27 for want of
-    /// memory, also where 4294967295 sections stand. The table then is as it was.
+    /// Errors: a [`span::Error`], number 3, if only the greatest number is left, otherwise 27 when out of
+    /// memory, or if there are 4294967295 sections. The table is then as it was.
     pub fn push(
         &mut self,
         name: &[u8],
@@ -367,12 +367,12 @@ impl<T> SectionTable<T> {
         Ok(id)
     }
 
-    /// Puts a section directly behind the one at a place, under the next number and `name` in ASCII lower
-    /// case, and answers that number. Takes memory for the names, and on average constant memory for its place and the
-    /// indexes; moves what stands behind, and links all sections anew.
+    /// Puts a section directly after the one at a place, under the next number and `name` in ASCII lower
+    /// case, and returns that number. Takes memory for the names, and on average constant memory for its place and the
+    /// indexes; moves what follows, and links all sections again.
     ///
-    /// Errors: a [`span::Error`], number 3 where only the greatest number is left, and else 27 for want of
-    /// memory, also where 4294967295 sections stand. The table then is as it was.
+    /// Errors: a [`span::Error`], number 3, if only the greatest number is left, otherwise 27 when out of
+    /// memory, or if there are 4294967295 sections. The table is then as it was.
     pub fn insert_behind(
         &mut self,
         position: usize,
@@ -403,7 +403,7 @@ impl<T> SectionTable<T> {
         let row = Row { id, names, section };
         let at = position + 1;
         self.rows.insert(at, row).unwrap();
-        // Some place for now: all are written down once the row stands.
+        // Any place for now: all are written down once the row is there.
         self.places.push(0).unwrap();
         relocate(&self.rows, &mut self.places, 0);
         self.names.insert(at, word_of(state));
@@ -412,13 +412,13 @@ impl<T> SectionTable<T> {
         Ok(id)
     }
 
-    /// Puts all sections of another table behind the first `position` ones, in their order and under the next
-    /// numbers. Their names and what they hold are moved. Takes memory for the places and the indexes, moves what stands
-    /// behind, and links all sections anew; behind all others, those of the other table alone. A table with another seed gets
+    /// Puts all sections of another table after the first `position` ones, in their order and under the next
+    /// numbers. Their names and what they hold are moved. Takes memory for the places and the indexes, moves what
+    /// follows, and links all sections again; after all others, only those of the other table. A table with another seed gets
     /// new words first, as [`SectionTable::reseed`] makes them.
     ///
-    /// Errors: a [`span::Error`], number 3 where fewer numbers are left than the other has sections, and else
-    /// 27 for want of memory, also where there would be more than 4294967295 sections. The table then is as it was, and
+    /// Errors: a [`span::Error`], number 3, if fewer numbers are left than the other has sections, otherwise
+    /// 27 when out of memory, or if there would be more than 4294967295 sections. The table is then as it was, and
     /// the other is dropped.
     pub fn insert_all(&mut self, position: usize, other: SectionTable<T>) -> Result<(), span::Error>
     where
@@ -458,8 +458,8 @@ impl<T> SectionTable<T> {
         Ok(())
     }
 
-    /// Takes the section of that number out, and answers what it held, or `None` where none has it. Its number
-    /// is not given again. Moves what stands behind, and links all sections anew.
+    /// Removes the section of this number, and returns what it held, or `None` if none has it. Its number
+    /// is not given again. Moves what follows, and links all sections again.
     pub fn remove(&mut self, id: SectionId) -> Option<T>
         ensures held { result ≡ section_of id self.old }
         ensures rest { self.new ≡ without id self.old }
@@ -478,7 +478,7 @@ impl<T> SectionTable<T> {
 
     /// Gives the section at a place other names, `name` in ASCII lower case; its number, its place and what it
     /// holds stay. Takes memory for the names, and time for them and for the sections that have the new name, or share a
-    /// bucket with them. For want of memory the table is as it was.
+    /// bucket with them. When out of memory the table is as it was.
     pub fn rename(
         &mut self,
         position: usize,
@@ -499,7 +499,7 @@ impl<T> SectionTable<T> {
     }
 }
 
-// The places at which the word of the name stands, of words that were made from the seed.
+// The places with the word of the name; the words were made from the seed.
 fn places_of_name<'a>(names: &'a WordIndex, seed: u64, name: &str) -> Places<'a>
     ensures { result ≡ places_of (name_word seed name.now) names.now.words }
 {
@@ -507,7 +507,7 @@ fn places_of_name<'a>(names: &'a WordIndex, seed: u64, name: &str) -> Places<'a>
     names.places(word_of(state))
 }
 
-// The same of the name and subsection.
+// The same for the name and subsection.
 fn places_named<'a>(
     full: &'a WordIndex,
     seed: u64,
@@ -520,7 +520,7 @@ fn places_named<'a>(
     full.places(word_of(full_state(state, subsection)))
 }
 
-// Makes room for one row more, its place and its words. Mostly there is some, so that is asked of all of them first.
+// Makes room for one more row, its place and its words. Mostly there is room, so that is tested first for all of them.
 #[inline(always)]
 fn reserve_row<T: Drop>(
     rows: &mut Vec<Row<T>>,
@@ -548,7 +548,7 @@ fn reserve_row<T: Drop>(
     full.reserve(1)
 }
 
-// Writes down the place of each row from one on under its number, behind those that have theirs.
+// Writes down the place of each row from `from` on under its number; those before it have theirs.
 fn relocate<T>(rows: &Vec<Row<T>>, places: &mut Vec<u32>, from: usize)
     requires long { vec_len rows.now ≤ no_place }
     requires from { from ≤ length (numbers_in rows.now.items) }
@@ -565,7 +565,7 @@ fn relocate<T>(rows: &Vec<Row<T>>, places: &mut Vec<u32>, from: usize)
     }
 }
 
-// Makes room for the places of so many numbers more, behind those below `next`.
+// Makes room for the places of `count` more numbers, after those below `next`.
 fn add_places(places: &mut Vec<u32>, next: usize, count: usize) -> Result<(), AllocError>
     requires { next + count ≤ no_number }
     ensures ok { OnOk result (vec_len places.new ≡ next + count) }
@@ -575,7 +575,7 @@ fn add_places(places: &mut Vec<u32>, next: usize, count: usize) -> Result<(), Al
     places.resize(next + count, 0)
 }
 
-// Gives the rows the numbers from `next` on, and moves the places of their names behind so many other bytes.
+// Gives the rows the numbers from `next` on, and moves the places of their names by `behind` bytes.
 fn renumber<T>(rows: &mut Vec<Row<T>>, next: usize, behind: u32)
     requires numbers { next + vec_len rows.old ≤ no_number }
     requires places { RowsFit (2 ^ 32 - 1 - behind) rows.old.items }

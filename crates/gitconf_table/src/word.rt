@@ -1,24 +1,24 @@
-//! The words by which names are found: each is made from a seed, so names that collide under one seed mostly don't under
-//! another.
+//! The words (hashes of 32 bits) by which names are found: each is made from a seed, so names that collide under one seed mostly
+//! don't under another.
 ghost use Rattle.std.specs.Prelude.{◌≡◌};
 ghost use Rattle.std.specs.Option.{option_copied};
 ghost use Rattle.gitconf_text.specs.Bytes.{fold};
 ghost use Rattle.gitconf_table.specs.Word.{full_state, group_with, mixed, name_state, nothing_behind, text_state, whole_state, with_byte, with_bytes, word_of};
 
-/// The seed where none is given: the first digits of pi behind its point. Everyone may know it.
+/// The seed if none is given: the first digits of pi after its point. Everyone can know it.
 pub(crate) const SEED: u64 = 0x243f_6a88_85a3_08d3;
 
-// 2^64 by the golden ratio, made odd: ones and zeros stand in it without a pattern.
+// 2^64 divided by the golden ratio, made odd: its ones and zeros have no pattern.
 const MULTIPLIER: u64 = 0x9e37_79b9_7f4a_7c15;
 
-// A group of no bytes. The 1 stands before the bytes, so that groups of fewer are other numbers.
+// A group of no bytes. The 1 comes before the bytes, so that shorter groups are other numbers.
 const NO_BYTES: u64 = 1;
 
-// Seven bytes behind the 1, or more.
+// A number at least as great as this has the 1 and seven bytes.
 const FULL: u64 = 1 << 56;
 
-// A state with a group of bytes more: the two halves of a product of 128 bits, one upon the other. The lower half alone would
-// carry no bit downwards, so that names could be found which collide whatever the seed is.
+// A state with one more group of bytes: the two halves of a 128-bit product, combined by exclusive or. The lower half alone
+// would carry no bit downwards, so that names could be found which collide whatever the seed is.
 #[tactic(auto, unfolding(crate::specs::Word::mixed))]
 #[inline(always)]
 fn mixed(state: u64, group: u64) -> u64
@@ -28,8 +28,8 @@ fn mixed(state: u64, group: u64) -> u64
     low ^ high
 }
 
-/// A state in the making, of a name that is put in lower case byte by byte: that of all full groups, of seven bytes each,
-/// and the bytes behind these.
+/// A state while a name is put in lower case byte by byte: that of all full groups, of seven bytes each,
+/// and the bytes after these.
 #[derive(Clone, Copy)]
 pub(crate) struct Mixing {
     state: u64,
@@ -37,7 +37,7 @@ pub(crate) struct Mixing {
 }
 
 impl Mixing {
-    /// No bytes behind a state.
+    /// No bytes after a state.
     #[inline(always)]
     pub(crate) fn behind(state: u64) -> Mixing
         ensures { result ≡ nothing_behind state }
@@ -74,7 +74,7 @@ impl Mixing {
     }
 }
 
-/// The state behind a name, without ASCII case.
+/// The state after a name, without ASCII case.
 #[tactic(auto, unfolding(crate::specs::Word::name_state))]
 pub(crate) fn name_state(seed: u64, name: &[u8]) -> u64
     ensures { result ≡ name_state seed name.now }
@@ -88,7 +88,7 @@ pub(crate) fn name_state(seed: u64, name: &[u8]) -> u64
     mixing.whole()
 }
 
-// So many bytes, fewer than eight, behind a group.
+// Fewer than eight bytes after a group.
 fn group_with(first: u64, bytes: &[u8]) -> u64
     ensures { result ≡ group_with first bytes.now }
 {
@@ -99,7 +99,7 @@ fn group_with(first: u64, bytes: &[u8]) -> u64
     group
 }
 
-// The state behind a text. It may be long and needs no lower case, so its bytes are taken by eights.
+// The state after a text. It may be long and needs no lower case, so eight bytes at a time are taken.
 #[tactic(auto, unfolding(crate::specs::Word::text_state))]
 fn text_state(from: u64, text: &[u8]) -> u64
     ensures { result ≡ text_state from text.now }
@@ -112,7 +112,7 @@ fn text_state(from: u64, text: &[u8]) -> u64
     mixed(state, group_with(NO_BYTES, rest))
 }
 
-/// The state behind a name and a subsection, from that behind the name.
+/// The state after a name and a subsection, from that after the name.
 pub(crate) fn full_state(state: u64, subsection: Option<&[u8]>) -> u64
     ensures { result ≡ full_state state (option_copied subsection.entry) }
 {
@@ -122,8 +122,8 @@ pub(crate) fn full_state(state: u64, subsection: Option<&[u8]>) -> u64
     }
 }
 
-/// The word of a state, of 32 bits, since each link keeps one: the upper half of the state, which is mixed once more for it.
-/// Else the last group of a text had gone through one product only, and names that differ there alone shared more buckets.
+/// The word of a state, of 32 bits, since each link keeps one: the upper half of the state, after it is mixed once more.
+/// Otherwise the last group of a text would go through one product only, and names that differ only there would share more buckets.
 #[inline(always)]
 pub(crate) fn word_of(state: u64) -> u32
     ensures { result ≡ word_of state }

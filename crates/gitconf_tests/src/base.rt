@@ -27,7 +27,7 @@ static SOURCES: [InGroup; 10] = [
     (Source::EnvOverride, Kind::Override, false),
 ];
 
-/// Whether the source stands in its group so.
+/// Whether the row has the source's group, and whether the group lists it.
 fn is_in_group(row: &InGroup) -> bool {
     let (source, kind, is_listed) = *row;
     source.kind() == kind && kind.sources().contains(&source) == is_listed
@@ -137,13 +137,13 @@ fn has_same_copy(made: &Metadata, parts: &Parts<'_>) -> Result<bool, NoMemory> {
     Ok(has_parts(&made.try_clone()?, parts))
 }
 
-/// Whether metadata of these parts has them, and a copy of it too.
+/// Whether metadata of these parts has them, and so has a copy of it.
 fn is_copied(alloc: Global, parts: &Parts<'_>) -> Result<bool, Fail> {
     let made = of_parts(alloc, parts)?;
     Ok(has_parts(&made, parts) && has_same_copy(&made, parts)?)
 }
 
-/// How the metadata of two rows stands in order, and whether it is the same.
+/// How the metadata of two rows is ordered, and whether it is the same.
 fn compared(
     alloc: Global,
     one: &Parts<'_>,
@@ -168,7 +168,7 @@ static ASCENDING: [Parts<'static>; 10] = [
     (Some("/b"), Source::GitInstallation, 0, Trust::Full),
 ];
 
-/// Whether the metadata at this place stands in order as its place does.
+/// Whether the metadata at this place is ordered as its place is.
 fn is_in_order(alloc: Global, at: usize, one: &Parts<'_>) -> Result<bool, AllocError> {
     for (place, other) in ASCENDING.iter().enumerate() {
         if compared(alloc, one, other)? != (at.cmp(&place), at == place) {
@@ -203,13 +203,13 @@ fn have_folders(homes: &Homes) -> bool {
     FOLDERS.iter().all(|row| homes.get(row.0) == row.1)
 }
 
-/// Whether a table of the users tells them.
+/// Whether a table of the users finds them.
 fn are_found(alloc: Global) -> Result<bool, NoMemory> {
     let homes = homes(alloc, &USERS)?;
     Ok(have_folders(&homes))
 }
 
-/// Whether no user is known where none was put in.
+/// Whether a table into which no user was put knows nobody.
 fn knows_nobody(alloc: Global) -> bool {
     Homes::new(alloc).get("u").is_none()
 }

@@ -1,4 +1,4 @@
-//! Files and variables in memory, by themselves and in the boxes of a host; with each growth refused in turn.
+//! Files and variables in memory, alone and in the boxes of a host; with each growth refused in turn.
 
 use crate::shim::{Outcome, begin, each_refused, was_refused};
 use gitconf_base::source::Trust;
@@ -7,7 +7,7 @@ use gitconf_text::NoMemory;
 use std::alloc::{AllocError, Global};
 use std::test::Fail;
 
-/// A path, whether a file stands there, and its bytes and trust, or the fault of both.
+/// A path, whether a file is there, and its bytes and trust, or the fault of both.
 type Row = (
     &'static str,
     bool,
@@ -59,7 +59,7 @@ static ROWS: [Row; 7] = [
     ),
 ];
 
-/// A file that answers so.
+/// A file that behaves as the row says.
 fn file_of(alloc: Global, row: &Row) -> Result<MemFile, AllocError> {
     match row.2 {
         Ok((text, trust)) => Ok(MemFile::Bytes(Vec::from_slice(alloc, text)?, trust)),
@@ -101,12 +101,12 @@ fn has_bytes(read: &Result<Vec<u8>, FileFault>, row: &Row) -> bool {
     }
 }
 
-/// Whether reading answers so.
+/// Whether reading returns what the row says.
 fn is_read<F: Files>(files: &mut F, row: &Row) -> bool {
     has_bytes(&files.read(row.0), row)
 }
 
-/// Whether the trust is told so.
+/// Whether the trust is what the row says.
 fn is_trusted<F: Files>(files: &mut F, row: &Row) -> bool {
     match (files.trust(row.0), row.2) {
         (Ok(trust), Ok((_, told))) => trust == told,
@@ -115,7 +115,7 @@ fn is_trusted<F: Files>(files: &mut F, row: &Row) -> bool {
     }
 }
 
-/// Whether all rows are answered so.
+/// Whether all rows are returned.
 fn are_answered<F: Files>(files: &mut F) -> bool {
     for row in ROWS.iter() {
         let is_file = files.is_file(row.0) == row.1;
@@ -137,7 +137,7 @@ static NAMES: [Named; 5] = [
     ("HOM", Err(false)),
 ];
 
-/// A variable that is set so.
+/// A variable that is set as the row says.
 fn variable_of(alloc: Global, row: &Named) -> Result<EnvVar, AllocError> {
     match row.1 {
         Ok(text) => Ok(EnvVar::Text(String::from_str(alloc, text)?)),
@@ -172,7 +172,7 @@ fn is_variable(variable: &EnvVar, row: &Named) -> bool {
     }
 }
 
-/// Whether all names are set so.
+/// Whether all names are set as the rows say.
 fn are_set<E: Env>(env: &mut E) -> Result<bool, NoMemory> {
     for row in NAMES.iter() {
         let variable = env.var(row.0)?;
@@ -193,7 +193,7 @@ fn names_are_set(alloc: Global) -> Result<bool, NoMemory> {
     are_set(&mut env)
 }
 
-/// Whether a host answers so.
+/// Whether a host returns all of this.
 fn is_answering(host: &mut Host) -> Result<bool, NoMemory> {
     Ok(are_answered(&mut host.files) && are_set(&mut host.env)?)
 }
@@ -229,7 +229,7 @@ fn a_first_file(alloc: Global) -> Result<Outcome, Fail> {
     Ok(Outcome { refused, fits })
 }
 
-/// Whether these are the bytes of the row, or want of memory where a growth was refused.
+/// Whether these are the bytes of the row, or out of memory if a growth was refused.
 fn is_outcome(read: &Result<Vec<u8>, FileFault>, row: &Row, refused: bool) -> bool {
     match read {
         Ok(_) => has_bytes(read, row),
@@ -237,7 +237,7 @@ fn is_outcome(read: &Result<Vec<u8>, FileFault>, row: &Row, refused: bool) -> bo
     }
 }
 
-/// The bytes at `/b`; the files answer as before.
+/// The bytes at `/b`; the files return what they returned before.
 fn bytes_read(alloc: Global) -> Result<Outcome, Fail> {
     let mut files = files(alloc)?;
     begin(alloc)?;

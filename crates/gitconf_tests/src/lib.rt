@@ -1,5 +1,5 @@
-//! Tests of what stands below the parser: sources, metadata, home folders, hosts in memory, keys, names, tables of
-//! sections, and the texts of their refusals. Beside them stands what tests say to the shim that refuses growths.
+//! Tests of what is below the parser: sources, metadata, home folders, hosts in memory, keys, names, tables of
+//! sections, and the texts of their refusals. Also how tests talk to the shim that refuses growths.
 #![tactic(auto)]
 
 #[cfg(test)]

@@ -13,7 +13,7 @@ fn is_shown<T: Display>(alloc: Global, shown: &T, text: &str) -> Result<bool, Al
     Ok(format!(in alloc; "{shown}")?.as_str() == text)
 }
 
-/// Whether what is no name is refused by this number and text.
+/// Whether bytes that are not a name are refused with this number and text.
 fn is_name_refused(alloc: Global, number: u8, text: &str) -> Result<bool, AllocError> {
     match Name::try_from_bytes(alloc, b"a_b") {
         Ok(_) => Ok(false),
@@ -28,7 +28,7 @@ fn a_refused_name(rt: HostRuntime) -> Result<(), Fail> {
     Ok(())
 }
 
-/// The same of a name of a value.
+/// The same for the name of a value.
 fn is_value_name_refused(alloc: Global, number: u8, text: &str) -> Result<bool, AllocError> {
     match ValueName::try_from_bytes(alloc, b"1a") {
         Ok(_) => Ok(false),
@@ -51,7 +51,7 @@ fn want_of_memory(rt: HostRuntime) -> Result<(), Fail> {
     Ok(())
 }
 
-/// What a path is refused by that isn't UTF-8, and a user's name that isn't.
+/// The refusals of a path that isn't UTF-8, and of a user's name that isn't.
 fn refusals(err: Utf8Error) -> [interpolate::Error; 2] {
     let what = "path to interpolate";
     [

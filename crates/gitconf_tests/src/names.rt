@@ -1,4 +1,4 @@
-//! Names without case, and keys of all types.
+//! Names compared without case, and keys of all types.
 
 use bstr::BString;
 use gitconf_base::key::{AsKey, KeyRef};
@@ -11,24 +11,24 @@ use std::test::Fail;
 /// Two texts, and whether they are the same name.
 type Row = (&'static [u8], &'static [u8], bool);
 
-/// Whether both names are the same, as it is told, and ordered so.
+/// Whether both names are equal or not, as expected, and ordered so.
 fn are_told(one: &Name, other: &Name, is_same: bool) -> bool {
     (*one == *other) == is_same && one.cmp(other).is_eq() == is_same
 }
 
-/// Whether a copy of the name is spelled so.
+/// Whether a copy of the name has this spelling.
 fn is_copied(name: &Name, text: &[u8]) -> Result<bool, NoMemory> {
     Ok(name.to_owned()?.as_bytes() == text)
 }
 
-/// Whether both texts are names of sections as it is told. The second one is kept as it is spelled.
+/// Whether both texts are names of sections, equal or not as expected. The second one is kept as it is spelled.
 fn are_names(alloc: Global, row: &Row) -> Result<bool, Fail> {
     let first = Name::try_from_bytes(alloc, row.0)?;
     let second = Name::try_from(BString::from_slice(alloc, row.1)?)?;
     Ok(are_told(&first, &second, row.2) && is_copied(&second, row.1)?)
 }
 
-/// The same of names of values.
+/// The same for names of values.
 fn are_values_told(one: &ValueName, other: &ValueName, is_same: bool) -> bool {
     (*one == *other) == is_same && one.cmp(other).is_eq() == is_same
 }
@@ -60,7 +60,7 @@ fn names_have_no_case(rt: HostRuntime) -> Result<(), Fail> {
     Ok(())
 }
 
-/// Whether both calls of a key answer these three names, or both would answer none.
+/// Whether both calls of a key return these three names, or both would return none.
 fn answers<K: AsKey>(key: K, expected: Option<KeyRef<'_>>) -> bool {
     match key.try_as_key() {
         Some(tried) => key.as_key() == tried && Some(tried) == expected,
@@ -82,7 +82,7 @@ fn bytes_answer(
     )
 }
 
-/// The same of a text. What isn't one has nothing to answer.
+/// The same for a text. What isn't a text has nothing to check.
 fn text_answers(
     alloc: Global,
     text: &[u8],
@@ -95,7 +95,7 @@ fn text_answers(
     Ok(answers(text, expected) && answers(&owned, expected))
 }
 
-/// The same of the names themselves.
+/// The same for the names themselves.
 fn key_answers(expected: Option<KeyRef<'_>>) -> bool {
     match expected {
         Some(key) => answers(key, expected) && answers(&key, expected),

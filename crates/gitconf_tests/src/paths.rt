@@ -1,4 +1,4 @@
-//! What paths stand for where there is a table of users, which the language of the rows doesn't have; the folders that paths stand in,
+//! What paths stand for if there is a table of users, which the language of the rows doesn't have; the folders that paths are in,
 //! and joined paths.
 
 use crate::users::homes;
@@ -23,7 +23,7 @@ fn number(refusal: &Error) -> u8 {
 /// A path, and what it stands for, or the number of its refusal.
 type Row = (&'static [u8], Result<&'static str, u8>);
 
-/// Whether the path stands for that, or is refused so.
+/// Whether the path stands for that, or is refused with that number.
 fn is_interpolated(alloc: Global, context: Context<'_>, row: &Row) -> Result<bool, AllocError> {
     let path = Path::from(BString::from_slice(alloc, row.0)?);
     Ok(match path.interpolate(context) {
@@ -55,7 +55,7 @@ static PATHS: [Row; 13] = [
     (b"~\xff/\xff", Err(14)),
 ];
 
-/// Whether all paths stand for that where there are these users.
+/// Whether all paths stand for what the rows say, with these users.
 fn are_interpolated(alloc: Global, homes: &Homes) -> Result<bool, AllocError> {
     let context = Context {
         git_install_dir: Some("/p"),
@@ -81,7 +81,7 @@ fn folders_of_users(rt: HostRuntime) -> Result<(), Fail> {
     Ok(())
 }
 
-/// Paths, and the folder that each stands in.
+/// Paths, and the folder that each is in.
 static FOLDERS: [(&str, Option<&str>); 9] = [
     ("/x", Some("/")),
     ("//x", Some("/")),

@@ -131,7 +131,7 @@ static FIFTEEN: [&str; 15] = [
     "a", "b", "c", "d", "e", "f", "g", "h", "i", "j", "k", "l", "m", "n", "o",
 ];
 
-/// A first user, and one more than the fifteen that a node of the table has room for.
+/// A first user, and one more than the fifteen for which a node of the table has room.
 #[test]
 fn users(rt: HostRuntime) -> Result<(), Fail> {
     each_refused(rt.alloc(), "a first user", |alloc| another_user(alloc, &[]))?;
@@ -150,7 +150,7 @@ fn is_put_without_memory(alloc: Global, homes: &mut Homes) -> Result<bool, Alloc
     Ok(is_begun && !was_refused(alloc) && is_put && homes.get("u") == Some("/v"))
 }
 
-/// The same in a table that has this user alone.
+/// The same in a table that has only this user.
 fn is_put_in_place(alloc: Global) -> Result<bool, Fail> {
     let mut homes = homes_of(alloc, &["u"])?;
     Ok(is_put_without_memory(alloc, &mut homes)?)
@@ -163,7 +163,7 @@ fn another_home_folder(rt: HostRuntime) -> Result<(), Fail> {
     Ok(())
 }
 
-/// Whether the value has that meaning, which is told.
+/// Whether the value has this meaning.
 fn means(alloc: Global, value: &[u8], meaning: &[u8]) -> bool {
     match normalize(alloc, value) {
         Ok(found) => found.as_slice() == meaning,
@@ -171,7 +171,7 @@ fn means(alloc: Global, value: &[u8], meaning: &[u8]) -> bool {
     }
 }
 
-/// A key that is cut, and a meaning that stands in the text, take no memory.
+/// A key that is cut, and a meaning that is in the text, take no memory.
 #[test]
 fn keys_and_plain_values(rt: HostRuntime) -> Result<(), Fail> {
     begin(rt.alloc())?;

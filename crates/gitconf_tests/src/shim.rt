@@ -1,9 +1,9 @@
-//! How a test speaks to the shim that refuses a growth (`tools/refuse.c`): by the sizes of two blocks.
+//! How a test talks to the shim that refuses a growth (`tools/refuse.c`): by the sizes of two blocks.
 //!
-//! The shim, where it is loaded, learns by these blocks where a call begins and ends. In a process it refuses the first
-//! growth of the first call; the next one where it refused one in the last call; and the first one again behind a call
-//! that it left alone. So each call is made until nothing of it is refused, and then gives its full answer. Before, it
-//! says that memory was wanting, and all is as it was. Without the shim it is made once.
+//! The shim, if it is loaded, learns by these blocks where a call begins and ends. In a process it refuses the first
+//! growth of the first call; the next one if it refused one in the last call; and the first one again after a call
+//! in which it refused none. So each call is made until no growth of it is refused, and then gives its full result. Before that, it
+//! reports that memory ran out, and everything is as it was. Without the shim it is made once.
 use std::alloc::{AllocError, Global};
 use std::test::Fail;
 
@@ -11,7 +11,7 @@ const BEGIN: usize = 999_979;
 
 const END: usize = 999_983;
 
-/// More than any call has growths.
+/// More growths than any call has.
 pub const MOST: usize = 1000;
 
 /// From here on growths are counted, and one of them may be refused.
@@ -20,18 +20,18 @@ pub fn begin(alloc: Global) -> Result<(), AllocError> {
     Ok(())
 }
 
-/// From here on no growth is refused. Whether one was refused since `begin`: then the shim refuses this one too.
+/// From here on no growth is refused. Returns whether one was refused since `begin`: then the shim refuses this one too.
 pub fn was_refused(alloc: Global) -> bool {
     let block: Result<Vec<u8>, AllocError> = Vec::with_capacity(alloc, END);
     block.is_err()
 }
 
-/// How a call went of which a growth may have been refused.
+/// How a call went in which a growth may have been refused.
 #[derive(Clone, Copy)]
 pub struct Outcome {
     /// Whether a growth was refused.
     pub refused: bool,
-    /// Whether the answer is the full one, or else says that memory was wanting and left all as it was.
+    /// Whether the result is the full one, or else reports that memory ran out and left everything as it was.
     pub fits: bool,
 }
 

@@ -23,15 +23,15 @@ const BRANCH: Names<'static> = (b"branch", None);
 
 const OTHER: Names<'static> = (b"core", Some(b"\xff"));
 
-/// No place of any section.
+/// The place of no section.
 const LAST: usize = usize::MAX;
 
-/// A change of a table; a section is told by its place, or by its number to be removed.
+/// A change of a table; a section is given by its place, or by its number if it is removed.
 #[derive(Clone, Copy)]
 enum Step<'a> {
-    /// Behind a section, or last.
+    /// After a section, or last.
     Put(usize, Names<'a>, u8),
-    /// Before a section, a whole table.
+    /// Before a section, all sections of another table.
     PutAll(usize, &'a [(Names<'a>, u8)]),
     Remove(usize),
     Rename(usize, Names<'a>),
@@ -40,7 +40,7 @@ enum Step<'a> {
     Reseed(u64),
 }
 
-/// Puts a section in, then those, and removes the first.
+/// Puts a section in, then these, and removes the first.
 fn fill(table: &mut SectionTable<u8>, sections: &[(Names<'_>, u8)]) -> Result<(), span::Error> {
     let first = table.push(b"x", None, b'x')?;
     for (names, content) in sections {
@@ -50,7 +50,7 @@ fn fill(table: &mut SectionTable<u8>, sections: &[(Names<'_>, u8)]) -> Result<()
     Ok(())
 }
 
-/// A table of those sections, from which one was removed before.
+/// A table of these sections, from which one was removed before.
 fn table_of(alloc: Global, sections: &[(Names<'_>, u8)]) -> Result<SectionTable<u8>, span::Error> {
     let mut table = SectionTable::new(alloc);
     fill(&mut table, sections)?;
@@ -96,7 +96,7 @@ fn change(table: &mut SectionTable<u8>, at: usize, content: u8) {
     }
 }
 
-/// Takes the step, and answers what stands under the number that was given, or what was removed.
+/// Takes the step, and returns what is under the number that was given, or what was removed.
 fn take(
     alloc: Global,
     table: &mut SectionTable<u8>,
@@ -136,7 +136,7 @@ fn numbers(alloc: Global) -> Result<[SectionId; 11], span::Error> {
     Ok(numbers)
 }
 
-/// The place behind this letter, where it stands at that place.
+/// The place after this letter, if it is at that place.
 fn behind(told: &[u8], at: usize, letter: u8) -> Option<usize> {
     if told.get(at) == Some(&letter) {
         at.checked_add(1)
@@ -145,7 +145,7 @@ fn behind(told: &[u8], at: usize, letter: u8) -> Option<usize> {
     }
 }
 
-/// The place behind the contents of all sections.
+/// The place after the contents of all sections.
 fn behind_all(table: &SectionTable<u8>, told: &[u8]) -> Option<usize> {
     let mut at = 0;
     for (_, content) in table.iter() {
@@ -154,7 +154,7 @@ fn behind_all(table: &SectionTable<u8>, told: &[u8]) -> Option<usize> {
     Some(at)
 }
 
-/// The place behind a `|` and the contents of the sections of the names.
+/// The place after a `|` and the contents of the sections of the names.
 fn behind_named(table: &SectionTable<u8>, names: &Asked, told: &[u8], at: usize) -> Option<usize> {
     let mut at = behind(told, at, b'|')?;
     for (_, content) in table.named(names.0, names.1) {
@@ -163,7 +163,7 @@ fn behind_named(table: &SectionTable<u8>, names: &Asked, told: &[u8], at: usize)
     Some(at)
 }
 
-/// The same of the sections of one name.
+/// The same for the sections of one name.
 fn behind_name(table: &SectionTable<u8>, told: &[u8], at: usize) -> Option<usize> {
     let mut at = behind(told, at, b'|')?;
     for (_, content) in table.with_name("Remote") {
@@ -172,7 +172,7 @@ fn behind_name(table: &SectionTable<u8>, told: &[u8], at: usize) -> Option<usize
     Some(at)
 }
 
-/// The same of what stands under each number.
+/// The same for what is under each number.
 fn behind_numbers(
     table: &SectionTable<u8>,
     numbers: &[SectionId],
@@ -196,7 +196,7 @@ static ASKED: [Asked; 4] = [
     ("remote", Some(b"Origin")),
 ];
 
-/// The place behind all that is told of a table.
+/// The place after everything that is expected of a table.
 fn end(table: &SectionTable<u8>, numbers: &[SectionId], told: &[u8]) -> Option<usize> {
     let mut at = behind_all(table, told)?;
     for names in ASKED.iter() {
@@ -206,13 +206,13 @@ fn end(table: &SectionTable<u8>, numbers: &[SectionId], told: &[u8]) -> Option<u
     behind_numbers(table, numbers, told, at)
 }
 
-/// Whether this is told of the table: the contents of all sections, of those of four names, and of those with a name, with
-/// a `|` behind each of these lists; last what stands under each number.
+/// Whether the table is as expected: the contents of all sections, of those of four names, and of those with a name, with
+/// a `|` after each of these lists; last what is under each number.
 fn is_told(table: &SectionTable<u8>, numbers: &[SectionId], told: &[u8]) -> bool {
     end(table, numbers, told) == Some(told.len())
 }
 
-/// Whether the step was taken. Where a growth of it was refused instead, the table is as it was.
+/// Whether the step was taken. If a growth of it was refused instead, the table is as it was.
 fn is_taken(
     alloc: Global,
     table: &mut SectionTable<u8>,
@@ -232,7 +232,7 @@ fn is_taken(
     }
 }
 
-/// Takes the step, with each of its growths refused before, and answers whether the table is then told so.
+/// Takes the step, with each of its growths refused before, and returns whether the table is then as expected.
 fn leads_to(
     alloc: Global,
     table: &mut SectionTable<u8>,
@@ -265,7 +265,7 @@ const TEN: [(Names<'static>, u8); 10] = [
     (BRANCH, b'9'),
 ];
 
-/// A step, its answer, and what is told of the table behind it.
+/// A step, its result, and what is expected of the table after it.
 type Row = (Step<'static>, Option<u8>, &'static [u8]);
 
 static ROWS: [Row; 21] = [
@@ -320,7 +320,7 @@ static ROWS: [Row; 21] = [
     ),
 ];
 
-/// What is told before the row of this place: behind the row before it, or of an empty table.
+/// What is expected before the row of this place: after the row before it, or of an empty table.
 fn told_before(rows: &[Row], at: usize) -> &'static [u8] {
     if at == 0 || at > rows.len() {
         return b"||||||-----------";
@@ -328,7 +328,7 @@ fn told_before(rows: &[Row], at: usize) -> &'static [u8] {
     rows[at - 1].2
 }
 
-/// Whether the table is told as the rows say, step by step.
+/// Whether the table is as the rows say, step by step.
 fn goes_through(alloc: Global, table: &mut SectionTable<u8>, rows: &[Row]) -> Result<bool, Fail> {
     let numbers = numbers(alloc)?;
     for (at, row) in rows.iter().enumerate() {
@@ -361,7 +361,7 @@ fn are_told_apart(table: &SectionTable<u8>) -> bool {
         && behind_named(table, &("remote", Some(RIGHT)), b"|b", 0) == Some(2)
 }
 
-/// The same before and behind another seed.
+/// The same before and after another seed.
 fn stay_apart(table: &mut SectionTable<u8>) -> bool {
     if !are_told_apart(table) {
         return false;
@@ -370,7 +370,7 @@ fn stay_apart(table: &mut SectionTable<u8>) -> bool {
     are_told_apart(table)
 }
 
-/// The same of a table that is filled here.
+/// The same for a table that is filled here.
 fn is_one_told_apart(alloc: Global) -> Result<bool, span::Error> {
     let left: Names<'_> = (b"remote", Some(LEFT));
     let right: Names<'_> = (b"REMOTE", Some(RIGHT));
@@ -395,7 +395,7 @@ fn names_of_one_word_are_told_apart(rt: HostRuntime) -> Result<(), Fail> {
     each_refused(rt.alloc(), "names of one word", names_told_apart)
 }
 
-/// Puts three sections of one name in, and another one, and answers the numbers of the three.
+/// Puts three sections of one name in, and another one, and returns the numbers of the three.
 fn three_of_one_name(table: &mut SectionTable<char>) -> Result<[SectionId; 3], span::Error> {
     let first = table.push(b"core", None, 'a')?;
     table.push(b"other", None, 'b')?;
@@ -404,7 +404,7 @@ fn three_of_one_name(table: &mut SectionTable<char>) -> Result<[SectionId; 3], s
     Ok([first, second, third])
 }
 
-/// Whether the numbers of a name are found so from both ends.
+/// Whether the numbers of a name are found from both ends.
 fn ids_are_walked(table: &SectionTable<char>, numbers: &[SectionId; 3]) -> bool {
     let [first, second, third] = *numbers;
     let mut ids = table.ids("core", None);
@@ -415,7 +415,7 @@ fn ids_are_walked(table: &SectionTable<char>, numbers: &[SectionId; 3]) -> bool 
         && ids.next().is_none()
 }
 
-/// The same of the sections of a name and no subsection.
+/// The same for the sections of a name and no subsection.
 fn named_are_walked(table: &SectionTable<char>, numbers: &[SectionId; 3]) -> bool {
     let [first, second, third] = *numbers;
     let mut named = table.named("core", None);
@@ -426,7 +426,7 @@ fn named_are_walked(table: &SectionTable<char>, numbers: &[SectionId; 3]) -> boo
         && named.next_back().is_none()
 }
 
-/// The same of the sections of a name.
+/// The same for the sections of a name.
 fn with_name_are_walked(table: &SectionTable<char>, numbers: &[SectionId; 3]) -> bool {
     let [first, second, third] = *numbers;
     let mut any = table.with_name("cORE");
@@ -436,7 +436,7 @@ fn with_name_are_walked(table: &SectionTable<char>, numbers: &[SectionId; 3]) ->
         && any.next_back().is_none()
 }
 
-/// The same of all sections: the last one, the first one, and two between them.
+/// The same for all sections: the last one, the first one, and two between them.
 fn all_are_walked(table: &SectionTable<char>, numbers: &[SectionId; 3]) -> bool {
     let [first, _, third] = *numbers;
     let mut all = table.iter();
@@ -451,7 +451,7 @@ fn are_walked(table: &SectionTable<char>, numbers: &[SectionId; 3]) -> bool {
         && all_are_walked(table, numbers)
 }
 
-/// The same of a table that is filled here.
+/// The same for a table that is filled here.
 fn is_filled_and_walked(table: &mut SectionTable<char>) -> Result<bool, span::Error> {
     let numbers = three_of_one_name(table)?;
     Ok(are_walked(table, &numbers))
@@ -468,7 +468,7 @@ fn tables_are_walked_from_both_ends(rt: HostRuntime) -> Result<(), Fail> {
     Ok(())
 }
 
-/// A copy of a table has the same sections under the same numbers, and is had or refused with each growth.
+/// A copy of a table has the same sections under the same numbers, or is refused with each growth.
 fn a_table_copied(
     alloc: Global,
     table: &SectionTable<u8>,

@@ -70,7 +70,7 @@ letter_name_byte b h = go (is_name_byte b) refl
     go true e = e
     go false e = absurd (clash b h e)
 
--- a line end at the front of a text, whatever stands behind it
+-- a line ending at the front of a text, whatever follows it
 pub line_end_more : (b : ℕ) (front rest : List ℕ) → begins_line_end (b ∷ front) ≡ true → begins_line_end (b ∷ (front ++ rest)) ≡ true
 line_end_more b [] rest h = go (b == 10) refl
   where
@@ -83,7 +83,7 @@ line_end_more b [] rest h = go (b == 10) refl
         none false k = cc
 line_end_more b (c ∷ front) rest h = h
 
--- one line end is LF, or CR and LF
+-- one line ending is LF, or CR and LF
 pub line_end_is : (text : List ℕ) → is_line_end text ≡ true → (text ≡ 10 ∷ []) ⊎ (text ≡ 13 ∷ 10 ∷ [])
 line_end_is [] h = absurd (cc)
 line_end_is (b ∷ []) h = inl (ap (λ x. x ∷ []) (eqb-true b 10 h))

@@ -7,7 +7,7 @@ use Rattle.gitconf_text.specs.Text.{begins, ends, begins_line_end}
 use Rattle.gitconf_text.specs.Part.{ends_comment}
 use Rattle.gitconf_text.proofs.Tests.{both_true, false_not}
 
--- at each place of front, with rest behind it, the test passes
+-- at each place of front, with rest after it, the test passes
 abbrev pub AllPlaces : (List ℕ → Bool) → (front rest : List ℕ) → Type 0
 AllPlaces test [] rest = Unit {0}
 AllPlaces test (b ∷ front) rest = (test (b ∷ (front ++ rest)) ≡ true) × AllPlaces test front rest
@@ -48,7 +48,7 @@ comment_places_from (b ∷ text) rest all last =
     let q = both_true (not (b == 10)) (list_all (λ c. not (c == 10)) text) all in
     (not_false _ (comment_place b text rest (false_not (b == 10) q.0) q.1 last), comment_places_from text rest q.1 (comment_last b text rest last))
 
--- what may end a comment is no LF behind a CR, and begins a line end
+-- what may end a comment is no LF after a CR, and begins a line ending
 ends_comment_last : (text rest : List ℕ) → ends_comment text rest ≡ true → ends (λ c. c == 13) text ≡ true → begins (λ c. c == 10) rest ≡ false
 ends_comment_last text [] h last = refl
 ends_comment_last text (b ∷ rest) h last = go (b == 10) refl (b == 13) refl

@@ -1,4 +1,4 @@
--- Worked rows of refused texts, with what it takes to show that no part, no header and no value stands at a place.
+-- Worked rows of refused texts, with what it takes to show that no part, no header and no value is at a place.
 use Rattle.std.proofs.Common.{◌≡◌, ℕ, ◌<◌, ◌||◌, ◌&&◌, ◌==◌, ◌⊎◌, Bool, true, false, not, List, [], ◌∷◌, ◌++◌, length, refl, sym, ◌∙◌, ap, subst, append_assoc, codes, lit<, inl, inr, arith}
 use Rattle.std.proofs.lemmas.Bool.{and_parts, or_parts, and_from, eqb-true, or_cases, or_left, or_right}
 use Rattle.std.specs.Char.{is_ascii_alphabetic}
@@ -18,7 +18,7 @@ use Rattle.gitconf_text.specs.Document.{byte_mark, unmarked}
 use Rattle.gitconf_text.specs.Stuck.{IsAssignment, spelled_assignment, NoValue, NoPart, kind_behind, line_behind, IsStuck}
 use Rattle.gitconf_text.proofs.Rows.{fits, blanks, line_ends, alone, valued, header, plain_header}
 
--- the front may begin an item: a blank, a line end, a comment or a name
+-- the front may begin an item: a blank, a line ending, a comment or a name
 abbrev pub begins_item : List ℕ → Bool
 begins_item rest = (begins is_blank rest || begins_line_end rest) || (begins is_mark rest || begins is_ascii_alphabetic rest)
 
@@ -50,7 +50,7 @@ letter_first : (name : List ℕ) → is_value_name name ≡ true → begins is_a
 letter_first [] h = absurd (cc)
 letter_first (b ∷ bytes) h = (and_parts _ _ h).0
 
--- an item that may stand anywhere begins so
+-- an item that may be anywhere begins so
 item_begins : (i : Item) (behind : List ℕ) → FitsItem i behind → begins_item (spelled_item i ++ behind) ≡ true
 item_begins (BlanksItem run) behind fits = or_left _ _ (or_left _ _ (begins-append is_blank run behind (begins_run is_blank run fits.0 fits.1)))
 item_begins (LineEndsItem run) behind fits = or_left _ _ (or_right _ _ (begins_line_ends run behind fits.0 fits.1))
@@ -64,7 +64,7 @@ assignment_begins : (name blanks behind later : List ℕ) → IsAssignment name 
 assignment_begins name blanks behind later parts =
     begins_name (name ++ (blanks ++ 61 ∷ later)) (begins-append is_ascii_alphabetic name (blanks ++ 61 ∷ later) (letter_first name parts.name_is))
 
--- where no item can begin, and no header stands, stands no part
+-- if no item can begin, and no header is, is no part
 no_part : (rest : List ℕ) → begins_item rest ≡ false → ((h : Header) (behind : List ℕ) → rest ≡ spelled_header h ++ behind → FitsHeader h → ⊥) → NoPart rest
 no_part rest other no_header = record { part = by_kind; assignment = no_assignment }
   where
@@ -86,14 +86,14 @@ header_begins (PlainHeader name) behind = refl
 header_begins (DottedHeader name subsection) behind = refl
 header_begins (QuotedHeader name between spelling) behind = refl
 
--- where no part can begin, none stands
+-- if no part can begin, none is
 pub nothing_begins : (rest : List ℕ) → begins_part rest ≡ false → NoPart rest
 nothing_begins rest other = no_part rest (or_parts (begins_item rest) _ other).0 (λ h behind same fits. absurd (
     let some = header_begins h behind in
     let none = ap (begins (λ b. b == 91)) (sym same) ∙ (or_parts (begins_item rest) _ other).1 in
     cc))
 
--- A refusal at a byte that begins no part: what stands before it, and what each of these asks; all else computes.
+-- A refusal at a byte that begins no part: what comes before it, and what each of these asks; all else computes.
 stuck_behind : {text rest kind : List ℕ} {line : ℕ} (parts : List Part)
     → unmarked text ≡ spelled parts ++ rest → AreFit parts rest → 0 < length rest → begins_part rest ≡ false
     → kind ≡ kind_behind parts → line ≡ line_behind (spelled parts) → IsStuck text line rest kind
@@ -120,13 +120,13 @@ part_of_a_mark = stuck_behind [] refl tt (lit< tt) refl refl refl
 pub second_mark : IsStuck (byte_mark ++ byte_mark) 1 byte_mark (codes "section header")
 second_mark = stuck_behind [] refl tt (lit< tt) refl refl refl
 
--- CR behind a value, before the first header
+-- CR after a value, before the first header
 pub carriage_return_behind_a_value : IsStuck (codes "a = b\r") 1 (codes "\r") (codes "section header")
 carriage_return_behind_a_value = stuck_behind (valued "a" " " " " "b" ∷ []) refl
     ((refl, refl, (refl, record { front = refl; units = refl; end = (refl, refl) })), tt)
     (lit< tt) refl refl refl
 
--- FF behind a value, and a comment behind it
+-- FF after a value, and a comment after it
 pub form_feed_behind_a_value : IsStuck (codes "[a]\nk=v \u{c};c") 2 (codes "\u{c};c") (codes "name")
 form_feed_behind_a_value = stuck_behind (header (plain_header "a") ∷ line_ends "\n" ∷ valued "k" "" "" "v" ∷ blanks " " ∷ []) refl (
   (lit< tt, refl),
@@ -140,7 +140,7 @@ form_feed_behind_a_value = stuck_behind (header (plain_header "a") ∷ line_ends
 )
     (lit< tt) refl refl refl
 
--- a byte that begins no name, behind a section and before the first
+-- a byte that begins no name, after a section and before the first
 pub no_name_behind_a_section : IsStuck (codes "[a]\n$") 2 (codes "$") (codes "name")
 no_name_behind_a_section = stuck_behind (header (plain_header "a") ∷ line_ends "\n" ∷ []) refl (
   (lit< tt, refl),
@@ -174,7 +174,7 @@ digit_at_a_name = stuck_behind (header (plain_header "a") ∷ line_ends "\r\n" �
 )
     (lit< tt) refl refl refl
 
--- CR without LF is no line end, and white space is no blank
+-- CR without LF is no line ending, and white space is no blank
 pub carriage_return_alone : IsStuck (codes "\n\r[a]") 2 (codes "\r[a]") (codes "section header")
 carriage_return_alone = stuck_behind (line_ends "\n" ∷ []) refl ((lit< tt, refl, refl), tt) (lit< tt) refl refl refl
 
@@ -188,7 +188,7 @@ is_quote_unit (Escape b) = false
 is_quote_unit OpenEscape = false
 is_quote_unit (Plain b) = is_quote b
 
--- behind an open quote stands one that closes it
+-- after an open quote is one that closes it
 closing_unit : (units : List TextUnit) → are_paired true units ≡ true → list_any is_quote_unit units ≡ true
 closing_unit [] paired = absurd (cc)
 closing_unit (Escape b ∷ units) paired = closing_unit units (and_parts _ _ paired).1
@@ -245,7 +245,7 @@ quote_of_value v some = elim (split_units (flat_map (λ (p : Piece). units_of p.
   | inr last ↦ any_right (flat_map (λ (p : Piece). p.text ++ 92 ∷ p.line_end) v.pieces) v.last (quote_of_units false v.last last)
 ]
 
--- a value of these units behind a quote, before a text without quotes
+-- a value of these units after a quote, before a text without quotes
 lone_quote : (v : Value) (behind rest : List ℕ) → rest ≡ spelled_value v ++ behind → are_paired true (value_units v) ≡ true
     → list_any is_quote rest ≡ false → ⊥
 lone_quote v behind rest same paired none = absurd (
@@ -327,14 +327,14 @@ line_end_in_quotes = inr (record {
   line_is = refl;
 })
 
--- Faults of headers: what the bytes behind `[` tell.
+-- Faults of headers: what the bytes after `[` say.
 
--- the rest behind a run of bytes that pass the test
+-- the rest after a run of bytes that pass the test
 abbrev past : (ℕ → Bool) → List ℕ → List ℕ
 past test [] = []
 past test (b ∷ rest) = elim (test b) [ true ↦ past test rest | false ↦ b ∷ rest ]
 
--- behind an open quote of a subsection stands the closing one, and `]`
+-- after an open quote of a subsection is the closing one, and `]`
 abbrev is_closed : (escaped : Bool) → List ℕ → Bool
 is_closed escaped [] = false
 is_closed true (b ∷ rest) = not (b == 10) && is_closed false rest
@@ -349,7 +349,7 @@ abbrev is_quoted : List ℕ → Bool
 is_quoted [] = false
 is_quoted (b ∷ rest) = b == 34 && is_closed false rest
 
--- behind `[`: header bytes and `]`; or header bytes or none, blanks, and a subsection in quotes
+-- after `[`: header bytes and `]`; or header bytes or none, blanks, and a subsection in quotes
 abbrev is_header_behind : List ℕ → Bool
 is_header_behind rest =
     (begins is_header_byte rest && begins (λ b. b == 93) (past is_header_byte rest))
@@ -429,7 +429,7 @@ some_with_dot : (name subsection : List ℕ) → 0 < length (name ++ 46 ∷ subs
 some_with_dot [] subsection = omega arith
 some_with_dot (b ∷ name) subsection = omega arith
 
--- what stands behind the `[` of a header
+-- what follows the `[` of a header
 header_is_behind : (h : Header) (behind rest : List ℕ) → 91 ∷ rest ≡ spelled_header h ++ behind → FitsHeader h → is_header_behind rest ≡ true
 header_is_behind (PlainHeader name) behind rest same fits =
     let tail : rest ≡ (name ++ 93 ∷ []) ++ behind = cc in
@@ -444,7 +444,7 @@ header_is_behind (QuotedHeader name between spelling) behind rest same fits =
     let tail : rest ≡ (name ++ (between ++ 34 ∷ (spelling ++ 34 ∷ 93 ∷ []))) ++ behind = cc in
     quoted_one name between spelling behind rest fits.0 fits.1 fits.2 fits.3 (tail ∙ regroup_quoted name between spelling behind)
 
--- no part stands where the bytes behind `[` are those of no header
+-- no part is where the bytes after `[` are those of no header
 pub no_header : (rest : List ℕ) → is_header_behind rest ≡ false → NoPart (91 ∷ rest)
 no_header rest none = no_part (91 ∷ rest) refl (λ h behind same fits. absurd (let some = header_is_behind h behind rest same fits in cc))
 
@@ -481,7 +481,7 @@ blank_behind_the_subsection = stuck_at_header [] (codes "a \"b\" ]") refl tt ref
 pub blank_behind_the_name : IsStuck (codes "[a ]") 1 (codes "[a ]") (codes "section header")
 blank_behind_the_name = stuck_at_header [] (codes "a ]") refl tt refl refl refl
 
--- a subsection that no quote ends, and LF in it, raw or behind a backslash
+-- a subsection that no quote ends, and LF in it, raw or after a backslash
 pub open_subsection : IsStuck (codes "[a \"x\n") 1 (codes "[a \"x\n") (codes "section header")
 open_subsection = stuck_at_header [] (codes "a \"x\n") refl tt refl refl refl
 
@@ -491,7 +491,7 @@ line_feed_in_a_subsection = stuck_at_header [] (codes "a \"x\ny\"]") refl tt ref
 pub escaped_line_feed_in_a_subsection : IsStuck (codes "[a \"x\\\ny\"]") 1 (codes "[a \"x\\\ny\"]") (codes "section header")
 escaped_line_feed_in_a_subsection = stuck_at_header [] (codes "a \"x\\\ny\"]") refl tt refl refl refl
 
--- a header that the input breaks off, behind a section
+-- a header that the input breaks off, after a section
 pub broken_off_header : IsStuck (codes "[a]\n[b") 2 (codes "[b") (codes "name")
 broken_off_header = stuck_at_header (header (plain_header "a") ∷ line_ends "\n" ∷ []) (codes "b") refl (search fits) refl refl refl
 

@@ -20,14 +20,14 @@ line_ends run = ItemPart (LineEndsItem (codes run))
 abbrev pub comment : (tag : ℕ) → String → Part
 comment tag text = ItemPart (CommentItem tag (codes text))
 
--- a name and the blanks behind it, without a value
+-- a name and the blanks after it, without a value
 abbrev pub alone : (name behind : String) → Part
 alone name behind = ItemPart (EntryItem (record { name = codes name; blanks = codes behind; assigned = None }))
 
 abbrev pub piece : (text line_end : String) → Piece
 piece text line_end = record { text = codes text; line_end = codes line_end }
 
--- a name, the blanks before and behind `=`, the pieces that go on, and the last one
+-- a name, the blanks before and after `=`, the pieces that go on, and the last one
 abbrev pub continued : (name before behind : String) → List Piece → (last : String) → Part
 continued name before behind pieces last = ItemPart (EntryItem (record {
   name = codes name;
@@ -35,7 +35,7 @@ continued name before behind pieces last = ItemPart (EntryItem (record {
   assigned = Some (record { blanks = codes behind; value = record { pieces = pieces; last = codes last } });
 }))
 
--- a name, the blanks before and behind `=`, and a value of one piece
+-- a name, the blanks before and after `=`, and a value of one piece
 abbrev pub valued : (name before behind value : String) → Part
 valued name before behind value = continued name before behind [] value
 
@@ -139,14 +139,14 @@ pub one_entry : IsRow (codes "[a] k = v")
     (HeaderToken (plain_header "a") ∷ blank_token " " ∷ name_token "k" ∷ blank_token " " ∷ SeparatorToken ∷ blank_token " " ∷ value_token "v" ∷ [])
 one_entry = row refl (search fits) refl refl
 
--- a key without `=`, and a second key behind it
+-- a key without `=`, and a second key after it
 pub two_keys_on_a_line : IsRow (codes "[a] b c=d")
     (header (plain_header "a") ∷ blanks " " ∷ alone "b" " " ∷ valued "c" "" "" "d" ∷ [])
     (document [] (section "a" (key "b" ∷ key_value "c" "d" ∷ []) ∷ []))
     (HeaderToken (plain_header "a") ∷ blank_token " " ∷ name_token "b" ∷ blank_token " " ∷ value_token "" ∷ name_token "c" ∷ SeparatorToken ∷ value_token "d" ∷ [])
 two_keys_on_a_line = row refl (search fits) refl refl
 
--- a quote that goes on over a line end: the `;` in it is no comment, the one behind it is
+-- a quote that goes on over a line ending: the `;` in it is no comment, the one after it is
 pub quote_over_a_line_end : IsRow (codes "[section \"a\"] b =\"\\\n;\";a")
     (header (quoted_header "section" " " "a") ∷ blanks " " ∷ continued "b" " " "" (piece "\"" "\n" ∷ []) ";\"" ∷ comment 59 "a" ∷ [])
     (document [] (subsection "section" "a" (key_value "b" "\";\"" ∷ []) ∷ []))
@@ -188,7 +188,7 @@ pub dotted_header_without_name : IsRow (codes "[.a]")
     (HeaderToken (dotted_header "" "a") ∷ [])
 dotted_header_without_name = row refl (search fits) refl refl
 
--- nothing before the dot, and nothing behind it
+-- nothing before the dot, and nothing after it
 pub dot_alone : IsRow (codes "[.]")
     (header (dotted_header "" "") ∷ [])
     (document [] (subsection "" "" [] ∷ []))
@@ -237,7 +237,7 @@ pub header_behind_a_key : IsRow (codes "[a] k [b]")
     (HeaderToken (plain_header "a") ∷ blank_token " " ∷ name_token "k" ∷ blank_token " " ∷ value_token "" ∷ HeaderToken (plain_header "b") ∷ [])
 header_behind_a_key = row refl (search fits) refl refl
 
--- white space before a joint and at the start of a piece stays, that behind the last piece is its own part
+-- white space before a joint and at the start of a piece stays, that after the last piece is its own part
 pub blanks_of_the_last_piece : IsRow (codes "[a] k = x \\\n y # c\n")
     (header (plain_header "a") ∷ blanks " " ∷ continued "k" " " " " (piece "x " "\n" ∷ []) " y" ∷ blanks " " ∷ comment 35 " c" ∷ line_ends "\n" ∷ [])
     (document [] (section "a" (key_value "k" "x  y" ∷ []) ∷ []))
@@ -307,7 +307,7 @@ pub comment_directly_behind_a_value : IsRow (codes "k = a;c")
     (name_token "k" ∷ blank_token " " ∷ SeparatorToken ∷ blank_token " " ∷ value_token "a" ∷ comment_token 59 "c" ∷ [])
 comment_directly_behind_a_value = row refl (search fits) refl refl
 
--- `;` and `#` stand between quotes, white space inside a value stays
+-- `;` and `#` are between quotes, white space inside a value stays
 pub quotes_inside_a_value : IsRow (codes "k = a \"b;#\" \\\"c ")
     (valued "k" " " " " "a \"b;#\" \\\"c" ∷ blanks " " ∷ [])
     (document (key_value "k" "a \"b;#\" \\\"c" ∷ []) [])
@@ -321,7 +321,7 @@ pub empty_value : IsRow (codes "k =\nj= #c")
     (name_token "k" ∷ blank_token " " ∷ SeparatorToken ∷ value_token "" ∷ newline_token "\n" ∷ name_token "j" ∷ SeparatorToken ∷ blank_token " " ∷ value_token "" ∷ comment_token 35 "c" ∷ [])
 empty_value = row refl (search fits) refl refl
 
--- blanks behind a key without `=` belong to it
+-- blanks after a key without `=` belong to it
 pub blanks_of_a_key_alone : IsRow (codes "[s]hello             #world")
     (header (plain_header "s") ∷ alone "hello" "             " ∷ comment 35 "world" ∷ [])
     (document [] (section "s" (key "hello" ∷ []) ∷ []))
@@ -335,7 +335,7 @@ pub entry_before_the_first_header : IsRow (codes "a = b")
     (name_token "a" ∷ blank_token " " ∷ SeparatorToken ∷ blank_token " " ∷ value_token "b" ∷ [])
 entry_before_the_first_header = row refl (search fits) refl refl
 
--- the same four kinds of items before and behind a header
+-- the same four kinds of items before and after a header
 pub front_and_section : IsRow (codes "\t# x\nK\n[A]\n; y")
     (blanks "\t" ∷ comment 35 " x" ∷ line_ends "\n" ∷ alone "K" "" ∷ line_ends "\n" ∷ header (plain_header "A") ∷ line_ends "\n" ∷ comment 59 " y" ∷ [])
     (document (key "K" ∷ []) (section "A" [] ∷ []))
@@ -356,7 +356,7 @@ pub carriage_return_ends_a_last_comment : IsRow (codes "# c\r")
     (comment_token 35 " c\r" ∷ [])
 carriage_return_ends_a_last_comment = row refl (search fits) refl refl
 
--- a CR before LF belongs to the line end
+-- a CR before LF belongs to the line ending
 pub carriage_return_of_the_line_end : IsRow (codes "# c\r\n")
     (comment 35 " c" ∷ line_ends "\r\n" ∷ [])
     (document [] [])
@@ -377,7 +377,7 @@ pub lines_with_carriage_returns : IsRow (codes "[a]\r\nk = v\r\n")
     (HeaderToken (plain_header "a") ∷ newline_token "\r\n" ∷ name_token "k" ∷ blank_token " " ∷ SeparatorToken ∷ blank_token " " ∷ value_token "v" ∷ newline_token "\r\n" ∷ [])
 lines_with_carriage_returns = row refl (search fits) refl refl
 
--- a run of line ends may mix both kinds
+-- a run of line endings may mix both kinds
 pub mixed_line_ends : IsRow (codes "\n\r\n\n[a]")
     (line_ends "\n\r\n\n" ∷ header (plain_header "a") ∷ [])
     (document [] (section "a" [] ∷ []))
@@ -398,7 +398,7 @@ pub comment_without_text : IsRow (codes "[a]\n#")
     (HeaderToken (plain_header "a") ∷ newline_token "\n" ∷ comment_token 35 "" ∷ [])
 comment_without_text = row refl (search fits) refl refl
 
--- a joint at the end of the input: the last piece is empty, and the line end belongs to the value
+-- a joint at the end of the input: the last piece is empty, and the line ending belongs to the value
 pub joint_at_the_end : IsRow (codes "[a]\nk = x\\\n")
     (header (plain_header "a") ∷ line_ends "\n" ∷ continued "k" " " " " (piece "x" "\n" ∷ []) "" ∷ [])
     (document [] (section "a" (key_value "k" "x" ∷ []) ∷ []))
@@ -430,7 +430,7 @@ meaning_drops_quotes = refl
 pub meaning_of_an_open_quote : plain (codes "\"") ≡ []
 meaning_of_an_open_quote = refl
 
--- quotes around a whole text make no difference, however often they stand
+-- quotes around a whole text make no difference, however often they are
 pub meaning_in_many_quotes : plain (codes "\"\"a\"\"") ≡ codes "a"
 meaning_in_many_quotes = refl
 
@@ -446,7 +446,7 @@ meaning_of_byte_eight = refl
 pub meaning_of_quote_and_backslash : plain (codes "\\\"a\\\\") ≡ codes "\"a\\"
 meaning_of_quote_and_backslash = refl
 
--- any other byte behind a backslash is itself, also LF
+-- any other byte after a backslash is itself, also LF
 pub meaning_of_other_escapes : plain (codes "\\x\\;\\\n") ≡ codes "x;\n"
 meaning_of_other_escapes = refl
 
@@ -479,7 +479,7 @@ written_raw_bytes = record { written_is = refl; back = refl }
 pub written_leading_blank : IsWritten (codes " a") (codes "\" a\"")
 written_leading_blank = record { written_is = refl; back = refl }
 
--- white space at the end: the quotes stand around, and the tab is written as an escape too
+-- white space at the end: the quotes are around, and the tab is written as an escape too
 pub written_trailing_tab : IsWritten (codes "a\t") (codes "\"a\\t\"")
 written_trailing_tab = record { written_is = refl; back = refl }
 
@@ -508,7 +508,7 @@ written_quote_and_backslash = record { written_is = refl; back = refl }
 pub value_of_two_pieces : IsValue (codes "x \\\n y") (codes "x  y") (codes "\t# c\n")
 value_of_two_pieces = (record { pieces = piece "x " "\n" ∷ []; last = codes " y" }, refl, refl, record { front = refl; units = refl; end = inl (refl, (refl, refl)) })
 
--- what was written reads as one value, before a line end and before the end
+-- what was written reads as one value, before a line ending and before the end
 pub written_before_a_line_end : IsValue (codes "\" a;\\\"b\\\\\\n\"") (codes "\" a;\\\"b\\\\\\n\"") (codes "\r\n")
 written_before_a_line_end = (
   record { pieces = []; last = codes "\" a;\\\"b\\\\\\n\"" },
@@ -546,7 +546,7 @@ plain_header_needs_a_name fits = absurd (omega (arith, fits.0))
 pub quoted_header_needs_a_blank : (name spelling : List ℕ) → FitsHeader (QuotedHeader name [] spelling) → ⊥
 quoted_header_needs_a_blank name spelling fits = absurd (omega (arith, fits.1))
 
--- a bare quote, LF, LF behind a backslash, a backslash at the end
+-- a bare quote, LF, LF after a backslash, a backslash at the end
 pub spelling_without_quote : is_spelling (codes "a\"b") ≡ false
 spelling_without_quote = refl
 
@@ -559,7 +559,7 @@ spelling_without_escaped_line_feed = refl
 pub spelling_without_open_backslash : is_spelling (codes "a\\") ≡ false
 spelling_without_open_backslash = refl
 
--- any other byte may stand behind a backslash, also CR
+-- any other byte may follow a backslash, also CR
 pub spelling_with_escapes : is_spelling (codes "\\\"\\\\\\n\\\r") ≡ true
 spelling_with_escapes = refl
 
@@ -593,7 +593,7 @@ bare_mark_in_a_value = refl
 pub unknown_escape_in_a_value : are_paired false (units_of (codes "\\x")) ≡ false
 unknown_escape_in_a_value = refl
 
--- CR behind a backslash is no joint without LF
+-- CR after a backslash is no joint without LF
 pub carriage_return_behind_a_backslash : are_paired false (units_of (codes "a\\\r")) ≡ false
 carriage_return_behind_a_backslash = refl
 
@@ -603,7 +603,7 @@ line_feed_in_quotes = refl
 pub open_quote_before_a_last_backslash : are_paired false (units_of (codes "\"x")) ≡ false
 open_quote_before_a_last_backslash = refl
 
--- behind white space only LF, a comment or the end follows a value
+-- after white space only LF, a comment or the end follows a value
 pub no_value_before_more : may_follow_value (codes " b") ≡ false
 no_value_before_more = refl
 

@@ -1,4 +1,4 @@
--- Reading bytes as text answers by the test of UTF-8.
+-- Reading bytes as text returns by the test of UTF-8.
 use Rattle.std.proofs.Common.{◌≡◌, ℕ, Bool, true, false, List, Some, Result, Ok, Err, refl, ap}
 use Rattle.std.specs.Prelude.{MatchResult}
 use Rattle.std.specs.Option.{option_copied}

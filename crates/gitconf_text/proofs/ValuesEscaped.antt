@@ -54,7 +54,7 @@ plain-escaped bytes = go (needs_quotes bytes) refl
     go true e = rw e (meaning_of_written bytes (34 ∷ []) ∙ append-nil bytes)
     go false e = rw e (ap (meaning false) (sym (append-nil (flat_map escaped_byte bytes))) ∙ meaning_of_written bytes [] ∙ append-nil bytes)
 
--- a byte that may stand as it is changes no pairing
+-- a byte that may be as it is changes no pairing
 pairs_other : (b : ℕ) (quoted : Bool) (units : List TextUnit) → (b == 10) ≡ false → (b == 34) ≡ false → (b == 92) ≡ false
     → (is_mark b ≡ true → quoted ≡ true) → are_paired quoted (Plain b ∷ units) ≡ are_paired quoted units
 pairs_other b quoted units e f h marked = go (b == 59 || b == 35) (is_whitespace b) refl refl
@@ -67,7 +67,7 @@ pairs_other b quoted units e f h marked = go (b == 59 || b == 35) (is_whitespace
     go false true m k = rw (e, f, m, h, k, are_paired) refl
     go false false m k = rw (e, f, m, h, k, are_paired) refl
 
--- what was written changes no pairing, where its marks stand in quotes
+-- what was written changes no pairing, where its marks are in quotes
 pairs_written : (bytes rest : List ℕ) (quoted : Bool) → (list_any is_mark bytes ≡ true → quoted ≡ true)
     → are_paired quoted (units_behind false (flat_map escaped_byte bytes ++ rest)) ≡ are_paired quoted (units_behind false rest)
 pairs_written [] rest quoted marked = refl
@@ -110,7 +110,7 @@ differs test k b passes fails = go (b == k) refl
     go false e = e
     go true e = absurd (let same : test b ≡ test k = ap test (eqb-true b k e) in cc)
 
--- a line end is no blank, and the front of an empty value
+-- a line ending is no blank, and the front of an empty value
 front_of_rest : (rest : List ℕ) → (rest ≡ []) ⊎ (begins_line_end rest ≡ true) → begins is_blank rest ≡ false
 front_of_rest [] line = refl
 front_of_rest (b ∷ rest) (inl none) = absurd (cc)
@@ -179,7 +179,7 @@ end_fits bytes = go (needs_quotes bytes) refl
         let dark : ends is_whitespace bytes ≡ false = (or_parts (begins is_whitespace bytes) (ends is_whitespace bytes) (or_parts (begins is_whitespace bytes || ends is_whitespace bytes) (list_any is_mark bytes) e).0).1 in
         rw e (end_of_written bytes false false (λ h. h) dark)
 
--- a line end, or nothing, may follow a value
+-- a line ending, or nothing, may follow a value
 line_follows : (rest : List ℕ) → (rest ≡ []) ⊎ (begins_line_end rest ≡ true) → may_follow_value rest ≡ true
 line_follows [] line = refl
 line_follows (b ∷ rest) (inl none) = absurd (cc)
@@ -192,7 +192,7 @@ line_follows (b ∷ rest) (inr line) = elim (or_cases (b == 10) (b == 13 && begi
     line_feed [] lf = absurd (cc)
     line_feed (c ∷ more) lf = rw (eqb-true c 10 lf) refl
 
--- What was written is one value, before a line end or nothing.
+-- What was written is one value, before a line ending or nothing.
 pub written_fits : (bytes rest : List ℕ) → (rest ≡ []) ⊎ (begins_line_end rest ≡ true) → FitsValue (record { pieces = []; last = escaped bytes }) rest
 written_fits bytes rest line = record {
   front = front_fits bytes rest line;

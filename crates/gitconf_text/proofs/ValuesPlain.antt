@@ -9,7 +9,7 @@ use Rattle.gitconf_text.specs.Unit.{Plain, units_behind}
 use Rattle.gitconf_text.specs.Value.{escape_meaning, unit_meaning, plain}
 use Rattle.gitconf_text.specs.Stripped.{inner, is_enclosed, stripped_times, stripped, is_coded}
 
--- the meaning of a text, behind a backslash where `escaped` is true
+-- the meaning of a text, after a backslash where `escaped` is true
 abbrev pub meaning : (escaped : Bool) → List ℕ → List ℕ
 meaning escaped text = flat_map unit_meaning (units_behind escaped text)
 
@@ -37,7 +37,7 @@ meaning_of_quote b rest quote = rw (eqb-true b 34 quote) refl
 pub meaning_of_backslash : (b : ℕ) (rest : List ℕ) → (b == 92) ≡ true → meaning false (b ∷ rest) ≡ meaning true rest
 meaning_of_backslash b rest slash = rw (eqb-true b 92 slash) refl
 
--- a backslash and the byte behind it
+-- a backslash and the byte after it
 pub meaning_of_escape : (b c : ℕ) (rest : List ℕ) → (b == 92) ≡ true → meaning false (b ∷ c ∷ rest) ≡ escape_meaning c ∷ meaning false rest
 meaning_of_escape b c rest slash = meaning_of_backslash b (c ∷ rest) slash
 
@@ -45,8 +45,8 @@ meaning_of_escape b c rest slash = meaning_of_backslash b (c ∷ rest) slash
 pub meaning_of_last_backslash : (b : ℕ) → (b == 92) ≡ true → meaning false (b ∷ []) ≡ []
 meaning_of_last_backslash b slash = meaning_of_backslash b [] slash
 
--- A last quote stands for nothing where no backslash stands before it.
--- `before` tells of a backslash before the text, as `ends` counts it.
+-- A last quote stands for nothing if no backslash comes before it.
+-- `before` says of a backslash before the text, as `ends` counts it.
 last_quote : (text : List ℕ) (escaped before : Bool) → (escaped ≡ true → before ≡ true) → fold (λ (_ : Bool) b. b == 92) before text ≡ false
     → meaning escaped (text ++ 34 ∷ []) ≡ meaning escaped text
 last_quote [] false before so dark = refl
@@ -165,7 +165,7 @@ stripped_never (suc n) text bare = cond-false (is_enclosed text) (stripped_times
 pub stripped_already : (text : List ℕ) → is_enclosed text ≡ false → stripped text ≡ text
 stripped_already text bare = stripped_never (length text) text bare
 
--- a text has a coded byte where it has a quote or a backslash
+-- a text has a coded byte if it has a quote or a backslash
 coded_either : (text : List ℕ) → (list_any (λ b. b == 34) text || list_any (λ b. b == 92) text) ≡ list_any is_coded text
 coded_either [] = refl
 coded_either (b ∷ text) =

@@ -1,4 +1,4 @@
--- Classes of bytes, and letters without case.
+-- Classes of bytes, and bytes without ASCII case.
 -- The ASCII classes are std's: a letter is A to Z or a to z, and white space is space, tab, LF, FF and CR.
 use Rattle.std.specs.Prelude.{ℕ, Bool, List, ◌==◌, ◌||◌, map}
 use Rattle.std.specs.Char.{is_ascii_alphanumeric, is_ascii_whitespace, to_ascii_lowercase}

@@ -11,6 +11,7 @@ pub record DocumentEntry : Type 0 where
   pub name : List ℕ
   pub raw : Option (List ℕ)
 
+-- a section: its name as spelled, its decoded subsection, if there is one, and its entries in order
 pub record DocumentSection : Type 0 where
   pub name : List ℕ
   pub subsection : Option (List ℕ)
@@ -21,6 +22,7 @@ pub record Document : Type 0 where
   pub front : List DocumentEntry
   pub sections : List DocumentSection
 
+-- the entry of a document that an entry of a text makes: its name, and the raw text of its value, if it has one
 abbrev pub document_entry : Entry → DocumentEntry
 document_entry e = record { name = e.name; raw = option_map (λ (a : Assigned). raw_of a.value) e.assigned }
 
@@ -44,7 +46,7 @@ abbrev pub gathered : List Part → Document
 gathered [] = record { front = []; sections = [] }
 gathered (p ∷ parts) = with_part p (gathered parts)
 
--- the mark that may stand before a text
+-- the byte order mark of UTF-8, which may come before a text
 abbrev pub byte_mark : List ℕ
 byte_mark = 239 ∷ 187 ∷ 191 ∷ []
 
@@ -52,11 +54,11 @@ byte_mark = 239 ∷ 187 ∷ 191 ∷ []
 abbrev pub unmarked : List ℕ → List ℕ
 unmarked text = if starts_with nat_eq text byte_mark then drop 3 text else text
 
--- the text is these parts
+-- the text, without its mark, is spelled by these parts, each of which fits before what follows it
 pub record IsText (text : List ℕ) (parts : List Part) : Type 0 where
   pub spelled_is : unmarked text ≡ spelled parts
   pub fits : AreFit parts []
 
--- the text has the document
+-- the text has this document: it is made of parts that have it
 abbrev pub Reads : (text : List ℕ) → Document → Type 0
 Reads text document = (parts : List Part) × IsText text parts × (document ≡ gathered parts)

@@ -11,6 +11,7 @@ pub data Header : Type 0 where
   DottedHeader : (name subsection : List ℕ) → Header
   QuotedHeader : (name blanks spelling : List ℕ) → Header
 
+-- the bytes of a header, with its brackets
 abbrev pub spelled_header : Header → List ℕ
 spelled_header (PlainHeader name) = 91 ∷ (name ++ 93 ∷ [])
 spelled_header (DottedHeader name subsection) = 91 ∷ (name ++ 46 ∷ (subsection ++ 93 ∷ []))
@@ -22,10 +23,11 @@ is_subsection_unit (Escape b) = not (b == 10)
 is_subsection_unit OpenEscape = false
 is_subsection_unit (Plain b) = elim (class_of b) [ LineFeed ↦ false | Quote ↦ false | _ ↦ true ]
 
+-- bytes that may be between the quotes of a header
 abbrev pub is_spelling : List ℕ → Bool
 is_spelling spelling = list_all is_subsection_unit (units_of spelling)
 
--- a backslash with the byte behind it stands for that byte
+-- a backslash with the byte after it stands for that byte
 abbrev pub subsection_byte : TextUnit → List ℕ
 subsection_byte (Escape b) = b ∷ []
 subsection_byte OpenEscape = []

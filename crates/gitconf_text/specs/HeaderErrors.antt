@@ -10,6 +10,6 @@ header_number InvalidSubSection = 5
 header_number (Span number) = number
 header_number Memory = 27
 
--- what a refusal of a place is: want of memory has a case of its own
+-- the refusal of a header for a refused span: running out of memory has a case of its own
 abbrev pub of_span : (number : ℕ) → Error
 of_span number = if number == 27 then Memory else Span number

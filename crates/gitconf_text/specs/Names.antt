@@ -32,7 +32,7 @@ is_value_name_or_empty (b ∷ bs) = is_value_name (b ∷ bs)
 abbrev pub is_valid_subsection : List ℕ → Bool
 is_valid_subsection bytes = list_all (λ b. not (b == 10 || b == 0)) bytes
 
--- the same, where there is a subsection
+-- the same, if there is a subsection
 abbrev pub is_valid_or_none : Option (List ℕ) → Bool
 is_valid_or_none None = true
 is_valid_or_none (Some bytes) = is_valid_subsection bytes
@@ -49,7 +49,7 @@ name_order = on fold (slice_cmp nat_cmp)
 abbrev pub name_writes : List ℕ → HashWrites
 name_writes bytes = flat_map u8 (fold bytes)
 
--- the answer of a conversion that takes no memory: the bytes where they are valid, and else refusal 6
+-- the result of a conversion that takes no memory: the bytes where they are valid, otherwise refusal 6
 abbrev pub IsConverted : Bool → List ℕ → Result (List ℕ) ℕ → Type 0
 IsConverted valid bytes (Ok made) = (valid ≡ true) × (made ≡ bytes)
 IsConverted valid bytes (Err number) = (valid ≡ false) × (number ≡ 6)

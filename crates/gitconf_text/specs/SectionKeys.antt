@@ -1,4 +1,4 @@
--- Keys of sections that no test has seen, as `remote.origin`.
+-- Keys of sections that nothing has checked yet, such as `remote.origin`.
 use Rattle.std.specs.Prelude.{ℕ, ◌+◌, Bool, ◌==◌, if◌then◌else◌, List, Option, Some, None, take, drop, position}
 use Rattle.std.specs.Str.{is_utf8}
 
@@ -11,7 +11,7 @@ pub record SectionKey : Type 0 where
 abbrev pub is_dot : ℕ → Bool
 is_dot b = b == 46
 
--- the section before a dot, and all behind it as the subsection; without a dot the section alone
+-- the section before a dot, and all after it as the subsection; without a dot the section alone
 abbrev pub cut_at : List ℕ → Option ℕ → SectionKey
 cut_at text None = record { section = text; subsection = None }
 cut_at text (Some dot) = record { section = take dot text; subsection = Some (drop (dot + 1) text) }

@@ -1,4 +1,4 @@
--- Quotes round a whole value, which can be taken away without a copy.
+-- Quotes around a whole value, which can be removed without a copy.
 use Rattle.std.specs.Prelude.{ℕ, zero, suc, ◌-◌, Bool, not, List, ◌==◌, ◌&&◌, ◌||◌, if◌then◌else◌, length, nat_le, slice_range}
 use Rattle.std.specs.List.{list_any}
 use Rattle.gitconf_text.specs.Text.{begins, ends}
@@ -7,17 +7,17 @@ use Rattle.gitconf_text.specs.Text.{begins, ends}
 abbrev pub inner : List ℕ → List ℕ
 inner text = slice_range text 1 (length text - 1)
 
--- two bytes or more, the first and the last are `"`, and no backslash stands before the last
+-- two bytes or more, the first and the last are `"`, and the last doesn't follow a backslash
 abbrev pub is_enclosed : List ℕ → Bool
 is_enclosed text =
     nat_le 2 (length text) && begins (λ b. b == 34) text && ends (λ b. b == 34) text && not (ends (λ b. b == 92) (inner text))
 
--- what enclosing quotes leave, taken away so many times at most
+-- what is left when enclosing quotes are removed at most that many times
 abbrev pub stripped_times : ℕ → List ℕ → List ℕ
 stripped_times zero text = text
 stripped_times (suc n) text = if is_enclosed text then stripped_times n (inner text) else text
 
--- the text without its enclosing quotes, taken away as often as they stand; that is no more often than the text has bytes
+-- the text without its enclosing quotes, removed as long as there are some, which is no more often than the text has bytes
 abbrev pub stripped : List ℕ → List ℕ
 stripped text = stripped_times (length text) text
 

@@ -8,37 +8,39 @@ use Rattle.gitconf_text.specs.Names.{is_value_name}
 use Rattle.gitconf_text.specs.Part.{Part, ItemPart, HeaderPart, spelled_part, spelled, FitsPart, AreFit}
 use Rattle.gitconf_text.specs.Document.{unmarked}
 
--- a key, blanks, `=` and blanks, before rest
+-- a value name, the blanks before `=`, and the blanks after it (`behind`)
 pub record IsAssignment (name blanks behind : List ℕ) : Type 0 where
   pub name_is : is_value_name name ≡ true
   pub blanks_are : list_all is_blank blanks ≡ true
   pub behind_are : list_all is_blank behind ≡ true
 
+-- the bytes of a key, blanks, `=` and the blanks after it
 abbrev pub spelled_assignment : (name blanks behind : List ℕ) → List ℕ
 spelled_assignment name blanks behind = name ++ (blanks ++ 61 ∷ behind)
 
--- no value stands at the front of rest
+-- no value begins at the front of rest
 abbrev pub NoValue : (rest : List ℕ) → Type 0
 NoValue rest = (v : Value) (behind : List ℕ) → rest ≡ spelled_value v ++ behind → FitsValue v behind → ⊥
 
--- neither an item nor a header stands at the front of rest, nor a key with blanks and `=`
+-- neither an item nor a header begins at the front of rest, nor a key with blanks and `=`
 pub record NoPart (rest : List ℕ) : Type 0 where
   pub part : (p : Part) (behind : List ℕ) → rest ≡ spelled_part p ++ behind → FitsPart p behind → ⊥
   pub assignment : (name blanks behind : List ℕ) → IsAssignment name blanks [] → rest ≡ spelled_assignment name blanks behind → ⊥
 
+-- the part is a header
 abbrev pub is_header_part : Part → Bool
 is_header_part (ItemPart i) = false
 is_header_part (HeaderPart h) = true
 
--- what was looked for behind these parts
+-- what was looked for after these parts
 abbrev pub kind_behind : List Part → List ℕ
 kind_behind parts = if list_any is_header_part parts then codes "name" else codes "section header"
 
--- the number of the line behind this text
+-- the number of the line after this text
 abbrev pub line_behind : List ℕ → ℕ
 line_behind text = 1 + count_by (λ b. b == 10) text
 
--- behind parts stands no further one
+-- the text is parts, and then rest, at whose front no further part begins
 pub record IsPartFault (text : List ℕ) (line : ℕ) (rest kind : List ℕ) : Type 0 where
   pub parts : List Part
   pub whole : unmarked text ≡ spelled parts ++ rest
@@ -48,7 +50,7 @@ pub record IsPartFault (text : List ℕ) (line : ℕ) (rest kind : List ℕ) : T
   pub kind_is : kind ≡ kind_behind parts
   pub line_is : line ≡ line_behind (spelled parts)
 
--- behind parts, a key, blanks, `=` and blanks stands no value
+-- the text is parts, a key, blanks, `=` and blanks, and then rest, at whose front no value begins
 pub record IsValueFault (text : List ℕ) (line : ℕ) (rest kind : List ℕ) : Type 0 where
   pub parts : List Part
   pub name : List ℕ

@@ -11,17 +11,17 @@ begins test (b ∷ rest) = test b
 abbrev pub ends : (ℕ → Bool) → List ℕ → Bool
 ends test text = fold (λ _ b. test b) false text
 
--- LF stands at the front, or CR and LF
+-- LF is at the front, or CR and LF
 abbrev pub begins_line_end : List ℕ → Bool
 begins_line_end [] = false
 begins_line_end (b ∷ rest) = b == 10 || b == 13 && begins (λ c. c == 10) rest
 
--- a run of line ends: each byte is LF, or CR before LF
+-- a run of line endings: each byte is LF, or CR before LF
 abbrev pub are_line_ends : List ℕ → Bool
 are_line_ends [] = true
 are_line_ends (b ∷ rest) = begins_line_end (b ∷ rest) && are_line_ends rest
 
--- one line end: LF, or CR and LF
+-- one line ending: LF, or CR and LF
 abbrev pub is_line_end : List ℕ → Bool
 is_line_end [] = false
 is_line_end (b ∷ []) = b == 10

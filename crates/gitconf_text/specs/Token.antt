@@ -4,7 +4,7 @@ use Rattle.gitconf_text.specs.Value.{Piece}
 use Rattle.gitconf_text.specs.Header.{Header, spelled_header}
 use Rattle.gitconf_text.specs.Part.{Assigned, Item, BlanksItem, LineEndsItem, CommentItem, EntryItem, Part, ItemPart, HeaderPart}
 
--- a header keeps its form and spelling; an unfinished piece is told without its backslash
+-- a header keeps its form and spelling; an unfinished piece has no backslash here
 pub data Token : Type 0 where
   CommentToken : (tag : ℕ) (text : List ℕ) → Token
   HeaderToken : Header → Token
@@ -28,15 +28,16 @@ spelled_token (ValueDoneToken bytes) = bytes
 spelled_token (WhitespaceToken bytes) = bytes
 spelled_token SeparatorToken = 61 ∷ []
 
--- a token, where there are bytes for it
+-- a token of these bytes; none if there are no bytes
 abbrev pub filled : (List ℕ → Token) → List ℕ → List Token
 filled token [] = []
 filled token (b ∷ rest) = token (b ∷ rest) ∷ []
 
+-- a piece of a value other than the last one, and its line ending, if it has one
 abbrev pub piece_tokens : Piece → List Token
 piece_tokens p = ValueNotDoneToken p.text ∷ filled NewlineToken p.line_end
 
--- one token for a value of one piece; else each piece and its line end, and the last piece
+-- one token for a value of one piece; otherwise each piece and its line ending, and the last piece
 abbrev pub value_tokens : List Piece → (last : List ℕ) → List Token
 value_tokens [] last = ValueToken last ∷ []
 value_tokens (p ∷ pieces) last = flat_map piece_tokens (p ∷ pieces) ++ ValueDoneToken last ∷ []
@@ -46,12 +47,14 @@ abbrev pub assigned_tokens : Option Assigned → List Token
 assigned_tokens None = ValueToken [] ∷ []
 assigned_tokens (Some a) = SeparatorToken ∷ (filled WhitespaceToken a.blanks ++ value_tokens a.value.pieces a.value.last)
 
+-- the tokens of an item, in order; an entry's empty blanks have none
 abbrev pub item_tokens : Item → List Token
 item_tokens (BlanksItem run) = WhitespaceToken run ∷ []
 item_tokens (LineEndsItem run) = NewlineToken run ∷ []
 item_tokens (CommentItem tag text) = CommentToken tag text ∷ []
 item_tokens (EntryItem e) = NameToken e.name ∷ (filled WhitespaceToken e.blanks ++ assigned_tokens e.assigned)
 
+-- the tokens of a part, in order
 abbrev pub part_tokens : Part → List Token
 part_tokens (ItemPart i) = item_tokens i
 part_tokens (HeaderPart h) = HeaderToken h ∷ []

@@ -33,6 +33,7 @@ pub data Suffix : Type 0 where
   Mebi : Suffix
   Gibi : Suffix
 
+-- the suffix that bytes are: `k`, `m` or `g` in either case; none for other bytes
 abbrev pub suffix_of : List ℕ → Option Suffix
 suffix_of bytes =
     if is_same_name bytes (codes "k") then Some Kibi
@@ -40,13 +41,14 @@ suffix_of bytes =
     else if is_same_name bytes (codes "g") then Some Gibi
     else None
 
+-- the factor of a suffix: 1024, its square or its cube, and 1 without a suffix
 abbrev pub factor_of : Option Suffix → ℤ
 factor_of None = pos 1
 factor_of (Some Kibi) = pos 1024
 factor_of (Some Mebi) = pos 1048576
 factor_of (Some Gibi) = pos 1073741824
 
--- a number and the suffix behind it
+-- a number as it is written, and the suffix after it
 pub record Integer : Type 0 where
   pub number : ℤ
   pub suffix : Option Suffix
@@ -67,6 +69,7 @@ pub data IntegerFault : Type 0 where
 abbrev pub decimal_of : Integer → Option ℤ
 decimal_of i = if fits (i.number *ℤ factor_of i.suffix) then Some (i.number *ℤ factor_of i.suffix) else None
 
+-- the integer that a value means, or why it has none: it isn't written as one, or 64 bits with a sign don't hold it
 abbrev pub integer_of : List ℕ → Result ℤ IntegerFault
 integer_of bytes = elim (integer_written bytes) [
   | None ↦ Err NotAnInteger

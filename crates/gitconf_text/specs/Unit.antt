@@ -11,6 +11,7 @@ pub data Class : Type 0 where
   White : Class
   Other : Class
 
+-- the class of a byte
 abbrev pub class_of : ℕ → Class
 class_of b =
     if b == 10 then LineFeed else
@@ -27,18 +28,19 @@ is_white b = elim (class_of b) [ White ↦ true | _ ↦ false ]
 abbrev pub is_mark : ℕ → Bool
 is_mark b = elim (class_of b) [ Mark ↦ true | _ ↦ false ]
 
--- a backslash with the byte behind it; a backslash with nothing behind it; any other byte
+-- a backslash with the byte after it; a backslash with nothing after it; any other byte
 pub data TextUnit : Type 0 where
   Escape : ℕ → TextUnit
   OpenEscape : TextUnit
   Plain : ℕ → TextUnit
 
--- the units of a text; of one behind a backslash, where `escaped` is true
+-- the units of a text; where `escaped` is true, a backslash came just before the text
 abbrev pub units_behind : (escaped : Bool) → List ℕ → List TextUnit
 units_behind true [] = OpenEscape ∷ []
 units_behind false [] = []
 units_behind true (b ∷ rest) = Escape b ∷ units_behind false rest
 units_behind false (b ∷ rest) = elim (class_of b) [ Backslash ↦ units_behind true rest | _ ↦ Plain b ∷ units_behind false rest ]
 
+-- the units of a text, from its start on
 abbrev pub units_of : List ℕ → List TextUnit
 units_of text = units_behind false text

@@ -1,4 +1,4 @@
--- What the refusal of a value tells.
+-- What the refusal of a value says.
 use Rattle.std.specs.Prelude.{ℕ, Option, Some, None, List, [], ◌++◌, ◌==◌, if◌then◌else◌, codes}
 use Rattle.std.specs.Str.{encode_utf8_all}
 use Rattle.bstr.specs.Owned.{bstring_bytes}
@@ -11,18 +11,20 @@ pub record ValueError : Type 0 where
   pub message : List ℕ
   pub input : List ℕ
 
+-- refusal 11 of these bytes, with this message
 abbrev pub refused : (message input : List ℕ) → ValueError
 refused message input = record { number = 11; message = message; input = input }
 
--- memory was wanting
+-- running out of memory: number 27, without message or bytes
 abbrev pub wanting : ValueError
 wanting = record { number = 27; message = []; input = [] }
 
+-- what an error of a value shows: refusal 11 with its message and bytes, or that memory ran out
 abbrev pub shown : Option Told → ValueError
 shown (Some told) = refused told.message.now (bstring_bytes told.input)
 shown None = wanting
 
--- its text, in which bad UTF-8 stands as U+FFFD
+-- its text, in which what isn't UTF-8 is shown as U+FFFD
 abbrev pub value_error_text : ValueError → List ℕ
 value_error_text e =
     if e.number == 27 then codes "out of memory"

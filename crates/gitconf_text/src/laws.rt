@@ -7,9 +7,9 @@ ghost use Rattle.gitconf_text.specs.Text.{begins_line_end};
 ghost use Rattle.gitconf_text.specs.Value.{FitsValue, IsValue, plain, escaped};
 ghost use Rattle.gitconf_text.specs.Names.{is_same_name, name_order, name_writes};
 
-/// Equality, order and hash of names agree, and are those of the bytes without ASCII case.
+/// Equality, order and hash of names agree: they are those of the bytes without ASCII case.
 ///
-/// Two names are equal exactly where those bytes are, `cmp` answers `Equal` exactly there, and names that are equal
+/// Two names are equal if and only if those bytes are, `cmp` returns `Equal` if and only if they are, and equal names
 /// feed a hasher the same bytes.
 pub fn names_without_case()
     ensures equal { (a b : List ℕ) → (is_same_name a b ≡ true) ↔ (fold a ≡ fold b) }
@@ -17,9 +17,9 @@ pub fn names_without_case()
     ensures hash { (a b : List ℕ) → fold a ≡ fold b → name_writes a ≡ name_writes b }
 {}
 
-/// Quotes that enclose a raw text mean nothing: what is left when they are stripped means the same, for all texts.
+/// Quotes that enclose a raw text mean nothing: what is left when they are stripped has the same meaning, for all texts.
 ///
-/// Nothing that is left is enclosed again.
+/// What is left is not enclosed again.
 pub fn enclosing_quotes_mean_nothing()
     ensures meaning { (raw : List ℕ) → plain (stripped raw) ≡ plain raw }
     ensures bare { (raw : List ℕ) → is_enclosed (stripped raw) ≡ false }
@@ -30,7 +30,7 @@ pub fn escaped_means_itself()
     ensures { (bytes : List ℕ) → plain (escaped bytes) ≡ bytes }
 {}
 
-/// A value as it is written is one value of one piece, where a line end or the end of the input stands behind it.
+/// A value as it is written is one value of one piece, if a line ending or the end of the input follows it.
 ///
 /// So its raw text is the written bytes, and its meaning is by `escaped_means_itself` what was to be written.
 pub fn escaped_is_one_value()

@@ -22,7 +22,7 @@ impl LineEnd {
         }
     }
 
-    /// The line end of a newline: CR and LF where a CR stands in it, else LF.
+    /// The line ending of a newline: CR and LF where a CR is in it, otherwise LF.
     pub fn of_newline(run: &[u8]) -> LineEnd
         ensures { bytes_of_line_end result ≡ line_end_in run.now }
     {

@@ -1,9 +1,9 @@
-//! Want of memory, which any call that needs some may answer.
+//! Running out of memory, which any call that needs memory may report.
 
 use std::alloc::{AllocError, AllocFailed};
 use thiserror::Error;
 
-/// A growth was refused in the call.
+/// The call needed memory and was refused it.
 #[derive(Clone, Copy, Debug, PartialEq, Eq, PartialOrd, Ord, Hash, Error)]
 #[error("out of memory")]
 pub struct NoMemory;
@@ -20,7 +20,7 @@ impl<T: Drop> From<AllocFailed<T>> for NoMemory {
     }
 }
 
-/// What an error comes from that tells its own refusal or want of memory.
+/// What caused an error that has one refusal of its own: that refusal, or running out of memory.
 #[derive(Clone, Copy, Debug, PartialEq, Eq, PartialOrd, Ord)]
 pub(crate) enum Cause {
     Refused,

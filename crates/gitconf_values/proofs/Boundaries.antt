@@ -15,7 +15,7 @@ trimmed_within (suc n) path = go (get_or path n 0 == 47) refl (trimmed_within n 
     go true e later = rw (e, trimmed_length) (omega (arith, later))
     go false e later = rw (e, trimmed_length) (omega arith)
 
--- a slash stands where a path was cut
+-- a slash is where a path was cut
 trimmed_at : (n : ℕ) (path : List ℕ) → trimmed_length n path < n → get_or path (trimmed_length n path) 0 ≡ 47
 unfolding trimmed_length
 trimmed_at zero path less = absurd (let h = less in omega arith)
@@ -49,7 +49,7 @@ last_at (suc n) at path found = go (get_or path n 0 == 47) refl (last_at n at pa
         let l = later before in
         record { within = let w = l.within in omega (arith, w); slash = l.slash }
 
--- behind a slash, in front of one, or at the start
+-- after a slash, in front of one, or at the start
 at_start : (path : List ℕ) → IsUtf8 path → IsCharBoundary path 0
 at_start path utf8 = IsCharBoundary-from_take path 0 utf8 (omega arith) IsUtf8-nil
 

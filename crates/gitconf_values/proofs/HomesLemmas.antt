@@ -14,7 +14,7 @@ use Rattle.std.specs.declared.alloc.Global.{Global}
 use Rattle.std.proofs.lemmas.Map.Text.{is_eq-slice_cmp, btree_map_updates_text}
 use Rattle.gitconf_values.specs.Homes.{homes_of, folder_of, with_home}
 
--- a text is mapped behind a test
+-- a text is mapped after a test
 mapped : {A B : Type 0} (f : A → B) (b : Bool) (x y : Option A) → option_map f (cond b x y) ≡ cond b (option_map f x) (option_map f y)
 mapped f true x y = refl
 mapped f false x y = refl
@@ -41,7 +41,7 @@ put_home user folder (e ∷ entries) = go (string_cmp user e.0) (put_home user f
     go Equal later = refl
     go Greater later = ap (λ hs. (string_bytes e.0, string_bytes e.1) ∷ hs) later
 
--- behind a change at one user each other has the folder that it had
+-- after a change at one user each other has the folder that it had
 pub last_home : (user : List ℕ) (old new : BTreeMap (String Global) (String Global)) (folder : String Global)
     → UpdatesBy string_cmp (λ k. slice_cmp nat_cmp user (string_bytes k)) old new (Some folder)
     → (asked : List ℕ) → folder_of asked (homes_of new.entries) ≡ cond (bytes_eq user asked) (Some (string_bytes folder)) (folder_of asked (homes_of old.entries))

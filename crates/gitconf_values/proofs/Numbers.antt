@@ -56,7 +56,7 @@ fits_test : (z : ℤ) → FitsSigned w64 z → fits z ≡ true
 fits_test (pos n) is = lt-ltb n 9223372036854775808 is.sfits
 fits_test (negsuc n) is = rw (le-leb n 9223372036854775807 (let h = is.sfits in omega (arith, h))) refl
 
--- What `parse` answers is the number of the bytes.
+-- What `parse` returns is the number of the bytes.
 pub parsed : {E : Type 0} (bytes : List ℕ) (r : Result ℤ E) → ParsesSigned w64 10 bytes r → result_ok r ≡ number_of bytes
 parsed {E} bytes (Ok z) h = rw (numeral_test (without_leading_sign bytes) h.0.0, fits_test (signed_digits_value 10 bytes) h.0.1, number_of) (ap (λ t. Some t) h.1)
 parsed {E} bytes (Err e) none = go (is_numeral (without_leading_sign bytes)) (fits (signed_digits_value 10 bytes)) refl refl

@@ -18,7 +18,7 @@ homes_of entries = map (λ e. (string_bytes e.0, string_bytes e.1)) entries
 abbrev pub folder_of : List ℕ → List (List ℕ × List ℕ) → Option (List ℕ)
 folder_of user homes = lookup (bytes_eq user) homes
 
--- the table, in the order of the users, with this folder of the user in place of another one
+-- the table, in the order of the users, with this folder for this user, whatever folder the user had
 abbrev pub with_home : List ℕ → List ℕ → List (List ℕ × List ℕ) → List (List ℕ × List ℕ)
 with_home user folder homes = insert_entry (slice_cmp nat_cmp) homes user folder
 

@@ -1,4 +1,4 @@
--- Integers of the code, told by the definitions.
+-- Integers of the code, as the definitions have them.
 use Rattle.std.specs.Prelude.{ℕ, ℤ, List, Option, Some, None, Result, Ok, Err, codes}
 use Rattle.gitconf_text.specs.Typed as typed
 use Rattle.gitconf_text.specs.Typed.{NotAnInteger, IntegerOverflow, integer_of}
@@ -7,12 +7,14 @@ use Rattle.gitconf_values.specs.declared.integer.Integer.{Integer}
 use Rattle.gitconf_values.specs.declared.integer.Suffix.{Suffix}
 use Rattle.gitconf_values.specs.declared.integer.Suffix.TheVariants.{Kibi, Mebi, Gibi}
 
+-- the suffix that the code has read
 abbrev pub suffix_told : Option Suffix → Option typed.Suffix
 suffix_told None = None
 suffix_told (Some Kibi) = Some typed.Kibi
 suffix_told (Some Mebi) = Some typed.Mebi
 suffix_told (Some Gibi) = Some typed.Gibi
 
+-- the integer that the code has read: its number and its suffix
 abbrev pub integer_told : Integer → typed.Integer
 integer_told i = record { number = i.value; suffix = suffix_told i.suffix }
 

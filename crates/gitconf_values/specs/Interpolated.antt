@@ -11,24 +11,24 @@ use Rattle.gitconf_values.specs.declared.path.interpolate.Error.TheVariants.{Mem
 use Rattle.gitconf_values.specs.Homes.{folder_of, interpolate_number}
 use Rattle.gitconf_values.specs.Paths.{join, is_empty}
 
--- what stands behind a beginning
+-- what follows a beginning of a path, if the path begins with it
 abbrev pub behind : (beginning path : List ℕ) → Option (List ℕ)
 behind beginning path = if bytes_eq (take (length beginning) path) beginning then Some (drop (length beginning) path) else None
 
--- a path by itself, which has to be UTF-8
+-- a path that stands for itself, which has to be UTF-8
 abbrev pub plain : (path : List ℕ) → Result (List ℕ) ℕ
 plain path = if is_utf8 path then Ok path else Err 13
 
--- what is left of a path, in a folder that has to be there
+-- the rest of a path, in a folder that must be known
 abbrev pub below : (folder : Option (List ℕ)) (rest : List ℕ) → Result (List ℕ) ℕ
 below None rest = Err 12
 below (Some folder) rest = if is_utf8 rest then Ok (join folder rest) else Err 13
 
--- what is left of a path, in the folder of a user, whose name has to be UTF-8
+-- the rest of a path, in the folder of a user, whose name has to be UTF-8
 abbrev pub below_user : (homes : Option (List (List ℕ × List ℕ))) (user rest : List ℕ) → Result (List ℕ) ℕ
 below_user homes user rest = if is_utf8 user then elim homes [ None ↦ Err 12 | Some table ↦ below (folder_of user table) rest ] else Err 14
 
--- a path behind its `~`, which is of a user where a slash follows
+-- a path that begins with `~`, given what follows it: with a slash later on it is in a user's folder
 abbrev pub of_user : (homes : Option (List (List ℕ × List ℕ))) (behind path : List ℕ) → Result (List ℕ) ℕ
 of_user homes behind path = elim (position (λ b. b == 47) behind) [
   | None ↦ plain path
@@ -52,13 +52,13 @@ interpolated install home homes path = if is_empty path then Err 12 else
       ]
     ]
 
--- a call gives that text or is refused with that number, or memory was wanting
+-- a call gives that text or is refused with that number, or memory ran out
 abbrev pub Gives : Result (String Global) Error → Result (List ℕ) ℕ → Type 0
 Gives (Ok text) answer = answer ≡ Ok (string_bytes text)
 Gives (Err Memory) answer = Unit {0}
 Gives (Err e) answer = answer ≡ Err (interpolate_number e)
 
--- bytes are read as text exactly where they are UTF-8
+-- bytes are read as text if and only if they are UTF-8
 abbrev pub Reads : Result (Bor (List ℕ)) Utf8Error → (bytes : List ℕ) → Type 0
 Reads (Ok text) bytes = (text.now ≡ bytes) × (is_utf8 bytes ≡ true)
 Reads (Err e) bytes = is_utf8 bytes ≡ false

@@ -9,10 +9,10 @@ use bstr::BString;
 use gitconf_text::parse::section::bytes::is_same_name;
 use gitconf_text::value::Error;
 
-/// A value as a boolean, as git-config's manual page tells them under "Values": `yes`, `on` and `true` are true, `no`, `off`, `false` and
-/// nothing are false, without ASCII case. A number with an optional sign that 64 bits hold is true where it is not 0.
+/// A value as a boolean, by git-config's manual page, "Values": `yes`, `on` and `true` are true, `no`, `off`, `false` and
+/// the empty value are false, without ASCII case. A number with an optional sign that fits in 64 bits is true if it is not 0.
 ///
-/// An entry without `=` has no value, and isn't told here: it is true.
+/// An entry without `=` has no value, so it is not read here: it is true.
 #[derive(Clone, Copy, PartialEq, Eq, PartialOrd, Ord, Hash, Debug)]
 pub struct Boolean(pub bool);
 

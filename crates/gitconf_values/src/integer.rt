@@ -10,7 +10,7 @@ use crate::number::number;
 use bstr::BString;
 use gitconf_text::value::Error;
 
-/// What stands behind a number and multiplies it, in either case.
+/// What follows a number and multiplies it, in either case.
 #[derive(Clone, Copy, PartialEq, Eq, PartialOrd, Ord, Hash, Debug)]
 pub enum Suffix {
     /// `k`: 1024.
@@ -21,18 +21,18 @@ pub enum Suffix {
     Gibi,
 }
 
-/// A value as an integer, as git-config's manual page tells them under "Values": an optional sign and one or more digits that 64 bits
-/// hold, and a suffix or none.
+/// A value as an integer, by git-config's manual page, "Values": an optional sign and one or more digits that fit in 64 bits,
+/// and an optional suffix.
 #[derive(Clone, Copy, PartialEq, Eq, PartialOrd, Ord, Hash, Debug)]
 pub struct Integer {
     /// The number before the suffix.
     pub value: i64,
-    /// The suffix behind it.
+    /// The suffix after it.
     pub suffix: Option<Suffix>,
 }
 
 impl Integer {
-    /// The number times what its suffix stands for, or `None` where 64 bits don't hold that.
+    /// The number times the factor of its suffix, or `None` if that doesn't fit in 64 bits.
     pub fn to_decimal(&self) -> Option<i64>
         ensures { result ≡ decimal_of (integer_told self.now) }
     {
@@ -63,7 +63,7 @@ impl TryFrom<BString> for Integer {
 ///
 /// # Errors
 ///
-/// Refusal 11 with the bytes that were given: `not an integer`, or `Integer overflow` where 64 bits don't hold the product.
+/// Refusal 11 with the bytes that were given: `not an integer`, or `Integer overflow` if the product doesn't fit in 64 bits.
 pub fn decimal(bytes: BString) -> Result<i64, Error>
     ensures { result ≡ integer_or_refusal (bstring_bytes bytes) }
 {
@@ -76,7 +76,7 @@ pub fn decimal(bytes: BString) -> Result<i64, Error>
     }
 }
 
-/// What a suffix multiplies by.
+/// The factor of a suffix.
 fn factor(suffix: Option<Suffix>) -> i64
     ensures { result ≡ factor_of (suffix_told suffix) }
 {

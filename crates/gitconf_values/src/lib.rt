@@ -1,4 +1,4 @@
-//! Values of git's configuration with a meaning of their own.
+//! Values of git's configuration that have a type: booleans, integers and paths.
 #![tactic(auto)]
 
 pub mod boolean;

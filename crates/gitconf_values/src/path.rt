@@ -1,4 +1,4 @@
-//! Paths as configuration writes them: the folder that one stands in, joined ones, and what their shorthands stand for.
+//! Paths as configuration writes them: the folder that one is in, joined paths, and what their shorthands stand for.
 ghost use Rattle.std.specs.Prelude.{◌≡◌, ◌<◌, ◌≤◌, ◌&&◌, IfOk, IfSome, length, string_bytes};
 ghost use Rattle.std.specs.Option.{option_copied};
 ghost use Rattle.gitconf_values.specs.Paths as spec;
@@ -25,7 +25,7 @@ fn trimmed_length(path: &[u8], end: usize) -> usize
     left
 }
 
-/// Where the last slash of the first `end` bytes stands.
+/// Where the last slash of the first `end` bytes is.
 #[tactic(auto, using(crate::proofs::PathLemmas::finding))]
 fn last_slash(path: &[u8], end: usize) -> Option<usize>
     requires { end ≤ length path.now }
@@ -42,7 +42,7 @@ fn last_slash(path: &[u8], end: usize) -> Option<usize>
     None
 }
 
-/// How many bytes of a path name the folder that it stands in.
+/// How many bytes of a path are the folder that it is in.
 fn parent_length(path: &[u8]) -> Option<usize>
     ensures { result ≡ spec.parent_length path.now }
 {
@@ -57,8 +57,8 @@ fn parent_length(path: &[u8]) -> Option<usize>
     Some(if left == 0 { 1 } else { left })
 }
 
-/// The folder that a path stands in, as a part of the path. There is none for an empty path and for slashes alone, it
-/// is empty for a name alone, and slashes at the end of either count for nothing. It takes no memory.
+/// The folder that a path is in, as a part of the path. There is none for an empty path and for slashes alone; it
+/// is empty for a name alone. Slashes at the end of either are ignored. It takes no memory.
 pub fn parent(path: &str) -> Option<&str>
     ensures { option_copied result ≡ spec.parent path.now }
 {
@@ -66,7 +66,7 @@ pub fn parent(path: &str) -> Option<&str>
     Some(&path[..length])
 }
 
-/// Whether a slash stands first.
+/// Whether a slash comes first.
 fn begins_slash(path: &str) -> bool
     ensures { result ≡ spec.begins_slash path.now }
 {
@@ -76,7 +76,7 @@ fn begins_slash(path: &str) -> bool
     }
 }
 
-/// Whether a slash stands last.
+/// Whether a slash comes last.
 #[tactic(auto, using(crate::proofs::PathLemmas::ending))]
 fn ends_slash(path: &str) -> bool
     ensures { result ≡ spec.ends_slash path.now }
@@ -85,12 +85,12 @@ fn ends_slash(path: &str) -> bool
     trimmed_length(bytes, bytes.len()) < bytes.len()
 }
 
-/// A path in a folder: `rest` itself where it begins with `/` or the folder is empty, else the two with a `/` between,
+/// A path in a folder: `rest` itself if it begins with `/` or the folder is empty, otherwise the two with a `/` between,
 /// unless the folder ends with one. It asks for memory once.
 ///
 /// # Errors
 ///
-/// Only where memory is wanting.
+/// Only when out of memory.
 pub fn join(alloc: Global, folder: &str, rest: &str) -> Result<String, NoMemory>
     ensures { IfOk result (λ path. string_bytes path ≡ spec.join folder.now rest.now) }
 {
@@ -144,14 +144,14 @@ impl Path {
         self.value.as_slice()
     }
 
-    /// The path with what stands for the shorthand at its front: `%(prefix)/` for the folder where git is installed,
-    /// `~/` for the home folder, `~user/` for that of the user. Any other path stands for itself. It reads the path
-    /// once, and asks for memory for the answer alone.
+    /// The path with its shorthand replaced: `%(prefix)/` by the folder where git is installed,
+    /// `~/` by the home folder, `~user/` by that of the user. Any other path stands for itself. It reads the path
+    /// once, and asks for memory for the result alone.
     ///
     /// # Errors
     ///
-    /// E12 where the path is empty or what the shorthand asks for is not there, E14 before that where the name of the
-    /// user isn't UTF-8, E13 last, where what is left isn't UTF-8, and E27.
+    /// E12 if the path is empty or what the shorthand needs is not known, E14 before that if the name of the
+    /// user isn't UTF-8, E13 last, if the rest of the path isn't UTF-8, and E27.
     pub fn interpolate(&self, context: Context<'_>) -> Result<String, Error>
         ensures { Gives result (interpolated (option_copied context.entry.git_install_dir) (option_copied context.entry.home_dir) (option_copied context.entry.home_for_user) self.now) }
     {

@@ -1,4 +1,4 @@
--- A section that stands alone, in a buffer of its own.
+-- A section that is in no file, in a buffer of its own.
 use Rattle.std.specs.Prelude.{◌≡◌, ◌↔◌, ℕ, ◌<◌, ◌≤◌, ◌+◌, ◌^◌, ◌==◌, Bool, false, true, List, [], ◌∷◌, length, Option, Result, IfErr, IsErrAnd, OnErr, OnOk}
 use Rattle.std.specs.List.{list_all, list_any}
 use Rattle.gitconf_text.specs.HeaderErrors.{header_number}
@@ -19,7 +19,7 @@ use Rattle.gitconf_views.specs.declared.section.Section.{Section as Own}
 use Rattle.gitconf_views.specs.ValueErrors.{edit_numbers}
 use Rattle.gitconf_views.specs.Store.{section_under}
 
--- a section without what is held behind it
+-- a section without what is held after it
 abbrev pub alone : SectionState → SectionState
 alone s = record { number = s.number; header = s.header; meta = s.meta; items = s.items; held = [] }
 
@@ -27,27 +27,27 @@ alone s = record { number = s.number; header = s.header; meta = s.meta; items = 
 abbrev pub with_items : (List parts.Item → List parts.Item) → SectionState → SectionState
 with_items change s = record { number = s.number; header = s.header; meta = s.meta; items = change s.items; held = s.held }
 
--- a section that is made: its body has nothing, and its number is the one that no file gives
+-- a section that is made: its body is empty, and its number is the one that no file gives
 abbrev pub made_alone : (name : List ℕ) → (subsection : Option (List ℕ)) → Meta → Detached
 made_alone name subsection meta = record {
   section = record { number = no_number; header = made_header name subsection; meta = meta; items = []; held = [] };
   used = header_bytes name subsection;
 }
 
--- the refusals that it has
+-- the refusals that making a header can have
 abbrev pub is_refusal_of_header : Error → Bool
 is_refusal_of_header e = list_any (λ number. number == header_number e) (3 ∷ 4 ∷ 5 ∷ 27 ∷ [])
 
--- a section with a list of its own, as a section of a file that holds nothing
+-- a section with a list of its own for its items, as a section of a file with nothing held after it
 abbrev pub whole : Own → Section
 whole s = record { header = s.header; meta = s.meta; items = record { items = s.items.items }; held = record { items = [] } }
 
--- a section under a number, in a buffer that has nothing else
+-- a section with its number, in a buffer that has nothing else
 abbrev pub detached_of : (buffer : List ℕ) → ℕ → Own → Detached
 detached_of buffer number s = record { section = section_under buffer number (whole s); used = length buffer }
 
--- What such a section keeps: its spans stand within the buffer, its header is shown as its token is, and header and items are such as a text
--- may have.
+-- What such a section keeps: its spans are within the buffer, its header is shown as its token is, and its header and items are such as a
+-- text may have.
 pub record StandsAlone (buffer copies : List ℕ) (s : Own) : Type 0 where
   pub room : length buffer < 2 ^ 32
   pub header : IsShown buffer copies (kinds.SectionHeader s.header)
@@ -55,8 +55,8 @@ pub record StandsAlone (buffer copies : List ℕ) (s : Own) : Type 0 where
   pub spelled : is_header (header_of buffer s.header) ≡ true
   pub items : list_all is_item (items_of buffer s.items.items) ≡ true
 
--- An editor's edit was done, or refused, and the section is then as it was. No more bytes are put into its buffer than are counted. Refusal 6
--- comes exactly for a name that is none, and else 3 exactly where these bytes would pass the limit; any other is want of memory.
+-- An editor's edit was done, or it was refused and the section is as it was. At most that many bytes are added to its buffer. Refusal 6
+-- comes if and only if the name is invalid, otherwise 3 if and only if these bytes would pass the limit; any other is out of memory.
 pub record IsEditedAlone {T E : Type 0} (change : List parts.Item → List parts.Item) (is_named : Bool) (bytes : ℕ) (number : E → ℕ) (result : Result T E) (old new : Detached) : Type 0 where
   pub ok : OnOk result (new.section ≡ with_items change old.section)
   pub err : OnErr result (new.section ≡ old.section)

@@ -1,4 +1,4 @@
--- Editors of a section that stands alone: the section, and what they write beside names and values.
+-- Editors of a section that is in no file: the section, and what they write besides names and values.
 use Rattle.std.specs.Borrow.{GName}
 use Rattle.gitconf_state.specs.Edit.{Spacing}
 use Rattle.gitconf_state.specs.Editors.{Editor}

@@ -5,11 +5,12 @@ use Rattle.gitconf_text.specs.Part as parts
 use Rattle.gitconf_text.specs.Document.{DocumentEntry}
 use Rattle.gitconf_state.specs.State.{SectionState, entries_of}
 
+-- the body has no items
 abbrev pub is_empty_body : List parts.Item → Bool
 is_empty_body [] = true
 is_empty_body (i ∷ items) = false
 
--- no section has anything in its body
+-- all bodies are empty
 abbrev pub are_void : List SectionState → Bool
 are_void sections = list_all (λ s. is_empty_body s.items) sections
 

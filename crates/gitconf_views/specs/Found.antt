@@ -1,12 +1,12 @@
--- What is found, where there is something.
+-- What was found, if there is something.
 use Rattle.std.specs.Prelude.{◌≡◌, ◌≢◌, List, [], ◌∷◌, Option, Some, None, Result, Ok, Err, option_map}
 
--- What was found is shown, if there is something; a refusal comes only where there is.
+-- The result is what was found, if there is something; a refusal comes only if there is.
 abbrev pub IsFound : {T A E : Type 0} → (shown : T → A) → Result (Option T) E → Option A → Type 0
 IsFound shown (Ok found) value = option_map shown found ≡ value
 IsFound shown (Err refusal) value = value ≢ None
 
--- what there is, where there is something
+-- the list, unless it is empty
 abbrev pub unless_empty : {A : Type 0} → List A → Option (List A)
 unless_empty [] = None
 unless_empty (x ∷ xs) = Some (x ∷ xs)

@@ -1,7 +1,8 @@
--- How many bytes more a buffer has behind an edit.
+-- How many more bytes a buffer has after an edit.
 use Rattle.std.specs.Prelude.{◌≡◌, ◌⊎◌, ℕ, ◌+◌, ◌≤◌, ◌^◌, Result, IsErrOf, IfErr}
 
--- At most so many bytes more are used. A refusal is that they are too many, exactly where they would pass the limit, or want of memory.
+-- At most that many more bytes are used. A refusal says that they are too many, if and only if they would pass the limit, or that memory
+-- ran out.
 pub record UsedGrows {T : Type 0} (result : Result T ℕ) (count old new : ℕ) : Type 0 where
   pub grown : new ≤ old + count
   pub too_large : IsErrOf result 3 → 2 ^ 32 ≤ old + count

@@ -1,4 +1,4 @@
-//! Views and sections that stand alone are shown by their names; what they have is told by their calls.
+//! `Debug` shows views, and sections that are in no file, by their type's name alone; their calls show what they have.
 use crate::detached::Section;
 use crate::detached::editor::DetachedSectionMut;
 use crate::section::SectionRef;

@@ -1,4 +1,4 @@
-//! Sections that stand in no file.
+//! Sections that are in no file.
 ghost use Rattle.std.specs.Prelude.{◌≡◌, ◌<◌, ◌^◌, ℕ, true, length, IfOk, OnOk};
 ghost use Rattle.std.specs.List.{list_all};
 ghost use Rattle.std.specs.Option.{option_copied, option_map};
@@ -38,7 +38,7 @@ use std::alloc::Global;
 use std::marker::Model;
 use std::rc::Rc;
 
-/// Items with their bytes copied behind those of another buffer. Bytes that are too many for it are want of memory.
+/// Copies of items, with their bytes added to another buffer. More bytes than it can hold count as out of memory.
 fn owned_items(from: &[u8], to: &mut Vec<u8>, items: &[Item]) -> Result<Vec<Item>, NoMemory>
     requires room { length to.old.items < 2 ^ 32 }
     ensures copies { IfOk result (λ is. IsCopy items_of AreItemsWithin from.now to.new.items items.now is.items) }
@@ -50,7 +50,7 @@ fn owned_items(from: &[u8], to: &mut Vec<u8>, items: &[Item]) -> Result<Vec<Item
     }
 }
 
-/// A header with its bytes copied behind those of another buffer, and with a decoded copy of its subsection where it needs one.
+/// A copy of a header, with its bytes added to another buffer, and with a decoded copy of its subsection if it needs one.
 #[tactic(auto, using(crate::proofs::Detaching::header_owned))]
 fn owned_header(
     from: &[u8],
@@ -69,7 +69,7 @@ fn owned_header(
     }
 }
 
-/// A section with its bytes copied behind those of a buffer, and with nothing held behind it.
+/// A copy of a section in a buffer of its own, with nothing held after it.
 fn owned_section(
     to: &mut Vec<u8>,
     copies: &mut Vec<u8>,
@@ -89,13 +89,16 @@ fn owned_section(
     })
 }
 
-/// A section that stands in no file: its header and its body, in a buffer of its own, and the number under which it stood in one.
+/// A section that is in no file: its header and its body, in a buffer of its own, and the number that it had in a file.
 #[derive(Drop)]
 pub struct Section {
+    /// The buffer that its spans are offsets of.
     pub buffer: Vec<u8>,
-    /// The decoded subsection of its header, where it needs one.
+    /// The decoded subsection of its header, if it needs one.
     pub copies: Vec<u8>,
+    /// The number that it had in a file; the greatest for one that was in none.
     pub id: SectionId,
+    /// Its header, where it comes from, and its items.
     pub section: section::Section,
 }
 
@@ -115,12 +118,12 @@ impl SectionRef<'_> {
     ghost use Rattle.gitconf_views.specs.Alone.{alone};
     ghost use Rattle.gitconf_views.specs.Views.{shown};
 
-    /// The section alone, under the same number, with a buffer of its own: its header and its body are copied, and what is held behind
-    /// it isn't. Metadata is shared. One pass, which takes memory for what it copies alone.
+    /// A copy of the section with the same number, in a buffer of its own: its header and its body are copied, and what is held after
+    /// it is not. Metadata is shared. One pass, which takes memory for the copies alone.
     ///
     /// # Errors
     ///
-    /// Want of memory; also where its bytes are more than 4294967295.
+    /// Out of memory; also if it has more than 4294967295 bytes.
     pub fn to_owned(&self) -> Result<Section, NoMemory>
         ensures { IfOk result (λ s. s.section ≡ alone (shown self.now)) }
     {
@@ -144,14 +147,14 @@ impl Section {
     ghost use Rattle.gitconf_views.specs.Alone.{is_refusal_of_header, made_alone};
     ghost use Rattle.gitconf_views.specs.Views.{shown};
 
-    /// A section of a name and a subsection: its body has nothing, also no line end, and its number is the greatest, which no file gives. The
-    /// name may be empty. The subsection is written in quotes behind a space, each `"` and each backslash in it behind a backslash. One
-    /// pass over both, which takes memory for their text and for a copy of a subsection that is spelled otherwise.
+    /// A section of a name and a subsection: its body is empty, without even a line ending, and its number is the greatest, which no file
+    /// gives. The name may be empty. The subsection is written in quotes after a space, with a backslash before each `"` and each
+    /// backslash. One pass over both, which takes memory for their text and for a decoded copy of a subsection that is spelled differently.
     ///
     /// # Errors
     ///
-    /// `InvalidName` where a byte of the name is no letter, digit or dash, and else `InvalidSubSection` where the subsection holds LF or
-    /// NUL; else `Span`, number 3, exactly where their text is longer than 4294967295 bytes, and `Memory` for want of memory.
+    /// `InvalidName` if a byte of the name is not a letter, digit or dash, otherwise `InvalidSubSection` if the subsection holds LF or
+    /// NUL; otherwise `Span`, number 3, if and only if their text is longer than 4294967295 bytes, and `Memory` when out of memory.
     pub fn new(
         alloc: Global,
         name: &str,
@@ -184,7 +187,7 @@ impl Section {
         })
     }
 
-    /// A view of it, as of a section of a file. Its header and its items are such as a text may have, whatever made it. Takes no memory.
+    /// A view of it, as of a section of a file. Its header and its items are such as a text may have, however it was made. Takes no memory.
     pub fn to_ref(&self) -> SectionRef<'_>
         ensures same { shown result ≡ self.now.section }
         ensures items { HasSectionItems self.now.section }
@@ -201,11 +204,11 @@ impl Section {
         }
     }
 
-    /// The same section again, with a buffer of its own; metadata is shared. Each byte and each item is copied once.
+    /// A copy of the section, in a buffer of its own; metadata is shared. Each byte and each item is copied once.
     ///
     /// # Errors
     ///
-    /// Want of memory.
+    /// Out of memory.
     pub fn try_clone(&self) -> Result<Section, NoMemory>
         ensures { IfOk result (λ s. s ≡ self.now) }
     {

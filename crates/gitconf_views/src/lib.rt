@@ -1,4 +1,4 @@
-//! Views of sections, of their headers and of their bodies; and sections that stand in no file, with their editor.
+//! Views of sections, of their headers and of their bodies; and sections that are in no file, with their editor.
 #![tactic(auto)]
 
 mod debug;

@@ -1,4 +1,4 @@
-//! Lists that grow, with one refusal for want of memory; and bytes where there are any.
+//! Lists that grow, with one error when out of memory; and bytes, if there are any.
 ghost use Rattle.std.specs.Option.{option_copied};
 ghost use Rattle.std.specs.Prelude.{◌≡◌, [], ◌∷◌, ◌++◌, option_map, IfOk, OnOk, OnErr};
 ghost use Rattle.bstr.specs.Owned.{bstring_bytes};
@@ -8,22 +8,22 @@ use bstr::BString;
 use gitconf_text::NoMemory;
 use std::alloc::Global;
 
-/// An empty list with room for so many items.
+/// An empty list with room for `count` items.
 ///
 /// # Errors
 ///
-/// Want of memory.
+/// Out of memory.
 pub fn with_room<T>(alloc: Global, count: usize) -> Result<Vec<T>, NoMemory>
     ensures { IfOk result (λ list. list.items ≡ []) }
 {
     Ok(Vec::with_capacity(alloc, count)?)
 }
 
-/// Puts an item behind the others. What is refused for want of memory is let go.
+/// Adds an item after the others. If that fails, the item is dropped.
 ///
 /// # Errors
 ///
-/// Want of memory. The list is then as it was.
+/// Out of memory. The list is then as it was.
 pub fn put<T: Drop>(list: &mut Vec<T>, item: T) -> Result<(), NoMemory>
     ensures ok { OnOk result (list.new.items ≡ list.old.items ++ item ∷ []) }
     ensures err { OnErr result (list.new.items ≡ list.old.items) }
@@ -32,7 +32,7 @@ pub fn put<T: Drop>(list: &mut Vec<T>, item: T) -> Result<(), NoMemory>
     Ok(())
 }
 
-/// Bytes, where there are any.
+/// Bytes, if there are any.
 pub fn unless_empty(bytes: &[u8]) -> Option<&[u8]>
     ensures { option_copied result ≡ spec.unless_empty bytes.now }
 {

@@ -27,16 +27,19 @@ use std::rc::Rc;
 /// A section that has a list of its own for its items: its header, where it comes from, and its body.
 #[derive(Clone, Drop)]
 pub struct Section {
+    /// The section's header.
     pub header: Header,
+    /// Where the section comes from.
     pub meta: Rc<Metadata>,
+    /// The items of its body.
     pub items: Vec<Item>,
 }
 
-/// The same metadata with one owner more.
+/// The same metadata, with one more owner.
 ///
 /// # Errors
 ///
-/// No other owner can be counted any more.
+/// The count of owners is at its limit, which counts as out of memory.
 pub fn shared(meta: &Rc<Metadata>) -> Result<Rc<Metadata>, NoMemory>
     ensures { IfOk result (λ owned. owned.value ≡ meta.now.value) }
 {
@@ -54,15 +57,21 @@ pub fn trusted(alloc: Global, meta: &Metadata, trust: Trust) -> Result<Rc<Metada
 /// A view of a section.
 #[derive(Clone, Copy)]
 pub struct SectionRef<'a> {
-    /// Where memory for what is asked of it comes from.
+    /// Where memory for results comes from.
     pub alloc: Global,
+    /// The buffer that its spans are offsets of.
     pub buffer: &'a [u8],
     /// The decoded subsections of the headers that need one.
     pub copies: &'a [u8],
+    /// The section's number in its file.
     pub id: SectionId,
+    /// The section's header.
     pub header: &'a Header,
+    /// Where the section comes from.
     pub meta: &'a Rc<Metadata>,
+    /// The items of its body.
     pub items: &'a [Item],
+    /// The items held after it.
     pub held: &'a [Item],
     ghost viewed: { IsViewed buffer.now copies.now (seen_as header.now meta.now items.now held.now) } by { IsViewed-prop buffer.now copies.now (seen_as header.now meta.now items.now held.now) },
 }
@@ -106,30 +115,30 @@ impl<'a> SectionRef<'a> {
         ItemEvents::over(self.buffer, self.items)
     }
 
-    /// The events of what is held behind it, in order.
+    /// The events of what is held after it, in order.
     pub fn held_events(&self) -> ItemEvents<'a>
         ensures { events_left result ≡ map shown_token (tokens_in (shown self.now).held) }
     {
         ItemEvents::over(self.buffer, self.held)
     }
 
-    /// The blanks that its body has, with memory of their own. One walk over its items.
+    /// The blanks that its body uses, with memory of their own. One walk over its items.
     ///
     /// # Errors
     ///
-    /// Want of memory.
+    /// Out of memory.
     pub fn blanks(&self) -> Result<Blanks, NoMemory>
         ensures { IfOk result (λ blanks. blanks ≡ spacing_of (shown self.now).items) }
     {
         Blanks::of_items(self.alloc, self.buffer, self.items)
     }
 
-    /// What the entry means that stands at a place among the items of the body, counted in items from the first one, 0; without `=` it is
-    /// empty. `None` where no entry stands there.
+    /// What the entry at a place among the items of the body means, counted in items from 0; without `=` it is
+    /// empty. `None` if no entry is there.
     ///
     /// # Errors
     ///
-    /// Want of memory for the answer, only where there is an entry.
+    /// Out of memory for the result, only if there is an entry.
     pub fn meaning_at(&self, place: usize) -> Result<Option<BString>, NoMemory>
         ensures { IsFound bstring_bytes result (meaning_at place (shown self.now).items) }
     {
@@ -140,12 +149,12 @@ impl<'a> SectionRef<'a> {
         Ok(Some(text))
     }
 
-    /// Writes the section alone: its header and its body, with a line end put in where two of its parts would else
-    /// run together. What is held behind it isn't written. One pass, which takes no memory of its own.
+    /// Writes the section alone: its header and its body, with a line ending inserted where two of its parts would otherwise
+    /// run together. What is held after it isn't written. One pass, which takes no memory of its own.
     ///
     /// # Errors
     ///
-    /// A write failed, or took nothing. It is not tried again, and a beginning of the section was written.
+    /// A write failed, or took nothing. It is not tried again, and a beginning of the section may have been written.
     #[tactic(auto, using(crate::proofs::Texts::printed_texts))]
     pub fn write_to<W: Sink>(&self, out: &mut W) -> Result<(), SinkFault>
         ensures written { Writes result (printed_section (shown self.now)) (W.told out.old) (W.told out.new) }
@@ -158,11 +167,11 @@ impl<'a> SectionRef<'a> {
     ///
     /// # Errors
     ///
-    /// Want of memory.
+    /// Out of memory.
     #[tactic(auto, using(crate::proofs::SectionReads::section_text_reads))]
     pub fn to_bstring(&self) -> Result<BString, NoMemory>
         ensures text { IfOk result (λ text. bstring_bytes text ≡ printed_section (shown self.now)) }
-        // What is held behind it has no part in it.
+        // What is held after it is not part of the text.
         ensures reads { let alone : SectionState = record (shown self.now) { held = [] } in IsCleanSection alone
             → IfOk result (λ text. Reads (bstring_bytes text) (record { front = []; sections = section_document (shown self.now) ∷ [] })) }
     {
@@ -173,7 +182,7 @@ impl<'a> SectionRef<'a> {
         }
     }
 
-    /// Writes the section, and what is held behind it.
+    /// Writes the section, and what is held after it.
     #[tactic(auto, using(gitconf_items::proofs::SinkLaws::in_turn, crate::proofs::Texts::printed_texts))]
     pub fn write_whole<W: Sink>(&self, out: &mut W, line_end: LineEnd) -> Result<(), SinkFault>
         ensures written { Writes result (whole_text (bytes_of_line_end line_end) (shown self.now)) (W.told out.old) (W.told out.new) }
@@ -183,7 +192,7 @@ impl<'a> SectionRef<'a> {
         write_held(out, self.buffer, self.items, self.held, line_end)
     }
 
-    /// Whether the section ends with a line end, what is held behind it counted in.
+    /// Whether the section ends with a line ending, with what is held after it.
     #[tactic(auto, using(crate::proofs::Texts::printed_texts))]
     pub fn ends_with_line(&self, line_end: LineEnd) -> bool
         ensures { result ≡ ends_with_line (bytes_of_line_end line_end) (shown self.now) }
@@ -195,8 +204,11 @@ impl<'a> SectionRef<'a> {
 /// The sections of a file in order: `Store::sections`.
 #[derive(Drop)]
 pub struct Sections<'a> {
+    /// The buffer that all spans are offsets of.
     pub buffer: &'a [u8],
+    /// The decoded subsections of the headers that need one.
     pub copies: &'a [u8],
+    /// What is left of the walk over the table.
     pub sections: Iter<'a>,
     ghost viewed: { AreViewed buffer.now copies.now (walks.sections_left sections) } by { AreViewed-prop buffer.now copies.now (walks.sections_left sections) },
 }

@@ -27,7 +27,7 @@ fn decoded(alloc: Global, raw: &[u8]) -> Result<BString, NoMemory>
     Ok(BString::new(meaning.into_owned(alloc)?))
 }
 
-/// What a value means that goes on. Memory is taken for the answer, and for the raw text.
+/// What a value of several pieces means. Memory is taken for the result, and for the raw text.
 fn joined(alloc: Global, buffer: &[u8], value: &Value) -> Result<BString, NoMemory>
     ensures { IfOk result (λ text. bstring_bytes text ≡ plain (raw_of (value_of buffer.now value.now))) }
 {
@@ -35,8 +35,8 @@ fn joined(alloc: Global, buffer: &[u8], value: &Value) -> Result<BString, NoMemo
     decoded(alloc, &raw)
 }
 
-/// What an entry means: nothing without `=`, for which no memory is taken. Memory is taken for the answer, and for the raw
-/// text of a value that goes on.
+/// What an entry means: an empty text without `=`, which takes no memory. Memory is taken for the result, and for the raw
+/// text of a value of several pieces.
 pub fn entry_meaning(alloc: Global, buffer: &[u8], entry: &Entry) -> Result<BString, NoMemory>
     ensures { let e = document_entry (entry_of buffer.now entry.now) in MatchResult result (λ text. bstring_bytes text ≡ state.meaning e) (λ _. e.raw ≢ None) }
 {
@@ -47,7 +47,7 @@ pub fn entry_meaning(alloc: Global, buffer: &[u8], entry: &Entry) -> Result<BStr
     }
 }
 
-/// What the value of an entry means, if it has one. Memory is taken as for [`entry_meaning`].
+/// What the value of an entry means, if it has one. Takes memory as [`entry_meaning`] does.
 pub fn entry_value(alloc: Global, buffer: &[u8], entry: &Entry) -> Result<Option<BString>, NoMemory>
     ensures ok { IfOk result (λ value. option_map bstring_bytes value ≡ option_map plain (document_entry (entry_of buffer.now entry.now)).raw) }
     ensures err { OnErr result ((bytes : List ℕ) × ((document_entry (entry_of buffer.now entry.now)).raw ≡ Some bytes)) }

@@ -25,7 +25,7 @@ use gitconf_write::sections::write_header;
 use std::alloc::Global;
 use std::iter::FusedIterator;
 
-/// The first entry of items, and the items behind it.
+/// The first entry of items, and the items after it.
 pub fn next_entry(items: &[Item]) -> Option<(&Entry, &[Item])>
     ensures entry { (buffer : List ℕ) → MatchOption result (entries_of (items_of buffer items.now) ≡ [])
         (λ r. entries_of (items_of buffer items.now) ≡ document_entry (entry_of buffer r.0.now) ∷ entries_of (items_of buffer r.1.now)) }
@@ -113,7 +113,7 @@ impl<'a> HeaderRef<'a> {
     ghost use Rattle.gitconf_text.specs.Header.{name_of, subsection_of, spelled_header};
     ghost use Rattle.gitconf_views.specs.Views.{is_dotted, shown_header};
 
-    /// Whether the subsection stands behind a dot, as in `[a.b]`, and not in quotes.
+    /// Whether the subsection follows a dot, as in `[a.b]`, and not in quotes.
     pub fn is_legacy(&self) -> bool
         ensures { result ≡ is_dotted (shown_header self.now) }
     {
@@ -131,7 +131,7 @@ impl<'a> HeaderRef<'a> {
         self.header.name.bytes_in(self.buffer)
     }
 
-    /// The subsection that it says, if there is one: without quotes and backslashes, and in lower case behind a dot.
+    /// The subsection that the header means, if there is one: without quotes and backslashes, and in lower case after a dot.
     pub fn subsection_name(&self) -> Option<&'a [u8]>
         ensures { option_copied result ≡ subsection_of (shown_header self.now) }
     {
@@ -142,7 +142,7 @@ impl<'a> HeaderRef<'a> {
     ///
     /// # Errors
     ///
-    /// Want of memory.
+    /// Out of memory.
     pub fn to_bstring(&self) -> Result<BString, NoMemory>
         ensures { IfOk result (λ text. bstring_bytes text ≡ spelled_header (shown_header self.now)) }
     {
@@ -154,7 +154,7 @@ impl<'a> HeaderRef<'a> {
     }
 }
 
-/// A view of a section's body. Its look-ups see the entries of this body alone.
+/// A view of a section's body. Its lookups find only entries of this body.
 #[derive(Clone, Copy)]
 pub struct BodyRef<'a> {
     alloc: Global,
@@ -172,12 +172,12 @@ impl<'a> BodyRef<'a> {
     ghost use Rattle.gitconf_views.specs.Found.{IsFound};
     ghost use Rattle.gitconf_views.specs.Views.{names_left, shown_body};
 
-    /// The meaning of the last entry of the name, without ASCII case; `None` where there is no such entry, or where it has
+    /// The meaning of the last entry of the name, without ASCII case; `None` if there is no such entry, or if it has
     /// no `=`. It walks from the end up to that entry. A miss takes no memory.
     ///
     /// # Errors
     ///
-    /// Want of memory for the answer.
+    /// Out of memory for the result.
     pub fn value(&self, value_name: &str) -> Result<Option<BString>, NoMemory>
         ensures { IsFound bstring_bytes result (value_in value_name.now (entries_of (shown_body self.now))) }
     {
@@ -187,12 +187,12 @@ impl<'a> BodyRef<'a> {
         }
     }
 
-    /// As [`BodyRef::value`], and tells an entry without `=`: `None` where there is no entry of the name, `Some(None)` where
+    /// As [`BodyRef::value`], but it distinguishes an entry without `=`: `None` if there is no entry of the name, `Some(None)` if
     /// the last one has no `=`. A miss takes no memory.
     ///
     /// # Errors
     ///
-    /// Want of memory for the answer.
+    /// Out of memory for the result.
     pub fn value_implicit(&self, value_name: &str) -> Result<Option<Option<BString>>, NoMemory>
         ensures { IsFoundImplicit result (implicit_value_in value_name.now (entries_of (shown_body self.now))) }
     {
@@ -203,19 +203,19 @@ impl<'a> BodyRef<'a> {
         Ok(Some(value))
     }
 
-    /// The meanings of all entries of the name, without ASCII case, in order; one without `=` is empty. One pass. Where
+    /// The meanings of all entries of the name, without ASCII case, in order; one without `=` is empty. One pass. If
     /// there is none it takes no memory.
     ///
     /// # Errors
     ///
-    /// Want of memory.
+    /// Out of memory.
     pub fn values(&self, value_name: &str) -> Result<Vec<BString>, NoMemory>
         ensures { AreFound result (values_in value_name.now (entries_of (shown_body self.now))) }
     {
         meanings(self.alloc, self.buffer, self.items, value_name.as_bytes())
     }
 
-    /// The names of the entries in order, as they are spelled, each as often as it stands. Takes no memory.
+    /// The names of the entries in order, as they are spelled, each as often as it occurs. Takes no memory.
     pub fn value_names(&self) -> ValueNames<'a>
         ensures { names_left result ≡ map (λ e. e.name) (entries_of (shown_body self.now)) }
     {
@@ -239,7 +239,7 @@ impl<'a> BodyRef<'a> {
         entry_count(self.items)
     }
 
-    /// Whether nothing stands in the body, no blank either.
+    /// Whether the body is empty, without even a blank.
     pub fn is_void(&self) -> bool
         ensures { result ≡ is_empty_body (shown_body self.now) }
     {
@@ -267,9 +267,9 @@ impl<'a> IntoIterator for BodyRef<'a> {
     }
 }
 
-/// The entries of a body in order, each as its name and what it means; one without `=` means nothing.
+/// The entries of a body in order, each as its name and what it means; one without `=` is empty.
 ///
-/// A step takes memory for a value alone. Where that is refused the item is an `Err`, and the entry is passed. Behind the
+/// A step takes memory for a value alone. If that is refused, the item is an `Err`, and the entry is skipped. After the
 /// last entry it ends for good.
 #[derive(Clone, Copy)]
 pub struct BodyRefIter<'a> {
@@ -380,7 +380,7 @@ impl<'a> SectionRef<'a> {
     ///
     /// # Errors
     ///
-    /// Want of memory for the answer.
+    /// Out of memory for the result.
     pub fn value(&self, value_name: &str) -> Result<Option<BString>, NoMemory>
         ensures { IsFound bstring_bytes result (value_in value_name.now (entries_of (shown self.now).items)) }
     {
@@ -391,7 +391,7 @@ impl<'a> SectionRef<'a> {
     ///
     /// # Errors
     ///
-    /// Want of memory for the answer.
+    /// Out of memory for the result.
     pub fn value_implicit(&self, value_name: &str) -> Result<Option<Option<BString>>, NoMemory>
         ensures { IsFoundImplicit result (implicit_value_in value_name.now (entries_of (shown self.now).items)) }
     {
@@ -402,7 +402,7 @@ impl<'a> SectionRef<'a> {
     ///
     /// # Errors
     ///
-    /// Want of memory.
+    /// Out of memory.
     pub fn values(&self, value_name: &str) -> Result<Vec<BString>, NoMemory>
         ensures { AreFound result (values_in value_name.now (entries_of (shown self.now).items)) }
     {

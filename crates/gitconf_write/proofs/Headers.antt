@@ -22,7 +22,7 @@ header_is buffer name (Some separator) None = refl
 header_is buffer name (Some separator) (Some subsection) =
     spelled_is name (bytes_of buffer separator) (bytes_of buffer subsection) (bytes_eq (bytes_of buffer separator) (46 ∷ [])) (bytes_eq-Decides (bytes_of buffer separator) (46 ∷ []))
 
--- a header is its bracket, its name, what stands behind that, and its bracket
+-- a header is its bracket, its name, what follows that, and its bracket
 pub header_parts : (buffer : List ℕ) (h : Header)
     → spelled_header (header_of buffer h) ≡ 91 ∷ (bytes_of buffer h.name ++ (behind_name buffer h.separator h.subsection ++ 93 ∷ []))
 header_parts buffer h = header_is buffer (bytes_of buffer h.name) h.separator h.subsection

@@ -1,4 +1,4 @@
--- What the last item says of the line end that items end with.
+-- What the last item says of the line ending that items end with.
 use Rattle.std.proofs.Common.{◌≡◌, ℕ, Bool, true, false, List, [], ◌∷◌, ◌++◌, ap, sym, ◌∙◌}
 use Rattle.std.specs.Prelude.{◌||◌}
 use Rattle.std.specs.List.{fold}
@@ -10,7 +10,7 @@ use Rattle.gitconf_items.specs.Items.{item_of, items_of}
 use Rattle.gitconf_state.specs.LineEnds.{holds, ends_line}
 use Rattle.gitconf_state.proofs.LastLines.{ends_with, ends_line-is}
 
--- behind items that end with a line end, or don't
+-- after items that end with a line ending, or don't
 abbrev pub ended_behind : (line_end : List ℕ) → (ended : Bool) → parts.Item → Bool
 ended_behind line_end ended (parts.BlanksItem run) = ended
 ended_behind line_end ended (parts.LineEndsItem run) = ended || holds line_end run
@@ -40,7 +40,7 @@ pub last_says : (line_end buffer : List ℕ) (items rest before : List Item) (i 
 last_says line_end buffer items rest before i is same =
     sym (ends_line-push line_end buffer before i) ∙ (ap (λ is. ends_line line_end (items_of buffer is)) (sym is) ∙ same)
 
--- a last run that holds the line end
+-- a last run that holds the line ending
 pub held_last : (held ended all : Bool) → held ≡ true → (ended || held) ≡ all → true ≡ all
 held_last held true all is says = says
 held_last held false all is says = sym is ∙ says

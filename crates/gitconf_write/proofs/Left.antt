@@ -10,7 +10,7 @@ use Rattle.gitconf_items.proofs.SinkLaws.{with_text-with_text, with_text-empty, 
 pub left_all : (text : List ℕ) (old : Option (List ℕ)) → IsLeft text text old old
 left_all text old = record { done = []; whole = refl; told = sym (with_text-empty old) }
 
--- behind the next part of it
+-- after the next part of it
 pub left_behind : (text left part rest : List ℕ) (old mid new : Option (List ℕ))
     → IsLeft text left old mid → left ≡ part ++ rest → new ≡ with_text part mid → IsLeft text rest old new
 left_behind text left part rest old mid new is_left next written = record {
@@ -19,7 +19,7 @@ left_behind text left part rest old mid new is_left next written = record {
   told = written ∙ (ap (with_text part) is_left.told ∙ with_text-with_text part is_left.done old);
 }
 
--- behind its first part
+-- after its first part
 pub left_first : (text part rest : List ℕ) (old new : Option (List ℕ)) → text ≡ part ++ rest → new ≡ with_text part old → IsLeft text rest old new
 left_first text part rest old new next written = left_behind text text part rest old old new (left_all text old) next written
 

@@ -11,7 +11,7 @@ use Rattle.gitconf_state.specs.LineEnds.{line_end_of, file_line_end}
 use Rattle.gitconf_write.proofs.Bodies.{at_next}
 use Rattle.gitconf_write.specs.LineEnds.{first_newline, first_newline_of_bodies}
 
--- of two lists it is that of the first one, or else of the second
+-- of two lists it is that of the first one, otherwise of the second
 pub first_newline-append : (xs ys : List Token) → first_newline (xs ++ ys) ≡ option_or (first_newline xs) (first_newline ys)
 first_newline-append [] ys = refl
 first_newline-append (NewlineToken run ∷ xs) ys = refl
@@ -24,7 +24,7 @@ first_newline-append (ValueDoneToken bytes ∷ xs) ys = first_newline-append xs 
 first_newline-append (WhitespaceToken bytes ∷ xs) ys = first_newline-append xs ys
 first_newline-append (SeparatorToken ∷ xs) ys = first_newline-append xs ys
 
--- the line end that tokens tell: that of the first newline, or else LF
+-- the line ending that tokens say: that of the first newline, otherwise LF
 pub line_end_of-first : (tokens : List Token) → line_end_of tokens ≡ unwrap_or (first_newline tokens) (10 ∷ [])
 line_end_of-first [] = refl
 line_end_of-first (NewlineToken run ∷ tokens) = refl
@@ -37,7 +37,7 @@ line_end_of-first (ValueDoneToken bytes ∷ tokens) = line_end_of-first tokens
 line_end_of-first (WhitespaceToken bytes ∷ tokens) = line_end_of-first tokens
 line_end_of-first (SeparatorToken ∷ tokens) = line_end_of-first tokens
 
--- the first newline of what is left of items: that of the next one, or else of those behind it
+-- the first newline of what is left of items: that of the next one, otherwise of those after it
 pub next_newline : (buffer : List ℕ) (items : List Item) (i : ℕ) (x : Item) → i < length items → x ≡ get_or items i x
     → first_newline (tokens_in (items_of buffer (drop i items)))
     ≡ option_or (first_newline (item_tokens (item_of buffer x))) (first_newline (tokens_in (items_of buffer (drop (i + 1) items))))
@@ -52,7 +52,7 @@ first_in_bodies (s ∷ sections) =
     ∙ (first_newline-append (tokens_in s.items) (tokens_in (flat_map (λ t. t.items) sections))
     ∙ ap (option_or (first_newline (tokens_in s.items))) (first_in_bodies sections))
 
--- a file's line end is told by its front, or else by the first body that tells one
+-- a file's line ending is given by its front, otherwise by the first body that says one
 pub file_line_end-first : (state : State)
     → file_line_end state ≡ unwrap_or (option_or (first_newline (tokens_in state.front)) (first_newline_of_bodies state.sections)) (10 ∷ [])
 file_line_end-first state =

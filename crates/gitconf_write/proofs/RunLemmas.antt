@@ -44,7 +44,7 @@ byte_at buffer i b is =
     let within = slice_get_within buffer i b is in
     ap (λ n. take n (drop i buffer)) one ∙ ap (take 1) (drop-cons buffer i 0 within) ∙ ap (λ x. x ∷ []) (get_or_from_slice_get buffer i b 0 is)
 
--- a run and the byte directly behind it are one
+-- a run and the byte directly after it are one
 pub byte_joined : (buffer : List ℕ) (r : Run) (b : ℕ) → r.start ≤ r.end → slice_get buffer r.end ≡ Some b → run_of buffer (record { start = r.start; end = r.end + 1 }) ≡ run_of buffer r ++ b ∷ []
 byte_joined buffer r b ordered is =
     let one : r.end + 1 ≡ suc r.end = omega arith in
@@ -105,7 +105,7 @@ left_gathered text left a b rest old mid new l is m = record {
   told = m.told ∙ ap (with_text m.done) l.told ∙ with_text-with_text m.done l.done old;
 }
 
--- an item behind what stands before: the line end, and the item
+-- an item after what comes before: the line ending, and the item
 next_parts : (in_body : Bool) (line_end : List ℕ) (before : Open) (i : Item) → next_text in_body line_end before i ≡ line_end_before in_body line_end before i ++ spelled_item (closed_item line_end i)
 next_parts in_body line_end before i = go (breaks_behind in_body before i)
   where
@@ -127,7 +127,7 @@ behind_is in_body before o i is = ap (λ p. after p i) is ∙ go (breaks_behind 
     go true = refl
     go false = refl
 
--- with no line end before the item
+-- with no line ending before the item
 pub none_before : (run : List ℕ) (in_body : Bool) (line_end : List ℕ) (before : Open) (i : Item) → false ≡ breaks_behind in_body before i → run ++ line_end_before in_body line_end before i ≡ run
 none_before run in_body line_end before i is = ap (λ b. run ++ elim b [ true ↦ line_end | false ↦ [] ]) (sym is) ∙ append-nil run
 
@@ -150,7 +150,7 @@ header_joined buffer h name more (Some r) first second third =
     third ∙ ap (λ t. t ++ 93 ∷ []) (second ∙ ap (λ t. t ++ behind_name buffer h.separator h.subsection) first)
     ∙ append_assoc (91 ∷ bytes_of buffer h.name) (behind_name buffer h.separator h.subsection) (93 ∷ []) ∙ sym (header_parts buffer h)
 
--- what stands before and an item, behind a line end where one is put
+-- what comes before and an item, after a line ending where one is put
 module _ (run rest : List ℕ) (in_body : Bool) (line_end : List ℕ) (before : Open) (i : Item) (old mid new : Option (List ℕ)) where
   pub next_err : IsLeft (run ++ line_end_before in_body line_end before i) rest old mid → is_begun (rest ++ spelled_item (closed_item line_end i)) mid new ≡ true → is_begun (run ++ next_text in_body line_end before i) old new ≡ true
   next_err first begun =

@@ -11,7 +11,7 @@ use Rattle.gitconf_state.specs.Writing.{Open, Closed, after, breaks_behind, writ
 use Rattle.gitconf_write.proofs.Bodies.{at_next}
 use Rattle.gitconf_write.specs.Texts.{items_text, next_text, behind_next}
 
--- the first item, and the others behind it
+-- the first item, and the others after it
 first_item : (in_body : Bool) (line_end : List ℕ) (before : Open) (i : parts.Item) (items : List parts.Item)
     → items_text in_body line_end before (i ∷ items) ≡ next_text in_body line_end before i ++ items_text in_body line_end (behind_next in_body before i) items
 first_item in_body line_end before i items = go (breaks_behind in_body before i)
@@ -26,7 +26,7 @@ first_item in_body line_end before i items = go (breaks_behind in_body before i)
     go true = simp (append_assoc, append-nil)
     go false = simp append-nil
 
--- the next item of a list, and the others behind it
+-- the next item of a list, and the others after it
 pub next_item : (in_body : Bool) (line_end buffer : List ℕ) (before behind : Open) (items : List Item) (i : ℕ) (x : Item)
     → i < length items → x ≡ get_or items i x → behind ≡ behind_next in_body before (item_of buffer x)
     → items_text in_body line_end before (items_of buffer (drop i items))
@@ -41,7 +41,7 @@ pub no_item : (in_body : Bool) (line_end buffer : List ℕ) (before : Open) (ite
     → items_text in_body line_end before (items_of buffer (drop i items)) ≡ []
 no_item in_body line_end buffer before items i past = at_drop_all (λ xs. items_text in_body line_end before (items_of buffer xs)) items i past
 
--- the same behind bytes that are left to write
+-- the same after bytes that are left to write
 pub next_behind : (run : List ℕ) (in_body : Bool) (line_end buffer : List ℕ) (before behind : Open) (items : List Item) (i : ℕ) (x : Item)
     → i < length items → x ≡ get_or items i x → behind ≡ behind_next in_body before (item_of buffer x)
     → run ++ items_text in_body line_end before (items_of buffer (drop i items))

@@ -18,14 +18,14 @@ pieces_text line_end buffer last pieces =
 abbrev pub piece_text : (line_end buffer : List ℕ) → Piece → List ℕ
 piece_text line_end buffer p = spelled_piece (closed_piece line_end (piece_of buffer p))
 
--- the next piece, and the others behind it
+-- the next piece, and the others after it
 pub next_piece : (line_end buffer : List ℕ) (last : Span) (pieces : List Piece) (i : ℕ) (d : Piece) → i < length pieces
     → pieces_text line_end buffer last (drop i pieces) ≡ piece_text line_end buffer (get_or pieces i d) ++ pieces_text line_end buffer last (drop (i + 1) pieces)
 next_piece line_end buffer last pieces i d within =
     at_drop_more (pieces_text line_end buffer last) pieces i d within
     ∙ append_assoc (piece_text line_end buffer (get_or pieces i d)) (flat_map spelled_piece (map (closed_piece line_end) (map (piece_of buffer) (drop (i + 1) pieces)))) (bytes_of buffer last)
 
--- behind all pieces the last one
+-- after all pieces the last one
 pub last_piece : (line_end buffer : List ℕ) (last : Span) (pieces : List Piece) (i : ℕ) → length pieces ≤ i
     → pieces_text line_end buffer last (drop i pieces) ≡ bytes_of buffer last
 last_piece line_end buffer last pieces i past = at_drop_all (pieces_text line_end buffer last) pieces i past

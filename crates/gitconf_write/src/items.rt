@@ -18,7 +18,7 @@ use gitconf_items::items::Item;
 use gitconf_items::sink::{Sink, SinkFault, write_all};
 use gitconf_text::line_end::LineEnd;
 
-/// Writes a piece of a value, and a line end behind its backslash: its own, or else this one.
+/// Writes a piece of a value, and after its backslash its own line ending, or this one if it has none.
 #[tactic(auto, using(gitconf_items::proofs::SinkLaws::in_turn))]
 fn write_piece<W: Sink>(
     out: &mut W,
@@ -39,7 +39,7 @@ fn write_piece<W: Sink>(
     }
 }
 
-/// Writes a value, with a line end behind each piece that goes on.
+/// Writes a value, with a line ending after each piece but the last.
 #[tactic(auto, using(crate::proofs::Left::in_rest))]
 fn write_value<W: Sink>(
     out: &mut W,
@@ -56,7 +56,7 @@ fn write_value<W: Sink>(
     write_all(out, value.last.bytes_in(buffer))
 }
 
-/// Writes an entry, with a line end behind each piece of its value that goes on.
+/// Writes an entry, with a line ending after each piece of its value but the last.
 #[tactic(auto, using(gitconf_items::proofs::SinkLaws::in_turn))]
 fn write_entry<W: Sink>(
     out: &mut W,
@@ -84,7 +84,7 @@ fn write_entry<W: Sink>(
     }
 }
 
-/// Writes an item, with a line end behind each piece of a value that goes on.
+/// Writes an item, with a line ending after each piece of a value but the last.
 #[tactic(auto, using(gitconf_items::proofs::SinkLaws::in_turn))]
 fn write_item<W: Sink>(
     out: &mut W,
@@ -113,7 +113,7 @@ fn write_run<W: Sink>(out: &mut W, buffer: &[u8], run: Run) -> Result<(), SinkFa
     write_all(out, run.bytes_in(buffer))
 }
 
-/// Writes a run, and a line end behind it.
+/// Writes a run, and then a line ending.
 #[tactic(auto, using(gitconf_items::proofs::SinkLaws::in_turn))]
 pub(crate) fn end_run<W: Sink>(
     out: &mut W,
@@ -128,7 +128,7 @@ pub(crate) fn end_run<W: Sink>(
     write_all(out, line_end.as_bytes())
 }
 
-/// Writes a run where the next one doesn't stand directly behind it, and answers what is left to write of both.
+/// Writes a run, unless the next one directly follows it, and returns what is left to write of both.
 fn go_on<W: Sink>(out: &mut W, buffer: &[u8], run: Run, next: Run) -> Result<Run, SinkFault>
     requires ordered { run.start ≤ run.end }
     requires next { next.start ≤ next.end }
@@ -145,7 +145,7 @@ fn go_on<W: Sink>(out: &mut W, buffer: &[u8], run: Run, next: Run) -> Result<Run
     }
 }
 
-/// Writes a run and an item, and answers what is left to write of them.
+/// Writes a run and an item, and returns what is left to write of them.
 fn gather<W: Sink>(
     out: &mut W,
     buffer: &[u8],
@@ -168,14 +168,14 @@ fn gather<W: Sink>(
     }
 }
 
-/// What stands before an item, and the run that is left to write of it.
+/// What comes before an item, and the run of it that is still to be written.
 #[derive(Clone, Copy)]
 struct Before {
     open: Open,
     run: Run,
 }
 
-/// Writes a line end behind what stands before, where the item would else run together with it.
+/// Writes a line ending after what comes before, if the item would otherwise run together with it.
 fn end_before<W: Sink>(
     out: &mut W,
     buffer: &[u8],
@@ -200,8 +200,8 @@ fn end_before<W: Sink>(
     })
 }
 
-/// Writes what stands before and an item, behind a line end where they would else run together, and answers what
-/// stands behind it, with the run that is left to write.
+/// Writes what comes before and an item, with a line ending between if they would otherwise run together, and returns what
+/// comes before the next item, with the run that is still to be written.
 fn write_next<W: Sink>(
     out: &mut W,
     buffer: &[u8],
@@ -224,9 +224,9 @@ fn write_next<W: Sink>(
     })
 }
 
-/// Writes a run and items behind it, as [`write_items`] does.
+/// Writes a run and items after it, as [`write_items`] does.
 ///
-/// What stands side by side in the buffer, from the run on, is gathered and written at once.
+/// Bytes that are side by side in the buffer, from the run on, are gathered and written at once.
 pub(crate) fn write_behind<W: Sink>(
     out: &mut W,
     buffer: &[u8],
@@ -249,14 +249,14 @@ pub(crate) fn write_behind<W: Sink>(
     write_run(out, buffer, before.run)
 }
 
-/// Writes items as they are printed: a line end stands before a comment behind a comment, in a body also before a
-/// name behind an entry or a comment, and behind each piece of a value that goes on.
+/// Writes items as they are printed: with a line ending before a comment after a comment, in a body also before a
+/// name after an entry or a comment, and after each piece of a value but the last.
 ///
-/// One pass, which takes no memory of its own. What stands side by side in the buffer is written at once.
+/// One pass, which takes no memory of its own. Bytes that are side by side in the buffer are written at once.
 ///
 /// # Errors
 ///
-/// A write failed, or took nothing. It is not tried again, and a beginning of the text was written.
+/// A write failed, or took nothing. It is not tried again, and a beginning of the text may have been written.
 pub fn write_items<W: Sink>(
     out: &mut W,
     buffer: &[u8],

@@ -1,4 +1,4 @@
-//! Writing what a state of a file is made of: items, headers and sections, to any sink.
+//! Writing what a file's state is made of: items, headers and sections, to any sink.
 #![tactic(auto)]
 
 pub mod items;

@@ -1,4 +1,4 @@
-//! Line ends: which one a text uses, and where items end with one.
+//! Line endings: which one a text uses, and where items end with one.
 ghost use Rattle.std.specs.Prelude.{◌≡◌, option_map};
 ghost use Rattle.std.specs.Option.{unwrap_or};
 ghost use Rattle.gitconf_text.specs.Token.{item_tokens};
@@ -12,7 +12,7 @@ use gitconf_items::entry::{AssignedRef, Value};
 use gitconf_items::items::Item;
 use gitconf_text::line_end::LineEnd;
 
-/// The line end of the first piece of a value that has one.
+/// The line ending of the first piece of a value that has one.
 #[tactic(auto, using(crate::proofs::Newlines::newlines))]
 fn value_line_end(buffer: &[u8], value: &Value) -> Option<LineEnd>
     ensures { option_map bytes_of_line_end result ≡ first_newline (tokens_of_value buffer.now value.now) }
@@ -26,7 +26,7 @@ fn value_line_end(buffer: &[u8], value: &Value) -> Option<LineEnd>
     None
 }
 
-/// The line end of an item's first newline.
+/// The line ending of an item's first newline.
 #[tactic(auto, using(crate::proofs::Newlines::newlines))]
 fn item_line_end(buffer: &[u8], item: &Item) -> Option<LineEnd>
     ensures { option_map bytes_of_line_end result ≡ first_newline (item_tokens (item_of buffer.now item.now)) }
@@ -41,7 +41,7 @@ fn item_line_end(buffer: &[u8], item: &Item) -> Option<LineEnd>
     }
 }
 
-/// The line end of the first newline among items, those of values included.
+/// The line ending of the first newline among items, including those in values.
 ///
 /// It stops at the first one.
 #[tactic(auto, using(crate::proofs::Newlines::newlines))]
@@ -56,7 +56,7 @@ pub fn first_line_end(buffer: &[u8], items: &[Item]) -> Option<LineEnd>
     None
 }
 
-/// The line end that a body uses: that of its first newline, or LF.
+/// The line ending that a body uses: that of its first newline, or LF.
 #[tactic(auto, using(crate::proofs::Newlines::newlines))]
 pub fn body_line_end(buffer: &[u8], items: &[Item]) -> LineEnd
     ensures { bytes_of_line_end result ≡ line_end_of (tokens_in (items_of buffer.now items.now)) }
@@ -64,7 +64,7 @@ pub fn body_line_end(buffer: &[u8], items: &[Item]) -> LineEnd
     first_line_end(buffer, items).unwrap_or(LineEnd::Lf)
 }
 
-/// Whether the line end stands somewhere in a run of line ends.
+/// Whether the line ending is somewhere in a run of line endings.
 fn holds(line_end: &[u8], run: &[u8]) -> bool
     ensures { result ≡ spec.holds line_end.now run.now }
 {
@@ -78,9 +78,9 @@ fn holds(line_end: &[u8], run: &[u8]) -> bool
     false
 }
 
-/// Whether items end with a line end: among the blanks and line ends at their end one holds it.
+/// Whether items end with a line ending: among the blanks and line endings at their end one holds it.
 ///
-/// It walks from the end, up to an entry, a comment or a line end.
+/// It walks from the end, up to an entry, a comment or a line ending.
 pub fn ends_line(buffer: &[u8], items: &[Item], line_end: LineEnd) -> bool
     ensures { result ≡ spec.ends_line (bytes_of_line_end line_end) (items_of buffer.now items.now) }
 {
@@ -100,7 +100,7 @@ pub fn ends_line(buffer: &[u8], items: &[Item], line_end: LineEnd) -> bool
     false
 }
 
-/// Whether a section ends with a line end, what is held behind its body counted in.
+/// Whether a section ends with a line ending, with what is held after its body.
 ///
 /// It walks from the end, as `ends_line` does.
 pub fn ends_with_line(buffer: &[u8], items: &[Item], held: &[Item], line_end: LineEnd) -> bool

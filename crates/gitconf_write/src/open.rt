@@ -1,4 +1,4 @@
-//! What a next item would run together with.
+//! What the next item would run together with.
 ghost use Rattle.std.specs.Prelude.{◌≡◌, ℕ, List};
 ghost use Rattle.gitconf_items.specs.Items.{item_of, assigned_of};
 ghost use Rattle.gitconf_state.specs.Writing as spec;
@@ -8,14 +8,14 @@ ghost use Rattle.gitconf_write.specs.Open.{open_of};
 use gitconf_items::entry::{AssignedRef, Entry};
 use gitconf_items::items::Item;
 
-/// What stands before in the same list, with no line end between.
+/// What comes before in the same list, since the last line ending.
 #[derive(Clone, Copy, Debug)]
 pub(crate) enum Open {
     /// Nothing.
     Closed,
-    /// A name without `=`, and no byte behind it.
+    /// A name without `=`, and no byte after it.
     Key,
-    /// A name without `=`, and blanks behind it.
+    /// A name without `=`, and blanks after it.
     KeyAndBlanks,
     /// A value.
     Value,
@@ -24,7 +24,7 @@ pub(crate) enum Open {
 }
 
 impl Open {
-    /// Whether a line end has to stand before the item.
+    /// Whether a line ending has to come before the item.
     pub(crate) fn breaks(self, in_body: bool, item: &Item) -> bool
         ensures { (buffer : List ℕ) → result ≡ spec.breaks_behind in_body (open_of self) (item_of buffer item.now) }
     {
@@ -35,7 +35,7 @@ impl Open {
         }
     }
 
-    /// What stands behind the item.
+    /// What comes before the next item, after this one.
     pub(crate) fn after(self, buffer: &[u8], item: &Item) -> Open
         ensures { open_of result ≡ spec.after (open_of self) (item_of buffer.now item.now) }
     {
@@ -56,7 +56,7 @@ impl Open {
         }
     }
 
-    /// The line ends of a value that goes on close a comment before it, but not the value.
+    /// The line endings of a value of several pieces close a comment before it, but not the value.
     fn after_entry(self, buffer: &[u8], entry: &Entry) -> Open
         ensures { open_of result ≡ spec.after_entry (open_of self) (bytes_of buffer.now entry.now.blanks) (assigned_of buffer.now entry.now.assigned) }
     {

@@ -1,4 +1,4 @@
-//! Runs of a buffer's bytes, so that what stands side by side there is written at once.
+//! Runs of a buffer's bytes, so that bytes that are side by side there are written at once.
 ghost use Rattle.gitconf_text.specs.Part.{EntryItem, spelled_item};
 ghost use Rattle.gitconf_text.specs.Header.{spelled_header};
 ghost use Rattle.gitconf_items.specs.Items.{entry_of, item_of};
@@ -11,7 +11,7 @@ use gitconf_items::entry::{AssignedRef, Entry};
 use gitconf_items::event::{Header, Span};
 use gitconf_items::items::Item;
 
-/// A run of bytes: where it begins, and where the byte behind its last one stands.
+/// A run of bytes: where it begins, and where it ends, one past its last byte.
 #[derive(Clone, Copy, Debug)]
 pub(crate) struct Run {
     start: usize,
@@ -43,7 +43,7 @@ impl Run {
         }
     }
 
-    /// Its bytes in the buffer, as far as that goes.
+    /// Its bytes in the buffer, as far as the buffer has them.
     pub(crate) fn bytes_in(self, buffer: &[u8]) -> &[u8]
         ensures { result.now ≡ run_of buffer.now self }
     {
@@ -53,7 +53,7 @@ impl Run {
         behind.split_at(len).0
     }
 
-    /// Both runs as one, where the other stands directly behind this one.
+    /// Both runs as one, if the other directly follows this one.
     #[inline(always)]
     pub(crate) fn joined(self, other: Run) -> Option<Run>
         requires mine { self.start ≤ self.end }
@@ -70,7 +70,7 @@ impl Run {
         })
     }
 
-    /// The run and a span, where the span stands directly behind it or has no bytes.
+    /// The run and a span as one, if the span directly follows it or has no bytes.
     #[inline(always)]
     fn with(self, span: Span) -> Option<Run>
         requires { self.start ≤ self.end }
@@ -83,7 +83,7 @@ impl Run {
         self.joined(Run::of(span))
     }
 
-    /// The run and the byte directly behind it, where it is this one.
+    /// The run and the byte directly after it, if that is this byte.
     #[inline(always)]
     fn with_byte(self, buffer: &[u8], byte: u8) -> Option<Run>
         requires { self.start ≤ self.end }
@@ -99,7 +99,7 @@ impl Run {
         })
     }
 
-    /// A byte and the span behind it, where that byte stands directly before the span.
+    /// A byte and the span after it, if this byte is directly before the span.
     #[inline(always)]
     fn byte_before(buffer: &[u8], byte: u8, span: Span) -> Option<Run>
         ensures value { IfSome result (λ r. run_of buffer.now r ≡ byte ∷ bytes_of buffer.now span) }
@@ -112,7 +112,7 @@ impl Run {
     }
 }
 
-/// The run that a header is, where all its parts stand side by side.
+/// A header as one run, if all its parts are side by side.
 pub(crate) fn header_run(buffer: &[u8], header: &Header) -> Option<Run>
     ensures value { IfSome result (λ r. run_of buffer.now r ≡ spelled_header (header_of buffer.now header.now)) }
     ensures ordered { IfSome result (λ r. r.start ≤ r.end) }
@@ -121,7 +121,7 @@ pub(crate) fn header_run(buffer: &[u8], header: &Header) -> Option<Run>
     subsection_run(buffer, name, header.separator, header.subsection)?.with_byte(buffer, b']')
 }
 
-/// The run and the subsection behind it, where all its parts stand side by side.
+/// The run and the subsection after it as one, if all parts are side by side.
 fn subsection_run(
     buffer: &[u8],
     name: Run,
@@ -146,7 +146,7 @@ fn subsection_run(
     }
 }
 
-/// The run that an entry is, where its value doesn't go on and all its parts stand side by side.
+/// An entry as one run, if its value has one piece and all its parts are side by side.
 fn entry_run(buffer: &[u8], entry: &Entry) -> Option<Run>
     ensures value { IfSome result (λ r. (line_end : List ℕ) → run_of buffer.now r ≡ spelled_item (closed_item line_end (EntryItem (entry_of buffer.now entry.now)))) }
     ensures ordered { IfSome result (λ r. r.start ≤ r.end) }
@@ -162,7 +162,7 @@ fn entry_run(buffer: &[u8], entry: &Entry) -> Option<Run>
     }
 }
 
-/// The run that an item is, where it is printed as it stands and all its parts stand side by side.
+/// An item as one run, if it is printed as it is and all its parts are side by side.
 pub(crate) fn item_run(buffer: &[u8], item: &Item) -> Option<Run>
     ensures value { IfSome result (λ r. (line_end : List ℕ) → run_of buffer.now r ≡ spelled_item (closed_item line_end (item_of buffer.now item.now))) }
     ensures ordered { IfSome result (λ r. r.start ≤ r.end) }

@@ -20,13 +20,13 @@ use gitconf_items::items::Item;
 use gitconf_items::sink::{Sink, SinkFault, write_all};
 use gitconf_text::line_end::LineEnd;
 
-/// Writes a header as it is spelled: in brackets the name, and the subsection behind a dot or, in quotes, behind blanks.
+/// Writes a header as it is spelled: in brackets the name, and the subsection after a dot or, in quotes, after blanks.
 ///
 /// It takes no memory of its own.
 ///
 /// # Errors
 ///
-/// A write failed, or took nothing. It is not tried again, and a beginning of the header was written.
+/// A write failed, or took nothing. It is not tried again, and a beginning of the header may have been written.
 #[tactic(auto, using(gitconf_items::proofs::SinkLaws::in_turn, crate::proofs::Headers::header_parts))]
 pub fn write_header<W: Sink>(out: &mut W, buffer: &[u8], header: &Header) -> Result<(), SinkFault>
     ensures written { Writes result (spelled_header (header_of buffer.now header.now)) (W.told out.old) (W.told out.new) }
@@ -40,7 +40,7 @@ pub fn write_header<W: Sink>(out: &mut W, buffer: &[u8], header: &Header) -> Res
     write_all(out, b"]")
 }
 
-/// Writes a subsection behind its separator: behind a dot as it is, and else in quotes.
+/// Writes a subsection after its separator: after a dot as it is, otherwise in quotes.
 #[tactic(auto, using(gitconf_items::proofs::SinkLaws::in_turn))]
 fn write_subsection<W: Sink>(
     out: &mut W,
@@ -59,11 +59,11 @@ fn write_subsection<W: Sink>(
     write_all(out, b"\"")
 }
 
-/// Writes a line end, where what stands before doesn't end with one.
+/// Writes a line ending, unless what comes before ends with one.
 ///
 /// # Errors
 ///
-/// A write failed, or took nothing. It is not tried again, and a beginning of the line end was written.
+/// A write failed, or took nothing. It is not tried again, and a beginning of the line ending may have been written.
 #[tactic(auto, using(gitconf_items::proofs::SinkLaws::in_turn))]
 pub fn write_line_end_unless<W: Sink>(
     out: &mut W,
@@ -80,7 +80,7 @@ pub fn write_line_end_unless<W: Sink>(
     }
 }
 
-/// Whether a line end stands before the first entry, or, without an entry, anywhere.
+/// Whether a line ending comes before the first entry, or, without an entry, anywhere.
 fn begins_on_a_line(items: &[Item]) -> bool
     ensures { (buffer : List ℕ) → result ≡ spec.begins_on_a_line (items_of buffer items.now) }
 {
@@ -95,14 +95,14 @@ fn begins_on_a_line(items: &[Item]) -> bool
     false
 }
 
-/// Whether items stand behind a header with no line end between.
+/// Whether items can follow a header without a line ending inserted between.
 fn stand_behind_header(items: &[Item]) -> bool
     ensures { (buffer line_end : List ℕ) → spec.behind_header line_end (items_of buffer items.now) ≡ unless result line_end }
 {
     items.is_empty() || begins_on_a_line(items)
 }
 
-/// Writes a header, unless its parts stand side by side in the buffer, and answers what is left to write of it.
+/// Writes a header, unless its parts are side by side in the buffer, and returns what of it is still to be written.
 fn begin_header<W: Sink>(out: &mut W, buffer: &[u8], header: &Header) -> Result<Run, SinkFault>
     ensures written { WritesBut result (run_of buffer.now) (spelled_header (header_of buffer.now header.now)) (W.told out.old) (W.told out.new) }
     ensures counted { Counts result (W.faults out.old) (W.faults out.new) }
@@ -117,14 +117,14 @@ fn begin_header<W: Sink>(out: &mut W, buffer: &[u8], header: &Header) -> Result<
     }
 }
 
-/// Writes a section: its header, and its body as it is printed, with the line end that the body tells.
+/// Writes a section: its header, and its body as it is printed, with the body's line ending.
 ///
-/// A line end stands behind the header where the body's first entry stands on no line of its own. The body is looked
-/// through for its first line end, and then read once more; no memory is taken.
+/// A line ending is put after the header if the body isn't empty and doesn't begin on a line of its own. The body is
+/// searched for its first line ending, and then read once more; no memory is taken.
 ///
 /// # Errors
 ///
-/// A write failed, or took nothing. It is not tried again, and a beginning of the section was written.
+/// A write failed, or took nothing. It is not tried again, and a beginning of the section may have been written.
 #[tactic(auto, using(gitconf_items::proofs::SinkLaws::in_turn))]
 pub fn write_section<W: Sink>(
     out: &mut W,
@@ -144,13 +144,13 @@ pub fn write_section<W: Sink>(
     write_items(out, buffer, items, true, line_end)
 }
 
-/// Writes what is held behind a section with this body, on a line of its own.
+/// Writes what is held after a section with this body, on a line of its own.
 ///
 /// One pass over what is held, and a look at the body's end; no memory is taken.
 ///
 /// # Errors
 ///
-/// A write failed, or took nothing. It is not tried again, and a beginning of the text was written.
+/// A write failed, or took nothing. It is not tried again, and a beginning of the text may have been written.
 #[tactic(auto, using(gitconf_items::proofs::SinkLaws::in_turn))]
 pub fn write_held<W: Sink>(
     out: &mut W,
@@ -170,13 +170,13 @@ pub fn write_held<W: Sink>(
     write_items(out, buffer, held, false, line_end)
 }
 
-/// Writes what stands before the first section.
+/// Writes what comes before the first section.
 ///
 /// One pass, which takes no memory of its own.
 ///
 /// # Errors
 ///
-/// A write failed, or took nothing. It is not tried again, and a beginning of the text was written.
+/// A write failed, or took nothing. It is not tried again, and a beginning of the text may have been written.
 pub fn write_front<W: Sink>(
     out: &mut W,
     buffer: &[u8],

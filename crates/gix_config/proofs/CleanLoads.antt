@@ -26,7 +26,7 @@ use Rattle.gix_config.specs.Repository.{folder_of, has_worktree, IsExpandedBehin
 use Rattle.gix_config.specs.SectionEditors.{editor_at, IsFoundOr}
 use Rattle.gix_config.proofs.NewEditors.{clean_picked}
 
--- what stands behind an outcome
+-- what follows an outcome
 abbrev state_in : State → Result State ℕ → State
 state_in other (Ok s) = s
 state_in other (Err n) = other
@@ -127,7 +127,7 @@ overrides_headed variables places files file named headed (inr (Ok None, made, e
 overrides_headed variables places files file named headed (inr (Ok (Some state), made, e)) =
     subst IsHeaded (sym (ap (state_in file) e)) (env_headed variables files (record { rules = home_rules places; table = Some files }) state named refl headed made)
 
--- a file behind another one
+-- a file after another one
 put_behind_headed : (target other now : State) → IsHeaded target → IsHeaded other → IsPutBehind target other (Ok now) → IsHeaded now
 put_behind_headed target other now is more (inl wanting) = absurd (cc)
 put_behind_headed target other now is more (inr put) = go (has_room_behind target other) put

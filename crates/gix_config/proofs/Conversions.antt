@@ -4,7 +4,7 @@ use Rattle.std.proofs.lemmas.List.{map-append}
 use Rattle.bstr.specs.declared.bstring.BString.{BString}
 use Rattle.gix_config.specs.Converted.{AreGiven, FirstRefused, IsGiven}
 
--- Some values are converted, and what is told of those that are left is told of all.
+-- Some values are converted, and what is known of those that are left is told of all.
 pub record IsConverting {T E : Type 0} (gives : BString → Result T E → Type 0) (all left : List (List ℕ)) (done : List T) : Type 0 where
   pub given : (more : List T) → AreGiven gives left more → AreGiven gives all (done ++ more)
   pub refused : (e : E) → FirstRefused gives left e → FirstRefused gives all e
@@ -26,7 +26,7 @@ pub one_refused : {T E : Type 0} (gives : BString → Result T E → Type 0) (al
     → IsConverting gives all left done → left ≡ value ∷ next → IsGiven gives (Some value) (Err e) → FirstRefused gives all e
 one_refused gives all left next done value e c is one = c.refused e (subst (λ vs. FirstRefused gives vs e) (sym is) (inl one))
 
--- Behind one more, what is told of each is told of those that are done and of those that are left.
+-- After one more, what is known of each is told of those that are done and of those that are left.
 pub told_beside : {A B S : Type 0} (of : A → S) (told : B → S) (all : List S) (left next : List A) (done now : List B) (a : A) (b : B)
     → all ≡ map told done ++ map of left → left ≡ a ∷ next → told b ≡ of a → now ≡ done ++ b ∷ [] → all ≡ map told now ++ map of next
 told_beside of told all left next done now a b before is same put =

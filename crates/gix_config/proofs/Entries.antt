@@ -1,4 +1,4 @@
--- Entries that variables tell, by how the calls that put them end.
+-- Entries that variables say, by how the calls that put them end.
 use Rattle.std.proofs.Common.{◌≡◌, ◌≢◌, ℕ, zero, suc, ◌+◌, ◌-◌, ◌<◌, ◌≤◌, ◌==◌, Bool, true, false, List, Option, Some, None, Result, Ok, Err, inr, refl, sym, ap, ◌∙◌, subst, arith}
 use Rattle.std.specs.Prelude.{IfErr, IsErrAnd, unwrap_or, ◌||◌, if◌then◌else◌}
 use Rattle.std.specs.List.{list_any}
@@ -212,7 +212,7 @@ pub includes_count : {T : Type 0} (e : Includes) (result : Result T Error) (old 
 includes_count e (Ok made) old new err counts = absurd err
 includes_count {T = T} e (Err r) old new err counts = renumbered T T (includes_number e) (env_number r) old new (ap env_number err ∙ includes_numbers e) (fault_load T (includes_number e) old new counts)
 
--- what refusals of an entry tell
+-- what refusals of an entry say
 pub value_cause : (index : ℕ) (e : ValueError) → list_any (λ number. number == value_number e) edit_numbers ≡ true → IsEntryCause index (env_of_value e)
 value_cause index (value.ValueName n) is = is
 value_cause index (value.Span n) is = is

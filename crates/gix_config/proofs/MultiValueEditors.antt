@@ -11,13 +11,13 @@ use Rattle.gitconf_store.proofs.Several.{other_memory}
 use Rattle.gix_config.specs.MultiValueEditors.{AreFoundTargets, AreTargets}
 use Rattle.gix_config.specs.Targeted.{Targeted}
 
--- the look-up's refusal
+-- the lookup's refusal
 pub missed_targets : {T Z : Type 0} (shown : T → Targeted) (key : Key) (state : State) (places : List (ℕ × ℕ)) (found : Result (Vec (ℕ × ℕ) Z) Error) (refusal : Error) (result : Result T Error)
     → found ≡ Err refusal → result ≡ Err refusal → ArePlaces key state places found → AreFoundTargets shown key state places result
 missed_targets {T} {Z} shown key state places found refusal result fault is told =
     subst (AreFoundTargets shown key state places) (sym is) (other_memory Z (Unit {0}) key state places refusal (subst (ArePlaces key state places) fault told))
 
--- want of memory for the name
+-- out of memory for the name
 pub unspelled_targets : {T Z : Type 0} (shown : T → Targeted) (key : Key) (state : State) (places : List (ℕ × ℕ)) (found : Vec (ℕ × ℕ) Z) (result : Result T Error)
     → result ≡ Err Memory → ArePlaces key state places (Ok found) → AreFoundTargets shown key state places result
 unspelled_targets shown key state places found result is told = subst (AreFoundTargets shown key state places) (sym is) (told.0, told.1)

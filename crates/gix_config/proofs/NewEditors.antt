@@ -63,7 +63,7 @@ editor_of_value number state has = of_items (items_of_numbered number state) sta
     go None at = rw (at, items_of_numbered) refl
     go (Some s) at = rw (at, items_of_numbered) (numbered_holds HasSectionItems number state s has.sections at).items
 
--- other blanks before names, and line ends that are switched off, leave it one
+-- other blanks before names, and line endings that are switched off, leave it one
 pub led_by : (leading : Option (List ℕ)) (editor : Editor) → IsEditor editor → IsEditor (with_leading leading editor)
 led_by leading editor is = record { before = is.before; behind = is.behind; line_end = is.line_end }
 

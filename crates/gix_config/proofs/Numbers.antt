@@ -1,4 +1,4 @@
--- The section of a number stands behind each edit of it.
+-- The section of a number follows each edit of it.
 use Rattle.std.proofs.Common.{◌≡◌, ◌⊎◌, ℕ, ◌==◌, ◌||◌, Bool, true, false, List, [], ◌∷◌, map, filter, Option, Some, None, Result, Ok, Err, inl, inr, refl, ap, sym, subst, ◌∙◌, arith}
 use Rattle.std.specs.Prelude.{if◌then◌else◌, IfErr, IfSome, IsErrAnd, IsErrOf, OnErr, OnOk}
 use Rattle.std.specs.List.{last_or, list_any}
@@ -69,7 +69,7 @@ edited_in {T} edit id result count old new stands named ok err puts same =
       known = place_known result used.known;
     }
 
--- the section still stands
+-- the section still is
 pub edited_stands : {T E : Type 0} (edit : Edit) (number : E → ℕ) (result : Result T E) (old new : State) (id : ℕ) → has_number id (apply edit old) ≡ has_number id old
     → has_number id old ≡ true → IsEdited edit number result old new → has_number id new ≡ true
 edited_stands edit number (Ok t) old new id keeps stands e = ap (has_number id) e.ok ∙ keeps ∙ stands

@@ -112,7 +112,7 @@ module _ (table : Option (List ℕ → FileTold)) (folder : List ℕ) (local : S
   worktree_refused e (Ok made) is loaded err = absurd err
   worktree_refused e (Err r) is loaded err = from_worktree (Err (paths_number r)) is (Err (paths_number e), loaded, ap Err (ap paths_number err))
 
--- a file behind another one
+-- a file after another one
 put_on : (target other now : State) → now ≡ with_used now.used (apply (Append other) target) → now.used ≤ target.used + appended_bytes other target
     → ((2 ^ 32 ≤ target.used + appended_bytes other target) ⊎ (no_number < target.next + length other.sections) → ⊥) → IsPutBehind target other (Ok now)
 put_on target other now is grown not_large = inr (go (has_room_behind target other) (open_room target other not_large))
@@ -129,7 +129,7 @@ not_put target other n m same (inl is, large) = inr (go (has_room_behind target 
     go true e = absurd (cc)
     go false e = ap Err (same ∙ is)
 
--- what an append leaves behind a step
+-- what an append leaves after a step
 module _ (first : Result State ℕ → Type 0) (target : State) where
   pub first_refused : (n : ℕ) (e : Error) (result : Result Unit Error) (new : State) → first (Err n) → git_number e ≡ n → IsErrAnd result (λ r. r ≡ e) → Then first (IsPutBehind target) (left_by git_number result new)
   first_refused n e (Ok done) new is number err = absurd err
@@ -153,7 +153,7 @@ number_in : {T : Type 0} → Result T ℕ → ℕ
 number_in (Ok t) = 27
 number_in (Err n) = n
 
--- what was counted before, and behind it by a refusal that is handed on
+-- what was counted before, and after it by a refusal that is handed on
 pub handed_count : {T : Type 0} (e : PathsError) (result : Result T PathsError) (old mid new : Option ℕ) → IsErrAnd result (λ r. r ≡ e) → IsNoLess old mid → CountsLoad {T = T} (Err (paths_number e)) mid new
     → CountsLoad (numbered paths_number result) old new
 handed_count e (Ok made) old mid new err first second = absurd err

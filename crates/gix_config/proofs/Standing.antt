@@ -1,4 +1,4 @@
--- Which section an editor stands on.
+-- Which section an editor is on.
 use Rattle.std.proofs.Common.{◌≡◌, ◌≢◌, ◌⊎◌, ◌==◌, ◌||◌, ◌&&◌, ℕ, Bool, true, false, List, [], ◌∷◌, map, filter, Option, Some, None, Err, inl, inr, refl, ap, sym, subst, ◌∙◌, arith}
 use Rattle.std.specs.List.{last_or, list_any}
 use Rattle.std.specs.Option.{option_map}
@@ -44,7 +44,7 @@ last_any {A} test other o (y ∷ ys) x has is = go (test y) refl is (λ p. last_
     go true e is later = more (Some y) (later (Some y) (rw e at is)) here
     go false e is later = more o (later o (rw e at is)) (λ same. inl same)
 
--- so it stands under its number
+-- so it is under its number
 pub picked_stands : (name : List ℕ) (subsection : Option (List ℕ)) (keeps : Meta → Bool) (state : State) (s : SectionState) → picked name subsection keeps state ≡ Some s → has_number s.number state ≡ true
 picked_stands name subsection keeps state s is =
     go (last_any (λ (t : SectionState). is_named name subsection (listing t) && keeps t.meta) (λ (t : SectionState). t.number == s.number) None state.sections s (eq-eqb s.number s.number refl)
@@ -54,7 +54,7 @@ picked_stands name subsection keeps state s is =
     go (inl other) = absurd (cc)
     go (inr any) = any
 
--- where none has the names, none is taken
+-- if none has the names, none is taken
 any_listed : (test : Listed → Bool) (ss : List SectionState) → list_any test (map listing ss) ≡ list_any (λ s. test (listing s)) ss
 any_listed test [] = refl
 any_listed test (s ∷ ss) = ap (λ b. test (listing s) || b) (any_listed test ss)
@@ -64,7 +64,7 @@ named_none name subsection keeps state none =
     ap (λ (ss : List SectionState). last_or None (filter (λ (t : SectionState). keeps t.meta) ss))
     (filter_none (λ (t : SectionState). is_named name subsection (listing t)) state.sections (sym (any_listed (is_named name subsection) state.sections) ∙ none))
 
--- a refusal tells what is missing
+-- a refusal says what is missing
 pub missing_told : {T A : Type 0} (shown : T → A) (refusal : Existing) (value : Option A) (miss : Miss) → value ≡ None → refusal ≡ missing miss → IsExisting shown (Err refusal) value miss
 missing_told {T} {A} shown refusal value miss none is = subst (λ r. IsExisting {T = T} shown (Err r) value miss) (sym is) (go miss)
   where
@@ -73,7 +73,7 @@ missing_told {T} {A} shown refusal value miss none is = subst (λ r. IsExisting 
     go states.SubSectionMissing = (none, refl)
     go states.KeyMissing = (none, refl)
 
--- What is told of a section by one function of what another tells.
+-- What is told of a section by one function of what another says.
 mapped_none : {S A B : Type 0} (give : S → A) (other : S → B) (o : Option S) → option_map give o ≡ None → option_map other o ≡ None
 mapped_none give other None none = refl
 mapped_none give other (Some s) none = absurd (cc)
@@ -86,7 +86,7 @@ refused_again shown view give other o miss KeyMissing e = (mapped_none give othe
 refused_again shown view give other o miss (ValueName number) e = (mapped_none give other o e.0, e.1)
 refused_again shown view give other o miss Memory e = λ none. e (mapped_none other give o none)
 
--- an editor has the blanks and the file's line end
+-- an editor has the blanks and the file's line ending
 pub edited_by : (state : State) (o : Option SectionState) (id : ℕ) (spacing : Spacing) (line_end : List ℕ) → line_end ≡ file_line_end state → option_map blanks_at o ≡ Some (id, spacing)
     → option_map (editor_at state) o ≡ Some (id, record { spacing = spacing; line_end = line_end; ends = true })
 edited_by state None id spacing line_end is found = absurd (cc)
@@ -105,7 +105,7 @@ missing_picked {T} shown give name subsection state found refusal is =
     go states.SubSectionMissing told = (is.0, ap missing (sym told))
     go states.KeyMissing told = (is.0, ap missing (sym told))
 
--- a refusal tells the same of an editor
+-- a refusal says the same of an editor
 pub passing_refused : {T U A B : Type 0} (shown : T → A) (view : U → B) (give : SectionState → A) (other : SectionState → B) (name : List ℕ) (subsection : Option (List ℕ)) (keeps : Meta → Bool) (state : State) (refusal : Error)
     → IsPassing shown give name subsection keeps state (Err refusal) → IsPassing view other name subsection keeps state (Err refusal)
 passing_refused shown view give other name subsection keeps state NonePasses e = e
@@ -145,7 +145,7 @@ number_found id state s is =
     go (inl other) = absurd (cc)
     go (inr any) = any
 
--- want of memory is no refusal of a section that is made
+-- out of memory is no refusal of a section that is made
 pub memory_refused : {T A : Type 0} (after : T → State) (shown : T → A) (give : SectionState → A) (name : List ℕ) (subsection : Option (List ℕ)) (found : Option SectionState) (old : State)
     → found ≢ None → IsFoundOrMadeOf {T = T} after shown give name subsection found old (Err headers.Memory)
 memory_refused after shown give name subsection found old some = record {

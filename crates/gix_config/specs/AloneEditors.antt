@@ -1,2 +1,2 @@
--- Editors of sections that stand alone.
+-- Editors of sections that are in no file.
 pub use Rattle.gitconf_views.specs.AloneEditors.{edited, editor, lent}

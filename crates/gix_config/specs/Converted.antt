@@ -1,4 +1,4 @@
--- What look-ups of values in a type of the caller's answer.
+-- What lookups of values in a type of the caller's return.
 use Rattle.std.specs.Prelude.{◌≡◌, ◌≢◌, ◌⊎◌, ℕ, true, List, [], ◌∷◌, map, Option, Some, None, Result, Ok, Err}
 use Rattle.std.specs.Option.{option_map}
 use Rattle.std.specs.declared.vec.Vec.{Vec}
@@ -18,15 +18,15 @@ use Rattle.gix_config.specs.declared.lookup.Error.TheVariants.{ValueMissing, Fai
 abbrev pub IsGiven : {R : Type 0} → (gives : BString → R → Type 0) → Option (List ℕ) → R → Type 0
 IsGiven gives value result = (text : BString) × (value ≡ Some (bstring_bytes text)) × gives text result
 
--- The value is converted, if there is one, or the type refuses it. Where there is none, the refusal tells what is missing; want of memory
--- comes only where there is one.
+-- The value, if there is one, is converted, or the type refuses it. If there is none, the refusal says what is missing; out of memory
+-- comes only if there is one.
 abbrev pub IsConverted : {T E : Type 0} → (gives : BString → Result T E → Type 0) → Option (List ℕ) → Miss → Result T (Error E) → Type 0
 IsConverted gives value miss (Ok t) = IsGiven gives value (Ok t)
 IsConverted gives value miss (Err (FailedConversion e)) = IsGiven gives value (Err e)
 IsConverted gives value miss (Err (ValueMissing refusal)) = (value ≡ None) × (refusal ≡ missing miss)
 IsConverted gives value miss (Err Memory) = value ≢ None
 
--- the same, with the section in which the value stands
+-- the same, with the value's section
 abbrev pub IsConvertedWith : {T E : Type 0} → (gives : BString → Result T E → Type 0) → Option (List ℕ × SectionState) → Miss → Result (T × SectionRef) (Error E) → Type 0
 IsConvertedWith gives value miss (Ok found) = IsGiven gives (option_map (λ v. v.0) value) (Ok found.0) × (option_map (λ v. v.1) value ≡ Some (shown found.1))
 IsConvertedWith gives value miss (Err (FailedConversion e)) = IsGiven gives (option_map (λ v. v.0) value) (Err e)
@@ -39,34 +39,34 @@ AreGiven gives [] [] = Unit {0}
 AreGiven gives (value ∷ values) (t ∷ ts) = IsGiven gives (Some value) (Ok t) × AreGiven gives values ts
 AreGiven gives _ _ = ⊥
 
--- the first value that the type refuses is refused so
+-- this is the type's refusal of the first value that it refuses
 abbrev pub FirstRefused : {T E : Type 0} → (gives : BString → Result T E → Type 0) → List (List ℕ) → E → Type 0
 FirstRefused gives [] e = ⊥
 FirstRefused {T} gives (value ∷ values) e = IsGiven gives (Some value) (Err e) ⊎ (((t : T) × IsGiven gives (Some value) (Ok t)) × FirstRefused gives values e)
 
--- A list of values is converted, or the type refuses one; or memory was wanting.
+-- A list of values is converted, or the type refuses one; or memory ran out.
 abbrev pub IsListed : {T E Z : Type 0} → (gives : BString → Result T E → Type 0) → List (List ℕ) → Result (Vec T Z) (Error E) → Type 0
 IsListed gives values (Ok ts) = AreGiven gives values ts.items
 IsListed gives values (Err (FailedConversion e)) = FirstRefused gives values e
 IsListed gives values (Err (ValueMissing refusal)) = ⊥
 IsListed gives values (Err Memory) = Unit {0}
 
--- All values are converted, one or more, or the type refuses one. Where there is none, the refusal tells what is missing; want of memory
--- comes only where there are some.
+-- All values are converted, one or more, or the type refuses one. If there is none, the refusal says what is missing; out of memory
+-- comes only if there are some.
 abbrev pub AreConverted : {T E Z : Type 0} → (gives : BString → Result T E → Type 0) → List (List ℕ) → Miss → Result (Vec T Z) (Error E) → Type 0
 AreConverted gives values miss (Ok ts) = (values ≢ []) × AreGiven gives values ts.items
 AreConverted gives values miss (Err (FailedConversion e)) = FirstRefused gives values e
 AreConverted gives values miss (Err (ValueMissing refusal)) = (values ≡ []) × (refusal ≡ missing miss)
 AreConverted gives values miss (Err Memory) = values ≢ []
 
--- A list of values is converted, each beside its section, or the type refuses one; or memory was wanting.
+-- A list of values is converted, each with its section, or the type refuses one; or memory ran out.
 abbrev pub IsListedWith : {T E Z : Type 0} → (gives : BString → Result T E → Type 0) → List (List ℕ × SectionState) → Result (Vec (T × SectionRef) Z) (Error E) → Type 0
 IsListedWith gives values (Ok found) = AreGiven gives (map (λ v. v.0) values) (map (λ f. f.0) found.items) × (map (λ v. v.1) values ≡ map (λ f. shown f.1) found.items)
 IsListedWith gives values (Err (FailedConversion e)) = FirstRefused gives (map (λ v. v.0) values) e
 IsListedWith gives values (Err (ValueMissing refusal)) = ⊥
 IsListedWith gives values (Err Memory) = Unit {0}
 
--- as `AreConverted`, each value with the section in which it stands
+-- as `AreConverted`, each value with its section
 abbrev pub AreConvertedWith : {T E Z : Type 0} → (gives : BString → Result T E → Type 0) → List (List ℕ × SectionState) → Miss → Result (Vec (T × SectionRef) Z) (Error E) → Type 0
 AreConvertedWith gives values miss (Ok found) =
     (values ≢ []) × AreGiven gives (map (λ v. v.0) values) (map (λ f. f.0) found.items) × (map (λ v. v.1) values ≡ map (λ f. shown f.1) found.items)
@@ -74,7 +74,7 @@ AreConvertedWith gives values miss (Err (FailedConversion e)) = FirstRefused giv
 AreConvertedWith gives values miss (Err (ValueMissing refusal)) = (values ≡ []) × (refusal ≡ missing miss)
 AreConvertedWith gives values miss (Err Memory) = values ≢ []
 
--- as `IsConverted`, where it is no refusal that there is no value
+-- as `IsConverted`, but it is not a refusal that there is no value
 abbrev pub IsTried : {T E : Type 0} → (gives : BString → Result T E → Type 0) → Option (List ℕ) → Result (Option T) (Error E) → Type 0
 IsTried gives value (Ok (Some t)) = IsGiven gives value (Ok t)
 IsTried gives value (Ok None) = value ≡ None
@@ -82,17 +82,22 @@ IsTried gives value (Err (FailedConversion e)) = IsGiven gives value (Err e)
 IsTried gives value (Err (ValueMissing refusal)) = ⊥
 IsTried gives value (Err Memory) = value ≢ None
 
+-- the result is the last value of the key, converted
 abbrev pub IsValue : {T E : Type 0} → (gives : BString → Result T E → Type 0) → Key → State → Result T (Error E) → Type 0
 IsValue gives key state result = IsConverted gives (value_at key (λ _. true) state) (miss_at key state) result
 
+-- the result is the last value of the key, converted, if there is one
 abbrev pub IsTriedValue : {T E : Type 0} → (gives : BString → Result T E → Type 0) → Key → State → Result (Option T) (Error E) → Type 0
 IsTriedValue gives key state result = IsTried gives (value_at key (λ _. true) state) result
 
+-- the result is the last value of the key, converted, with its section
 abbrev pub IsValueWithSection : {T E : Type 0} → (gives : BString → Result T E → Type 0) → Key → State → Result (T × SectionRef) (Error E) → Type 0
 IsValueWithSection gives key state result = IsConvertedWith gives (value_in key (λ _. true) state) (miss_at key state) result
 
+-- the results are all values of the key, converted
 abbrev pub AreValues : {T E Z : Type 0} → (gives : BString → Result T E → Type 0) → Key → State → Result (Vec T Z) (Error E) → Type 0
 AreValues gives key state result = AreConverted gives (values_at key (λ _. true) state) (miss_at key state) result
 
+-- the results are all values of the key, converted, each with its section
 abbrev pub AreValuesWithSections : {T E Z : Type 0} → (gives : BString → Result T E → Type 0) → Key → State → Result (Vec (T × SectionRef) Z) (Error E) → Type 0
 AreValuesWithSections gives key state result = AreConvertedWith gives (values_in key (λ _. true) state) (miss_at key state) result

@@ -1,4 +1,4 @@
--- What an edit leaves of a file, and which section an editor stands on.
+-- What an edit leaves of a file, and of which section an editor is.
 use Rattle.std.specs.Prelude.{◌≡◌, ◌==◌, ◌+◌, ◌≤◌, ◌^◌, ◌↔◌, ℕ, Bool, false, true, Result, IfErr, IsErrAnd, OnErr, OnOk}
 use Rattle.std.specs.List.{list_any}
 use Rattle.gitconf_text.specs.Names.{is_value_name}
@@ -12,15 +12,15 @@ use Rattle.gix_config.specs.Puts.{put_bytes}
 abbrev pub has_number : (number : ℕ) → State → Bool
 has_number number state = list_any (λ s. s.number == number) state.sections
 
--- the name of a value that an edit pushes or sets may be one
+-- the value name that an edit pushes or sets is valid; true for an edit without one
 abbrev pub has_name : Edit → Bool
 has_name (Push number editor key value comment) = is_value_name key
 has_name (SetValue number editor key value) = is_value_name key
 has_name _ = true
 
--- The edit was done, or refused, and the file is then as it was but for the bytes of its buffer. No more bytes are put there than the edit
--- puts (`put_bytes`). Refusal 6 comes exactly for a name that is none, and else 3 exactly where these bytes would pass the limit; any other
--- is want of memory.
+-- The edit was done, or it was refused and the file is as it was, except for the bytes of its buffer. At most the bytes that the edit adds
+-- (`put_bytes`) are added there. Refusal 6 comes if and only if the name is invalid, otherwise 3 if and only if these bytes would pass the
+-- limit; any other is out of memory.
 pub record IsEdited {T E : Type 0} (edit : Edit) (number : E → ℕ) (result : Result T E) (old new : State) : Type 0 where
   pub ok : OnOk result (new ≡ with_used new.used (apply edit old))
   pub err : OnErr result (new ≡ with_used new.used old)

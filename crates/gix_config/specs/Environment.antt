@@ -1,4 +1,4 @@
--- A file that is made of what variables of the environment tell, and its refusals.
+-- A file that is made of the entries that variables of the environment set, and its refusals.
 -- Source: git-config's manual page, under "ENVIRONMENT"; the order of refusals is gix-config's.
 use Rattle.std.specs.Prelude.{◌≡◌, ◌⊎◌, ℕ, zero, suc, ◌+◌, ◌==◌, true, false, List, Option, Some, None, Result, Ok, Err}
 use Rattle.gitconf_text.specs.declared.parse.section.header.Error.{Error as HeaderError}
@@ -32,24 +32,24 @@ use Rattle.gix_config.specs.SectionEditors.{editor_at, IsFoundOrMade}
 abbrev pub Edited : Type 0
 Edited = State × (ℕ × Editor)
 
--- the value is pushed behind the section's entries; one that is no text is refused
+-- the value is pushed after the section's entries; one that isn't UTF-8 is refused
 abbrev pub IsPushed : (name : List ℕ) → (value : Option (List ℕ)) → Edited → Result State ℕ → Type 0
 IsPushed name None edited r = r ≡ Err 22
 IsPushed name (Some value) edited r =
     (pushed : Result Unit ValueError) × (new : State) × IsEdited (Push edited.1.0 edited.1.1 name (Some value) None) value_number pushed edited.0 new × (r ≡ left_by value_number pushed new)
 
--- the last section of the name and subsection, or one that is made where there is none
+-- the last section of the name and subsection, or one that is made if there is none
 abbrev pub IsSectionFor : Key → (old : State) → Result Edited HeaderError → Type 0
 IsSectionFor key old found = IsFoundOrMade (λ edited. edited.0) (λ edited. edited.1) (editor_at old) key.section key.subsection (λ _. true) old found
 
--- a value goes into that section
+-- a value is put into that section
 abbrev pub IsPut : Key → (value : Option (List ℕ)) → (old : State) → Result State ℕ → Type 0
 IsPut key value old r = (found : Result Edited HeaderError) × IsSectionFor key old found × elim found [
   | Err e ↦ r ≡ Err (header_number e)
   | Ok edited ↦ IsPushed key.name value edited r
 ]
 
--- where the text of the key is one; else it is refused
+-- a value is put under a key, if the key's text has one; otherwise it is refused
 abbrev pub IsPutUnder : Option Key → (value : Option (List ℕ)) → (old : State) → Result State ℕ → Type 0
 IsPutUnder None value old r = r ≡ Err 25
 IsPutUnder (Some key) value old r = IsPut key value old r
@@ -59,7 +59,7 @@ abbrev pub IsEntryPut : Option (List ℕ → VariableTold) → (index : ℕ) →
 IsEntryPut variables index old =
     Then (IsKeyAt variables index) (λ key. Then (IsValueAt variables index) (λ value. λ r. (r ≡ Err 27) ⊎ IsPutUnder (parsed_key key) value old r))
 
--- so many entries from there on
+-- that many entries, from this one on
 abbrev pub ArePut : Option (List ℕ → VariableTold) → (left index : ℕ) → (old : State) → Result State ℕ → Type 0
 ArePut variables zero index old r = r ≡ Ok old
 ArePut variables (suc left) index old r = Then (IsEntryPut variables index old) (ArePut variables left (index + 1)) r
@@ -72,32 +72,32 @@ env_meta = meta_of_source Env
 abbrev pub IsSome : State → Result (Option State) ℕ → Type 0
 IsSome file r = r ≡ Ok (Some file)
 
--- the file of so many entries, and then what it includes; nothing without entries
+-- the file of that many entries, and then what it includes; nothing without entries
 abbrev pub IsMadeOfEntries : Option (List ℕ → VariableTold) → Asks → (count : ℕ) → Result (Option State) ℕ → Type 0
 IsMadeOfEntries variables asks count r = elim (count == 0) [
   | true ↦ r ≡ Ok None
   | false ↦ Then (ArePut variables count 0 (empty_file env_meta)) (λ file. Then (λ r. MakesOf (λ number. number) asks r (Ok file)) IsSome) r
 ]
 
--- first it is asked how many there are; memory may be wanting
+-- first the count is asked; memory may run out
 abbrev pub IsFromEnv : Option (List ℕ → VariableTold) → Asks → Result (Option State) ℕ → Type 0
 IsFromEnv variables asks r = (r ≡ Err 27) ⊎ Then (IsCount variables) (IsMadeOfEntries variables asks) r
 
--- what its refusals tell beside their numbers
+-- the causes of its refusals
 abbrev pub IsEnvCause : Option (List ℕ → VariableTold) → Options → Option (List ℕ → FileTold) → Error → Type 0
 IsEnvCause variables options table (env.Includes e) = IsCause options table e
 IsEnvCause variables options table (env.InvalidConfigCount input) = IsCountCause variables (env.InvalidConfigCount input)
 IsEnvCause variables options table e = (index : ℕ) × IsEntryCause index e
 
--- no key that variables tell names a section `[]`, with an empty name and no subsection
+-- no key that variables set names a section `[]`, with an empty name and no subsection
 abbrev pub AreNamed : (variables : List ℕ → VariableTold) → Type 0
 AreNamed variables = (index : ℕ) (text : List ℕ) (key : Key) → ◌≡◌ {A = Result (List ℕ) ℕ} (key_told (variables (key_variable index))) (Ok text) → parsed_key text ≡ Some key
     → is_nameless (made_header key.section key.subsection) ≡ false
 
--- the overrides: the home folder is told by the places, and without entries the file is empty
+-- the overrides: includes know the home folder of the places, and without entries the file is empty
 abbrev pub IsOverrides : Option (List ℕ → VariableTold) → Places → Option (List ℕ → FileTold) → Result State ℕ → Type 0
 IsOverrides variables places table r = (r ≡ Err 27) ⊎ Then (IsFromEnv variables (record { rules = home_rules places; table = table })) IsOrEmpty r
 
--- and its refusals; or memory was wanting
+-- the causes of its refusals; or memory ran out
 abbrev pub IsOverridesCause : Option (List ℕ → VariableTold) → Places → Option (List ℕ → FileTold) → Error → Type 0
 IsOverridesCause variables places table e = (e ≡ env.Memory) ⊎ (options : Options) × (rules_of options ≡ home_rules places) × IsEnvCause variables options table e

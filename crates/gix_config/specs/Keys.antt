@@ -1,4 +1,4 @@
--- What a look-up by key finds, and what an edit by key does.
+-- What a lookup by key finds, and what an edit by key does.
 use Rattle.std.specs.Prelude.{◌≡◌, Bool, List, ℕ, Option, Some, None, Result, Ok}
 use Rattle.bstr.specs.declared.bstring.BString.{BString}
 use Rattle.gitconf_base.specs.Key.{Key}
@@ -7,7 +7,7 @@ use Rattle.gitconf_state.specs.State.{State}
 use Rattle.gitconf_store.specs.declared.set_raw_value.Error.{Error}
 use Rattle.gitconf_store.specs.Edits.{IsSet}
 
--- A look-up by what may be a key: that by the key; nothing is found where it is none.
+-- A lookup by what may be a key: the lookup by that key, or nothing if it is not a key.
 abbrev pub OfKey : {T E : Type 0} → Option Key → (Key → Type 0) → Result (Option T) E → Type 0
 OfKey None found result = result ≡ Ok None
 OfKey (Some key) found result = found key

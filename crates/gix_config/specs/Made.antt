@@ -8,12 +8,12 @@ use Rattle.gitconf_items.specs.TokenDocument.{keeps_meaning}
 use Rattle.gitconf_includes.specs.declared.init.Error.{Error}
 use Rattle.gitconf_includes.specs.declared.init.Error.TheVariants.{Parse, Memory}
 
--- the tokens of a text that stay: all, or in a lossy load those that are no blanks, line ends or comments
+-- the tokens of a text that are kept: all, or in a lossy load those other than blanks, line endings and comments
 abbrev pub loaded_tokens : (lossy : Bool) → List Part → List Token
 loaded_tokens false parts = tokens_of parts
 loaded_tokens true parts = filter (keeps_token keeps_meaning) (tokens_of parts)
 
--- the parser refused the bytes, which it does where memory is wanting for no input that is too large
+-- the parser refused the bytes; a refusal for out of memory comes only for an input that is not too large
 abbrev pub IsParseRefusal : (input : List ℕ) → Error → Type 0
 IsParseRefusal input (Parse refusal) = IsRefused input refusal
 IsParseRefusal input Memory = length input < 2 ^ 32

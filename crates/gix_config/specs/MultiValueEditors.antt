@@ -1,4 +1,4 @@
--- Editors of several values: the file, where the entries stand, and the name that they write.
+-- Editors of several values: the file, where the entries are, and the name that they write.
 use Rattle.std.specs.Prelude.{◌≡◌, ◌≢◌, ℕ, Bool, true, List, [], None, Result, Ok, Err, IsOk, OnErr, OnOk}
 use Rattle.std.specs.Borrow.{GName}
 use Rattle.std.specs.declared.vec.Vec.{Vec}
@@ -20,7 +20,7 @@ use Rattle.gitconf_finding.specs.ValuePlaces.{AreInOrder, ArePlaces, key_places}
 use Rattle.gix_config.specs.Targeted.{Targeted, place_at}
 use Rattle.gix_config.specs.declared.file.multi_value_mut.MultiValueMut.{MultiValueMut}
 
--- the reference to the file, by its name
+-- the loan of the file, by its name
 abbrev pub lent : {T : Type 0} → MultiValueMut T → GName
 lent e = e.file.ghost_name
 
@@ -28,7 +28,7 @@ lent e = e.file.ghost_name
 abbrev pub edited : {T : Type 0} → MultiValueMut T → State
 edited e = e.file.now
 
--- where the entries stand, in order
+-- the places of the entries, in order
 abbrev pub places_of : MultiValueMut Targeted → List (ℕ × ℕ)
 places_of e = e.targets.places
 
@@ -36,50 +36,51 @@ places_of e = e.targets.places
 abbrev pub key_of : MultiValueMut Targeted → List ℕ
 key_of e = e.targets.key
 
--- both
+-- the name and the places
 abbrev pub targets_of : MultiValueMut Targeted → Targeted
 targets_of e = e.targets
 
--- one of the entries gets a value: it is written by the name that was given, with the blanks that its section then has, and nothing stays of
+-- one of the entries gets a value: it is written with the name that was given and the blanks that its section then has, and nothing stays of
 -- its old value
 abbrev pub writing : MultiValueMut Targeted → (index : ℕ) → (value : List ℕ) → Edit
 writing e index value = one_rewriting (key_of e) (place_at (places_of e) index) value (edited e)
 
--- one of the entries is deleted alone
+-- only one of the entries is deleted
 abbrev pub deleting : MultiValueMut Targeted → (index : ℕ) → Edit
 deleting e index = let place = place_at (places_of e) index in DeleteAt place.0 place.1
 
--- How one of the entries gets a value: the edit is done, or refused, and the file is then as it was but for the bytes of its buffer. So many
--- bytes are put there, and refusal 3 comes exactly where these would pass the limit.
+-- How one of the entries gets a value: the edit is done, or it is refused and the file is as it was, except for the bytes of its buffer. At
+-- most its bytes are added there, and refusal 3 comes if and only if these would pass the limit.
 pub record IsOneSet (e : MultiValueMut Targeted) (index : ℕ) (value : List ℕ) (result : Result (Unit {0}) ℕ) (new : State) : Type 0 where
   pub ok : OnOk result (new ≡ with_used new.used (apply (writing e index value) (edited e)))
   pub err : OnErr result (new ≡ with_used new.used (edited e))
   pub used : let id = (place_at (places_of e) index).0 in PutsIn id result (rewritten_put (key_of e) value (items_of_numbered id (edited e))) (edited e) new
   pub missing : numbered (place_at (places_of e) index).0 (edited e) ≡ None → IsOk result
 
--- What the entries mean, in order; where none is left, the key is missing. Want of memory comes only where there are some.
+-- What the entries mean, in order; if none is left, the key is missing. Out of memory comes only if there are some.
 abbrev pub AreMeanings : {Z : Type 0} → List (ℕ × ℕ) → State → Result (Vec BString Z) Error → Type 0
 AreMeanings places state (Ok texts) = (places ≢ []) × (texts_of texts ≡ all_meanings places state)
 AreMeanings places state (Err KeyMissing) = places ≡ []
 AreMeanings places state (Err Memory) = places ≢ []
 AreMeanings places state (Err refusal) = ⊥
 
--- Some entries were found, and are told in order under the key's name, which is one.
+-- These are the places of some entries, in order, with the key's name, which is valid.
 abbrev pub AreTargets : Key → List (ℕ × ℕ) → Targeted → Type 0
 AreTargets key places targets = (is_value_name key.name ≡ true) × (places ≢ []) × AreInOrder places targets.places × (targets.key ≡ key.name)
 
--- The refusal tells why there are none; want of memory comes only where there are some.
+-- The refusal says why there are none; out of memory comes only if there are some.
 abbrev pub AreMissed : Key → State → List (ℕ × ℕ) → Error → Type 0
 AreMissed key state places refusal = ArePlaces {Z = Unit {0}} key state places (Err refusal)
 
--- The entries were found, whatever shows them; or the refusal tells why not.
+-- The entries were found, as the result shows; or the refusal says why not.
 abbrev pub AreFoundTargets : {T : Type 0} → (shown : T → Targeted) → Key → State → List (ℕ × ℕ) → Result T Error → Type 0
 AreFoundTargets shown key state places (Ok found) = AreTargets key places (shown found)
 AreFoundTargets shown key state places (Err refusal) = AreMissed key state places refusal
 
+-- the result is an editor of all values of the key in the passing sections, or why there is none
 abbrev pub IsEditorOfValues : Key → (keeps : Meta → Bool) → State → Result (MultiValueMut Targeted) Error → Type 0
 IsEditorOfValues key keeps state result = AreFoundTargets targets_of key state (key_places key keeps state) result
 
--- whatever the filter answers
+-- the same, for any filter: of the values in some of the sections
 abbrev pub IsEditorOfSomeValues : Key → State → Result (MultiValueMut Targeted) Error → Type 0
 IsEditorOfSomeValues key state result = WithSome (λ s. AreFoundTargets targets_of key state (key_places key (λ _. true) s) result) state

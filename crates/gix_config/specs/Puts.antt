@@ -1,5 +1,5 @@
--- How many bytes the edits of editors put into the buffer of a file. A separator, the mark of a comment, and the brackets and quotes of a header
--- stand in no buffer.
+-- How many bytes the edits of editors add to the buffer of a file. A separator, the mark of a comment, and the brackets and quotes of a
+-- header are in no buffer.
 use Rattle.std.specs.Prelude.{ℕ, ◌+◌, length, Some}
 use Rattle.gitconf_state.specs.Edit.{header_bytes}
 use Rattle.gitconf_state.specs.Edits.{Edit, NewSection, Push, PushLineEnd, Rename, SetValue, WriteAt, items_of_numbered}
@@ -7,7 +7,7 @@ use Rattle.gitconf_state.specs.LineEnds.{file_line_end}
 use Rattle.gitconf_state.specs.State.{State}
 use Rattle.gitconf_lines.specs.Puts.{assigned_bytes, line_bytes, value_set_bytes}
 
--- an edit of an editor, which has all blanks that it writes put into the buffer; and a section that is made
+-- how many bytes an editor's edit, with all blanks that it writes, or a section that is made, adds to the buffer
 abbrev pub put_bytes : Edit → State → ℕ
 put_bytes (Push number editor key value comment) state = line_bytes editor key value comment
 put_bytes (PushLineEnd number editor) state = length editor.line_end

@@ -1,5 +1,5 @@
 -- The configuration of a repository: that of the machine and of the user, of the repository and of its worktree, and the overrides.
--- Source: gix-config; that what is not of the repository is expanded twice is its own.
+-- Source: gix-config; that the files of the machine and of the user are expanded twice is gix-config's rule.
 use Rattle.std.specs.Prelude.{◌≡◌, ◌⊎◌, ℕ, Bool, true, false, List, [], Option, Some, None, Result, Ok, Err, codes, string_bytes}
 use Rattle.std.specs.Option.{option_map, unwrap_or}
 use Rattle.gitconf_text.specs.ValueErrors.{ValueError}
@@ -25,37 +25,40 @@ use Rattle.gix_config.specs.declared.file.init.repository.Parts.{Parts}
 use Rattle.gix_config.specs.Environment.{IsOverrides, IsOverridesCause}
 use Rattle.gix_config.specs.Typed.{boolean_or_refusal}
 
--- the path of the repository's configuration, and the folder that it stands in
+-- the path of the repository's configuration
 abbrev pub local_path : (dir : List ℕ) → List ℕ
 local_path dir = join dir (codes "config")
 
+-- the folder of the repository's configuration
 abbrev pub folder_of : (path : List ℕ) → List ℕ
 folder_of path = unwrap_or (parent path) []
 
--- whether a boolean is there, and true
+-- there is a boolean, and it is true
 abbrev pub is_told_true : Option (Result Bool ValueError) → Bool
 is_told_true None = false
 is_told_true (Some (Ok on)) = on
 is_told_true (Some (Err e)) = false
 
+-- the key that switches the worktree's configuration on: `extensions.worktreeConfig`
 abbrev pub worktree_key : Key
 worktree_key = record { section = codes "extensions"; subsection = None; name = codes "worktreeConfig" }
 
--- whether the repository has configuration of its worktree
+-- the repository has configuration of its worktree
 abbrev pub has_worktree : State → Bool
 has_worktree local = is_told_true (option_map boolean_or_refusal (implicit_at worktree_key (λ _. true) local))
 
--- that of the worktree, where there is one
+-- the path of the worktree's configuration
 abbrev pub worktree_path : (folder : List ℕ) → List ℕ
 worktree_path folder = join folder (codes "config.worktree")
 
+-- the worktree's configuration, loaded without its includes, if the repository has one
 abbrev pub IsWorktree : Option (List ℕ → FileTold) → (folder : List ℕ) → (local : State) → Result (Option State) ℕ → Type 0
 IsWorktree table folder local r = elim (has_worktree local) [
   | true ↦ Then (IsLoadedFrom table (worktree_path folder) Worktree) (λ worktree. λ r. r ≡ Ok (Some worktree)) r
   | false ↦ r ≡ Ok None
 ]
 
--- what includes go by: the user's home folder and the folder of the repository, and no branch
+-- the rules of the includes: the user's home folder and the folder of the repository are known, and no branch
 abbrev pub repository_rules : Places → (folder : List ℕ) → (real : Option (List ℕ)) → Rules
 repository_rules places folder real = record {
   max_depth = 10;
@@ -74,18 +77,18 @@ repository_rules places folder real = record {
 abbrev pub IsExpanded : Asks → (file : State) → Result State ℕ → Type 0
 IsExpanded asks file r = MakesOf (λ number. number) asks r (Ok file)
 
--- a file behind another one; memory may be wanting
+-- a file is appended to another one; memory may run out
 abbrev pub IsPutBehind : (target other : State) → Result State ℕ → Type 0
 IsPutBehind target other r = (r ≡ Err 27) ⊎ elim (has_room_behind target other) [
   | true ↦ (now : State) × IsBehind target other now × (r ≡ Ok now)
   | false ↦ r ≡ Err 3
 ]
 
--- a file is expanded, and then put behind another one
+-- a file is expanded, and then appended to another one
 abbrev pub IsExpandedBehind : Asks → (target : State) → (file : State) → Result State ℕ → Type 0
 IsExpandedBehind asks target file = Then (IsExpanded asks file) (IsPutBehind target)
 
--- the same of the worktree's, where there is one
+-- the same for the worktree's file, if there is one
 abbrev pub IsWorktreeBehind : Asks → (worktree : Option State) → (target : State) → Result State ℕ → Type 0
 IsWorktreeBehind asks None target r = r ≡ Ok target
 IsWorktreeBehind asks (Some worktree) target r = IsExpandedBehind asks target worktree r
@@ -96,50 +99,55 @@ pub record RepositoryFiles : Type 0 where
   pub worktree : Option State
   pub globals : State
 
+-- the files of a repository, as the code has them
 abbrev pub parts_of : Parts → RepositoryFiles
 parts_of parts = record { local = parts.local; worktree = parts.worktree; globals = parts.globals }
 
 module _ (variables : Option (List ℕ → VariableTold)) (places : Places) (table : Option (List ℕ → FileTold)) where
-  -- The files are read: first the repository's, then that of its worktree, then those of the machine and of the user; memory may be wanting.
+  -- The files are read: first the repository's, then that of its worktree, then those of the machine and of the user; memory may run out.
   abbrev pub IsReadOf : (path folder : List ℕ) → Result RepositoryFiles ℕ → Type 0
   IsReadOf path folder r = (r ≡ Err 27) ⊎ Then (IsLoadedFrom table path Local) (λ local. Then (IsWorktree table folder local)
       (λ worktree. Then (IsGlobal variables places table) (λ globals. λ r. r ≡ Ok (record { local = local; worktree = worktree; globals = globals })))) r
 
-  -- the overrides behind a file
+  -- the overrides are appended to a file
   abbrev pub AreOverridesBehind : (target : State) → Result State ℕ → Type 0
   AreOverridesBehind target = Then (IsOverrides variables places table) (IsPutBehind target)
 
-  -- All are expanded, each is put behind those before it, and the overrides come last.
+  -- All are expanded, each is appended to those before it, and the overrides come last.
   abbrev pub IsJoined : Asks → RepositoryFiles → Result State ℕ → Type 0
   IsJoined asks parts = Then (IsExpanded asks parts.globals) (λ globals. Then (IsExpandedBehind asks globals parts.local)
       (λ both. Then (IsWorktreeBehind asks parts.worktree both) AreOverridesBehind))
 
-  -- the repository with that folder; memory may be wanting
+  -- the configuration of the repository in that folder; memory may run out
   abbrev pub IsRepository : (dir : List ℕ) → (real : Option (List ℕ)) → Result State ℕ → Type 0
   IsRepository dir real r = (r ≡ Err 27)
       ⊎ Then (IsReadOf (local_path dir) (folder_of (local_path dir))) (IsJoined (record { rules = repository_rules places (folder_of (local_path dir)) real; table = table })) r
 
--- What refusals tell beside their numbers: of a file that is read, of one that includes, and of the overrides.
+-- The cause of a refusal, besides its number: of a file that is read.
 abbrev pub IsReadCause : Places → Option (List ℕ → FileTold) → PathsError → Type 0
 IsReadCause places table e = ((path : List ℕ) × IsFileCause table path e) ⊎ IsGlobalCause places table e
 
+-- the cause of a refusal of a file that includes
 abbrev pub IsIncludeCause : Options → Option (List ℕ → FileTold) → Error → Type 0
 IsIncludeCause options table (git.Includes e) = IsCause options table e
 IsIncludeCause options table (git.FromPaths e) = ⊥
 IsIncludeCause options table (git.FromEnv e) = ⊥
 IsIncludeCause options table e = Unit {0}
 
+-- the cause of a refusal of the overrides
 abbrev pub IsOverridingCause : Option (List ℕ → VariableTold) → Places → Option (List ℕ → FileTold) → Error → Type 0
 IsOverridingCause variables places table (git.FromEnv e) = IsOverridesCause variables places table e
 IsOverridingCause variables places table (git.FromPaths e) = ⊥
 IsOverridingCause variables places table (git.Includes e) = ⊥
 IsOverridingCause variables places table e = Unit {0}
 
+-- the cause of a refusal of a repository's configuration: of a file that is read, of one that includes, or of the overrides
 abbrev pub IsGitCause : Option (List ℕ → VariableTold) → Options → Places → Option (List ℕ → FileTold) → Error → Type 0
 IsGitCause variables options places table (git.FromPaths e) = IsReadCause places table e
 IsGitCause variables options places table (git.FromEnv e) = IsOverridesCause variables places table e
 IsGitCause variables options places table (git.Includes e) = IsCause options table e
 IsGitCause variables options places table e = Unit {0}
 
+-- the cause of a refusal of the repository in that folder; or memory ran out
 abbrev pub IsRepositoryCause : Option (List ℕ → VariableTold) → Places → Option (List ℕ → FileTold) → (dir : List ℕ) → (real : Option (List ℕ)) → Error → Type 0
 IsRepositoryCause variables places table dir real e = (e ≡ git.Memory) ⊎ (options : Options) × (rules_of options ≡ repository_rules places (folder_of (local_path dir)) real) × IsGitCause variables options places table e

@@ -1,4 +1,4 @@
--- Editors of a section: the file, the section's number, and what they write beside names and values.
+-- Editors of a section: the file, the section's number, and what they write besides names and values.
 use Rattle.std.specs.Prelude.{◌≡◌, ◌≢◌, ◌↔◌, ◌==◌, ◌+◌, ◌≤◌, ℕ, Bool, true, false, List, IfErr, IfOk, IsErrAnd, IsErrOf, Option, Some, None, Result, Ok, Err}
 use Rattle.std.specs.List.{list_any}
 use Rattle.std.specs.Option.{option_map}
@@ -28,7 +28,7 @@ use Rattle.gix_config.specs.declared.file.section_mut.SectionMut.{SectionMut}
 use Rattle.gix_config.specs.declared.file.section_mut.making.Error.{Error}
 use Rattle.gix_config.specs.declared.file.section_mut.making.Error.TheVariants.{NonePasses, Lookup}
 
--- the reference to the file, by its name
+-- the loan of the file, by its name
 abbrev pub lent : {B : Type 0} → SectionMut B → GName
 lent e = e.file.ghost_name
 
@@ -40,27 +40,27 @@ edited e = e.file.now
 abbrev pub number_of : {B : Type 0} → SectionMut B → ℕ
 number_of e = e.id
 
--- what it writes
+-- what the editor writes
 abbrev pub editor : SectionMut Spacing → Editor
 editor e = editor_with e.blanks e.line_end e.ends
 
--- an editor with other blanks before names
+-- the editor with other blanks before names
 abbrev pub with_leading : Option (List ℕ) → Editor → Editor
 with_leading leading e = record { spacing = record { leading = leading; before = e.spacing.before; behind = e.spacing.behind }; line_end = e.line_end; ends = e.ends }
 
--- where it stands, and what it writes
+-- the number of the editor's section, and what the editor writes
 abbrev pub told : SectionMut Spacing → ℕ × Editor
 told e = (number_of e, editor e)
 
--- the same of a new editor of a section
+-- the same for a new editor of a section
 abbrev pub editor_at : State → SectionState → ℕ × Editor
 editor_at state s = (s.number, editor_of state s)
 
--- the blanks of a section, under its number
+-- the blanks that a section uses, with its number
 abbrev pub blanks_at : SectionState → ℕ × Spacing
 blanks_at s = (s.number, spacing_of s.items)
 
--- What was found of the last section of the name and subsection that passes; it is told where there are some and none passes.
+-- What was found of the last passing section of the name and subsection; or that there are such sections and none passes; or what is missing.
 abbrev pub IsPickedOf : {T A : Type 0} → (shown : T → A) → (give : SectionState → A)
     → (name : List ℕ) → (subsection : Option (List ℕ)) → State → (found : Option SectionState) → Result T Error → Type 0
 IsPickedOf shown give name subsection state found (Ok t) = option_map give found ≡ Some (shown t)
@@ -68,48 +68,50 @@ IsPickedOf shown give name subsection state found (Err NonePasses) = HasSection 
 IsPickedOf shown give name subsection state found (Err (Lookup Memory)) = found ≢ None
 IsPickedOf shown give name subsection state found (Err (Lookup refusal)) = IsMissing name subsection state refusal
 
+-- the same, for the sections whose metadata passes the filter
 abbrev pub IsPassing : {T A : Type 0} → (shown : T → A) → (give : SectionState → A)
     → (name : List ℕ) → (subsection : Option (List ℕ)) → (keeps : Meta → Bool) → State → Result T Error → Type 0
 IsPassing shown give name subsection keeps state result = IsPickedOf shown give name subsection state (picked name subsection keeps state) result
 
--- whatever the filter answers
+-- the same, for any filter
 abbrev pub IsSomePassing : {T A : Type 0} → (shown : T → A) → (give : SectionState → A)
     → (name : List ℕ) → (subsection : Option (List ℕ)) → State → Result T Error → Type 0
 IsSomePassing shown give name subsection state result =
     WithSome (λ s. IsPickedOf shown give name subsection state (picked name subsection (λ _. true) s) result) state
 
--- What was found of the section of the number.
+-- What was found of the section of the number, or that no section has it.
 abbrev pub IsNumbered : {T A : Type 0} → (shown : T → A) → (give : SectionState → A) → (number : ℕ) → State → Result T Error → Type 0
 IsNumbered shown give number state (Ok found) = option_map give (numbered number state) ≡ Some (shown found)
 IsNumbered shown give number state (Err NonePasses) = numbered number state ≡ None
 IsNumbered shown give number state (Err (Lookup refusal)) = (refusal ≡ Memory) × (numbered number state ≢ None)
 
--- the last section of the name and subsection has an editor, or it is told what is missing
+-- the last section of the name and subsection has this editor, or the refusal says what is missing
 abbrev pub IsEditorFound : (name : List ℕ) → (subsection : Option (List ℕ)) → State → Result (SectionMut Spacing) Existing → Type 0
 IsEditorFound name subsection state result =
     IsExisting told result (option_map (editor_at state) (picked name subsection (λ _. true) state)) (miss_of name subsection (listed state))
 
--- the same by a section's key; refusal 9 for what is no key
+-- the same by a section's key; refusal 9 for a text that is not a key
 abbrev pub IsEditorOfKey : Option SectionKey → State → Result (SectionMut Spacing) Existing → Type 0
 IsEditorOfKey None state result = result ≡ Err KeyMissing
 IsEditorOfKey (Some key) state result = IsEditorFound key.section key.subsection state result
 
--- with a filter
+-- the same with a filter
 abbrev pub IsPassingEditorOfKey : Option SectionKey → (keeps : Meta → Bool) → State → Result (SectionMut Spacing) Error → Type 0
 IsPassingEditorOfKey None keeps state result = result ≡ Err (Lookup KeyMissing)
 IsPassingEditorOfKey (Some key) keeps state result = IsPassing told (editor_at state) key.section key.subsection keeps state result
 
+-- the same, for any filter
 abbrev pub IsSomePassingEditorOfKey : Option SectionKey → State → Result (SectionMut Spacing) Error → Type 0
 IsSomePassingEditorOfKey None state result = result ≡ Err (Lookup KeyMissing)
 IsSomePassingEditorOfKey (Some key) state result = IsSomePassing told (editor_at state) key.section key.subsection state result
 
--- What was found, in a state that stays; where nothing was, a section was made, and that is told of it.
+-- What was found, and the state stays; if nothing was, a section was made, and this is what was found of it.
 abbrev pub IsFoundOr : {A : Type 0} → (give : SectionState → A) → (name : List ℕ) → (subsection : Option (List ℕ)) → Option SectionState → (old new : State) → A → Type 0
 IsFoundOr give name subsection (Some s) old new told = (new ≡ old) × (told ≡ give s)
 IsFoundOr give name subsection None old new told = (new ≡ with_used new.used (apply (NewSection name subsection) old)) × (told ≡ give (new_section name subsection old))
 
--- What was found of a section that is made where there is none. Refusals 4, 5 and 3 are of a section that has to be made, each with its
--- cause; any other is want of memory.
+-- What was found of a section that is made if there is none. Refusals 4, 5 and 3 come only if a section has to be made, each with its
+-- cause; any other is out of memory.
 pub record IsFoundOrMadeOf {T A : Type 0} (after : T → State) (shown : T → A) (give : SectionState → A) (name : List ℕ) (subsection : Option (List ℕ)) (found : Option SectionState) (old : State) (result : Result T HeaderError) : Type 0 where
   pub ok : IfOk result (λ t. IsFoundOr give name subsection found old (after t) (shown t))
   pub grown : IfOk result (λ t. (after t).used ≤ old.used + put_bytes (NewSection name subsection) old)
@@ -119,21 +121,22 @@ pub record IsFoundOrMadeOf {T A : Type 0} (after : T → State) (shown : T → A
       ↔ ((found ≡ None) × (is_made_name name ≡ true) × (is_valid_or_none subsection ≡ true) × HasNoPlace name subsection old)
   pub known : IfErr result (λ e. list_any (λ number. number == header_number e) header_numbers ≡ true)
 
+-- the same, for the sections whose metadata passes the filter
 abbrev pub IsFoundOrMade : {T A : Type 0} → (after : T → State) → (shown : T → A) → (give : SectionState → A)
     → (name : List ℕ) → (subsection : Option (List ℕ)) → (keeps : Meta → Bool) → (old : State) → Result T HeaderError → Type 0
 IsFoundOrMade after shown give name subsection keeps old result =
     IsFoundOrMadeOf after shown give name subsection (picked name subsection keeps old) old result
 
--- whatever the filter answers
+-- the same, for any filter
 abbrev pub IsSomeFoundOrMade : {T A : Type 0} → (after : T → State) → (shown : T → A) → (give : SectionState → A)
     → (name : List ℕ) → (subsection : Option (List ℕ)) → (old : State) → Result T HeaderError → Type 0
 IsSomeFoundOrMade after shown give name subsection old result =
     WithSome (λ s. IsFoundOrMadeOf after shown give name subsection (picked name subsection (λ _. true) s) old result) old
 
--- The file behind a section that wasn't put into it: as it was but for the bytes of its buffer, no more than these.
+-- The file after a section was not put into it: as it was, except for the bytes of its buffer, to which at most these were added.
 abbrev pub IsUnput : (bytes : ℕ) → (old new : State) → Type 0
 IsUnput bytes old new = (new ≡ with_used new.used old) × (new.used ≤ old.used + bytes)
 
--- behind one that wasn't made
+-- the file after a section was not made
 abbrev pub IsUnmade : (name : List ℕ) → (subsection : Option (List ℕ)) → (old new : State) → Type 0
 IsUnmade name subsection old = IsUnput (put_bytes (NewSection name subsection) old) old

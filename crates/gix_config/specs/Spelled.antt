@@ -1,4 +1,4 @@
--- What an editor of a value writes beside the value.
+-- What an editor of a value writes besides the value.
 use Rattle.std.specs.Prelude.{ℕ, List}
 use Rattle.gitconf_state.specs.Edit.{Spacing}
 

@@ -1,4 +1,4 @@
--- What look-ups of paths, booleans and integers answer.
+-- What lookups of paths, booleans and integers return.
 use Rattle.std.specs.Prelude.{◌≡◌, ◌≢◌, ◌⊎◌, ℕ, ℤ, Bool, true, List, [], ◌∷◌, Option, Some, None, Result, Ok, Err, codes}
 use Rattle.std.specs.Option.{option_map}
 use Rattle.std.specs.declared.vec.Vec.{Vec}
@@ -10,12 +10,12 @@ use Rattle.gitconf_base.specs.Metadata.{Meta}
 use Rattle.gitconf_state.specs.State.{State}
 use Rattle.gitconf_finding.specs.Lookups.{IsFound, implicit_at, unless_empty, value_at, values_at}
 
--- the boolean of an entry by what it means, or how that is refused: true where the entry has no value
+-- the boolean of an entry by what it means, or its refusal: true if the entry has no value
 abbrev pub boolean_or_refusal : Option (List ℕ) → Result Bool ValueError
 boolean_or_refusal None = Ok true
 boolean_or_refusal (Some value) = elim (boolean_of value) [ Some b ↦ Ok b | None ↦ Err (refused (codes "not a boolean") value) ]
 
--- the integers of all values, or how the first is refused that has none
+-- the integers of all values, or the refusal of the first that has none
 abbrev pub integers_or_refusal : List (List ℕ) → Result (List ℤ) ValueError
 integers_or_refusal [] = Ok []
 integers_or_refusal (value ∷ values) = elim (integer_or_refusal value) [
@@ -23,19 +23,23 @@ integers_or_refusal (value ∷ values) = elim (integer_or_refusal value) [
   | Ok n ↦ elim (integers_or_refusal values) [ Err e ↦ Err e | Ok ns ↦ Ok (n ∷ ns) ]
 ]
 
--- What was found is told in its type, if there is something, or refused; or memory was wanting, where there is something.
+-- What was found is returned in its type, or refused, if there is something; or memory ran out, if there is something.
 abbrev pub IsTyped : {A B T : Type 0} → (told : A → Result B ValueError) → (shown : T → B) → Option A → Result (Option T) ValueError → Type 0
 IsTyped told shown value (Ok found) = option_map told value ≡ option_map (λ t. Ok (shown t)) found
 IsTyped told shown value (Err e) = (option_map told value ≡ Some (Err e)) ⊎ ((value ≢ None) × (e ≡ wanting))
 
+-- the result is the last value of the key as a path, if there is one
 abbrev pub IsPath : {E : Type 0} → Key → (keeps : Meta → Bool) → State → Result (Option (List ℕ)) E → Type 0
 IsPath key keeps state result = IsFound (λ path. path) result (value_at key keeps state)
 
+-- the result is what the key's last entry means as a boolean, if there is one
 abbrev pub IsBoolean : Key → (keeps : Meta → Bool) → State → Result (Option Bool) ValueError → Type 0
 IsBoolean key keeps state result = IsTyped boolean_or_refusal (λ b. b) (implicit_at key keeps state) result
 
+-- the result is the last value of the key as an integer, if there is one
 abbrev pub IsInteger : Key → (keeps : Meta → Bool) → State → Result (Option ℤ) ValueError → Type 0
 IsInteger key keeps state result = IsTyped integer_or_refusal (λ n. n) (value_at key keeps state) result
 
+-- the results are all values of the key as integers, if there are some
 abbrev pub AreIntegers : {Z : Type 0} → Key → (keeps : Meta → Bool) → State → Result (Option (Vec ℤ Z)) ValueError → Type 0
 AreIntegers {Z = Z} key keeps state result = IsTyped integers_or_refusal (λ (ns : Vec ℤ Z). ns.items) (unless_empty (values_at key keeps state)) result

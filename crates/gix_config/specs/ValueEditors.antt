@@ -1,4 +1,4 @@
--- Editors of a value: the file, the number of its section, its place there, whether it stands, and what they write beside it.
+-- Editors of a value: the file, the number of its section, its place there, whether the entry exists, and what they write besides the value.
 use Rattle.std.specs.Prelude.{◌≡◌, ◌≢◌, ℕ, Bool, true, List, Option, None, Result, Ok, Err, if◌then◌else◌}
 use Rattle.std.specs.Borrow.{GName}
 use Rattle.gitconf_base.specs.Key.{Key}
@@ -14,7 +14,7 @@ use Rattle.gitconf_finding.specs.ValuePlaces.{IsPlace, editor_of_numbered, meani
 use Rattle.gix_config.specs.Spelled.{Spelled}
 use Rattle.gix_config.specs.declared.file.value_mut.ValueMut.{ValueMut}
 
--- the reference to the file, by its name
+-- the loan of the file, by its name
 abbrev pub lent : {S : Type 0} → ValueMut S → GName
 lent e = e.file.ghost_name
 
@@ -22,11 +22,11 @@ lent e = e.file.ghost_name
 abbrev pub edited : {S : Type 0} → ValueMut S → State
 edited e = e.file.now
 
--- where the entry stands: the number of its section, and the place among its items
+-- the place of the entry: the number of its section, and the place among its items
 abbrev pub place_of : {S : Type 0} → ValueMut S → ℕ × ℕ
 place_of e = (e.id, e.place)
 
--- whether it does, and wasn't deleted
+-- the entry is there, and wasn't deleted
 abbrev pub stands_there : {S : Type 0} → ValueMut S → Bool
 stands_there e = e.stands
 
@@ -34,11 +34,11 @@ stands_there e = e.stands
 abbrev pub key_of : ValueMut Spelled → List ℕ
 key_of e = e.spelling.key
 
--- what it writes round `=`
+-- what the editor writes around `=`
 abbrev pub editor : ValueMut Spelled → Editor
 editor e = editor_with e.spelling.spacing e.line_end true
 
--- setting a value: in place of the entry there, or where it was deleted
+-- setting the value: in place of the entry there, or where it was deleted
 abbrev pub writing : ValueMut Spelled → (value : List ℕ) → Edit
 writing e value = WriteAt e.id (editor e) e.place e.stands e.stands (key_of e) value
 
@@ -46,27 +46,29 @@ writing e value = WriteAt e.id (editor e) e.place e.stands e.stands (key_of e) v
 abbrev pub without_entry : {S : Type 0} → ValueMut S → State
 without_entry e = if e.stands then apply (DeleteAt e.id e.place) (edited e) else edited e
 
--- what the entry means, where it stands
+-- what the entry means, if it is there
 abbrev pub meaning_of : {S : Type 0} → ValueMut S → Option (List ℕ)
 meaning_of e = if e.stands then told_of e.id (meaning_at e.place) (edited e) else None
 
--- where it stands, that it does, the name, and the blanks
+-- the place, whether the entry is there, the name, and what the editor writes
 abbrev pub told : ValueMut Spelled → ((ℕ × ℕ) × Bool) × (List ℕ × Editor)
 told e = ((place_of e, stands_there e), (key_of e, editor e))
 
--- the same of a new editor of an entry
+-- the same for a new editor of an entry
 abbrev pub told_at : (key : List ℕ) → State → (place : ℕ × ℕ) → ((ℕ × ℕ) × Bool) × (List ℕ × Editor)
 told_at key state place = ((place, true), (key, editor_of_numbered place.0 state))
 
--- It was found, and has the blanks that its section has; or the refusal tells why not. Want of memory comes only where there is one.
+-- The entry was found, and the editor has the blanks that its section uses; or the refusal says why not. Out of memory comes only if there
+-- is one.
 abbrev pub IsValueEditor : Key → State → Option (ℕ × ℕ) → Result (ValueMut Spelled) Error → Type 0
 IsValueEditor key state place (Ok e) = IsPlace key state place (Ok (place_of e)) × (told e ≡ told_at key.name state (place_of e))
 IsValueEditor key state place (Err Memory) = place ≢ None
 IsValueEditor key state place (Err refusal) = IsPlace key state place (Err refusal)
 
+-- the result is an editor of the key's last entry in the passing sections, or why there is none
 abbrev pub IsEditorOfValue : Key → (keeps : Meta → Bool) → State → Result (ValueMut Spelled) Error → Type 0
 IsEditorOfValue key keeps state result = IsValueEditor key state (value_place key keeps state) result
 
--- whatever the filter answers
+-- the same, for any filter: of an entry in some of the sections
 abbrev pub IsEditorOfSomeValue : Key → State → Result (ValueMut Spelled) Error → Type 0
 IsEditorOfSomeValue key state result = WithSome (λ s. IsValueEditor key state (value_place key (λ _. true) s) result) state

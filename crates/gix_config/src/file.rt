@@ -45,14 +45,14 @@ use std::rc::Rc;
 pub use value_mut::ValueMut;
 pub use white_space::is_whitespace;
 
-/// The metadata with one owner, who may share it.
+/// The metadata with one owner, which may share it.
 fn shared(alloc: Global, meta: Metadata) -> Result<Rc<Metadata>, NoMemory>
     ensures { IfOk result (λ owned. owned.value ≡ meta) }
 {
     Ok(Rc::new(alloc, meta)?)
 }
 
-/// A file of git's configuration: what stands before its first section, and its sections in order.
+/// A file of git's configuration: what comes before its first section, and its sections in order.
 #[derive(Drop)]
 pub struct File {
     store: Store,
@@ -107,11 +107,11 @@ impl File {
         }
     }
 
-    /// The same file again, with a buffer of its own; metadata is shared. Each byte and each part is copied once.
+    /// A copy of the file, with a buffer of its own; metadata is shared. Each byte and each part is copied once.
     ///
     /// # Errors
     ///
-    /// Want of memory.
+    /// Out of memory.
     pub fn try_clone(&self) -> Result<File, NoMemory>
         ensures { IfOk result (λ f. f ≡ self.now) }
     {
@@ -119,13 +119,13 @@ impl File {
         Ok(File { store })
     }
 
-    /// The file that a text is, all of it, as a calling program hands it in ([`Metadata::api`]). One pass, which copies
+    /// The file that a text is, all of it, from the calling program ([`Metadata::api`]). One pass, which copies
     /// the text once.
     ///
     /// # Errors
     ///
-    /// Refusal 1 where the text has no document, with the line and the data from where it can't be read on; refusal 2
-    /// for more than 4294967295 bytes; refusal 27 for want of memory.
+    /// Refusal 1 if the text has no document, with the line and the data from where it can't be read on; refusal 2
+    /// for more than 4294967295 bytes; refusal 27 when out of memory.
     pub fn try_from_bytes(alloc: Global, input: &[u8]) -> Result<File, Error>
         ensures made { IfOk result (λ f. (parts : List Part) × IsText input.now parts × IsMade (tokens_of parts) api_meta (length input.now) f) }
         ensures document { IfOk result (λ f. Reads input.now (document_of f)) }
@@ -140,8 +140,8 @@ impl File {
         Ok(File { store })
     }
 
-    /// The same file as [`File::try_from_bytes`] makes it, of the text itself: it is handed over, and no byte of it is copied but the
-    /// names and subsections of sections. An edit that finds no room behind the text makes the buffer larger.
+    /// The same file as [`File::try_from_bytes`] makes it, of the text itself: the text becomes the buffer, and no byte of it is copied
+    /// except the names and subsections of sections. An edit that finds no room after the text makes the buffer larger.
     ///
     /// # Errors
     ///
@@ -160,8 +160,8 @@ impl File {
         Ok(File { store })
     }
 
-    /// A file to look things up in: the text is handed over, as to [`File::try_from_bytes_owned`], and its blanks, line ends and
-    /// comments are left out, for which no memory is taken. It has the document of the text, and answers each look-up as the whole
+    /// A file for lookups: the text becomes the buffer, as in [`File::try_from_bytes_owned`], and its blanks, line endings and
+    /// comments are left out, so that they take no memory. It has the document of the text, and returns for each lookup what the whole
     /// file does.
     ///
     /// # Errors
@@ -182,13 +182,13 @@ impl File {
     /// The file of the events of a text, all of them or those that a filter kept; it and its sections come from `meta`,
     /// and no include is followed. What the filter dropped is not in it.
     ///
-    /// It asks that all names, separators and values were kept ([`Events::keeps_entries`]); so the file has the text's
-    /// document, whatever else was dropped. One pass; the text is handed over, and of it only the
+    /// It requires that all names, separators and values were kept ([`Events::keeps_entries`]); so the file has the text's
+    /// document, whatever else was dropped. One pass; the text becomes the buffer, and of it only the
     /// names and subsections of sections are copied.
     ///
     /// # Errors
     ///
-    /// Want of memory.
+    /// Out of memory.
     pub fn from_parse_events_no_includes(
         alloc: Global,
         events: Events,
@@ -198,7 +198,7 @@ impl File {
         ensures made { IfOk result (λ f. IsMade events.tokens meta.value events.used f) }
         ensures document { IfOk result (λ f. (text : List ℕ) → IsSelected text events → Reads text (document_of f)) }
         ensures clean { IfOk result (λ f. entries_of f.front ≡ [] → IsClean f) }
-        // Where nothing was dropped it is clean, and its text is the one that was parsed, but for line ends put in.
+        // If nothing was dropped, the file is clean, and its text is the one that was parsed, except for inserted line endings.
         ensures whole_clean { IfOk result (λ f. (text : List ℕ) → IsWhole text events → IsClean f) }
         ensures inserted { IfOk result (λ f. (text : List ℕ) (parts : List Part) → IsWhole text events → IsText text parts
             → Inserted (map spelled_token (tokens_of parts)) (printed f)) }
@@ -216,18 +216,18 @@ impl File {
         self.store.meta()
     }
 
-    /// The same metadata as [`File::meta`], shared.
+    /// The same metadata as [`File::meta`], with one more owner.
     ///
     /// # Errors
     ///
-    /// No other owner can be counted any more.
+    /// The count of owners is at its limit, which counts as out of memory.
     pub fn meta_owned(&self) -> Result<Rc<Metadata>, NoMemory>
         ensures { IfOk result (λ m. m.value ≡ self.now.meta) }
     {
         self.store.meta_owned()
     }
 
-    /// Says where the file comes from, and each section that is made from now on. Those that stand keep theirs.
+    /// Sets where the file comes from, and each section that is made from now on. Existing sections keep theirs.
     pub fn set_meta(&mut self, meta: Rc<Metadata>) -> &mut File
         ensures same { result.ghost_name ≡ self.entry.ghost_name }
         ensures value { result.now ≡ record self.old { meta = meta.value } }
@@ -236,7 +236,7 @@ impl File {
         self
     }
 
-    /// The events that stand before the first section, or `None` where there are none. Entries among them are seen by no look-up.
+    /// The events before the first section, or `None` if there are none. No lookup finds entries among them.
     /// Takes no memory.
     pub fn frontmatter(&self) -> Option<ItemEvents<'_>>
         ensures none { IsNone result ↔ (tokens_in self.now.front ≡ []) }
@@ -259,22 +259,22 @@ impl File {
         self.store.sections()
     }
 
-    /// The line end that the file uses, LF or CR LF: that of the first newline of its front, or else of its
-    /// sections' bodies in order; LF where there is none. Takes no memory.
+    /// The line ending that the file uses, LF or CR LF: that of the first newline of its front, otherwise of its
+    /// sections' bodies in order; LF if there is none. Takes no memory.
     pub fn detect_newline_style(&self) -> &'static [u8]
         ensures { result.now ≡ file_line_end self.now }
     {
         self.store.detect_newline_style()
     }
 
-    /// Whether no section has anything in its body. Takes no memory.
+    /// Whether all bodies are empty. Takes no memory.
     pub fn is_void(&self) -> bool
         ensures { result ≡ are_void self.now.sections }
     {
         self.store.is_void()
     }
 
-    /// How many entries the sections have, those of the front not counted; the greatest number where they are more. Takes no memory, and a
+    /// How many entries the sections have, without those of the front, or `usize::MAX` if there are more. Takes no memory, and a
     /// walk over all.
     pub fn num_values(&self) -> usize
         ensures { result ≡ min (length (section_entries self.now.sections)) (2 ^ 64 - 1) }
@@ -283,20 +283,20 @@ impl File {
     }
 
     /// Gives a key such as `remote.origin.url` a value: in the last section of the key's name and subsection, whose last entry of the
-    /// name gets it, spelled as a file has it; `=` is put in where the entry has none. A section without such an entry gets one behind
-    /// all others, with the blanks that it uses; where there is no section, one is made behind all others, with the file's line end and
+    /// name gets it, as a file spells it; `=` is added if the entry has none. A section without such an entry gets a new one after
+    /// all others, with the blanks that it uses; if there is no section, one is made after all others, with the file's line ending and
     /// metadata.
     ///
-    /// Answers the raw text of the value that was there: its pieces joined, not decoded; nothing for an entry without `=`; `None` where
+    /// Returns the raw text of the value that was there: its pieces joined, not decoded; no bytes for an entry without `=`; `None` if
     /// there was no entry. All else stays as it is. The section is found by its names: it takes a walk over the sections of the key's name
-    /// and subsection alone, from the last one on up to that one, then one over its items and one over the file's up to the first line
-    /// end.
+    /// and subsection alone, from the last one up to that one, then one over its items and one over the file's up to the first line
+    /// ending.
     ///
     /// # Errors
     ///
-    /// Refusal 6 for a name of a value that is none, before anything else; 4 and 5 where a section has to be made of a name or a
-    /// subsection that can't be; 3 where the file would take more than 4294967295 bytes, or there is no number for a section; 27 for
-    /// want of memory. The file is then as it was.
+    /// Refusal 6 for an invalid value name, before anything else; 4 and 5 if a section has to be made of a name or a
+    /// subsection that can't be one; 3 if the file would take more than 4294967295 bytes, or there is no number for a section; 27 when
+    /// out of memory. The file is then as it was.
     pub fn set_raw_value<K: AsKey>(
         &mut self,
         key: K,
@@ -350,10 +350,10 @@ impl File {
         requires known { IsSome (K.key key) }
         requires callable { F.IsAlwaysCallable filter }
         ensures value_name { IsRefusal result 6 ↔ (is_value_name (the_key (K.key key)).name ≡ false) }
-        // For a filter that answers by what it is shown.
+        // For a filter whose result depends only on what it is shown.
         ensures exact { (keeps : Meta → Bool) → ComputesKey F.FnMut keeps filter
             → IsSetByKey (the_key (K.key key)) keeps new_value.now result self.old self.new }
-        // For every filter, also one that changes its mind.
+        // For any filter, even one that changes its mind.
         ensures somewhere { OnOk result (let k = the_key (K.key key) in IsSetSomewhere k.section k.subsection k.name new_value.now self.old self.new) }
         ensures err { OnErr result (self.new ≡ with_used self.new.used self.old) }
     {
@@ -382,10 +382,10 @@ impl File {
     ) -> Result<Option<BString>, set_raw_value::Error>
         requires { F.IsAlwaysCallable filter }
         ensures value_name { IsRefusal result 6 ↔ (is_value_name value_name.now ≡ false) }
-        // For a filter that answers by what it is shown.
+        // For a filter whose result depends only on what it is shown.
         ensures exact { (keeps : Meta → Bool) → ComputesKey F.FnMut keeps filter
             → IsSet section_name.now (option_copied subsection_name.entry) value_name.now keeps new_value.now result self.old self.new }
-        // For every filter, also one that changes its mind.
+        // For any filter, even one that changes its mind.
         ensures somewhere { OnOk result (IsSetSomewhere section_name.now (option_copied subsection_name.entry) value_name.now new_value.now self.old self.new) }
         ensures err { OnErr result (self.new ≡ with_used self.new.used self.old) }
     {
@@ -398,25 +398,25 @@ impl File {
         )
     }
 
-    /// Writes the front and the sections that `filter` keeps, with line ends put in where parts would else run
+    /// Writes the front and the sections that `filter` keeps, with line endings inserted where parts would otherwise run
     /// together. One pass, which takes no memory of its own.
     ///
     /// # Errors
     ///
-    /// A write failed, or took nothing. It is not tried again, and a beginning of the text was written.
+    /// A write failed, or took nothing. It is not tried again, and a beginning of the text may have been written.
     pub fn write_to_filter<W: Sink, F: FnMut(&SectionRef<'_>) -> bool>(
         &self,
         out: &mut W,
         filter: F,
     ) -> Result<(), SinkFault>
         requires { F.IsAlwaysCallable filter }
-        // For a filter that answers by what it is shown.
+        // For a filter whose result depends only on what it is shown.
         ensures exact { (keeps : SectionState → Bool) → ComputesKey F.FnMut (λ r. keeps (shown r)) filter
             → Writes result (printed_kept keeps self.now) (W.told out.old) (W.told out.new) }
         ensures reads { (keeps : SectionState → Bool) → IsClean self.now → Reads (printed_kept keeps self.now) (document_of_kept keeps self.now) }
         ensures comments { (keeps : SectionState → Bool) → IsClean self.now
             → (parts : List Part) → IsText (printed_kept keeps self.now) parts → comments_of parts ≡ comments_of_kept keeps self.now }
-        // For every filter, also one that changes its mind.
+        // For any filter, even one that changes its mind.
         ensures some { (text : List ℕ) × IsTextOfSomeSections self.now text × Writes result text (W.told out.old) (W.told out.new) }
         ensures counted { Counts result (W.faults out.old) (W.faults out.new) }
     {
@@ -442,7 +442,7 @@ impl File {
     ///
     /// # Errors
     ///
-    /// Want of memory.
+    /// Out of memory.
     pub fn to_bstring(&self) -> Result<BString, NoMemory>
         ensures text { IfOk result (λ text. bstring_bytes text ≡ printed self.now) }
         ensures reads { IsClean self.now → IfOk result (λ text. Reads (bstring_bytes text) (document_of self.now)) }

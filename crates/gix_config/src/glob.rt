@@ -1,2 +1,2 @@
-//! Path patterns, as conditions on includes have them.
+//! Path patterns, as in the conditions of includes.
 pub use gitconf_glob::{Table, wildmatch};

@@ -1,4 +1,4 @@
-//! What lies outside: files, variables of the environment, and the places where configuration stands.
+//! What is outside of the program: files, variables of the environment, and the places where configuration is.
 pub use gitconf_host::{
     Env, EnvVar, FileFault, Files, Host, MemEnv, MemFile, MemFiles, Places, Stage,
 };

@@ -22,8 +22,8 @@ pub use gitconf_expansion::laws as includes;
 /// Those of files that are loaded by their paths.
 pub use gitconf_loaders::laws as loaders;
 
-/// A new editor is an editor, as edits ask for one: of a section that is found by its names or its number, of one that is made, and of a
-/// value in the section of a number. It stays one with other blanks before names, and with line ends switched on or off. What it asks of
+/// A new editor writes what edits ask of an editor: for a section that is found by its names or its number, for one that is made, and for a
+/// value in the section of a number. It stays so with other blanks before names, and with line endings switched on or off. What it asks of
 /// the state holds of every file (`state` of [`File::sections`](crate::file::File::sections)).
 pub fn new_editors_are_editors()
     ensures found { (name : List ℕ) (subsection : Option (List ℕ)) (keeps : Meta → Bool) (state : State) (s : SectionState) → HasItems state
@@ -35,7 +35,7 @@ pub fn new_editors_are_editors()
     ensures ends { (on : Bool) (editor : Editor) → IsEditor editor → IsEditor (record editor { ends = on }) }
 {}
 
-/// A new editor of a section of a clean file puts spaces and tabs alone before names: so its edits leave the file clean.
+/// A new editor of a section of a clean file puts only spaces and tabs before names, so its edits leave the file clean.
 pub fn new_editors_of_clean_files_put_blanks()
     ensures found { (name : List ℕ) (subsection : Option (List ℕ)) (keeps : Meta → Bool) (state : State) (s : SectionState) → IsClean state
         → picked name subsection keeps state ≡ Some s → has_blank_leading (editor_of state s) ≡ true }
@@ -45,12 +45,12 @@ pub fn new_editors_of_clean_files_put_blanks()
         → has_blank_leading (editor_of state (new_section name subsection state)) ≡ true }
 {}
 
-/// What an editor's edit puts into the buffer, and what a new section does, is no longer than the tokens that it makes.
+/// What an editor's edit, or a new section, adds to the buffer is no longer than the tokens that it makes.
 pub fn edits_put_no_more_than_their_tokens()
     ensures { (edit : Edit) (state : State) → put_bytes edit state ≤ new_bytes edit state }
 {}
 
-/// The file that variables tell is clean, and that of the overrides, where no key names a section with an empty name and no subsection, and no
+/// The file that variables set is clean, and that of the overrides, if no key names a section with an empty name and no subsection, and no
 /// text that may be included has an entry before its first section.
 pub fn files_of_variables_are_clean()
     ensures made { (variables : List ℕ → VariableTold) (files : List ℕ → FileTold) (asks : Asks) (file : State) → AreNamed variables → asks.table ≡ Some files → AreHeaded files
@@ -59,7 +59,7 @@ pub fn files_of_variables_are_clean()
         → IsOverrides (Some variables) places (Some files) (Ok file) → IsClean file × (entries_of file.front ≡ []) }
 {}
 
-/// The configuration of a repository is clean, where that holds of variables and of texts, those of the repository's own files too: so what is
+/// The configuration of a repository is clean, if that holds of variables and of texts, also those of the repository's own files: so what is
 /// written of it reads back.
 pub fn repositories_are_clean()
     ensures { (variables : List ℕ → VariableTold) (places : Places) (files : List ℕ → FileTold) (dir : List ℕ) (real : Option (List ℕ)) (file : State) → AreNamed variables → AreHeaded files

@@ -1,4 +1,4 @@
-//! Git's configuration files: read, looked up and written, as the Rust crate gix-config does it, and proved to do so.
+//! Git's configuration files: read, looked up, edited and written, as the Rust crate gix-config does it, and proved to do so.
 #![tactic(auto)]
 
 pub mod file;

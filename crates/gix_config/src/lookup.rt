@@ -1,4 +1,4 @@
-//! How look-ups are refused.
+//! Why a lookup in a type of the caller's fails.
 ghost use Rattle.std.specs.Prelude.{◌≡◌};
 
 pub use gitconf_finding::existing;
@@ -6,7 +6,7 @@ use gitconf_text::NoMemory;
 use std::fmt::Display;
 use thiserror::Error;
 
-/// How a look-up of a value in a type of the caller's is refused.
+/// Why a lookup of a value in a type of the caller's fails.
 #[derive(Debug, Drop, Error)]
 #[error_bound(E: Display)]
 pub enum Error<E> {

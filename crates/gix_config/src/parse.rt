@@ -1,4 +1,4 @@
-//! The parser: events of a text, their views, and what writers are.
+//! The parser: the events of a text, views of them, and writers.
 pub use gitconf_items::event_ref::EventRef;
 pub use gitconf_items::sink::{Sink, SinkFault};
 pub use gitconf_parse::error::Error;

@@ -1,4 +1,4 @@
-//! The numbers of refusals, E1 to E28, as programs tell them. They stand here alone: no crate below asks for a number.
+//! The numbers of refusals, E1 to E28, as programs show them. Only this module gives them to all errors: no crate below asks for a number.
 ghost use Rattle.std.specs.Prelude.{◌≡◌};
 
 use crate::file::init::{from_env, from_git_dir, from_paths};
@@ -12,13 +12,13 @@ use gitconf_text::parse::span;
 use gitconf_text::{NoMemory, value};
 use gitconf_values::path::interpolate;
 
-/// What a call is refused by.
+/// An error of a call, with the number of its refusal.
 pub trait Refusal {
     ghost use Rattle.std.specs.Prelude.{ℕ};
 
     ghost number_of: { Self → ℕ };
 
-    /// Its number, 1 to 28: the causes are told in docs/refusals.md. 27 is want of memory.
+    /// Its number, 1 to 28: docs/refusals.md has the causes. 27 is out of memory.
     fn number(&self) -> u8
         ensures { result ≡ number_of self.now };
 }
@@ -138,7 +138,7 @@ impl Refusal for section::value::Error {
     }
 }
 
-/// That no section passes has no number of its own: it counts as 9, as where sections are renamed.
+/// That no section passes has no number of its own: it counts as 9, as when sections are renamed.
 impl Refusal for section_mut::Error {
     ghost use Rattle.gix_config.specs.Errors.{section_mut_number};
 

@@ -9,7 +9,7 @@ use std::alloc::Global;
 use std::rc::Rc;
 use std::test::Fail;
 
-/// Whether a call's answer is the one that is wanted; `None` where it says that memory was wanting.
+/// Whether a call's result is the expected one; `None` if it reports that memory ran out.
 pub type Told = Option<bool>;
 
 /// The key whose values the file has.
@@ -22,15 +22,17 @@ pub const KEY: KeyRef<'static> = KeyRef {
 /// What the file has: the first section is a program's, the second one the user's.
 pub const TEXT: &[u8] = b"[a]\nk = 0\n[A]\nk = 2\n";
 
+/// Whether metadata is that of a program.
 pub fn is_api(meta: &Metadata) -> bool {
     meta.source == Source::Api
 }
 
+/// Whether metadata is that of the user.
 pub fn is_user(meta: &Metadata) -> bool {
     meta.source == Source::User
 }
 
-/// No section of the file is told in a repository.
+/// Whether metadata is that of a repository; no section of the file has such metadata.
 pub fn is_local(meta: &Metadata) -> bool {
     meta.source == Source::Local
 }
@@ -41,7 +43,7 @@ fn file_of_user(alloc: Global) -> Result<File, Fail> {
     Ok(File::from_bytes_no_includes(alloc, b"[A]\nk = 2\n", meta, init::Options::default())?)
 }
 
-/// The program's section, and the user's behind it.
+/// The program's section, and the user's after it.
 fn appended(alloc: Global, of_user: File) -> Result<File, Fail> {
     let mut file = File::try_from_bytes(alloc, b"[a]\nk = 0\n")?;
     file.append(of_user)?;
@@ -54,7 +56,7 @@ pub fn file_of_two(alloc: Global) -> Result<File, Fail> {
     appended(alloc, of_user)
 }
 
-/// Whether all of them are as wanted; `None` where one says that memory was wanting.
+/// Whether all of them are as expected; `None` if one reports that memory ran out.
 pub fn all(told: &[Told]) -> Told {
     let mut are_wanted = true;
     for one in told {
@@ -64,7 +66,7 @@ pub fn all(told: &[Told]) -> Told {
     Some(are_wanted)
 }
 
-/// Whether it is refused by this number; `None` for want of memory.
+/// Whether the refusal has this number; `None` when out of memory.
 pub fn is_refused<E: Refusal>(refusal: &E, number: u8) -> Told {
     match refusal.number() {
         27 => None,
@@ -81,7 +83,7 @@ pub fn are_texts(found: &[BString], wanted: &[&[u8]]) -> bool {
             .all(|(found, wanted)| found.as_bytes() == *wanted)
 }
 
-/// Whether the text was found, or nothing where none is wanted.
+/// Whether the text was found, or nothing if none is expected.
 pub fn is_text(found: &Result<Option<BString>, NoMemory>, wanted: Option<&[u8]>) -> Told {
     match (found, wanted) {
         (Ok(Some(text)), Some(wanted)) => Some(text.as_bytes() == wanted),
@@ -90,7 +92,7 @@ pub fn is_text(found: &Result<Option<BString>, NoMemory>, wanted: Option<&[u8]>)
     }
 }
 
-/// One look-up of the file.
+/// One lookup of the file.
 fn looked<F: Fn(&File) -> Told>(alloc: Global, file: &File, look: &F) -> Result<Outcome, Fail>
     requires { F.IsAlwaysCallable look.now }
 {
@@ -103,7 +105,7 @@ fn looked<F: Fn(&File) -> Told>(alloc: Global, file: &File, look: &F) -> Result<
     })
 }
 
-/// A look-up of the file, with each of its growths refused before.
+/// A lookup of the file, with each of its growths refused before.
 pub fn look_up<F: Fn(&File) -> Told>(alloc: Global, what: &str, look: F) -> Result<(), Fail>
     requires { F.IsAlwaysCallable look }
 {
@@ -142,7 +144,7 @@ fn edited<F: Fn(&mut File) -> Told>(alloc: Global, edit: &F, text: &[u8]) -> Res
     is_made(alloc, &mut file, edit, text)
 }
 
-/// An edit of the file, behind which this is printed, with each of its growths refused before.
+/// An edit of the file, after which this is printed, with each of its growths refused before.
 pub fn change<F: Fn(&mut File) -> Told>(
     alloc: Global,
     what: &str,

@@ -1,4 +1,4 @@
-//! A value that was loaded without one of its line ends, and is written anew before a comment.
+//! A value that was loaded without one of its line endings, and is rewritten before a comment.
 
 use gix_config::File;
 use gix_config::file::Metadata;
@@ -8,7 +8,7 @@ use std::alloc::Global;
 use std::rc::Rc;
 use std::test::Fail;
 
-/// A value in two pieces, the last of which is empty, each with a line end of its own form; then a comment.
+/// A value in two pieces, the last of which is empty, each with a line ending of its own form; then a comment.
 const TEXT: &[u8] = b"[a]\nk = x\\\n\\\r\n# c\n";
 
 /// All events but newlines that hold CR.
@@ -19,7 +19,7 @@ fn is_kept(event: &EventRef<'_>) -> bool {
     }
 }
 
-/// The text without the second of the value's line ends; `None` where a name, a separator or a value was dropped.
+/// The text without the second of the value's line endings; `None` where a name, a separator or a value was dropped.
 fn without_the_last_line_end(alloc: Global) -> Result<Option<File>, Fail> {
     let events = Events::from_bytes(alloc, TEXT, Some(is_kept))?;
     if !events.keeps_entries() {
@@ -45,12 +45,12 @@ fn write_all(file: &mut File) -> Result<(), Fail> {
     }
 }
 
-/// Whether the file is printed so.
+/// Whether the file is printed as this text.
 fn is_printed(file: &File, text: &[u8]) -> Result<bool, Fail> {
     Ok(file.to_bstring()?.as_bytes() == text)
 }
 
-/// Whether the value is written so by the editor of one value.
+/// Whether the value is written as this text by the editor of one value.
 fn is_written(alloc: Global, text: &[u8]) -> Result<bool, Fail> {
     let Some(mut file) = without_the_last_line_end(alloc)? else {
         return Ok(false);
@@ -68,14 +68,14 @@ fn are_written(alloc: Global, text: &[u8]) -> Result<bool, Fail> {
     is_printed(&file, text)
 }
 
-/// The line end that was not dropped keeps the comment off the value.
+/// The line ending that was not dropped keeps the comment off the value.
 #[test]
 fn one_value_before_a_comment(rt: HostRuntime) -> Result<(), Fail> {
     assert!(rt; is_written(rt.alloc(), b"[a]\nk = v\n# c\n")?);
     Ok(())
 }
 
-/// The editor of several values keeps no line end of an old value.
+/// The editor of several values keeps no line ending of an old value.
 #[test]
 fn several_values_before_a_comment(rt: HostRuntime) -> Result<(), Fail> {
     assert!(rt; are_written(rt.alloc(), b"[a]\nk = v# c\n")?);

@@ -1,4 +1,4 @@
-//! The editor of one value, by a key and with a filter, and values that have to stand already.
+//! The editor of one value, by a key and with a filter, and values that must exist already.
 
 use crate::calls::{KEY, TEXT, Told, change, is_api, is_local, is_refused, is_user};
 use gix_config::File;
@@ -6,7 +6,7 @@ use gix_config::file::{ValueMut, section, set_raw_value};
 use gix_config::parse::span;
 use std::test::Fail;
 
-/// An edit that was made; `None` for want of memory.
+/// An edit that was made; `None` when out of memory.
 fn is_set(answer: Result<(), set_raw_value::Error>) -> Told {
     match answer {
         Ok(()) => Some(true),
@@ -14,12 +14,12 @@ fn is_set(answer: Result<(), set_raw_value::Error>) -> Told {
     }
 }
 
-/// The last entry of the key, which is written by the name that the key has.
+/// The last entry of the key, which is written with the name that the key has.
 fn set_existing(file: &mut File) -> Told {
     is_set(file.set_existing_raw_value(KEY, b"v"))
 }
 
-/// The first entry of the key, since the list ends behind it. Where several are set, those before a refused one are.
+/// The first entry of the key, since the list ends after it. If several are set, those before a refused one are set.
 fn set_first_existing(file: &mut File) -> Told {
     is_set(file.set_existing_raw_multi_value(KEY, &[b"v"]))
 }
@@ -40,7 +40,7 @@ fn values_that_stand(rt: HostRuntime) -> Result<(), Fail> {
     )
 }
 
-/// A value that was written; `None` for want of memory.
+/// A value that was written; `None` when out of memory.
 fn is_written(answer: Result<(), span::Error>) -> Told {
     match answer {
         Ok(()) => Some(true),
@@ -69,7 +69,7 @@ fn write_passing_by(file: &mut File) -> Told {
     }
 }
 
-/// There is no editor where no section passes.
+/// There is no editor if no section passes.
 fn write_none(file: &mut File) -> Told {
     match file.raw_value_mut_filter(KEY, is_local) {
         Ok(editor) => is_not_wanted(&editor),
@@ -118,7 +118,7 @@ fn one_value_where_a_filter_passes(rt: HostRuntime) -> Result<(), Fail> {
     change(rt.alloc(), "no value by names", write_none_by, TEXT)
 }
 
-/// A line that was pushed; `None` for want of memory.
+/// A line that was pushed; `None` when out of memory.
 fn is_pushed(answer: Result<(), section::value::Error>) -> Told {
     match answer {
         Ok(()) => Some(true),

@@ -1,6 +1,6 @@
-//! Each form of a call that no script asks for, run once with memory and once with each of its growths refused: look-ups and
-//! editors by a key, with a filter, in a type of the caller's, and with their sections. A proof can't tell whether a body
-//! always answers that memory was wanting.
+//! Each form of a call that no script asks for, run once with memory and once with each of its growths refused: lookups and
+//! editors by a key, with a filter, in a type of the caller's, and with their sections. A proof can't exclude that a body
+//! always reports that memory ran out.
 #![tactic(auto)]
 
 #[cfg(test)]

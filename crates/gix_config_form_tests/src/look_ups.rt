@@ -1,4 +1,4 @@
-//! Look-ups of texts by a key, with a filter, and with their sections.
+//! Lookups of texts by a key, with a filter, and with their sections.
 
 use crate::calls::{KEY, Told, all, are_texts, is_api, is_local, is_refused, is_user, look_up};
 use bstr::BString;
@@ -7,7 +7,7 @@ use gix_config::lookup::existing;
 use gix_config::{File, NoMemory};
 use std::test::Fail;
 
-/// Whether these texts were found, or nothing where none is wanted.
+/// Whether these texts were found, or nothing if none is expected.
 fn are_all(found: &Result<Option<Vec<BString>>, NoMemory>, wanted: &[&[u8]]) -> Told {
     match found {
         Ok(Some(found)) => Some(are_texts(found, wanted)),
@@ -25,7 +25,7 @@ fn strings(file: &File) -> Told {
     ])
 }
 
-/// Whether this is the text, or it is refused by that number.
+/// Whether this is the text, or it is refused with that number.
 fn is_raw(found: &Result<BString, existing::Error>, wanted: Result<&[u8], u8>) -> Told {
     match (found, wanted) {
         (Ok(text), Ok(wanted)) => Some(text.as_bytes() == wanted),
@@ -45,7 +45,7 @@ fn raw(file: &File) -> Told {
     ])
 }
 
-/// Whether these are the texts, or it is refused by that number.
+/// Whether these are the texts, or it is refused with that number.
 fn are_raw(found: &Result<Vec<BString>, existing::Error>, wanted: Result<&[&[u8]], u8>) -> Told {
     match (found, wanted) {
         (Ok(texts), Ok(wanted)) => Some(are_texts(texts, wanted)),
@@ -68,7 +68,7 @@ fn raws(file: &File) -> Told {
     ])
 }
 
-/// A text, and the section that it stands in.
+/// A text, and its section.
 type WithSection<'a> = (BString, SectionRef<'a>);
 
 /// Whether this is the text and the name of its section, as it is spelled there.
@@ -77,7 +77,7 @@ fn is_with_section(found: &WithSection<'_>, text: &[u8], name: &[u8]) -> bool {
     found.as_bytes() == text && section.header().name() == name
 }
 
-/// The same of what was found, or whether it is refused by that number.
+/// The same for what was found, or whether it is refused with that number.
 fn is_raw_with_section(
     found: &Result<WithSection<'_>, existing::Error>,
     wanted: Result<(&[u8], &[u8]), u8>,
@@ -109,7 +109,7 @@ fn raw_with_section(file: &File) -> Told {
     ])
 }
 
-/// Whether these are the texts and the names of their sections, or it is refused by that number.
+/// Whether these are the texts and the names of their sections, or it is refused with that number.
 fn are_raw_with_sections(
     found: &Result<Vec<WithSection<'_>>, existing::Error>,
     wanted: Result<&[(&[u8], &[u8])], u8>,

@@ -1,4 +1,4 @@
-//! Names and their bytes, keys of sections, and how values and texts are refused that are made by hand.
+//! Names and their bytes, keys of sections, and refusals of values and texts that are made by hand.
 
 use bstr::BString;
 use gitconf_tests::shim::{begin, was_refused};
@@ -52,7 +52,7 @@ fn bytes_of_names(rt: HostRuntime) {
     }
 }
 
-/// What a hasher answers that is fed the name.
+/// What a hasher returns that was fed the name.
 fn hash_of(name: &[u8]) -> u64 {
     let mut state = DefaultHasher::new();
     feed(name, &mut state);

@@ -1,4 +1,4 @@
-//! The table of the matcher: as many rows as the pattern has places and one more, each of the text's length and one more.
+//! The table of the matcher: one more row than the pattern has bytes, each one cell longer than the text.
 
 use crate::calls::Told;
 use gitconf_tests::shim::{Outcome, begin, each_refused, was_refused};

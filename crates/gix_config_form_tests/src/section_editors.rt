@@ -1,4 +1,4 @@
-//! The editor of a section, by a key, with a filter, and made where none passes; and what it shows.
+//! The editor of a section, by a key, with a filter, and made if none passes; and what it shows.
 
 use crate::calls::{TEXT, Told, change, is_api, is_local, is_refused};
 use bstr::BString;
@@ -8,7 +8,7 @@ use gix_config::source::Trust;
 use gix_config::{File, NoMemory};
 use std::test::Fail;
 
-/// Whether this was taken out; `None` for want of memory.
+/// Whether this was removed; `None` when out of memory.
 fn is_taken(answer: Result<Option<BString>, NoMemory>, value: &[u8]) -> Told {
     match answer {
         Ok(Some(found)) => Some(found.as_bytes() == value),
@@ -55,7 +55,7 @@ fn by_a_key(rt: HostRuntime) -> Result<(), Fail> {
     )
 }
 
-/// What is left where the program's value is taken out.
+/// What is left after the program's value is removed.
 const OF_USER: &[u8] = b"[a]\n[A]\nk = 2\n";
 
 #[test]
@@ -102,7 +102,7 @@ fn made_where_none_passes(rt: HostRuntime) -> Result<(), Fail> {
     )
 }
 
-/// No section is opened where none has the name.
+/// No section is opened if none has the name.
 fn open_none(file: &mut File) -> Told {
     match file.section_mut_by_key(b"b") {
         Ok(editor) => is_not_wanted(&editor),
@@ -110,7 +110,7 @@ fn open_none(file: &mut File) -> Told {
     }
 }
 
-/// None is opened where none has the subsection, whatever passes.
+/// No section is opened if none has the subsection, whatever passes.
 fn open_none_passing(file: &mut File) -> Told {
     match file.section_mut_filter("a", Some(b""), is_api) {
         Ok(editor) => is_not_wanted(&editor),
@@ -138,7 +138,7 @@ fn is_trusted(meta: &Metadata, trust: Trust) -> bool {
     meta.trust == trust
 }
 
-/// Whether the section is trusted less behind that, and fully before; `None` for want of memory, and then it is as before.
+/// Whether the section is trusted less after that, and fully before; `None` when out of memory, and then it is as before.
 fn trusts_less(editor: &mut SectionMut<'_>) -> Told {
     if !is_trusted(editor.meta(), Trust::Full) {
         return Some(false);
@@ -168,7 +168,7 @@ fn trust_last(file: &mut File) -> Told {
     }
 }
 
-/// Where one of two sections is trusted less, the other one keeps its trust.
+/// When one of two sections is trusted less, the other one keeps its trust.
 fn trust_one(file: &mut File) -> Told {
     let is_told = trust_last(file)?;
     Some(is_told && trusted_fully(file) == 1)

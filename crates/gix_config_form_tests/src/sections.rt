@@ -1,4 +1,4 @@
-//! Sections that are found by a key with a filter, and walks over all of them with their numbers and with what is held behind.
+//! Sections that are found by a key with a filter, and walks over all of them with their numbers and with what is held after each.
 
 use crate::calls::{Told, all, file_of_two, is_api, is_local, is_refused};
 use gitconf_tests::shim::{begin, was_refused};
@@ -9,7 +9,7 @@ use gix_config::parse::{EventIter, EventRef, Events};
 use std::alloc::Global;
 use std::test::Fail;
 
-/// Whether a section of that name was found, or none where none is wanted, or it is refused by that number.
+/// Whether a section of that name was found, or none if none is expected, or it is refused with that number.
 fn is_found(
     found: &Result<Option<SectionRef<'_>>, existing::Error>,
     wanted: Result<Option<&[u8]>, u8>,
@@ -72,7 +72,7 @@ fn by_a_key_and_with_numbers(rt: HostRuntime) -> Result<(), Fail> {
     Ok(())
 }
 
-/// A file of one section, behind which a comment and a line end are held, and of another one.
+/// A file of one section, after which a comment and a line ending are held, and of another one.
 fn file_with_held(alloc: Global) -> Result<File, Fail> {
     let other = File::try_from_bytes(alloc, b"# x\n[b]\n")?;
     appended(alloc, other)
@@ -84,7 +84,7 @@ fn appended(alloc: Global, other: File) -> Result<File, Fail> {
     Ok(file)
 }
 
-/// Whether these are a comment `# x` and a line end.
+/// Whether these are a comment `# x` and a line ending.
 fn are_comment_and_end(held: ItemEvents<'_>) -> bool {
     let mut held = held;
     held.next()
@@ -96,7 +96,7 @@ fn are_comment_and_end(held: ItemEvents<'_>) -> bool {
         && held.next().is_none()
 }
 
-/// Whether the comment and its line end are held behind the first section, and nothing behind the second one.
+/// Whether the comment and its line ending are held after the first section, and nothing after the second one.
 fn are_held(file: &File) -> bool {
     let mut sections = file.sections_and_postmatter();
     let (Some((first, behind_first)), Some((second, behind_second))) = (
@@ -113,7 +113,7 @@ fn are_held(file: &File) -> bool {
         && sections.next().is_none()
 }
 
-/// Whether this is told without memory.
+/// Whether this takes no memory.
 fn are_held_without_memory(alloc: Global, file: &File) -> Result<bool, Fail> {
     begin(alloc)?;
     let are_held = are_held(file);
@@ -131,7 +131,7 @@ fn with_what_is_held_behind(rt: HostRuntime) -> Result<(), Fail> {
     Ok(())
 }
 
-/// Whether these are the header `[a]` and a line end.
+/// Whether these are the header `[a]` and a line ending.
 fn are_header_and_end(events: EventIter<'_>) -> bool {
     let mut events = events;
     events.next()
@@ -144,7 +144,7 @@ fn are_header_and_end(events: EventIter<'_>) -> bool {
         && events.next().is_none()
 }
 
-/// Whether the events of the first section are its header and what stands behind it.
+/// Whether the events of the first section are its header and what follows it.
 fn are_walked(events: &Events) -> bool {
     match events.sections().next() {
         Some(section) => are_header_and_end(section.iter()),
@@ -152,7 +152,7 @@ fn are_walked(events: &Events) -> bool {
     }
 }
 
-/// The events of a section that was read, its header among them.
+/// The events of a section that was read, including its header.
 #[test]
 fn events_of_a_section(rt: HostRuntime) -> Result<(), Fail> {
     let events = Events::from_bytes(rt.alloc(), b"# c\n[a]\n[b]", None)?;

@@ -1,4 +1,4 @@
-//! A section that stands alone: its copy, its editor, and what both show.
+//! A section that is in no file: its copy, its editor, and what both show.
 
 use crate::calls::{Told, all, are_texts, is_text};
 use bstr::BString;
@@ -38,7 +38,7 @@ fn is_trusted(meta: &Metadata, trust: Trust) -> bool {
     meta.trust == trust
 }
 
-/// Whether the section is trusted less behind that, and fully before; `None` for want of memory, and then it is as before.
+/// Whether the section is trusted less after that, and fully before; `None` when out of memory, and then it is as before.
 fn trusts_less(editor: &mut DetachedSectionMut<'_>) -> Told {
     if !is_trusted(editor.meta(), Trust::Full) {
         return Some(false);
@@ -110,7 +110,7 @@ fn an_editor_shows_and_trusts(rt: HostRuntime) -> Result<(), Fail> {
     each_refused(rt.alloc(), "an editor of a section alone", an_editor)
 }
 
-/// Whether this is the text; `None` for want of memory.
+/// Whether this is the text; `None` when out of memory.
 fn is_printed(answer: Result<BString, NoMemory>) -> Told {
     match answer {
         Ok(text) => Some(text.as_bytes() == TEXT),
@@ -118,7 +118,7 @@ fn is_printed(answer: Result<BString, NoMemory>) -> Told {
     }
 }
 
-/// Whether a copy is the same section; `None` for want of memory.
+/// Whether a copy is the same section; `None` when out of memory.
 fn is_copied(copy: Result<Section, NoMemory>) -> Told {
     match copy {
         Ok(copy) => is_printed(copy.to_ref().to_bstring()),
@@ -137,7 +137,7 @@ fn has_names(body: BodyRef<'_>) -> bool {
         && !body.is_void()
 }
 
-/// Whether these are the texts; `None` for want of memory.
+/// Whether these are the texts; `None` when out of memory.
 fn are_all(found: Result<Vec<BString>, NoMemory>, wanted: &[&[u8]]) -> Told {
     match found {
         Ok(found) => Some(are_texts(&found, wanted)),
@@ -145,7 +145,7 @@ fn are_all(found: Result<Vec<BString>, NoMemory>, wanted: &[&[u8]]) -> Told {
     }
 }
 
-/// Whether the last entry has no value, or there is none where that is wanted.
+/// Whether the last entry has no value, or there is no entry, as expected.
 fn is_implicit(found: Result<Option<Option<BString>>, NoMemory>, stands: bool) -> Told {
     match found {
         Ok(Some(value)) => Some(stands && value.is_none()),

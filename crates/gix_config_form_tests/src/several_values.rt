@@ -6,7 +6,7 @@ use gix_config::file::MultiValueMut;
 use gix_config::parse::span;
 use std::test::Fail;
 
-/// Values that were written; `None` for want of memory.
+/// Values that were written; `None` when out of memory.
 fn are_written(answer: Result<(), span::Error>) -> Told {
     match answer {
         Ok(()) => Some(true),
@@ -14,7 +14,7 @@ fn are_written(answer: Result<(), span::Error>) -> Told {
     }
 }
 
-/// The second of two values, which is written by text.
+/// The second of two values, which is written from a text.
 fn write_second_of(editor: &mut MultiValueMut<'_>) -> Told {
     if editor.len() != 2 {
         return Some(false);
@@ -51,7 +51,7 @@ fn write_passing_by(file: &mut File) -> Told {
     }
 }
 
-/// There is no editor where no section passes.
+/// There is no editor if no section passes.
 fn write_none(file: &mut File) -> Told {
     match file.raw_values_mut_filter(KEY, is_local) {
         Ok(editor) => is_not_wanted(&editor),
@@ -100,7 +100,7 @@ fn where_a_filter_passes(rt: HostRuntime) -> Result<(), Fail> {
     change(rt.alloc(), "no values by names", write_none_by, TEXT)
 }
 
-/// What the editor has, where it answers.
+/// Whether the editor has both values.
 fn has_both(editor: &MultiValueMut<'_>) -> Told {
     match editor.get() {
         Ok(found) => Some(are_texts(&found, &[b"0", b"2"])),
@@ -108,7 +108,7 @@ fn has_both(editor: &MultiValueMut<'_>) -> Told {
     }
 }
 
-/// Deletes all that the editor has.
+/// Deletes everything that the editor has.
 fn delete_both(editor: &mut MultiValueMut<'_>) -> Told {
     let has_both = has_both(editor)?;
     let was_empty = editor.is_empty();

@@ -1,4 +1,4 @@
-//! Look-ups of paths, booleans and integers with a filter, and in a type of the caller's by a key.
+//! Lookups of paths, booleans and integers with a filter, and in a type of the caller's by a key.
 
 use crate::calls::{KEY, Told, all, is_api, is_local, is_refused, is_user, look_up};
 use gix_config::file::SectionRef;
@@ -6,7 +6,7 @@ use gix_config::refusals::Refusal;
 use gix_config::{Boolean, File, KeyRef, NoMemory, Path, lookup, value};
 use std::test::Fail;
 
-/// Whether this path was found, or nothing where none is wanted.
+/// Whether this path was found, or nothing if none is expected.
 fn is_path(found: &Result<Option<Path>, NoMemory>, wanted: Option<&[u8]>) -> Told {
     match (found, wanted) {
         (Ok(Some(path)), Some(wanted)) => Some(path.as_bytes() == wanted),
@@ -25,7 +25,7 @@ fn paths(file: &File) -> Told {
     ])
 }
 
-/// Whether this was found, or nothing where none is wanted.
+/// Whether this was found, or nothing if none is expected.
 fn is_typed<T: PartialEq>(found: &Result<Option<T>, value::Error>, wanted: &Option<T>) -> Told {
     match found {
         Ok(found) => Some(found == wanted),
@@ -55,7 +55,7 @@ fn integers(file: &File) -> Told {
     ])
 }
 
-/// Whether these integers were found, or nothing where none is wanted.
+/// Whether these integers were found, or nothing if none is expected.
 fn are_integers(found: &Result<Option<Vec<i64>>, value::Error>, wanted: Option<&[i64]>) -> Told {
     match found {
         Ok(found) => Some(found.as_deref() == wanted),
@@ -88,10 +88,10 @@ const MISSED: KeyRef<'static> = KeyRef {
     value_name: "k",
 };
 
-/// How a look-up in the type `Boolean` is refused.
+/// Why a lookup in the type `Boolean` is refused.
 type Refused = lookup::Error<value::Error>;
 
-/// Whether the last value is true, and no value is asked for as nothing.
+/// Whether the last value is true, and a value that isn't there is found as nothing.
 fn tried(file: &File) -> Told {
     let found: Result<Option<Boolean>, Refused> = file.try_value(KEY);
     let missed: Result<Option<Boolean>, Refused> = file.try_value(MISSED);
@@ -114,7 +114,7 @@ fn of_type(file: &File) -> Told {
     }
 }
 
-/// Whether the boolean stands in a section of that name.
+/// Whether the boolean is in a section of that name.
 fn stands_in(found: &(Boolean, SectionRef<'_>), value: bool, name: &[u8]) -> bool {
     let (found, section) = found;
     found.0 == value && section.header().name() == name

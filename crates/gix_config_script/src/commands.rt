@@ -11,7 +11,7 @@ use script_looks::looks::{
 };
 use std::alloc::Global;
 
-/// Does a command, with the words behind it. Of none it answers that it is unknown.
+/// Does a command, with the words after it. Without a command the result is that it is unknown.
 pub fn outcome_of<'a>(
     alloc: Global,
     session: &'a mut Session,

@@ -1,5 +1,5 @@
-//! The program `gix_config_script`: a script of commands on standard input, and an answer a line on standard output.
-//! The language is told in docs/scripts.md.
+//! The program `gix_config_script`: a script of commands on standard input, and one line of answer for each on standard output.
+//! docs/scripts.md has the language.
 #![tactic(auto)]
 
 mod commands;

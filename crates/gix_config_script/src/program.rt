@@ -1,4 +1,4 @@
-//! What the program does with its streams, whatever these are.
+//! What the program does with its streams, whatever they are.
 ghost use Rattle.std.specs.Prelude.{◌≡◌, ◌≤◌, false};
 
 use crate::commands::outcome_of;
@@ -13,7 +13,7 @@ use script_blocks::blocks::play_block;
 use std::alloc::{AllocError, Global};
 use std::io::{Read, Write};
 
-/// Plays the script that the input is, and answers the exit status.
+/// Plays the script that is read, and returns the exit status.
 pub fn run<R: Read + Drop, W: Write + Drop>(alloc: Global, input: R, out: W) -> u8
     ensures { result ≤ 5 }
 {
@@ -28,7 +28,7 @@ pub fn run<R: Read + Drop, W: Write + Drop>(alloc: Global, input: R, out: W) -> 
     }
 }
 
-/// A script behind some of its lines.
+/// A script after some of its lines.
 #[derive(Drop)]
 struct Script {
     alloc: Global,
@@ -50,7 +50,7 @@ impl Player for Script {
     }
 }
 
-/// The answer to a line, as a line. Only what the command does stands in the bracket.
+/// The answer to a line, as a line. Only what the command does is in the bracket.
 fn answer_to(
     alloc: Global,
     session: &mut Session,
@@ -65,7 +65,7 @@ fn answer_to(
     answer
 }
 
-/// Whether the answer is to tell if a growth was refused. Of `refusals` itself it tells nothing.
+/// Whether the answer reports if a growth was refused. That of `refusals` itself doesn't.
 fn is_told(session: &Session, command: Option<Command>) -> bool
     ensures { session.now.tells_refusals ≡ false → result ≡ false }
 {

@@ -1,4 +1,4 @@
-//! Files: their metadata, and filters that are asked.
+//! Files: their metadata, and filters.
 
 use crate::loads::{loaded, section_at, section_count, sections};
 use bstr::BString;
@@ -8,12 +8,12 @@ use std::alloc::{AllocError, Global};
 use std::rc::Rc;
 use std::test::Fail;
 
-/// Whether the file tells this metadata, lent and shared.
+/// Whether the file has this metadata, borrowed and shared.
 fn has_meta(file: &File, meta: &Metadata) -> Result<bool, Fail> {
     Ok(*file.meta() == *meta && *file.meta_owned()? == *meta)
 }
 
-/// Says that the file comes from the user.
+/// Makes the file come from the user.
 fn hand_to_user(alloc: Global, file: &mut File) -> Result<(), AllocError> {
     file.set_meta(Rc::new(alloc, Metadata::from(Source::User))?);
     Ok(())
@@ -29,7 +29,7 @@ fn sections_have(file: &File, meta: &Metadata) -> bool {
     true
 }
 
-/// Hands the file to the user, and answers whether it tells that, and its sections keep their metadata.
+/// Makes the file come from the user, and returns whether it says so, while its sections keep their metadata.
 fn is_handed_to_user(alloc: Global, file: &mut File) -> Result<bool, Fail> {
     hand_to_user(alloc, file)?;
     let is_told = has_meta(file, &Metadata::from(Source::User))?;
@@ -45,7 +45,7 @@ fn has_both_in_turn(alloc: Global, file: &mut File) -> Result<bool, Fail> {
     Ok(has_meta_of_api(file)? && is_handed_to_user(alloc, file)?)
 }
 
-/// The same of a file that is loaded here, so that one way out alone lets it go.
+/// The same for a file that is loaded here, so that it is dropped in one place only.
 fn is_handed_over(alloc: Global) -> Result<bool, Fail> {
     let mut file = loaded(alloc, b"[a] k = v")?;
     has_both_in_turn(alloc, &mut file)
@@ -58,14 +58,14 @@ fn metadata_of_a_file(rt: HostRuntime) -> Result<(), Fail> {
     Ok(())
 }
 
-/// A copy of a file, which is handed to the user behind that.
+/// A copy of a file that then is made to come from the user.
 fn copied_and_handed(alloc: Global, file: &mut File) -> Result<File, Fail> {
     let copy = file.try_clone()?;
     hand_to_user(alloc, file)?;
     Ok(copy)
 }
 
-/// The copy of a file that is handed to the user and dropped.
+/// The copy of a file that is made to come from the user and dropped.
 fn copy_that_is_left(alloc: Global) -> Result<File, Fail> {
     let mut file = loaded(alloc, b"[a] k = v")?;
     copied_and_handed(alloc, &mut file)
@@ -76,7 +76,7 @@ fn keeps_meta(alloc: Global) -> Result<bool, Fail> {
     has_meta_of_api(&copy)
 }
 
-/// A copy keeps its metadata where the file is handed to the user and dropped.
+/// A copy keeps its metadata when the file is made to come from the user and dropped.
 #[test]
 fn metadata_of_a_copy(rt: HostRuntime) -> Result<(), Fail> {
     assert!(rt; keeps_meta(rt.alloc())?);
@@ -89,7 +89,7 @@ fn is_met_by_an_empty_file(alloc: Global, file: &File) -> Result<bool, Fail> {
     Ok(*empty.meta() == Metadata::from(Source::User) && empty.to_bstring()?.is_empty())
 }
 
-/// The same of this file, where it is handed to the user.
+/// The same for this file, made to come from the user.
 fn is_met_when_handed(alloc: Global, file: &mut File) -> Result<bool, Fail> {
     hand_to_user(alloc, file)?;
     is_met_by_an_empty_file(alloc, file)
@@ -123,7 +123,7 @@ fn is_user(meta: &Metadata) -> bool {
     meta.source == Source::User
 }
 
-/// The answer is this value, or none.
+/// The result is this value, or none.
 fn is_value(found: &Option<BString>, expected: Option<&[u8]>) -> bool {
     match (found, expected) {
         (Some(found), Some(expected)) => found.as_bytes() == expected,
@@ -132,7 +132,7 @@ fn is_value(found: &Option<BString>, expected: Option<&[u8]>) -> bool {
     }
 }
 
-/// Whether the key has this value where all sections pass. Where none does, it has none.
+/// Whether the key has this value if all sections pass. If none does, it has none.
 fn is_found(file: &File, key: &[u8], expected: Option<&[u8]>) -> Result<bool, Fail> {
     Ok(
         is_value(&file.string_filter(key, is_api)?, expected)
@@ -148,7 +148,7 @@ fn is_found_by(file: &File, key: KeyRef<'_>, expected: Option<&[u8]>) -> Result<
     Ok(is_value(&found, expected) && is_value(&missed, None))
 }
 
-/// Whether the key is found so, written and, where it is one, by its names.
+/// Whether the key has this value, as a text and, if it is a key, by its names.
 fn is_found_both_ways(file: &File, key: &[u8], expected: Option<&[u8]>) -> Result<bool, Fail> {
     let is_found_by_names = match KeyRef::parse_unvalidated(key) {
         Some(names) => is_found_by(file, names, expected)?,
@@ -168,7 +168,7 @@ fn is_found_in(
     is_found_both_ways(&file, key, expected)
 }
 
-/// A text, a key, and its value where all sections pass.
+/// A text, a key, and its value if all sections pass.
 static VALUES: [(&[u8], &[u8], Option<&[u8]>); 5] = [
     (b"[a] k = v", b"a.k", Some(b"v")),
     (b"[a] k", b"a.k", None),
@@ -185,7 +185,7 @@ fn values_where_sections_pass(rt: HostRuntime) -> Result<(), Fail> {
     Ok(())
 }
 
-/// What a filter finds that drops the first section that it sees.
+/// What a lookup finds with a filter that drops the first section that it sees.
 fn second_asked(file: &File) -> Result<Option<BString>, Fail> {
     let mut was_asked = false;
     let found = file.string_filter("a.k", |_| {
@@ -201,14 +201,14 @@ fn is_second_found(alloc: Global) -> Result<bool, Fail> {
     Ok(is_value(&second_asked(&file)?, Some(b"2")))
 }
 
-/// Sections are asked for from the last one on: a filter that drops the first one that it sees leaves the others.
+/// Sections are asked for from the last one: a filter that drops the first one that it sees leaves the others.
 #[test]
 fn a_filter_that_changes_its_mind(rt: HostRuntime) -> Result<(), Fail> {
     assert!(rt; is_second_found(rt.alloc())?);
     Ok(())
 }
 
-/// Sets the value of `a.k` in the sections from there, and answers whether it was this one before.
+/// Sets the value of `a.k` in the sections from there, and returns whether it had this value before.
 fn replaces(
     file: &mut File,
     value: &[u8],
@@ -245,7 +245,7 @@ fn is_printed(file: &File, text: &[u8]) -> Result<bool, Fail> {
     Ok(file.to_bstring()?.as_bytes() == text)
 }
 
-/// A value that is set where no section passes: another section is made.
+/// A value that is set while no section passes: another section is made.
 fn is_set_beside(file: &mut File) -> Result<bool, Fail> {
     Ok(replaces(file, b"2", Source::User, None)? && is_printed(file, b"[a]\nk=1\n[a]\n\tk = 2\n")?)
 }
@@ -264,7 +264,7 @@ fn is_set_beside_by_names(file: &mut File) -> Result<bool, Fail> {
     Ok(replaces_by(file, ("a", "k"), b"5", Source::User, None)? && section_count(file) == 3)
 }
 
-/// All three, one behind the other.
+/// All three, one after the other.
 fn is_set_in_turn(file: &mut File) -> Result<bool, Fail> {
     Ok(is_set_beside(file)? && is_set_in_place(file)? && is_set_beside_by_names(file)?)
 }
@@ -274,14 +274,14 @@ fn is_set(alloc: Global) -> Result<bool, Fail> {
     is_set_in_turn(&mut file)
 }
 
-/// A section that the filter drops is left alone, and another one is made.
+/// A section that the filter drops is left as it is, and another one is made.
 #[test]
 fn values_are_set_where_a_filter_passes(rt: HostRuntime) -> Result<(), Fail> {
     assert!(rt; is_set(rt.alloc())?);
     Ok(())
 }
 
-/// What is printed of the section at this place alone, which the filter tells by its number.
+/// What is printed of the section at this place alone, which the filter recognizes by its number.
 fn printed_of(alloc: Global, file: &File, place: usize) -> Result<Vec<u8>, Fail> {
     let Some(kept) = section_at(file, place) else {
         return Err(Fail::new("no such section"));
@@ -302,7 +302,7 @@ fn is_printed_alone(
     Ok(printed_of(alloc, &file, place)?.as_slice() == expected)
 }
 
-/// One of two sections of one name, kept by its number. Those of different names are kept by rows.
+/// One of two sections of one name, kept by its number. Rows have those of different names.
 #[test]
 fn sections_by_their_numbers(rt: HostRuntime) -> Result<(), Fail> {
     let text = b"[a \"x\"] k [a \"y\"]j";
@@ -330,7 +330,7 @@ fn is_printed_from(alloc: Global, source: Source, text: &[u8]) -> Result<bool, F
     Ok(printed_from(alloc, &file, source)?.as_slice() == text)
 }
 
-/// Sections that are kept by where they come from.
+/// Sections that are kept because of where they come from.
 #[test]
 fn sections_by_their_source(rt: HostRuntime) -> Result<(), Fail> {
     assert!(rt; is_printed_from(rt.alloc(), Source::Api, b"# f\n")?);
@@ -338,7 +338,7 @@ fn sections_by_their_source(rt: HostRuntime) -> Result<(), Fail> {
     Ok(())
 }
 
-/// How often a filter is asked that answers always the same.
+/// How often a filter is called that always returns the same.
 fn times_asked(alloc: Global, file: &File, answer: bool) -> Result<u64, Fail> {
     let mut asked: u64 = 0;
     let mut out = Vec::new(alloc);
@@ -349,7 +349,7 @@ fn times_asked(alloc: Global, file: &File, answer: bool) -> Result<u64, Fail> {
     Ok(asked)
 }
 
-/// How often a filter is asked that keeps all sections, and how often one that keeps none.
+/// How often a filter is called that keeps all sections, and how often one that keeps none.
 fn both_asked(alloc: Global, file: &File) -> Result<(u64, u64), Fail> {
     Ok((
         times_asked(alloc, file, true)?,
@@ -357,13 +357,13 @@ fn both_asked(alloc: Global, file: &File) -> Result<(u64, u64), Fail> {
     ))
 }
 
-/// The same of the file of a text.
+/// The same for the file of a text.
 fn asked(alloc: Global, text: &[u8]) -> Result<(u64, u64), Fail> {
     let file = loaded(alloc, text)?;
     both_asked(alloc, &file)
 }
 
-/// A text, how often a filter is asked that keeps all sections, and how often one that keeps none.
+/// A text, how often a filter is called that keeps all sections, and how often one that keeps none.
 #[test]
 fn how_often_a_filter_is_asked(rt: HostRuntime) -> Result<(), Fail> {
     let rows: [(&[u8], u64, u64); 6] = [

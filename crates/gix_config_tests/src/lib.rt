@@ -1,5 +1,5 @@
-//! What no script reaches of files: texts of errors, filters that are asked, options, writers that fail, and growths that are
-//! refused in calls that no command makes. What stands below is in `gitconf_tests` and `gitconf_parse_tests`.
+//! What no script reaches of files: texts of errors, filters that are called, options, writers that fail, and growths that are
+//! refused in calls that no command makes. What is below is in `gitconf_tests` and `gitconf_parse_tests`.
 #![tactic(auto)]
 
 #[cfg(test)]

@@ -1,4 +1,4 @@
-//! Files that are loaded, and their sections, without what the contracts tell of them: a test proves faster where it
+//! Files that are loaded, and their sections, without what the contracts say of them: a test is proved faster if it
 //! doesn't know it.
 
 use gix_config::File;

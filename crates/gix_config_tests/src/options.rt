@@ -8,7 +8,7 @@ use gix_config::path::interpolate;
 use std::test::Fail;
 
 /// How deep the options go, and what they refuse: what goes deeper, a shorthand that stands for nothing, and a path
-/// told by the folder of a file that has none.
+/// relative to the folder of a file that has none.
 fn told(options: &includes::Options<'_>) -> (u8, bool, bool, bool) {
     (
         options.max_depth,

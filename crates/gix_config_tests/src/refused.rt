@@ -37,7 +37,7 @@ fn a_file_written(alloc: Global, file: &File) -> Result<Outcome, Fail> {
     Ok(Outcome { refused, fits })
 }
 
-/// A vector is a writer that fails where its growth is refused.
+/// A vector is a writer that fails when its growth is refused.
 #[test]
 fn files(rt: HostRuntime) -> Result<(), Fail> {
     each_refused(rt.alloc(), "a text that is loaded", a_text_loaded)?;
@@ -66,7 +66,7 @@ fn a_section_written(alloc: Global, file: &File) -> Result<Outcome, Fail> {
     Ok(Outcome { refused, fits })
 }
 
-/// What the text of a section is, refused or not, is told by rows.
+/// Rows have what the text of a section is, refused or not.
 #[test]
 fn sections(rt: HostRuntime) -> Result<(), Fail> {
     let file = loaded(rt.alloc(), TEXT)?;

@@ -25,7 +25,7 @@ fn is_a_miss(file: &File, key: &str) -> bool {
     matches!(file.string(key), Ok(None))
 }
 
-/// Whether all of them are told without memory.
+/// Whether all of these lookups take no memory.
 fn are_misses(alloc: Global, file: &File) -> Result<bool, Fail> {
     begin(alloc)?;
     let are_misses = MISSES.iter().all(|key| is_a_miss(file, key));
@@ -74,7 +74,7 @@ fn has_meta(file: &File, meta: &Metadata) -> bool {
     *file.meta() == *meta
 }
 
-/// Whether what is told of the file is that of the text.
+/// Whether the file shows what the text has.
 fn is_told(file: &File) -> bool {
     counts(file) == (6, false, 3) && has_line_feeds(file) && has_meta(file, &Metadata::api())
 }
@@ -87,7 +87,7 @@ fn shares_meta(file: &File) -> bool {
     }
 }
 
-/// Whether all of this is told without memory.
+/// Whether all of this takes no memory.
 fn is_told_without_memory(alloc: Global, file: &File) -> Result<bool, Fail> {
     begin(alloc)?;
     let is_told = is_told(file) && shares_meta(file);
@@ -110,7 +110,7 @@ fn is_written(file: &File, out: &mut Vec<u8>) -> bool {
     file.write_to(out).is_ok()
 }
 
-/// Whether the file is written without memory where there is room.
+/// Whether the file is written without memory if there is room.
 fn is_written_to_room(alloc: Global, file: &File) -> Result<bool, Fail> {
     let mut out = Vec::with_capacity(alloc, 100)?;
     begin(alloc)?;
@@ -123,7 +123,7 @@ fn is_text_written(alloc: Global) -> Result<bool, Fail> {
     is_written_to_room(alloc, &file)
 }
 
-/// A writer that has room is not refused anything.
+/// A writer that has room is refused nothing.
 #[test]
 fn a_file_written_where_there_is_room(rt: HostRuntime) -> Result<(), Fail> {
     assert!(rt; is_text_written(rt.alloc())?);

@@ -1,17 +1,17 @@
--- What a session keeps.
+-- What a call keeps of a session.
 use Rattle.std.specs.Prelude.{◌≡◌}
 use Rattle.script_answers.specs.declared.session.Session.{Session}
 use Rattle.gitconf_script.specs.declared.words.Slot.{Slot}
 use Rattle.gitconf_script.specs.declared.words.Slot.TheVariants.{F, G, H, I}
 
--- nothing but the file at that place is changed
+-- nothing changes but the file at that place
 abbrev pub ChangesFile : Slot → (old new : Session) → Type 0
 ChangesFile F old new = new ≡ record old { f = new.f }
 ChangesFile G old new = new ≡ record old { g = new.g }
 ChangesFile H old new = new ≡ record old { h = new.h }
 ChangesFile I old new = new ≡ record old { i = new.i }
 
--- and what text that file was loaded from
+-- nothing changes but the file at that place, and the text that it was loaded from
 abbrev pub LoadsFile : Slot → (old new : Session) → Type 0
 LoadsFile F old new = new ≡ record old { f = new.f; loaded = new.loaded }
 LoadsFile G old new = new ≡ record old { g = new.g; loaded = new.loaded }

@@ -1,4 +1,4 @@
-//! What a command answers, before it is written as a line.
+//! The result of a command, before it is written as a line.
 
 use crate::refusal::Refusal;
 use bstr::BString;
@@ -7,17 +7,17 @@ use gix_config::parse::{Error, Events};
 use gix_config::{File, Path};
 use std::borrow::CowSlice;
 
-/// What a command answers, or why it was not done.
+/// The result of a command, or why it was not done.
 pub type Outcome<'a> = Result<Answer<'a>, Refusal>;
 
-/// What a command answers: what the library answered, or what it lends.
+/// The result of a command: what the library returned, or a borrowed part of it.
 #[derive(Drop)]
 pub enum Answer<'a> {
     /// It is done.
     Done,
     /// What was asked for is not there.
     Absent,
-    /// No such command stands.
+    /// There is no such command.
     Unknown,
     /// `true` or `false`.
     Flag(bool),
@@ -25,7 +25,7 @@ pub enum Answer<'a> {
     Number(usize),
     /// A number with a sign.
     Integer(i64),
-    /// Bytes, of their own or lent.
+    /// Bytes, owned or borrowed.
     Bytes(CowSlice<'a, u8>),
     /// A path, as it is written.
     Path(Path),
@@ -35,15 +35,15 @@ pub enum Answer<'a> {
     Integers(Vec<i64>),
     /// `true` or `false`, one word each.
     Flags(Vec<bool>),
-    /// Texts, each with the number of a section behind it.
+    /// Texts, each with the number of a section after it.
     TextsAt(Vec<(BString, SectionId)>),
-    /// `true` or `false`, each with the number of a section behind it.
+    /// `true` or `false`, each with the number of a section after it.
     FlagsAt(Vec<(bool, SectionId)>),
     /// Bytes, or none.
     Optional(Option<BString>),
     /// The name of an entry, and what it means.
     Entry(String, BString),
-    /// Words as they are written, each behind a blank.
+    /// Words as they are written, each after a blank.
     Words(String),
     /// The text of a refusal.
     Message(Error),
@@ -55,9 +55,9 @@ pub enum Answer<'a> {
     Front(&'a File),
     /// The events of a section's body.
     Body(SectionRef<'a>),
-    /// The events of what is held behind a section.
+    /// The events of what is held after a section.
     Held(SectionRef<'a>),
-    /// A section that stands alone.
+    /// A section that is in no file.
     Alone(&'a Section),
     /// The number of a section.
     Id(SectionId),
@@ -65,7 +65,7 @@ pub enum Answer<'a> {
     Ids(Vec<SectionId>),
     /// The names of a section's entries.
     Names(SectionRef<'a>),
-    /// What a section's header says, and how it is spelled.
+    /// What a section's header means, and how it is spelled.
     Header(SectionRef<'a>, BString),
     /// All sections of a file, with their entries.
     Dump(&'a File),
@@ -74,12 +74,12 @@ pub enum Answer<'a> {
 }
 
 impl Answer<'_> {
-    /// Bytes of their own.
+    /// Owned bytes.
     pub fn text(text: BString) -> Answer<'static> {
         Answer::Bytes(CowSlice::Owned(text.into_vec()))
     }
 
-    /// Bytes of their own, or nothing.
+    /// Owned bytes, or nothing.
     pub fn found(text: Option<BString>) -> Answer<'static> {
         match text {
             Some(text) => Answer::text(text),

@@ -1,4 +1,4 @@
-//! What words stand for that commands and the lines of blocks take alike.
+//! What words mean that several commands and the lines of blocks take.
 
 use crate::refusal::Refusal;
 use crate::rendering::put_id;
@@ -25,7 +25,7 @@ pub fn owned(alloc: Global, bytes: Option<&[u8]>) -> Result<Option<BString>, Ref
     }
 }
 
-/// The section's number that reads so; that of no section where none does.
+/// The section's number that is written so; if there is none, the number of no section.
 pub fn id_of(alloc: Global, file: &File, number: usize) -> Result<SectionId, Refusal> {
     let wanted = format!(in alloc; "{number}")?;
     for id in file.section_ids() {

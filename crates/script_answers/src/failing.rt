@@ -1,4 +1,4 @@
-//! Files of a script, whose calls may fail by their turns.
+//! The files of a script, whose calls may fail by their turns.
 
 use gitconf_script::turns::Turns;
 use gix_config::host::{FileFault, Files, MemFiles, Stage};
@@ -25,7 +25,7 @@ impl Failure {
         Failure { turns, stage }
     }
 
-    /// Counts a call, and refuses it where it is the one that fails.
+    /// Counts a call, and refuses it if it is the one that fails.
     fn count(&mut self) -> Result<(), FileFault> {
         if self.turns.take() {
             return Err(FileFault {
@@ -37,8 +37,8 @@ impl Failure {
     }
 }
 
-/// Files in memory, one read of which and one question of trust may fail, each by its turn. As what stands at a path doesn't
-/// say how a call ends, it tells nothing.
+/// Files in memory, of whose calls one read and one question for trust may fail, each by its turn. Since what is at a path doesn't
+/// decide how a call ends, it reports no table.
 #[derive(Drop)]
 pub struct TurnFiles {
     files: MemFiles,

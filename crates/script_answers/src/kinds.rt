@@ -44,7 +44,7 @@ pub fn kept_events(alloc: Global, words: &[Word<'_>]) -> Result<Events, Refusal>
     }
 }
 
-/// The events of a text without the kinds of these letters. A set of kinds that has no filter here is refused.
+/// The events of a text without the kinds of these letters. A set of kinds without a filter here is refused.
 //
 // A filter is a function that captures nothing, so each set has one of its own.
 fn events_without(alloc: Global, text: &[u8], letters: &[u8]) -> Result<Events, Refusal> {
@@ -69,7 +69,7 @@ fn events_without(alloc: Global, text: &[u8], letters: &[u8]) -> Result<Events, 
     Ok(events?)
 }
 
-// Each of these filters says no to headers too, which are kept all the same.
+// Each of these filters also drops headers, which are kept nevertheless.
 
 fn no_headers(event: &EventRef<'_>) -> bool {
     !matches!(event, EventRef::SectionHeader { .. })

@@ -1,4 +1,4 @@
-//! What commands of a script work on, and their answers as lines.
+//! What the commands of a script work on, and their results as lines.
 #![tactic(auto)]
 
 pub mod answer;

@@ -1,5 +1,4 @@
-//! What a script tells of what lies outside of a file, kept plain. A command that asks for it makes a host of its own of
-//! that.
+//! What a script sets that is outside of a file, as plain data. A command that needs it makes a host of its own of it.
 
 use crate::failing::{Failure, TurnFiles};
 use gitconf_script::outside::{self as words, Fault, Refuses};
@@ -11,7 +10,7 @@ use gix_config::source::Trust;
 use includes::conditional;
 use std::alloc::{AllocError, Global};
 
-/// What stands at a path.
+/// What is at a path.
 #[derive(Drop)]
 pub enum Content {
     /// A file of these bytes, fully trusted.
@@ -21,7 +20,7 @@ pub enum Content {
 }
 
 impl Content {
-    /// The same for a host.
+    /// The same, for a host.
     fn for_host(&self) -> Result<MemFile, AllocError> {
         match self {
             Content::Bytes(bytes) => Ok(MemFile::Bytes(bytes.clone()?, Trust::Full)),
@@ -32,14 +31,14 @@ impl Content {
     }
 }
 
-/// A path, with what stands there.
+/// A path, with what is there.
 #[derive(Drop)]
 struct FileEntry {
     path: String,
     content: Content,
 }
 
-/// A variable, with its text; none where it is set to what is no text.
+/// A variable, with its text; none where it is set to bytes that aren't UTF-8.
 #[derive(Drop)]
 struct Variable {
     name: String,
@@ -56,7 +55,7 @@ impl Variable {
     }
 }
 
-/// What a script tells: files, which of their calls fail, variables, and how files that include others are expanded. Of two
+/// What a script sets: files, which of their calls fail, variables, and how files that include others are expanded. Of two
 /// entries for one path or name the later one counts.
 #[derive(Drop)]
 pub struct Outside {
@@ -67,7 +66,7 @@ pub struct Outside {
     expansion: Expansion,
 }
 
-/// The parts of a host, two of which it has in boxes.
+/// The parts of a host, two of which a host has in boxes.
 #[derive(Drop)]
 pub struct Parts {
     pub files: TurnFiles,
@@ -76,7 +75,7 @@ pub struct Parts {
 }
 
 impl Outside {
-    /// Nothing is told, and nothing expanded.
+    /// Nothing is set, and nothing expanded.
     pub fn new(alloc: Global) -> Outside {
         Outside {
             files: Vec::new(alloc),
@@ -87,18 +86,18 @@ impl Outside {
         }
     }
 
-    /// Puts what stands at a path.
+    /// Sets what is at a path.
     pub fn put_file(&mut self, path: String, content: Content) -> Result<(), AllocError> {
         self.files.push(FileEntry { path, content })?;
         Ok(())
     }
 
-    /// In each command from now on that reads files, that read fails.
+    /// From now on, in each command that reads files, this read fails.
     pub fn fail_read(&mut self, failure: Failure) {
         self.reads = failure;
     }
 
-    /// The same of the questions how far a file is trusted.
+    /// The same for the questions for the trust of a file.
     pub fn fail_trust(&mut self, failure: Failure) {
         self.trusts = failure;
     }
@@ -109,12 +108,12 @@ impl Outside {
         Ok(())
     }
 
-    /// Files that include others are expanded so from now on.
+    /// From now on files that include others are expanded so.
     pub fn set_expansion(&mut self, expansion: Expansion) {
         self.expansion = expansion;
     }
 
-    /// All that a host is made of.
+    /// Everything that a host is made of.
     pub fn parts(&self, alloc: Global) -> Result<Parts, NoMemory> {
         let places = self.places(alloc)?;
         let variables = self.variables(alloc)?;
@@ -136,7 +135,7 @@ impl Outside {
     }
 
     /// The places that a program knows: no configuration of an installation, the root as the folder of the machine, the home
-    /// folder that is told, and no users.
+    /// folder that is set, and no users.
     pub fn places(&self, alloc: Global) -> Result<Places, NoMemory> {
         let home = owned_text(alloc, self.expansion.home.as_deref())?;
         Ok(Places {
@@ -161,7 +160,7 @@ impl Outside {
         self.expansion.options()
     }
 
-    /// The folder of the repository with its symbolic links resolved. It can't be resolved where none is told.
+    /// The folder of the repository with its symbolic links resolved; a fault if none is set.
     pub fn real_folder(&self) -> Result<&str, FileFault> {
         self.expansion.real_folder()
     }
@@ -207,7 +206,7 @@ impl Expansion {
         }
     }
 
-    /// What the words tell.
+    /// The expansion that the words ask for.
     pub fn of(alloc: Global, words: &words::Expansion<'_>) -> Result<Expansion, AllocError> {
         let told = &words.told;
         Ok(Expansion {
@@ -222,7 +221,7 @@ impl Expansion {
         })
     }
 
-    /// The same as options.
+    /// The same, as options.
     fn options(&self) -> init::Options<'_> {
         init::Options {
             includes: includes::Options {
@@ -255,7 +254,7 @@ impl Expansion {
         }
     }
 
-    /// The folder of the repository, as it is told and as it is resolved.
+    /// The folder of the repository, as it is given and as it is resolved.
     fn git_folder(&self) -> Option<conditional::GitDir<'_>> {
         let path = self.git_dir.as_deref()?;
         Some(conditional::GitDir {
@@ -264,7 +263,7 @@ impl Expansion {
         })
     }
 
-    /// The folder that is resolved. It can't be where none is told.
+    /// The folder that is resolved; a fault if none is set.
     fn real_folder(&self) -> Result<&str, FileFault> {
         match self.real.as_deref() {
             Some(real) => Ok(real),

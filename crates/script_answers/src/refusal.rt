@@ -14,15 +14,15 @@ use std::alloc::{AllocError, AllocFailed};
 /// Why a command was not done.
 #[derive(Drop)]
 pub enum Refusal {
-    /// The line is not understood, or asks for what can't be done at all.
+    /// The line is not understood, or asks for something impossible.
     Line,
-    /// The library's refusal of that number.
+    /// The library's refusal, by its number.
     Numbered(u8),
-    /// The refusal of a value by its type, told by a word.
+    /// The refusal of a value by its type, as a word.
     Mistyped(&'static str),
     /// The parser's refusal of a text that has no document.
     Unread(Error),
-    /// A writer failed, which had taken these bytes.
+    /// A writer failed after it took these bytes.
     Unwritten(SinkFault, Vec<u8>),
 }
 

@@ -1,4 +1,4 @@
-//! Answers as lines.
+//! Results as lines.
 ghost use Rattle.std.specs.Iterator.{IsFinite};
 
 use crate::answer::{Answer, Outcome};
@@ -17,7 +17,7 @@ use gix_config::source::{Source, Trust};
 use gix_config::value::normalize;
 use std::alloc::{AllocError, Global};
 
-/// The line that answers a command, with a first word that says whether a growth was refused, where that is told.
+/// The line that answers a command, with a first word that says whether a growth was refused, if that is known.
 pub fn line_of(
     alloc: Global,
     refused: Option<bool>,
@@ -87,7 +87,7 @@ fn put_answer(alloc: Global, line: &mut String, answer: &Answer<'_>) -> Result<(
     }
 }
 
-/// Where a section comes from: the path of its file, its source, how many includes stand above it, and how far it is
+/// Where a section comes from: the path of its file, its source, how many includes led to it, and how far it is
 /// trusted.
 fn put_origin(alloc: Global, line: &mut String, meta: &Metadata) -> Result<(), AllocError> {
     match &meta.path {
@@ -99,7 +99,7 @@ fn put_origin(alloc: Global, line: &mut String, meta: &Metadata) -> Result<(), A
     line.push_str(trust_word(meta.trust))
 }
 
-/// A source as a word, behind a blank.
+/// A source as a word, after a blank.
 fn source_word(source: Source) -> &'static str {
     match source {
         Source::GitInstallation => " installation",
@@ -115,7 +115,7 @@ fn source_word(source: Source) -> &'static str {
     }
 }
 
-/// Trust as a word, behind a blank.
+/// Trust as a word, after a blank.
 fn trust_word(trust: Trust) -> &'static str {
     match trust {
         Trust::Reduced => " reduced",
@@ -155,7 +155,7 @@ fn put_flags(line: &mut String, flags: &[bool]) -> Result<(), AllocError> {
     Ok(())
 }
 
-/// Texts, each with the number of a section behind it.
+/// Texts, each with the number of a section after it.
 fn put_texts_at(
     alloc: Global,
     line: &mut String,
@@ -168,7 +168,7 @@ fn put_texts_at(
     Ok(())
 }
 
-/// `true` or `false`, each with the number of a section behind it.
+/// `true` or `false`, each with the number of a section after it.
 fn put_flags_at(
     alloc: Global,
     line: &mut String,
@@ -225,7 +225,7 @@ fn put_events<'a, I: Iterator<Item = EventRef<'a>>>(
     Ok(())
 }
 
-/// An event as its letter and its bytes: a header and a comment as they are written, and of others their text.
+/// An event as its letter and its bytes: a header and a comment as they are written, any other event by its text.
 fn put_event(alloc: Global, line: &mut String, event: &EventRef<'_>) -> Result<(), AllocError> {
     put_letter(line, letter_of(event))?;
     match event {
@@ -282,7 +282,7 @@ fn put_value_names(
     Ok(())
 }
 
-/// The text of a section that stands alone.
+/// The text of a section that is in no file.
 fn put_section(alloc: Global, line: &mut String, section: &Section) -> Result<(), AllocError> {
     match section.to_ref().to_bstring() {
         Ok(text) => put_bytes(alloc, line, &text),
@@ -290,19 +290,19 @@ fn put_section(alloc: Global, line: &mut String, section: &Section) -> Result<()
     }
 }
 
-/// The number of a section. The library shows it by `Debug` alone.
+/// The number of a section, which the library shows only by `Debug`.
 pub fn put_id(alloc: Global, line: &mut String, id: SectionId) -> Result<(), AllocError> {
     let shown = format!(in alloc; "{id:?}")?;
     put_digits_of(line, &shown)
 }
 
-/// Each entry: its name, and its value; none for an entry without `=`.
+/// Each entry: its name, and its value; no value for an entry without `=`.
 fn put_entries(
     alloc: Global,
     line: &mut String,
     section: &SectionRef<'_>,
 ) -> Result<(), AllocError> {
-    // The pieces of a value so far, and whether a separator stands before them.
+    // The pieces of a value so far, and whether a separator comes before them.
     let mut raw = Vec::new(alloc);
     let mut is_separated = false;
     for event in section.events() {
@@ -324,7 +324,7 @@ fn put_entries(
     Ok(())
 }
 
-/// The meaning of a raw value; none where it stands without `=`.
+/// The meaning of a raw value; none if there is no `=`.
 fn put_value(
     alloc: Global,
     line: &mut String,

@@ -1,5 +1,5 @@
-//! What commands work on: four files, one of which is the current one, two sections that stand alone, and what is told of what
-//! lies outside.
+//! What commands work on: four files, one of which is the current one, two sections that are in no file, and what is set of what
+//! is outside.
 
 ghost use Rattle.std.specs.Prelude.{◌≡◌, None, OnErr, OnOk};
 ghost use Rattle.script_answers.specs.Session.{ChangesFile, LoadsFile};
@@ -16,7 +16,7 @@ use std::rc::Rc;
 #[derive(Drop)]
 pub struct Loaded {
     pub text: Vec<u8>,
-    /// Whether blanks, comments and line ends are left out.
+    /// Whether blanks, comments and line endings are left out.
     pub lossy: bool,
 }
 
@@ -40,9 +40,9 @@ pub struct Session {
     s: Option<Section>,
     t: Option<Section>,
     current: Slot,
-    /// Of what is loaded or made.
+    /// The metadata of what is loaded or made.
     meta: Rc<Metadata>,
-    /// What the current file was last made of, since it is the current one.
+    /// What the current file was last made of, since it became the current one.
     loaded: Option<Loaded>,
     outside: Outside,
     tells_refusals: bool,
@@ -52,7 +52,7 @@ impl Session {
     /// Four empty files, the first of them the current one, and no section.
     pub fn new(alloc: Global) -> Result<Session, AllocError> {
         let meta = Rc::new(alloc, Metadata::api())?;
-        // All shares are taken before a file is made, so that no file stands where one is refused.
+        // All shares are taken before a file is made, so that nothing is left if one is refused.
         let (f, g, h, i) = (meta.clone()?, meta.clone()?, meta.clone()?, meta.clone()?);
         Ok(Session {
             f: File::new(alloc, f),
@@ -84,7 +84,7 @@ impl Session {
         }
     }
 
-    /// The current file, to be changed.
+    /// The current file, to change it.
     pub fn file_mut(&mut self) -> &mut File {
         match self.current {
             Slot::F => &mut self.f,
@@ -94,7 +94,7 @@ impl Session {
         }
     }
 
-    /// Makes that file the current one.
+    /// Makes the file at that place the current one.
     pub fn select(&mut self, slot: Slot)
         ensures { self.new ≡ record self.old { current = slot; loaded = None } }
     {
@@ -102,7 +102,7 @@ impl Session {
         self.loaded = None;
     }
 
-    /// Puts a file in the place of the current one, with what it was made of.
+    /// Replaces the current file, with what the new one was made of.
     pub fn put(&mut self, file: File, loaded: Option<Loaded>)
         ensures { LoadsFile self.old.current self.old self.new }
     {
@@ -110,14 +110,14 @@ impl Session {
         self.loaded = loaded;
     }
 
-    /// Puts a file in the place of the current one, that was made of the same.
+    /// Replaces the current file by one that was made of the same.
     pub fn put_again(&mut self, file: File)
         ensures { ChangesFile self.old.current self.old self.new }
     {
         self.put_at(self.current, file);
     }
 
-    /// What the current file was last made of, since it is the current one.
+    /// What the current file was last made of, since it became the current one.
     pub fn loaded(&self) -> Option<&Loaded> {
         self.loaded.as_ref()
     }
@@ -134,7 +134,7 @@ impl Session {
         });
     }
 
-    /// Takes the file out of that place, and leaves an empty one there.
+    /// Takes the file from that place, and leaves an empty one there.
     pub fn take(&mut self, alloc: Global, slot: Slot) -> Result<File, AllocError>
         ensures ok { OnOk result (ChangesFile slot self.old self.new) }
         ensures err { OnErr result (self.new ≡ self.old) }
@@ -156,7 +156,7 @@ impl Session {
         }
     }
 
-    /// Puts a section into that place, or empties it; and answers what stood there.
+    /// Puts a section into that place, or empties it, and returns the one that was there.
     pub fn replace_section(&mut self, place: Place, section: Option<Section>) -> Option<Section> {
         match place {
             Place::S => replace(&mut self.s, section),
@@ -174,34 +174,34 @@ impl Session {
         &self.meta
     }
 
-    /// What is loaded or made from now on comes from there.
+    /// Sets where what is loaded or made from now on comes from.
     pub fn set_meta(&mut self, meta: Rc<Metadata>) {
         self.meta = meta;
     }
 
-    /// What is told of what lies outside.
+    /// What is set of what is outside.
     pub fn outside(&self) -> &Outside {
         &self.outside
     }
 
-    /// The same, to be changed.
+    /// The same, to change it.
     pub fn outside_mut(&mut self) -> &mut Outside {
         &mut self.outside
     }
 
-    /// Puts that in place of what is told of what lies outside, which it answers.
+    /// Replaces what is set of what is outside, and returns the old.
     pub fn replace_outside(&mut self, outside: Outside) -> Outside {
         replace(&mut self.outside, outside)
     }
 
-    /// Whether each answer is to say if a growth was refused.
+    /// Whether each answer reports if a growth was refused.
     pub fn tells_refusals(&self) -> bool
         ensures { result ≡ self.now.tells_refusals }
     {
         self.tells_refusals
     }
 
-    /// Whether answers say so from now on.
+    /// Sets whether answers report that from now on.
     pub fn tell_refusals(&mut self, on: bool)
         ensures { self.new ≡ record self.old { tells_refusals = on } }
     {

@@ -13,7 +13,7 @@ pub enum Failure {
     NothingTaken,
 }
 
-/// Takes all of each write but one, which fails. A write behind that is taken again, so that it shows.
+/// Takes all of each write but one, which fails. A later write is taken again, so that it would show.
 #[derive(Drop)]
 pub struct FailingOnce {
     taken: Vec<u8>,
@@ -23,7 +23,7 @@ pub struct FailingOnce {
 }
 
 impl FailingOnce {
-    /// Fails behind so many writes.
+    /// Fails after that many writes.
     pub fn behind(alloc: Global, writes: usize, failure: Failure) -> FailingOnce {
         FailingOnce {
             taken: Vec::new(alloc),
@@ -39,7 +39,7 @@ impl FailingOnce {
     }
 }
 
-/// It tells the bytes that it took, and no count of its failures.
+/// It reports the bytes that it took, and no count of its failures.
 impl Sink for FailingOnce {
     ghost use Rattle.std.specs.Prelude.{Some, None};
 

@@ -1,4 +1,4 @@
-//! Blocks: the lines that work on one editor, from the one that opens it up to `end`. The editor lends the current file for so long.
+//! Blocks: the lines that work on one editor, from the one that opens it up to `end`. The editor borrows the current file for that long.
 
 mod section_editor;
 mod section_lines;
@@ -44,7 +44,7 @@ pub fn play_block<R: Read + Drop, W: Write + Drop>(
     played
 }
 
-/// Tells what a command did, behind its bracket.
+/// Writes the answer of a command, after its bracket.
 fn tell<R: Read + Drop, W: Write + Drop>(
     alloc: Global,
     bracket: Bracket,
@@ -56,7 +56,7 @@ fn tell<R: Read + Drop, W: Write + Drop>(
     streams.tell(&line)
 }
 
-/// Tells why there is no editor, and answers the lines of its block.
+/// Writes why there is no editor, and answers the lines of its block.
 fn play_without<R: Read + Drop, W: Write + Drop>(
     alloc: Global,
     bracket: Bracket,
@@ -89,7 +89,7 @@ fn edit<R: Read + Drop, W: Write + Drop>(
     }
 }
 
-/// `editnew SEC2`: the same; where there is none, one is made.
+/// `editnew SEC2`: the same; if there is none, one is made.
 fn editnew<R: Read + Drop, W: Write + Drop>(
     alloc: Global,
     file: &mut File,
@@ -132,7 +132,7 @@ fn editid<R: Read + Drop, W: Write + Drop>(
     }
 }
 
-/// `editdetached PLACE`: the section of that place, which stands alone.
+/// `editdetached PLACE`: the section of that place, which is in no file.
 fn editdetached<R: Read + Drop, W: Write + Drop>(
     alloc: Global,
     session: &mut Session,

@@ -50,7 +50,7 @@ pub fn state_outcome<'a>(
     }
 }
 
-/// Commands on what lies outside of a file.
+/// Commands on what is outside of a file.
 pub fn outside_outcome<'a>(
     alloc: Global,
     session: &mut Session,
@@ -71,7 +71,7 @@ pub fn outside_outcome<'a>(
     }
 }
 
-/// Commands that make a file of what lies outside, and the one that asks where that stands.
+/// Commands that make a file of what is outside, and the one that asks for a place of configuration.
 pub fn loader_outcome<'a>(
     alloc: Global,
     session: &mut Session,

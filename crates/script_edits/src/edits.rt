@@ -14,7 +14,7 @@ use script_answers::refusal::Refusal;
 use script_answers::session::Session;
 use std::alloc::Global;
 
-/// `setraw KEY3 BYTES`: sets a value, and answers the one that was there.
+/// `setraw KEY3 BYTES`: sets a value, and returns the one that was there.
 pub fn setraw<'a>(file: &mut File, words: &[Word<'_>]) -> Outcome<'a> {
     let (names, value) = names_and_bytes(words)?;
     let old = file.set_raw_value_by(names.section, names.subsection, names.value, value)?;
@@ -30,7 +30,7 @@ pub fn setkey<'a>(file: &mut File, words: &[Word<'_>]) -> Outcome<'a> {
     Ok(Answer::Optional(file.set_raw_value(key, value)?))
 }
 
-/// `setexisting KEY3 BYTES`: sets the value of an entry that stands.
+/// `setexisting KEY3 BYTES`: sets the value of an existing entry.
 pub fn setexisting<'a>(file: &mut File, words: &[Word<'_>]) -> Outcome<'a> {
     let (names, value) = names_and_bytes(words)?;
     match file.set_existing_raw_value_by(names.section, names.subsection, names.value, value) {
@@ -39,7 +39,7 @@ pub fn setexisting<'a>(file: &mut File, words: &[Word<'_>]) -> Outcome<'a> {
     }
 }
 
-/// `setmulti KEY3 BYTES..`: sets the values of entries that stand.
+/// `setmulti KEY3 BYTES..`: sets the values of existing entries.
 pub fn setmulti<'a>(alloc: Global, file: &mut File, words: &[Word<'_>]) -> Outcome<'a> {
     let (names, values) = names_and_rest(words)?;
     let values = bytes_of_all(alloc, values)?;
@@ -55,7 +55,7 @@ pub fn setmulti<'a>(alloc: Global, file: &mut File, words: &[Word<'_>]) -> Outco
     }
 }
 
-/// `newsection SEC2`: makes a section behind all others, and answers its number.
+/// `newsection SEC2`: makes a section after all others, and returns its number.
 pub fn newsection<'a>(alloc: Global, file: &mut File, words: &[Word<'_>]) -> Outcome<'a> {
     let names = section_names(words)?;
     let subsection = owned(alloc, names.subsection)?;
@@ -65,7 +65,7 @@ pub fn newsection<'a>(alloc: Global, file: &mut File, words: &[Word<'_>]) -> Out
     }
 }
 
-/// `detached PLACE SEC2`: makes a section that stands alone, and puts it into that place.
+/// `detached PLACE SEC2`: makes a section that is in no file, and puts it into that place.
 pub fn detached<'a>(alloc: Global, session: &mut Session, words: &[Word<'_>]) -> Outcome<'a> {
     let (place, names) = place_and_section_names(words)?;
     let subsection = owned(alloc, names.subsection)?;
@@ -74,7 +74,7 @@ pub fn detached<'a>(alloc: Global, session: &mut Session, words: &[Word<'_>]) ->
     Ok(Answer::Done)
 }
 
-/// `pushsection PLACE`: puts the section of that place behind all others, and answers its number. The place is empty then.
+/// `pushsection PLACE`: adds the section of that place after all others, and returns its number. The place is then empty.
 pub fn pushsection<'a>(session: &mut Session, words: &[Word<'_>]) -> Outcome<'a> {
     let Some(section) = session.replace_section(place(words)?, None) else {
         return Ok(Answer::Absent);
@@ -85,7 +85,7 @@ pub fn pushsection<'a>(session: &mut Session, words: &[Word<'_>]) -> Outcome<'a>
     }
 }
 
-/// `remove SEC2 PLACE`: takes the last section of the name and subsection out, puts it into that place, and answers its text.
+/// `remove SEC2 PLACE`: removes the last section of the name and subsection, puts it into that place, and returns its text.
 pub fn remove<'a>(session: &'a mut Session, words: &[Word<'_>]) -> Outcome<'a> {
     let (names, place) = section_names_and_place(words)?;
     let section = session
@@ -94,7 +94,7 @@ pub fn remove<'a>(session: &'a mut Session, words: &[Word<'_>]) -> Outcome<'a> {
     Ok(taken_out(session, place, section))
 }
 
-/// `removeif SEC2 PLACE B`: the same with a filter that answers so for all.
+/// `removeif SEC2 PLACE B`: the same with a filter that returns this for all.
 pub fn removeif<'a>(session: &'a mut Session, words: &[Word<'_>]) -> Outcome<'a> {
     let (names, place, passes) = section_names_place_and_flag(words)?;
     let file = session.file_mut();
@@ -102,7 +102,7 @@ pub fn removeif<'a>(session: &'a mut Session, words: &[Word<'_>]) -> Outcome<'a>
     Ok(taken_out(session, place, section))
 }
 
-/// `removeid N PLACE`: the same, the section of a number.
+/// `removeid N PLACE`: the same for the section of a number.
 pub fn removeid<'a>(alloc: Global, session: &'a mut Session, words: &[Word<'_>]) -> Outcome<'a> {
     let (number, place) = number_and_place(words)?;
     let id = id_of(alloc, session.file(), number)?;
@@ -126,7 +126,7 @@ pub fn rename<'a>(alloc: Global, file: &mut File, words: &[Word<'_>]) -> Outcome
     }
 }
 
-/// `renameif SEC2 SEC2 B`: the same with a filter that answers so for all.
+/// `renameif SEC2 SEC2 B`: the same with a filter that returns this for all.
 pub fn renameif<'a>(alloc: Global, file: &mut File, words: &[Word<'_>]) -> Outcome<'a> {
     let (names, passes) = renaming_and_flag(words)?;
     let subsection = owned(alloc, names.new.subsection)?;
@@ -143,7 +143,7 @@ pub fn renameif<'a>(alloc: Global, file: &mut File, words: &[Word<'_>]) -> Outco
     }
 }
 
-/// Puts a section that was taken out into that place, from where it is shown.
+/// Puts a section that was removed into that place, where it is then shown.
 fn taken_out<'a>(session: &'a mut Session, place: Place, section: Option<Section>) -> Answer<'a> {
     if section.is_none() {
         return Answer::Absent;

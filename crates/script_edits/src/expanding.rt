@@ -1,7 +1,7 @@
-//! Commands that read the files which a file includes, by what the script tells of them.
+//! Commands that read the files that a file includes, as the script sets them.
 //
-// A host is made in each call that needs one, and lent to no other function of ours: a function that takes one is refused by
-// the check where it could put another box into it.
+// A host is made in each call that needs one, and passed to no other function of ours: the check refuses a function that takes one
+// and could put another box into it.
 
 use gitconf_script::arguments::{bytes, no_words};
 use gitconf_script::words::Word;
@@ -27,7 +27,7 @@ pub fn resolve<'a>(alloc: Global, session: &mut Session, words: &[Word<'_>]) -> 
     }
 }
 
-/// `owned BYTES`: the current file is that text, with what its sections include.
+/// `owned BYTES`: the current file becomes that text, with what its sections include.
 pub fn owned<'a>(alloc: Global, session: &mut Session, words: &[Word<'_>]) -> Outcome<'a> {
     let text = Vec::from_slice(alloc, bytes(words)?)?;
     let file = expanded_text(alloc, text, session.meta()?, session.outside())?;

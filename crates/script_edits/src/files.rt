@@ -1,6 +1,6 @@
 //! Commands on whole files, and on the state of the script.
 //!
-//! A command that is refused leaves that state as it was, but that `append` takes a file; and one that loads changes no other file.
+//! A command that is refused leaves that state as it was, except that `append` takes a file; and one that loads changes no other file.
 ghost use Rattle.std.specs.Prelude.{◌≡◌, OnErr};
 ghost use Rattle.script_answers.specs.Session.{LoadsFile};
 
@@ -24,7 +24,7 @@ pub fn select<'a>(session: &mut Session, words: &[Word<'_>]) -> Outcome<'a>
     Ok(Answer::Done)
 }
 
-/// `load BYTES`, `lossy BYTES`: the current file is that text, all of it, or without blanks, line ends and comments.
+/// `load BYTES`, `lossy BYTES`: the current file becomes that text, all of it, or without blanks, line endings and comments.
 pub fn load<'a>(
     alloc: Global,
     session: &mut Session,
@@ -50,7 +50,7 @@ pub fn file_of(alloc: Global, loaded: &Loaded, meta: Rc<Metadata>) -> Result<Fil
     File::from_bytes_no_includes(alloc, &loaded.text, meta, options)
 }
 
-/// `loadkept BYTES LETTERS`: the current file is made of the events of a text without some kinds, where they keep all
+/// `loadkept BYTES LETTERS`: the current file is made of the events of a text without some kinds, if they keep all
 /// entries.
 pub fn loadkept<'a>(alloc: Global, session: &mut Session, words: &[Word<'_>]) -> Outcome<'a>
     ensures others { LoadsFile session.old.current session.old session.new }
@@ -65,7 +65,7 @@ pub fn loadkept<'a>(alloc: Global, session: &mut Session, words: &[Word<'_>]) ->
     Ok(Answer::Done)
 }
 
-/// `new`: the current file is an empty one.
+/// `new`: the current file becomes an empty one.
 pub fn new<'a>(alloc: Global, session: &mut Session, words: &[Word<'_>]) -> Outcome<'a>
     ensures others { LoadsFile session.old.current session.old session.new }
     ensures err { OnErr result (session.new ≡ session.old) }
@@ -76,7 +76,7 @@ pub fn new<'a>(alloc: Global, session: &mut Session, words: &[Word<'_>]) -> Outc
     Ok(Answer::Done)
 }
 
-/// `clone SLOT`: that file is a copy of the current one.
+/// `clone SLOT`: that file becomes a copy of the current one.
 pub fn clone<'a>(session: &mut Session, words: &[Word<'_>]) -> Outcome<'a>
     ensures { OnErr result (session.new ≡ session.old) }
 {
@@ -86,7 +86,7 @@ pub fn clone<'a>(session: &mut Session, words: &[Word<'_>]) -> Outcome<'a>
     Ok(Answer::Done)
 }
 
-/// `append SLOT`: puts that file behind the current one, and leaves an empty one there, also where the current one refuses it.
+/// `append SLOT`: appends that file to the current one, and leaves an empty one there, even if the current one refuses it.
 pub fn append<'a>(alloc: Global, session: &mut Session, words: &[Word<'_>]) -> Outcome<'a> {
     let slot = slot(words)?;
     let other = session.take(alloc, slot)?;
@@ -94,7 +94,7 @@ pub fn append<'a>(alloc: Global, session: &mut Session, words: &[Word<'_>]) -> O
     Ok(Answer::Done)
 }
 
-/// `reset`: all is as at the start.
+/// `reset`: everything is as at the start.
 pub fn reset<'a>(alloc: Global, session: &mut Session, words: &[Word<'_>]) -> Outcome<'a>
     ensures { OnErr result (session.new ≡ session.old) }
 {
@@ -103,7 +103,7 @@ pub fn reset<'a>(alloc: Global, session: &mut Session, words: &[Word<'_>]) -> Ou
     Ok(Answer::Done)
 }
 
-/// `refusals on`, `refusals off`: whether answers tell of refused growths.
+/// `refusals on`, `refusals off`: whether answers report refused growths.
 pub fn refusals<'a>(session: &mut Session, words: &[Word<'_>]) -> Outcome<'a>
     ensures { OnErr result (session.new ≡ session.old) }
 {

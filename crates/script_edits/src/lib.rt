@@ -1,5 +1,5 @@
-//! The commands of a script that change a file, make one, change the state of the script, or tell it what lies outside. Each
-//! does a call of the library, or a few, and answers what that answered.
+//! The commands of a script that change a file, make one, change the state of the script, or set what is outside. Each
+//! does one call of the library, or a few, and returns their result.
 #![tactic(auto)]
 
 pub mod changes;

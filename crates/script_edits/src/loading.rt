@@ -1,7 +1,7 @@
-//! Commands that make the current file of what lies outside, by what the script tells of that, and the one that asks where it
-//! stands. One that is refused leaves the state of the script as it was, and none changes another file.
+//! Commands that make the current file of what is outside, as the script sets it, and the one that asks where configuration
+//! is. One that is refused leaves the state of the script as it was, and none changes another file.
 //
-// A host is made in each call that needs one, and lent to no other function of ours, as in `expanding`.
+// A host is made in each call that needs one, and passed to no other function of ours, as in `expanding`.
 
 use gitconf_script::arguments::{no_words, text};
 use gitconf_script::loading::{name, path_and_name, paths_of};
@@ -37,7 +37,7 @@ fn source_of(word: &[u8]) -> Result<Source, NotUnderstood> {
     }
 }
 
-/// `place SOURCE`: where the configuration of a source stands.
+/// `place SOURCE`: where the configuration of a source is.
 pub fn place<'a>(alloc: Global, outside: &Outside, words: &[Word<'_>]) -> Outcome<'a> {
     let source = source_of(name(words)?)?;
     let mut variables = outside.variables(alloc)?;
@@ -48,7 +48,7 @@ pub fn place<'a>(alloc: Global, outside: &Outside, words: &[Word<'_>]) -> Outcom
     }
 }
 
-/// `frompath BYTES SOURCE`: the current file is the file of that path and source, without what its sections include.
+/// `frompath BYTES SOURCE`: the current file becomes the file of that path and source, without what its sections include.
 pub fn frompath<'a>(alloc: Global, session: &mut Session, words: &[Word<'_>]) -> Outcome<'a> {
     let (path, source) = path_and_name(words)?;
     let source = source_of(source)?;
@@ -77,7 +77,7 @@ fn file_of_path(
     Ok(File::from_path_no_includes(alloc, path, source, &mut host)?)
 }
 
-/// `paths B B OPT..`: the current file is all files of these paths, with what their sections include.
+/// `paths B B OPT..`: the current file becomes all files of these paths, with what their sections include.
 pub fn paths<'a>(alloc: Global, session: &mut Session, words: &[Word<'_>]) -> Outcome<'a> {
     let paths = paths_of(words)?;
     let metas = metas_of(alloc, paths.paths)?;
@@ -89,7 +89,7 @@ pub fn paths<'a>(alloc: Global, session: &mut Session, words: &[Word<'_>]) -> Ou
     Ok(put_found(session, file))
 }
 
-/// Where each file has to be there.
+/// If each file must exist.
 fn file_of_paths(
     alloc: Global,
     metas: Vec<Metadata>,
@@ -110,7 +110,7 @@ fn file_of_paths(
     Ok(File::from_paths_metadata(alloc, metas, options, &mut host)?)
 }
 
-/// Where a file that isn't there is passed over.
+/// If a file that isn't there is skipped.
 fn file_of_paths_if_any(
     alloc: Global,
     metas: Vec<Metadata>,
@@ -131,7 +131,7 @@ fn file_of_paths_if_any(
     Ok(File::from_paths_metadata_buf(alloc, metas, false, options, &mut host)?)
 }
 
-/// The options that are told, and how faults are met.
+/// The options that are set, and what happens at faults.
 fn options_of<'a>(outside: &'a Outside, ignores_faults: bool) -> init::Options<'a> {
     init::Options {
         ignore_io_errors: ignores_faults,
@@ -155,7 +155,7 @@ fn meta_of(alloc: Global, path: &Word<'_>) -> Result<Metadata, Refusal> {
     })
 }
 
-/// Puts a file in the place of the current one, if there is one.
+/// Replaces the current file, if a file was found.
 fn put_found<'a>(session: &mut Session, file: Option<File>) -> Answer<'a> {
     match file {
         Some(file) => {
@@ -166,7 +166,7 @@ fn put_found<'a>(session: &mut Session, file: Option<File>) -> Answer<'a> {
     }
 }
 
-/// `globals`: the current file is what stands outside of any repository.
+/// `globals`: the current file becomes the configuration of the machine and of the user.
 pub fn globals<'a>(alloc: Global, session: &mut Session, words: &[Word<'_>]) -> Outcome<'a> {
     no_words(words)?;
     let file = file_of_globals(alloc, session.outside())?;
@@ -209,7 +209,7 @@ fn file_of_variables(alloc: Global, outside: &Outside) -> Result<Option<File>, R
     Ok(File::from_env(alloc, outside.options(), &mut host)?)
 }
 
-/// `overrides`: the current file is made of variables, as what overrides all else.
+/// `overrides`: the current file is made of variables, as what overrides everything else.
 pub fn overrides<'a>(alloc: Global, session: &mut Session, words: &[Word<'_>]) -> Outcome<'a> {
     no_words(words)?;
     let file = file_of_overrides(alloc, session.outside())?;
@@ -231,7 +231,7 @@ fn file_of_overrides(alloc: Global, outside: &Outside) -> Result<File, Refusal> 
     Ok(File::from_environment_overrides(alloc, &mut host)?)
 }
 
-/// `gitdir BYTES`: the current file is all that counts in the repository of that folder.
+/// `gitdir BYTES`: the current file becomes the configuration of the repository of that folder.
 pub fn gitdir<'a>(alloc: Global, session: &mut Session, words: &[Word<'_>]) -> Outcome<'a> {
     let file = file_of_repository(alloc, text(words)?, session.outside())?;
     session.put(file, None);

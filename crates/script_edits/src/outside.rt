@@ -1,4 +1,4 @@
-//! Commands that tell what lies outside of a file: other files, variables, where a file comes from, and how files that
+//! Commands that set what is outside of a file: other files, variables, where a file comes from, and how files that
 //! include others are expanded.
 ghost use Rattle.std.specs.Prelude.{◌≡◌, OnErr};
 
@@ -17,7 +17,7 @@ use script_answers::session::Session;
 use std::alloc::Global;
 use std::rc::Rc;
 
-/// `file PATH BYTES`: a file of these bytes stands at the path.
+/// `file PATH BYTES`: a file of these bytes is at the path.
 pub fn file<'a>(alloc: Global, session: &mut Session, words: &[Word<'_>]) -> Outcome<'a> {
     let (path, bytes) = text_and_bytes(words)?;
     let content = Content::Bytes(Vec::from_slice(alloc, bytes)?);
@@ -58,21 +58,21 @@ fn failure_of(words: &[Word<'_>]) -> Result<Failure, NotUnderstood> {
     }
 }
 
-/// `failread N STAGE`: in each command from now on that reads files, the Nth read fails at that stage.
+/// `failread N STAGE`: from now on, in each command that reads files, the Nth read fails at that stage.
 pub fn failread<'a>(session: &mut Session, words: &[Word<'_>]) -> Outcome<'a> {
     let failure = failure_of(words)?;
     session.outside_mut().fail_read(failure);
     Ok(Answer::Done)
 }
 
-/// `failtrust N STAGE`: the same of the Nth question how far a file is trusted.
+/// `failtrust N STAGE`: the same for the Nth question for the trust of a file.
 pub fn failtrust<'a>(session: &mut Session, words: &[Word<'_>]) -> Outcome<'a> {
     let failure = failure_of(words)?;
     session.outside_mut().fail_trust(failure);
     Ok(Answer::Done)
 }
 
-/// `var BYTES OPT`: a variable is set to a text, or to what is no text.
+/// `var BYTES OPT`: a variable is set to a text, or to bytes that aren't UTF-8.
 pub fn var<'a>(alloc: Global, session: &mut Session, words: &[Word<'_>]) -> Outcome<'a> {
     let (name, text) = variable(words)?;
     let name = String::from_str(alloc, name)?;
@@ -97,7 +97,7 @@ pub fn at<'a>(alloc: Global, session: &mut Session, words: &[Word<'_>]) -> Outco
     Ok(Answer::Done)
 }
 
-/// `level N`: the same of how many includes stand above it.
+/// `level N`: the same for how many includes led to it.
 pub fn set_level<'a>(alloc: Global, session: &mut Session, words: &[Word<'_>]) -> Outcome<'a> {
     let level = level(words)?;
     let path = session.origin().path.clone()?;

@@ -1,4 +1,4 @@
-//! The command on the layout of texts, which asks no file.
+//! The command on the layout of texts, which needs no file.
 
 use gitconf_script::layouts::{self, LineEnd, layout_of};
 use gitconf_script::words::Word;

@@ -1,5 +1,5 @@
-//! The commands of a script that change nothing: on texts, values and paths, and those that look at a file. Each does a
-//! call of the library, or a few, and answers what that answered.
+//! The commands of a script that change nothing: on texts, values and paths, and those that look at a file. Each does
+//! one call of the library, or a few, and returns their result.
 #![tactic(auto)]
 
 mod layout;

@@ -12,7 +12,7 @@ use script_answers::session::Session;
 use script_answers::writers::Failure;
 use std::alloc::Global;
 
-/// Commands on texts and names, which ask no file.
+/// Commands on texts and names, which need no file.
 pub fn text_outcome<'a>(alloc: Global, command: TextCommand, words: &[Word<'_>]) -> Outcome<'a> {
     match command {
         TextCommand::Events => parsing::events(alloc, words),
@@ -24,7 +24,7 @@ pub fn text_outcome<'a>(alloc: Global, command: TextCommand, words: &[Word<'_>])
     }
 }
 
-/// Commands on values and paths, which ask no file.
+/// Commands on values and paths, which need no file.
 pub fn value_outcome<'a>(
     alloc: Global,
     command: ValueCommand,
@@ -40,7 +40,7 @@ pub fn value_outcome<'a>(
     }
 }
 
-/// Commands that look values of a key up.
+/// Commands that look up values of a key.
 pub fn look_up_outcome<'a>(file: &File, command: LookUpCommand, words: &[Word<'_>]) -> Outcome<'a> {
     match command {
         LookUpCommand::Text => lookups::string(file, words),
@@ -55,7 +55,7 @@ pub fn look_up_outcome<'a>(file: &File, command: LookUpCommand, words: &[Word<'_
     }
 }
 
-/// Commands that look values of a key up with their sections, or in a type that the caller names.
+/// Commands that look up values of a key with their sections, or in a type that the caller names.
 pub fn typed_outcome<'a>(
     alloc: Global,
     file: &File,
@@ -88,7 +88,7 @@ pub fn view_outcome<'a>(file: &'a File, command: ViewCommand, words: &[Word<'_>]
     }
 }
 
-/// Commands that look sections up, or compare files.
+/// Commands that look up sections, or compare files.
 pub fn section_outcome<'a>(
     alloc: Global,
     session: &'a Session,

@@ -1,4 +1,4 @@
-//! Commands that look values of a key up.
+//! Commands that look up values of a key.
 
 use bstr::BString;
 use gitconf_script::arguments::{bytes, names};

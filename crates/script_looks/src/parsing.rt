@@ -1,4 +1,4 @@
-//! Commands on texts and names, which ask no file.
+//! Commands on texts and names, which need no file.
 
 use gitconf_script::arguments::bytes;
 use gitconf_script::words::Word;
@@ -32,12 +32,14 @@ pub fn keeps<'a>(alloc: Global, words: &[Word<'_>]) -> Outcome<'a> {
 
 /// `name BYTES`: whether bytes are the name of a section.
 pub fn name<'a>(alloc: Global, words: &[Word<'_>]) -> Outcome<'a> {
+    // Only whether there is such a name is asked.
     let _ = Name::try_from_bytes(alloc, bytes(words)?)?;
     Ok(Answer::Done)
 }
 
 /// `valuename BYTES`: whether bytes are the name of a value.
 pub fn valuename<'a>(alloc: Global, words: &[Word<'_>]) -> Outcome<'a> {
+    // Only whether there is such a name is asked.
     let _ = ValueName::try_from_bytes(alloc, bytes(words)?)?;
     Ok(Answer::Done)
 }

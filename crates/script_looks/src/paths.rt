@@ -9,7 +9,7 @@ use gix_config::path::interpolate::Context;
 use script_answers::answer::{Answer, Outcome};
 use std::alloc::Global;
 
-/// `match BYTES BYTES B`: whether a pattern matches a text, without case where that is said.
+/// `match BYTES BYTES B`: whether a pattern matches a text, without case if the flag says so.
 pub fn matches<'a>(alloc: Global, words: &[Word<'_>]) -> Outcome<'a> {
     let asked = pattern_match(words)?;
     Ok(Answer::Flag(wildmatch(alloc, asked.pattern, asked.text, asked.ignores_case)?))

@@ -14,7 +14,7 @@ pub fn dump<'a>(file: &'a File, words: &[Word<'_>]) -> Outcome<'a> {
     Ok(Answer::Dump(file))
 }
 
-/// The section at the place that the words tell.
+/// The section at the place that the words give.
 pub(super) fn section_at<'a>(
     file: &'a File,
     words: &[Word<'_>],
@@ -45,7 +45,7 @@ pub fn body<'a>(file: &'a File, words: &[Word<'_>]) -> Outcome<'a> {
     }
 }
 
-/// `post N`: the events of what is held behind a section.
+/// `post N`: the events of what is held after a section.
 pub fn post<'a>(file: &'a File, words: &[Word<'_>]) -> Outcome<'a> {
     match section_at(file, words)? {
         Some(section) => Ok(Answer::Held(section)),
@@ -59,13 +59,13 @@ pub fn count<'a>(file: &File, words: &[Word<'_>]) -> Outcome<'a> {
     Ok(Answer::Number(file.num_values()))
 }
 
-/// `void`: whether no section has anything in its body.
+/// `void`: whether all bodies are empty.
 pub fn void<'a>(file: &File, words: &[Word<'_>]) -> Outcome<'a> {
     no_words(words)?;
     Ok(Answer::Flag(file.is_void()))
 }
 
-/// `newline`: the line end that the file uses.
+/// `newline`: the line ending that the file uses.
 pub fn newline<'a>(file: &'a File, words: &[Word<'_>]) -> Outcome<'a> {
     no_words(words)?;
     Ok(Answer::Bytes(CowSlice::Borrowed(file.detect_newline_style())))

@@ -1,4 +1,4 @@
-//! Commands that look values of a key up with their sections, or in a type that the caller names: [`Boolean`].
+//! Commands that look up values of a key with their sections, or in a type that the caller names: [`Boolean`].
 
 use bstr::BString;
 use gitconf_script::arguments::names;
@@ -9,7 +9,7 @@ use script_answers::answer::{Answer, Outcome};
 use script_answers::refusal::Refusal;
 use std::alloc::Global;
 
-/// `rawwith KEY3`: the meaning of the last value, and the section in which it stands.
+/// `rawwith KEY3`: the meaning of the last value, and its section.
 pub fn rawwith<'a>(alloc: Global, file: &File, words: &[Word<'_>]) -> Outcome<'a> {
     let names = names(words)?;
     match file.raw_value_with_section_by(names.section, names.subsection, names.value) {
@@ -55,7 +55,7 @@ pub fn flags<'a>(alloc: Global, file: &File, words: &[Word<'_>]) -> Outcome<'a> 
     Ok(Answer::Flags(flags))
 }
 
-/// `flagwith KEY3`: the last value as a `Boolean`, and the section in which it stands.
+/// `flagwith KEY3`: the last value as a `Boolean`, and its section.
 pub fn flagwith<'a>(alloc: Global, file: &File, words: &[Word<'_>]) -> Outcome<'a> {
     let names = names(words)?;
     let found: Result<(Boolean, SectionRef<'_>), _> = file.value_with_section_by(

@@ -1,4 +1,4 @@
-//! Commands on values, which ask no file.
+//! Commands on values, which need no file.
 
 use bstr::BString;
 use gitconf_script::arguments::bytes;
@@ -15,10 +15,10 @@ pub fn decode<'a>(alloc: Global, words: &'a [Word<'_>]) -> Outcome<'a> {
     Ok(Answer::Bytes(normalize(alloc, bytes(words)?)?))
 }
 
-/// The text before a value that is set, and the one behind it.
+/// The text before a value that is set, and the text after it.
 const FRAME: (&[u8], &[u8]) = (b"[a]\nk=", b"\n");
 
-/// `escape BYTES`: how a value is written that is set.
+/// `escape BYTES`: how a value is written when it is set.
 pub fn escape<'a>(alloc: Global, words: &[Word<'_>]) -> Outcome<'a> {
     let value = bytes(words)?;
     let mut file = File::try_from_bytes(alloc, b"[a]\nk=\n")?;
@@ -29,11 +29,12 @@ pub fn escape<'a>(alloc: Global, words: &[Word<'_>]) -> Outcome<'a> {
 
 /// The text of the file with that value.
 fn text_with(file: &mut File, value: &[u8]) -> Result<BString, Refusal> {
+    // The file has no value before.
     let _ = file.set_raw_value_by("a", None, "k", value)?;
     Ok(file.to_bstring()?)
 }
 
-/// The text between the frame; all of it where it has none, which the answer then shows.
+/// The text within the frame; all of it if the frame is missing, which the answer then shows.
 fn unframed(alloc: Global, text: &[u8]) -> Result<Vec<u8>, AllocError> {
     let value = match text.strip_prefix(FRAME.0) {
         Some(rest) => rest.strip_suffix(FRAME.1),

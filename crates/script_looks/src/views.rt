@@ -1,4 +1,4 @@
-//! Commands that look sections up and compare files, and those that look at one section.
+//! Commands that look up sections and compare files, and those that look at one section.
 
 use crate::sections::section_at;
 use bstr::BString;
@@ -31,7 +31,7 @@ pub fn sectionkey<'a>(file: &File, words: &[Word<'_>]) -> Outcome<'a> {
     }
 }
 
-/// `sectionif SEC2 B`: the same with a filter that answers so for all.
+/// `sectionif SEC2 B`: the same with a filter that returns this for all.
 pub fn sectionif<'a>(file: &File, words: &[Word<'_>]) -> Outcome<'a> {
     let (names, passes) = section_names_and_flag(words)?;
     match file.section_filter(names.name, names.subsection, |_| passes) {
@@ -75,7 +75,7 @@ pub fn byname<'a>(alloc: Global, file: &File, words: &[Word<'_>]) -> Outcome<'a>
     Ok(Answer::Ids(found))
 }
 
-/// `bynameif BYTES B`: the same with a filter that answers so for all.
+/// `bynameif BYTES B`: the same with a filter that returns this for all.
 pub fn bynameif<'a>(alloc: Global, file: &File, words: &[Word<'_>]) -> Outcome<'a> {
     let (name, passes) = text_and_flag(words)?;
     let Some(sections) = file.sections_by_name_and_filter(name, |_| passes) else {
@@ -94,14 +94,14 @@ pub fn equal<'a>(session: &Session, words: &[Word<'_>]) -> Outcome<'a> {
     Ok(Answer::Flag(session.file() == other))
 }
 
-/// `display`: the text of the file, as it is shown.
+/// `display`: the text of the file, as `Display` shows it.
 pub fn display<'a>(alloc: Global, file: &File, words: &[Word<'_>]) -> Outcome<'a> {
     no_words(words)?;
     let shown = file.to_string(alloc)?;
     Ok(Answer::text(BString::new(shown.into_bytes())))
 }
 
-/// `headerof N`: what a section's header says, and how it is spelled.
+/// `headerof N`: what a section's header means, and how it is spelled.
 pub fn headerof<'a>(file: &'a File, words: &[Word<'_>]) -> Outcome<'a> {
     match section_at(file, words)? {
         Some(section) => {
@@ -112,7 +112,7 @@ pub fn headerof<'a>(file: &'a File, words: &[Word<'_>]) -> Outcome<'a> {
     }
 }
 
-/// The section at the place that the words tell, and the name behind it.
+/// The section at the place that the words give, and the name after it.
 fn section_and_name<'a, 'b>(
     file: &'a File,
     words: &'b [Word<'_>],
@@ -132,7 +132,7 @@ pub fn valueof<'a>(file: &File, words: &[Word<'_>]) -> Outcome<'a> {
     }
 }
 
-/// `implicitof N BYTES`: the same, and an entry without `=` told.
+/// `implicitof N BYTES`: the same, but an entry without `=` is distinguished.
 pub fn implicitof<'a>(file: &File, words: &[Word<'_>]) -> Outcome<'a> {
     match section_and_name(file, words)? {
         Some((section, name)) => match section.value_implicit(name)? {

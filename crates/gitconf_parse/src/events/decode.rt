@@ -7,7 +7,7 @@ use gitconf_items::decode::decoded_header;
 use gitconf_items::event::Header;
 use gitconf_text::NoMemory;
 
-/// Gives the header at a place the copy of its subsection, where that isn't what is spelled.
+/// Gives the header at a place the decoded copy of its subsection, if that isn't what is spelled.
 fn decode_at(
     buffer: &[u8],
     headers: &mut Vec<Header>,
@@ -23,7 +23,7 @@ fn decode_at(
     Ok(())
 }
 
-/// Gives each header the copy of its subsection, where that isn't what is spelled.
+/// Gives each header the decoded copy of its subsection, if that isn't what is spelled.
 pub fn decode_headers(
     buffer: &[u8],
     headers: &mut Vec<Header>,

@@ -35,7 +35,7 @@ pub fn kept_events(
 ) -> Result<(EventVec, bool), NoMemory>
     requires shown { AllByRecursion (IsShown buffer.now copies.now) (events_of events) }
     requires callable { IsAlwaysCallable filter }
-    // With a filter that answers by what it is shown.
+    // With a filter whose result depends only on what it is shown.
     ensures kept { IfOk result (λ kept. (p : Shown → Bool) → ((e : _) (b : Bool) → post filter e b → b ≡ p (shown e.now))
         → IsKept p buffer.now (events_of events.entry) kept.0 kept.1) }
     // With any filter.
@@ -77,7 +77,7 @@ fn is_entry(event: &Event) -> bool
     )
 }
 
-/// A filter that drops blanks, line ends and comments, and keeps all that has a meaning.
+/// A filter that drops blanks, line endings and comments, and keeps everything that has a meaning.
 pub fn keeps_meaning(event: &EventRef<'_>) -> bool
     ensures { result ≡ spec.keeps_meaning (shown event.now) }
 {

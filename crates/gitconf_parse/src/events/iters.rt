@@ -24,7 +24,7 @@ impl<'a> EventIter<'a> {
     ghost use Rattle.gitconf_items.specs.ShownEvents.{shown_event};
     ghost use Rattle.gitconf_parse.specs.EventIters.{events_left};
 
-    /// The events of a slice, whose spans are offsets of these buffers.
+    /// The events of a slice, whose spans are offsets of `buffer`, and whose copies are in `copies`.
     pub fn over(buffer: &'a [u8], copies: &'a [u8], events: EventSlice<'a>) -> EventIter<'a>
         requires { AreWithin buffer.now copies.now (events_of events) }
         ensures { events_left result ≡ map (shown_event buffer.now copies.now) (events_of events.entry) }
@@ -55,7 +55,7 @@ impl<'a> Iterator for EventIter<'a> {
     }
 }
 
-/// A section: its header, and what stands behind it up to the next.
+/// A section: its header, and what follows it up to the next.
 #[derive(Clone, Copy, Debug)]
 pub struct SectionRef<'a> {
     buffer: &'a [u8],
@@ -80,7 +80,7 @@ impl<'a> SectionRef<'a> {
         }
     }
 
-    /// What stands behind the header.
+    /// What follows the header.
     pub fn body(self) -> EventIter<'a>
         ensures { events_left result ≡ drop 1 (shown_section self.entry) }
     {
@@ -91,7 +91,7 @@ impl<'a> SectionRef<'a> {
         }
     }
 
-    /// The header, and what stands behind it.
+    /// The header, and what follows it.
     pub fn iter(self) -> EventIter<'a>
         ensures { events_left result ≡ shown_section self.entry }
     {
@@ -121,7 +121,7 @@ impl<'a> SectionIter<'a> {
     ghost use Rattle.gitconf_items.specs.Sections.{is_header_event, sections_of};
     ghost use Rattle.gitconf_parse.specs.EventIters.{sections_left};
 
-    /// The sections of a slice of events, whose spans are offsets of these buffers.
+    /// The sections of a slice of events, whose spans are offsets of `buffer`, and whose copies are in `copies`.
     pub fn over(buffer: &'a [u8], copies: &'a [u8], events: EventSlice<'a>) -> SectionIter<'a>
         requires { AreWithin buffer.now copies.now (events_of events) }
         ensures { sections_left result ≡ map (λ events. map (shown_event buffer.now copies.now) events) (sections_of is_header_event (events_of events.entry)) }

@@ -6,10 +6,10 @@ ghost use Rattle.gitconf_parse.specs.Reading as spec;
 /// Letters, digits and the dash.
 const NAME: u8 = 1;
 
-/// These and the dot.
+/// Letters, digits, the dash and the dot.
 const HEADER: u8 = 2;
 
-/// What stands for itself in a value, quotes or not: no line feed, mark of a comment, quote, backslash or white space.
+/// Bytes that stand for themselves in a value, quotes or not: all but LF, `;`, `#`, a quote, a backslash and white space.
 const PLAIN: u8 = 4;
 
 // For each byte a digit, whose low three bits are the flags above.
@@ -23,6 +23,7 @@ static CLASS: [u8; 256] = *b"\
     44444444444444444444444444444444\
     44444444444444444444444444444444";
 
+/// Whether the byte is a letter, a digit or a dash.
 #[inline(always)]
 pub fn is_name_byte(byte: u8) -> bool
     ensures { result ≡ text_bytes.is_name_byte byte }
@@ -30,6 +31,7 @@ pub fn is_name_byte(byte: u8) -> bool
     CLASS[byte as usize] & NAME != 0
 }
 
+/// Whether the byte is a letter, a digit, a dash or a dot.
 #[inline(always)]
 pub fn is_header_byte(byte: u8) -> bool
     ensures { result ≡ text_bytes.is_header_byte byte }
@@ -37,6 +39,7 @@ pub fn is_header_byte(byte: u8) -> bool
     CLASS[byte as usize] & HEADER != 0
 }
 
+/// Whether the byte stands for itself in a value, quotes or not.
 #[inline(always)]
 pub fn is_plain(byte: u8) -> bool
     ensures { result ≡ spec.is_plain byte }

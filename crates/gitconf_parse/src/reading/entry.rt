@@ -28,7 +28,7 @@ fn blanks(input: &[u8], at: usize, events: &mut EventVec) -> Result<usize, ReadE
     Ok(end)
 }
 
-/// Whether `=` stands at an offset.
+/// Whether `=` is at an offset.
 #[inline(always)]
 pub fn is_assignment(input: &[u8], at: usize) -> bool
     requires { at ≤ length input.now }
@@ -37,7 +37,7 @@ pub fn is_assignment(input: &[u8], at: usize) -> bool
     at < input.len() && input[at] == b'='
 }
 
-/// What is assigned behind a name and its blanks: `=`, blanks and a value, or nothing.
+/// What is assigned after a name and its blanks: `=`, blanks and a value, or nothing.
 #[tactic(auto, unfolding(crate::specs::Reading::assigned_at))]
 fn assigned(input: &[u8], at: usize, events: &mut EventVec) -> Result<usize, ReadError>
     requires within { at ≤ length input.now }

@@ -61,7 +61,7 @@ fn spelling_end(input: &[u8], from: usize) -> Option<usize>
     None
 }
 
-/// The header with quotes whose name, from `from` on, ends at `end`, where blanks may stand.
+/// The header with quotes whose name, from `from` on, ends at `end`, where blanks may be.
 #[tactic(auto, unfolding(crate::specs::Reading::quoted_header))]
 fn quoted(input: &[u8], from: usize, end: usize) -> Option<(Header, usize)>
     requires ordered { from ≤ end }
@@ -88,7 +88,7 @@ fn quoted(input: &[u8], from: usize, end: usize) -> Option<(Header, usize)>
     Some((header, quote + 2))
 }
 
-/// The header whose bracket stands at an offset, and the offset behind it.
+/// The header whose bracket is at an offset, and the offset after it.
 #[tactic(auto, unfolding(crate::specs::Reading::header_at))]
 pub fn header(input: &[u8], at: usize) -> Option<(Header, usize)>
     requires within { at < length input.now }

@@ -1,4 +1,4 @@
-//! Items, read as they stand in a text.
+//! Items, read as they are in a text.
 ghost use Rattle.std.specs.Prelude.{◌≡◌, ◌≤◌, ◌<◌, ◌^◌, ◌==◌, ◌∷◌, ◌++◌, [], false, None, length, get_or, IfOk, IfErr, OnOk, IsOkUnless};
 ghost use Rattle.gitconf_text.specs.Token.{HeaderToken, item_tokens};
 ghost use Rattle.gitconf_text.specs.Part.{EntryItem};
@@ -26,7 +26,7 @@ use std::alloc::Global;
 
 const NOTHING: Span = Span { start: 0, len: 0 };
 
-/// The value that begins at an offset, and the offset behind it.
+/// The value that begins at an offset, and the offset after it.
 fn value(alloc: Global, input: &[u8], first: usize) -> Result<(Value, usize), ReadError>
     requires within { first ≤ length input.now }
     requires fits { length input.now < 2 ^ 32 }
@@ -76,7 +76,7 @@ fn value(alloc: Global, input: &[u8], first: usize) -> Result<(Value, usize), Re
     }
 }
 
-/// An entry whose value isn't short or goes on.
+/// An entry whose value isn't short, or has several pieces.
 #[cold]
 fn long_entry(
     alloc: Global,
@@ -104,7 +104,7 @@ fn long_entry(
     Ok((Entry::try_new(alloc, parts)?, end))
 }
 
-/// The entry with a name, the blanks behind it and those behind `=`, whose value begins at an offset, and the offset behind it.
+/// The entry with a name, the blanks after it and those after `=`, whose value begins at an offset, and the offset after it.
 #[inline(always)]
 fn assigned_entry(
     alloc: Global,
@@ -132,7 +132,7 @@ fn assigned_entry(
     long_entry(alloc, input, name, blanks, behind, first)
 }
 
-/// The entry without a value, and the offset behind it.
+/// An entry without a value. `input` is the text that its spans are offsets of.
 #[cold]
 fn bare_entry(alloc: Global, input: &[u8], name: Span, blanks: Span) -> Result<Entry, ReadError>
     requires spans { SpanFits (length input.now) name × SpanFits (length input.now) blanks }
@@ -140,6 +140,7 @@ fn bare_entry(alloc: Global, input: &[u8], name: Span, blanks: Span) -> Result<E
     ensures spans { IfOk result (EntryFits (length input.now)) }
     ensures memory { IsOkUnless result Memory }
 {
+    // Only the contract speaks of the text.
     let _ = input;
     let parts = EntryParts {
         name,
@@ -149,7 +150,7 @@ fn bare_entry(alloc: Global, input: &[u8], name: Span, blanks: Span) -> Result<E
     Ok(Entry::try_new(alloc, parts)?)
 }
 
-/// The entry whose name begins, with a letter, at an offset, and the offset behind it.
+/// The entry whose name begins, with a letter, at an offset, and the offset after it.
 #[inline(always)]
 fn entry(alloc: Global, input: &[u8], at: usize) -> Result<(Entry, usize), ReadError>
     requires within { at < length input.now }
@@ -174,8 +175,8 @@ fn entry(alloc: Global, input: &[u8], at: usize) -> Result<(Entry, usize), ReadE
     }
 }
 
-/// Adds what is kept of the item at an offset, where no header begins, and answers the offset behind it; `wanted` is told as
-/// looked for where none stands.
+/// Adds what is kept of the item at an offset, where no header begins, and returns the offset after it; `wanted` is reported as
+/// looked for if no item is there.
 #[inline(always)]
 fn push_item(
     alloc: Global,
@@ -232,7 +233,7 @@ fn push_item(
     }
 }
 
-/// Adds what is kept of the items from an offset on, up to a header or the end, and answers where they end.
+/// Adds what is kept of the items from an offset on, up to a header or the end, and returns the offset after them.
 pub fn push_items(
     alloc: Global,
     input: &[u8],
@@ -257,7 +258,7 @@ pub fn push_items(
     Ok(at)
 }
 
-/// The header whose bracket stands at an offset, and the offset behind it; `wanted` is told as looked for where none stands.
+/// The header whose bracket is at an offset, and the offset after it; `wanted` is reported as looked for if no header is there.
 pub fn header_first(input: &[u8], at: usize, wanted: Expected) -> Result<(Header, usize), ReadError>
     requires within { at < length input.now }
     requires headed { get_or input.now at 0 ≡ 91 }

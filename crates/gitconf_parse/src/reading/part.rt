@@ -1,4 +1,4 @@
-//! The parts of a text, one behind the other.
+//! The parts of a text, one after the other.
 ghost use Rattle.std.specs.Prelude.{◌≡◌, ◌≤◌, ◌<◌, ◌^◌, length, drop, IfOk};
 ghost use Rattle.gitconf_parse.specs.declared.reading.Expected.TheVariants.{SectionHeader};
 ghost use Rattle.gitconf_parse.specs.Reading.{Gives, GivesAll, opening_of, part_at, text_from};
@@ -42,7 +42,7 @@ pub fn part_opening(input: &[u8], at: usize) -> Opening
     }
 }
 
-/// One part, and the offset behind it; `wanted` is told as looked for where none stands.
+/// One part, and the offset after it; `wanted` is reported as looked for if no part is there.
 #[inline(always)]
 #[tactic(auto, unfolding(crate::specs::Reading::part_at))]
 fn part(

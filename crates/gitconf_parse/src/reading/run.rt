@@ -1,4 +1,4 @@
-//! Runs: blanks, line ends, and the bytes of comments and names.
+//! Runs: blanks, line endings, and the bytes of comments and names.
 ghost use Rattle.std.specs.Prelude.{◌≡◌, ◌≤◌, ◌<◌, length, drop};
 ghost use Rattle.gitconf_text.specs.Text.{begins_line_end};
 ghost use Rattle.gitconf_parse.specs.Reading.{run_test, run_end_at};
@@ -12,7 +12,7 @@ pub enum Run {
     Blanks,
     /// LF, and CR before LF.
     LineEnds,
-    /// All bytes before a line end.
+    /// All bytes before a line ending.
     CommentText,
     /// Letters, digits and dashes.
     NameBytes,
@@ -22,7 +22,7 @@ pub enum Run {
     PlainBytes,
 }
 
-/// Whether LF, or CR and LF, stand at an offset.
+/// Whether a line ending (LF, or CR and LF) is at an offset.
 #[inline(always)]
 pub fn is_line_end(input: &[u8], at: usize) -> bool
     requires { at < length input.now }
@@ -51,7 +51,7 @@ impl Run {
     }
 }
 
-/// The offset behind the run that stands at an offset.
+/// The offset after the run that begins at an offset.
 #[inline(always)]
 #[tactic(auto, unfolding(crate::specs::Reading::end_of_run))]
 pub fn run_end(input: &[u8], from: usize, run: Run) -> usize

@@ -14,21 +14,21 @@ use gitconf_items::event::{Event, Span};
 /// How a piece of a value ends.
 #[derive(Clone, Copy)]
 pub enum PieceEnd {
-    /// With the value, at an offset; white space behind that is no part of it.
+    /// At the end of the value, which is at an offset; white space after that is no part of it.
     Last(usize),
-    /// At a backslash, behind which a line end of so many bytes stands; what follows may stand between quotes.
+    /// At a backslash before a line ending of that many bytes; what follows may be between quotes.
     GoesOn {
         at: usize,
         line_end: usize,
         quoted: bool,
     },
-    /// At a backslash, with which the text ends.
+    /// At a backslash with which the text ends.
     Unended(usize),
-    /// Nowhere: a quote has no other, or a byte stands behind a backslash that may not.
+    /// It is refused: a quote is not closed, or a byte follows a backslash that may not.
     Refused,
 }
 
-/// The offset behind the bytes that stand for themselves, of which one stands at an offset.
+/// The offset after the bytes that stand for themselves, the first of which is at an offset.
 #[inline(always)]
 fn plain_end(input: &[u8], at: usize) -> usize
     requires within { at < length input.now }
@@ -102,7 +102,7 @@ pub fn piece_end(input: &[u8], from: usize, quoted: bool) -> PieceEnd
     }
 }
 
-/// A piece of a value, from one offset up to the backslash at another, and the line end of so many bytes behind that.
+/// A piece of a value, from one offset up to the backslash at another, and the line ending of that many bytes after it.
 fn unfinished(
     from: usize,
     at: usize,
@@ -121,7 +121,7 @@ fn unfinished(
     Ok(end)
 }
 
-/// The value that begins at `first`.
+/// The value that begins at `first`; returns the offset after it.
 pub fn value_events(input: &[u8], first: usize, events: &mut EventVec) -> Result<usize, ReadError>
     requires within { first ≤ length input.now }
     requires fits { length input.now < 2 ^ 32 }

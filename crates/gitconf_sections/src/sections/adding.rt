@@ -1,4 +1,4 @@
-//! Sections that are put behind the others.
+//! Sections that are added after the others.
 ghost use Rattle.std.specs.Option.{option_copied};
 ghost use Rattle.std.specs.Prelude.{◌≡◌, [], ◌+◌, ◌<◌, ◌≤◌, ◌↔◌, ◌++◌, length, IfErr, IfOk, IsErrOf, OnErr, OnOk};
 ghost use Rattle.gitconf_table.specs.Sections.{edited_at, no_number, with_all, with_last};
@@ -19,7 +19,7 @@ use gitconf_text::NoMemory;
 use gitconf_text::parse::span;
 use std::rc::Rc;
 
-/// Puts the sections of a table behind those of another, and the items of its list behind those of the other's.
+/// Adds the sections of a table after those of another, and the items of its list after those of the other's.
 ///
 /// # Errors
 ///
@@ -56,23 +56,23 @@ fn append_parts(
 }
 
 impl SectionList {
-    /// Makes room at once for so many more sections, as [`SectionTable::reserve`] does.
+    /// Makes room at once for that many more sections, as [`SectionTable::reserve`] does.
     ///
     /// # Errors
     ///
-    /// Want of memory. All is then as it was.
+    /// Out of memory. All is then as it was.
     pub fn reserve(&mut self, more: usize) -> Result<(), NoMemory>
         ensures { self.new ≡ self.old }
     {
         self.table.reserve(more)
     }
 
-    /// Puts a section last, under the next number and `name` in ASCII lower case, with nothing held behind it, and answers that number.
+    /// Adds a section at the end, under the next number and `name` in ASCII lower case, with nothing held after it, and returns that number.
     /// The items are its own. Takes memory for the names and for a box, and constant time and memory on average for its place.
     ///
     /// # Errors
     ///
-    /// A [`span::Error`], number 3 where only the greatest number is left, and else 27 for want of memory. All is then as it was.
+    /// A [`span::Error`], number 3 if only the greatest number is left, otherwise 27 when out of memory. All is then as it was.
     pub fn push(
         &mut self,
         name: &[u8],
@@ -100,12 +100,12 @@ impl SectionList {
         self.table.push(name, subsection, row)
     }
 
-    /// Puts a section last, as [`SectionList::push`] does, and its items behind those of the list that the sections share, which is what
-    /// a load does: takes no memory but for the names, and on average constant time and memory for the items and its place.
+    /// Adds a section at the end, as [`SectionList::push`] does, and its items after those of the list that the sections share, which is what
+    /// a load does: takes no memory except for the names, and on average constant time and memory for the items and its place.
     ///
     /// # Errors
     ///
-    /// Those of [`SectionList::push`]; 27 also where the list would have more than 4294967295 items. The items are then as they were,
+    /// Those of [`SectionList::push`]; 27 also if the list would have more than 4294967295 items. The items are then as they were,
     /// too.
     pub fn push_loaded(
         &mut self,
@@ -145,12 +145,12 @@ impl SectionList {
         Ok(id)
     }
 
-    /// Puts the sections of another list behind all others, in their order and under the next numbers; their items go behind those of the
+    /// Adds the sections of another list after all others, in their order and under the next numbers; their items go after those of the
     /// list that the sections share. Takes memory for these, for the places and the indexes.
     ///
     /// # Errors
     ///
-    /// A [`span::Error`], number 3 where fewer numbers are left than the other has sections, and else 27 for want of memory. All is then
+    /// A [`span::Error`], number 3 if fewer numbers are left than the other has sections, otherwise 27 when out of memory. All is then
     /// as it was, and the other is dropped.
     pub fn append(&mut self, other: SectionList) -> Result<(), span::Error>
         ensures ok { OnOk result (self.new ≡ with_all (length self.old.entries) other self.old) }
@@ -162,8 +162,8 @@ impl SectionList {
         append_parts(&mut self.table, &mut self.list, table, list)
     }
 
-    /// Puts a line end, if one is given, and others behind what is held behind the section at a place, and then the sections of another
-    /// list behind all others, as [`SectionList::append`] does.
+    /// Adds a line ending, if one is given, and others after what is held after the section at a place, and then the sections of another
+    /// list after all others, as [`SectionList::append`] does.
     ///
     /// # Errors
     ///

@@ -19,7 +19,7 @@ use std::mem::replace;
 use std::rc::Rc;
 
 impl SectionList {
-    /// Gives the section at a place another header. The names under which it is found stay.
+    /// Gives the section at a place another header. It is still found by the names that it had.
     pub fn set_header(&mut self, position: usize, header: Header)
         requires { position < length self.old.entries }
         ensures { self.new ≡ edited_at (λ s. record s { header = header }) position self.old }
@@ -28,7 +28,7 @@ impl SectionList {
         row.header = header;
     }
 
-    /// Says where the section at a place comes from.
+    /// Sets where the section at a place comes from.
     pub fn set_meta(&mut self, position: usize, meta: Rc<Metadata>)
         requires { position < length self.old.entries }
         ensures { self.new ≡ edited_at (λ s. record s { meta = meta }) position self.old }
@@ -37,12 +37,12 @@ impl SectionList {
         row.meta = meta;
     }
 
-    /// Takes the items of the section at a place out, to be changed and put back by [`SectionList::put_items`]. Takes memory for as
-    /// many where they stand in the list of all sections.
+    /// Takes the items of the section at a place, to be changed and put back by [`SectionList::put_items`]. Takes memory for as
+    /// many items if they are in the list that the sections share.
     ///
     /// # Errors
     ///
-    /// Want of memory. All is then as it was.
+    /// Out of memory. All is then as it was.
     pub fn take_items(&mut self, position: usize) -> Result<Box<Vec<Item>>, NoMemory>
         requires { position < length self.old.entries }
         ensures items { IfOk result (λ own. option_map (λ s. s.items.items) (section_at position self.old) ≡ Some own.value.items) }
@@ -63,7 +63,7 @@ impl SectionList {
         row.body = Body::Own(items);
     }
 
-    /// Takes all items of the section at a place out. Takes no memory.
+    /// Removes all items of the section at a place. Takes no memory.
     pub fn clear(&mut self, position: usize)
         requires { position < length self.old.entries }
         ensures { self.new ≡ edited_at (with_items []) position self.old }
@@ -72,7 +72,7 @@ impl SectionList {
         row.body = Body::Nothing;
     }
 
-    /// Takes items out of the section at a place: those at these places, which are counted in items from the first one, 0. One walk over
+    /// Removes the items at these places, counted in items from 0, from the section at a place. One walk over
     /// its items. Takes no memory.
     pub fn leave_out(&mut self, position: usize, places: &[(SectionId, usize)])
         requires position { position < length self.old.entries }
@@ -84,7 +84,7 @@ impl SectionList {
         row.body = leave_out_of(&mut self.list, body, places);
     }
 
-    /// Moves the section at a place, where so many bytes stand before those of its buffer, and so many before the decoded copies. One
+    /// Moves the section at a place, after `by` bytes were put before those of its buffer, and `copies_by` before the decoded copies. One
     /// pass over its items, which takes no memory.
     pub fn move_section(&mut self, position: usize, by: u32, copies_by: u32)
         requires position { position < length self.old.entries }

@@ -22,7 +22,7 @@ impl SectionList {
         }
     }
 
-    /// The sections of that name, without ASCII case, and exactly that subsection, in file order, as [`SectionTable::named`] finds them.
+    /// The sections of this name, without ASCII case, and exactly this subsection, in file order, as [`SectionTable::named`] finds them.
     pub fn named<'a, 'n, 's>(
         &'a self,
         name: &'n str,
@@ -36,7 +36,7 @@ impl SectionList {
         }
     }
 
-    /// The sections of that name, without ASCII case, and any subsection, in file order, as [`SectionTable::with_name`] finds them.
+    /// The sections of this name, without ASCII case, and any subsection, in file order, as [`SectionTable::with_name`] finds them.
     pub fn with_name<'a, 'n>(&'a self, name: &'n str) -> WithName<'a, 'n>
         ensures left { with_name_left result ≡ all_named name.now self.now }
     {

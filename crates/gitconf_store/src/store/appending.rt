@@ -1,4 +1,4 @@
-//! Sections put behind those of a store.
+//! Sections added after those of a store.
 ghost use Rattle.std.specs.Prelude.{◌≡◌, ◌⊎◌, ◌↔◌, ◌+◌, ◌≤◌, ◌^◌, IfErr, IfOk, IsErrOf, OnErr, OnOk};
 ghost use Rattle.gitconf_table.specs.Sections.{no_number};
 ghost use Rattle.gitconf_state.specs.Edit.{with_used};
@@ -13,11 +13,11 @@ use gitconf_text::parse::span;
 use gitconf_views::detached;
 
 impl Store {
-    /// Asks whether [`Store::push_section`] may put the section behind the others. Takes no memory.
+    /// Checks whether [`Store::push_section`] may add the section after the others. Takes no memory.
     ///
     /// # Errors
     ///
-    /// A [`span::Error`], number 3, exactly where [`Store::push_section`] has it.
+    /// A [`span::Error`], number 3, if and only if [`Store::push_section`] returns it.
     pub fn check_pushed(&self, section: &detached::Section) -> Result<(), span::Error>
         ensures too_large { IsErrOf result 3 ↔ ((2 ^ 32 ≤ self.now.used + section.now.used) ⊎ (self.now.next ≡ no_number)) }
         ensures known { IfErr result (λ e. e ≡ 3) }
@@ -28,15 +28,15 @@ impl Store {
         check_room(&self.buffer, section.buffer.len())
     }
 
-    /// Puts a section that stands alone behind all others, under the next number, which is the answer. Its header, its body and where it
-    /// comes from stay. Its bytes go behind the buffer's, and its spans are moved in one pass.
+    /// Adds a section that is in no file after all others, under the next number, which is returned. Its header, its body and where it
+    /// comes from stay. Its bytes are added to the buffer, and its spans are moved in one pass.
     ///
     /// Takes memory for the bytes, for the names, and constant memory on average for its place.
     ///
     /// # Errors
     ///
-    /// A [`span::Error`]: number 3 exactly where the buffer would be longer than 4294967295 bytes or no number is left, before any growth,
-    /// and else 27 for want of memory. The section is then dropped, and the file as it was, but that its buffer may have grown.
+    /// A [`span::Error`]: number 3 if and only if the buffer would be longer than 4294967295 bytes or no number is left, before any growth,
+    /// otherwise 27 when out of memory. The section is then dropped, and the file as it was, except that its buffer may have grown.
     pub fn push_section(&mut self, section: detached::Section) -> Result<SectionId, span::Error>
         ensures ok { OnOk result (self.new ≡ with_used self.new.used (apply (PushSection section) self.old)) }
         ensures answer { IfOk result (λ id. Number id ≡ answer (PushSection section) self.old) }

@@ -1,4 +1,4 @@
-//! Edits of the section of a number, on which an editor of a section stands.
+//! Edits of the section of a number, for the editor of a section.
 use crate::store::Store;
 use gitconf_body::{set, take_out};
 use gitconf_lines::editor::Editor;
@@ -17,17 +17,17 @@ impl Store {
     ghost use Rattle.gitconf_lines.specs.Editors.{line_put, set_put};
     ghost use Rattle.gitconf_store.specs.Editors.{given_editor, IsGiven, PutsIn};
 
-    /// Pushes a line behind the items of the section of a number: the editor's blanks, the key, and where a value is given `=` with the
-    /// editor's blanks around it and the value as a file spells it; then the comment, if one is given, behind a space and `#`, with a space
-    /// before a first byte that is no white space, and each LF turned to a space; then the editor's line end, unless it is switched off. All
-    /// else stays as it is; where no section has the number, all does.
+    /// Pushes a line after the items of the section of a number: the editor's blanks, the key, and if a value is given `=` with the
+    /// editor's blanks around it and the value as a file spells it; then the comment, if one is given, after a space and `#`, with a space
+    /// before a first byte that is not white space, and each LF turned to a space; then the editor's line ending, unless it is switched
+    /// off. All else stays as it is; if no section has the number, everything does.
     ///
-    /// The section is found in constant time. Takes memory for what is put into the buffer, and for the new items.
+    /// The section is found in constant time. Takes memory for what is added to the buffer, and for the new items.
     ///
     /// # Errors
     ///
-    /// A [`span::Error`]: number 3 exactly where the buffer would be longer than 4294967295 bytes, before any growth, and else 27 for want
-    /// of memory. The file is then as it was, but that its buffer may have grown.
+    /// A [`span::Error`]: number 3 if and only if the buffer would be longer than 4294967295 bytes, before any growth, otherwise 27 when out
+    /// of memory. The file is then as it was, except that its buffer may have grown.
     pub fn push_entry(
         &mut self,
         id: SectionId,
@@ -44,6 +44,7 @@ impl Store {
         ensures err { OnErr result (self.new ≡ with_used self.new.used self.old) }
         ensures used { PutsIn id result (line_put editor.now key.now (option_copied value.entry) (option_copied comment.entry)) self.old self.new }
     {
+        // The contract of `next_id` says that no number was given twice.
         prove!(self.sections.next_id() == self.sections.next_id());
         let Some(at) = self.sections.position(id) else {
             return Ok(());
@@ -55,10 +56,10 @@ impl Store {
         pushed
     }
 
-    /// Pushes the editor's line end behind the items of the section of a number, also where it is switched off behind lines. All else stays
-    /// as it is; where no section has the number, all does.
+    /// Pushes the editor's line ending after the items of the section of a number, even if it is switched off after lines. All else stays
+    /// as it is; if no section has the number, everything does.
     ///
-    /// The section is found in constant time. Takes memory for the line end in the buffer, and for the new item.
+    /// The section is found in constant time. Takes memory for the line ending in the buffer, and for the new item.
     ///
     /// # Errors
     ///
@@ -69,6 +70,7 @@ impl Store {
         ensures err { OnErr result (self.new ≡ with_used self.new.used self.old) }
         ensures used { PutsIn id result (length (bytes_of_line_end editor.now.line_end)) self.old self.new }
     {
+        // The contract of `next_id` says that no number was given twice.
         prove!(self.sections.next_id() == self.sections.next_id());
         let Some(at) = self.sections.position(id) else {
             return Ok(());
@@ -80,12 +82,12 @@ impl Store {
         pushed
     }
 
-    /// Gives the last entry of a key in the section of a number another value: what stands behind `=` is replaced, and `=` is put in where
-    /// there is none, with the editor's blanks around it. Where no entry of the section has the key, a line with it is pushed, as
-    /// [`Store::push_entry`] does. All else stays as it is; where no section has the number, all does. Answers the raw text of the old
-    /// value: its pieces joined, not decoded; nothing for an entry without `=`; `None` where there was no entry, or no section.
+    /// Gives the last entry of a key in the section of a number another value: what follows `=` is replaced, and `=` is added if
+    /// there is none, with the editor's blanks around it. If no entry of the section has the key, a line with it is pushed, as
+    /// [`Store::push_entry`] does. All else stays as it is; if no section has the number, everything does. Returns the raw text of the old
+    /// value: its pieces joined, not decoded; no bytes for an entry without `=`; `None` if there was no entry, or no section.
     ///
-    /// One walk over the section's items, which is found in constant time. Takes memory for the old value, for what is put into the
+    /// The section is found in constant time; one walk over its items. Takes memory for the old value, for what is put into the
     /// buffer, and for new items.
     ///
     /// # Errors
@@ -106,6 +108,7 @@ impl Store {
         ensures err { OnErr result (self.new ≡ with_used self.new.used self.old) }
         ensures used { PutsIn id result (set_put editor.now key.now value.now (items_of_numbered id self.old)) self.old self.new }
     {
+        // The contract of `next_id` says that no number was given twice.
         prove!(self.sections.next_id() == self.sections.next_id());
         let Some(at) = self.sections.position(id) else {
             return Ok(None);
@@ -118,23 +121,23 @@ impl Store {
         set
     }
 
-    /// Takes out the last entry of a key in the section of a number, with the blanks directly before it and the line ends directly behind
-    /// it. All else stays as it is. Answers the raw text of its value: its pieces joined, not decoded; nothing for an entry without `=`.
-    /// Where the section has no entry of the key, or no section has the number, nothing is changed, and the answer is `None`.
+    /// Removes the last entry of a key in the section of a number, with the blanks directly before it and the line endings directly after
+    /// it. All else stays as it is. Returns the raw text of its value: its pieces joined, not decoded; no bytes for an entry without `=`.
+    /// If the section has no entry of the key, or no section has the number, nothing is changed, and the result is `None`.
     ///
-    /// One walk over the section's items, which is found in constant time. Takes memory for the answer alone; no byte is put into
+    /// The section is found in constant time; one walk over its items. Takes memory for the result alone; no byte is added to
     /// the buffer.
     ///
     /// # Errors
     ///
-    /// Want of memory, only where there is an entry. The file is then as it was.
+    /// Out of memory, only if there is an entry. The file is then as it was.
     pub fn remove_entry(&mut self, id: SectionId, key: &[u8]) -> Result<Option<Vec<u8>>, NoMemory>
         ensures ok { OnOk result (self.new ≡ apply (Remove id key.now) self.old) }
         ensures answer { IfOk result (λ o. Raw (option_map (λ v. v.items) o) ≡ answer (Remove id key.now) self.old) }
         ensures none { answer (Remove id key.now) self.old ≡ Raw None → IsOk result }
         ensures err { OnErr result (self.new ≡ self.old) }
     {
-        // No number stands twice.
+        // The contract of `next_id` says that no number was given twice.
         prove!(self.sections.next_id() == self.sections.next_id());
         let Some(at) = self.sections.position(id) else {
             return Ok(None);
@@ -149,17 +152,17 @@ impl Store {
         removed
     }
 
-    /// Takes out the last entry of the section of a number, whatever its key, with the blanks directly before it and all that stands behind
-    /// it; all that the section has, where it has no entry. Answers the key as it is spelled and what its value means; no bytes for an
-    /// entry without `=`. Where the section has no entry, or no section has the number, the answer is `None`; in the second case nothing is
+    /// Removes the last entry of the section of a number, whatever its key, with the blanks directly before it and everything after
+    /// it; everything in the body if it has no entry. Returns the key as it is spelled and what its value means; no bytes for an
+    /// entry without `=`. If the section has no entry, or no section has the number, the result is `None`; in the second case nothing is
     /// changed.
     ///
-    /// One walk over the section's items, which is found in constant time. Takes memory for the answer and the raw text of the
-    /// value; no byte is put into the buffer.
+    /// The section is found in constant time; one walk over its items. Takes memory for the result and the raw text of the
+    /// value; no byte is added to the buffer.
     ///
     /// # Errors
     ///
-    /// Want of memory, only where there is an entry. The file is then as it was.
+    /// Out of memory, only if there is an entry. The file is then as it was.
     pub fn pop_entry(&mut self, id: SectionId) -> Result<Option<(Vec<u8>, Vec<u8>)>, NoMemory>
         ensures ok { OnOk result (self.new ≡ apply (Pop id) self.old) }
         ensures answer { IfOk result (λ o. Entry (option_map (λ t. (t.0.items, t.1.items)) o) ≡ answer (Pop id) self.old) }
@@ -167,6 +170,7 @@ impl Store {
         ensures name { IfOk result (λ o. IfSome o (λ t. is_value_name t.0.items ≡ true)) }
         ensures err { OnErr result (self.new ≡ self.old) }
     {
+        // The contract of `next_id` says that no number was given twice.
         prove!(self.sections.next_id() == self.sections.next_id());
         let Some(at) = self.sections.position(id) else {
             return Ok(None);

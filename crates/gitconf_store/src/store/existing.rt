@@ -1,4 +1,4 @@
-//! The value of an entry that stands, set anew.
+//! Setting the value of an existing entry.
 use crate::set_raw_value;
 use crate::store::Store;
 use gitconf_body::value_at::InPlaceOf;
@@ -9,18 +9,18 @@ impl Store {
     ghost use Rattle.gitconf_finding.specs.Lookups.{key_at};
 
     /// Gives the last entry of a key another value, with `=` or without it, in the last section that has one, of those that have the name,
-    /// without ASCII case, and exactly the subsection: the entry is written anew, by the name that is given, with the blanks around `=`
-    /// that the section has, and the value as a file spells it. Where the old value ended in an empty last piece and a comment comes next,
-    /// blanks aside, the last line end of the old value stays before it. All else stays as it is; no entry is made.
+    /// without ASCII case, and exactly the subsection: the entry is rewritten, with the name that is given, the blanks around `=`
+    /// that the section uses, and the value as a file spells it. If the old value ended in an empty last piece and a comment comes next,
+    /// apart from blanks, the last line ending of the old value stays before it. All else stays as it is; no entry is made.
     ///
-    /// It walks over the sections of the names from the last one on, up to that one, and over its items. Takes memory for what is put into
-    /// the buffer, and for at most one item more.
+    /// It walks over the sections of the names from the last one up to that one, and over its items. Takes memory for what is added to
+    /// the buffer, and for at most one more item.
     ///
     /// # Errors
     ///
-    /// Refusal 7 where no section has the name, 8 where none of these has the subsection; else 6 for a name of a value that is none; else 9
-    /// where none of these has such an entry; 3 where the buffer would be longer than 4294967295 bytes, which is asked before any growth;
-    /// 27 for want of memory. The file is then as it was, but that its buffer may have grown.
+    /// Refusal 7 if no section has the name, 8 if none of these has the subsection; otherwise 6 for an invalid value name; otherwise 9
+    /// if none of these has such an entry; 3 if the buffer would be longer than 4294967295 bytes, which is checked before any growth;
+    /// 27 when out of memory. The file is then as it was, except that its buffer may have grown.
     pub fn set_existing_raw_value_by(
         &mut self,
         section_name: &str,

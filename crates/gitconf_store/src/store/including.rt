@@ -1,4 +1,4 @@
-//! Another file put into a file that includes it.
+//! Another file, put into a file that includes it.
 ghost use Rattle.std.specs.Prelude.{◌≡◌, ◌⊎◌, ◌↔◌, ◌+◌, ◌<◌, ◌≤◌, ◌^◌, is_some, length, option_map, slice_get, Some, IfErr, IsErrOf, OnErr, OnOk};
 ghost use Rattle.gitconf_text.specs.LineEnds.{bytes_of_line_end};
 ghost use Rattle.gitconf_items.specs.Items.{tokens_in};
@@ -48,15 +48,15 @@ impl Store {
         first_line_end(&self.buffer, &self.front).is_some()
     }
 
-    /// The line end of the first newline of the sections' bodies, if there is one.
+    /// The line ending of the first newline of the sections' bodies, if there is one.
     pub(crate) fn bodies_line_end(&self) -> Option<LineEnd>
         ensures { option_map bytes_of_line_end result ≡ first_newline_of_bodies self.now.sections }
     {
         tokens::bodies_line_end(self.sections())
     }
 
-    /// Puts the sections of another file behind all others, in their order and under the next numbers, and holds its front behind the
-    /// section at a place; the line end goes between where items are held there that don't end with one, and the other's don't begin with
+    /// Adds the sections of another file after all others, in their order and under the next numbers, and holds its front after the
+    /// section at a place; the line ending goes between if items are held there that don't end with one, and the other's don't begin with
     /// one. The time is linear in the other file.
     ///
     /// # Errors

@@ -1,4 +1,4 @@
-//! Another store's sections and items put behind those of a store.
+//! Another store's sections and items, added to those of a store.
 ghost use Rattle.std.specs.Prelude.{◌≡◌, ◌⊎◌, ◌↔◌, ◌+◌, ◌-◌, ◌<◌, ◌≤◌, ◌^◌, ◌++◌, length, IfErr, IfOk, IsErrOf, OnErr, OnOk};
 ghost use Rattle.gitconf_text.specs.LineEnds.{bytes_of_line_end};
 ghost use Rattle.gitconf_lines.specs.Buffers.{Grows};
@@ -17,7 +17,7 @@ use gitconf_sections::sections::SectionList;
 use gitconf_text::line_end::LineEnd;
 use gitconf_text::parse::span;
 
-/// The items that others are put behind at a place: what is held behind the section there, or the front where there is no section.
+/// The items that others are put after at a place: what is held after the section there, or the front if there is no section.
 fn items_at<'a>(front: &'a [Item], sections: &'a SectionList, at: usize) -> &'a [Item]
     requires { at ≤ length sections.now.entries - 1 }
     ensures { result.now ≡ kept_at at front.now sections.now.entries }
@@ -29,7 +29,7 @@ fn items_at<'a>(front: &'a [Item], sections: &'a SectionList, at: usize) -> &'a 
     }
 }
 
-/// Puts a line end behind the bytes of a buffer, or nothing where it has no bytes, and answers where it stands.
+/// Adds a line ending to a buffer, or nothing if it has no bytes, and returns its span.
 ///
 /// # Errors
 ///
@@ -48,7 +48,7 @@ fn put_line_end(buffer: &mut Vec<u8>, line_end: &[u8]) -> Result<Option<Span>, s
     }
 }
 
-/// Puts a line end and other bytes behind those of a buffer, and copies behind copies; and answers where the line end stands.
+/// Adds a line ending and other bytes to a buffer, and copies to copies; and returns the span of the line ending.
 ///
 /// # Errors
 ///
@@ -75,7 +75,7 @@ fn put_bytes(
 }
 
 impl Store {
-    /// The line end that goes between the items at a place and another's front; no bytes where none goes there.
+    /// The line ending that goes between the items at a place and another's front; no bytes if none is needed.
     fn line_at(&self, at: usize, line_end: LineEnd, other: &Store) -> &'static [u8]
         requires { at ≤ length self.now.sections - 1 }
         ensures bytes { result.now ≡ line_at at (bytes_of_line_end line_end) other.now self.now }
@@ -89,12 +89,12 @@ impl Store {
         }
     }
 
-    /// Asks whether [`Store::put_at`] may put another file behind ours, and answers the line end that then goes between; no bytes where none
-    /// goes there. Takes no memory.
+    /// Checks whether [`Store::put_at`] may add another file to ours, and returns the line ending that then goes between; no bytes if none
+    /// is needed. Takes no memory.
     ///
     /// # Errors
     ///
-    /// A [`span::Error`], number 3, exactly where [`Store::put_at`] has it.
+    /// A [`span::Error`], number 3, if and only if [`Store::put_at`] returns it.
     pub(crate) fn check_put(
         &self,
         at: usize,
@@ -116,17 +116,17 @@ impl Store {
         Ok(line_end)
     }
 
-    /// Puts the sections of another file behind all others, in their order and under the next numbers. The other's front is held behind the
-    /// section at a place, or joins our front where we have no section; the line end goes between where there are items that don't end with
+    /// Adds the sections of another file after all others, in their order and under the next numbers. The other's front is held after the
+    /// section at a place, or joins our front if we have no section; the line ending goes between if there are items that don't end with
     /// one, and the other's don't begin with one.
     ///
-    /// The other's bytes go behind the buffer's, and its spans are moved in one pass: the time is linear in the other file. Takes memory for
+    /// The other's bytes are added to the buffer, and its spans are moved in one pass: the time is linear in the other file. Takes memory for
     /// the bytes, the names and the places.
     ///
     /// # Errors
     ///
-    /// A [`span::Error`]: number 3 exactly where the buffer would be longer than 4294967295 bytes or fewer numbers are left than the other
-    /// has sections, before any growth, and else 27 for want of memory. The other is then dropped, and the file as it was, but that its
+    /// A [`span::Error`]: number 3 if and only if the buffer would be longer than 4294967295 bytes or fewer numbers are left than the other
+    /// has sections, before any growth, otherwise 27 when out of memory. The other is then dropped, and the file as it was, except that its
     /// buffer may have grown.
     pub(crate) fn put_at(
         &mut self,
@@ -171,17 +171,17 @@ impl Store {
         )
     }
 
-    /// Puts the sections of another file behind all others, in their order and under the next numbers. The other's front is held behind our
-    /// last section, or joins our front where we have none; a line end goes between where there are items that don't end with one, and the
+    /// Adds the sections of another file after all others, in their order and under the next numbers. The other's front is held after our
+    /// last section, or joins our front if we have no section; a line ending goes between if there are items that don't end with one, and the
     /// other's don't begin with one.
     ///
-    /// The other's bytes go behind the buffer's, and its spans are moved in one pass: the time is linear in the other file, but for a walk
-    /// up to our first line end. Takes memory for the bytes, the names and the places.
+    /// The other's bytes are added to the buffer, and its spans are moved in one pass: the time is linear in the other file, except for a
+    /// walk up to our first line ending. Takes memory for the bytes, the names and the places.
     ///
     /// # Errors
     ///
-    /// A [`span::Error`]: number 3 exactly where the buffer would be longer than 4294967295 bytes or fewer numbers are left than the other
-    /// has sections, before any growth, and else 27 for want of memory. The other is then dropped, and the file as it was, but that its
+    /// A [`span::Error`]: number 3 if and only if the buffer would be longer than 4294967295 bytes or fewer numbers are left than the other
+    /// has sections, before any growth, otherwise 27 when out of memory. The other is then dropped, and the file as it was, except that its
     /// buffer may have grown.
     pub fn append(&mut self, other: Store) -> Result<(), span::Error>
         ensures ok { OnOk result (self.new ≡ with_used self.new.used (apply (Append other) self.old)) }

@@ -1,4 +1,4 @@
-//! Items at several places of a section that go at once.
+//! Items at several places of a section, removed at once.
 ghost use Rattle.std.specs.Prelude.{◌≡◌, ◌≤◌, ◌++◌, ◌∷◌, [], length, drop};
 ghost use Rattle.gitconf_sections.specs.LeavingOut.{Ascend};
 ghost use Rattle.gitconf_store.specs.LeavingOut.{AreIn};
@@ -6,7 +6,8 @@ ghost use Rattle.gitconf_store.specs.LeavingOut.{AreIn};
 use crate::store::Store;
 use gitconf_table::table::SectionId;
 
-/// How many places stand before the last run: those in the section of the last one, each of which stands before the next one.
+/// How many places come before the last run: the last run is of places in the section of the last one, each of which comes before the next
+/// one.
 pub(crate) fn before_run(before: &[(SectionId, usize)], id: SectionId, last: usize) -> usize
     ensures within { result ≤ length before.now }
     ensures ascend { Ascend 0 (drop result (before.now ++ (id, last) ∷ [])) }
@@ -34,7 +35,7 @@ impl Store {
         requires are_in { AreIn id places.now }
         ensures { self.new ≡ all_deleted places.now self.old }
     {
-        // No number stands twice.
+        // The contract of `next_id` says that no number was given twice.
         prove!(self.sections.next_id() == self.sections.next_id());
         let Some(at) = self.sections.position(id) else {
             return;

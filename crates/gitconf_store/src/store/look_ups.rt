@@ -1,4 +1,4 @@
-//! Look-ups of a key: each by the names of the section, the subsection and the value, and with a filter of sections.
+//! Lookups of a key: each by the names of the section, the subsection and the value, with a filter of sections.
 ghost use Rattle.std.specs.Fn.{ComputesKey};
 ghost use Rattle.std.specs.List.{list_any};
 ghost use Rattle.std.specs.Option.{option_copied, option_map};
@@ -21,7 +21,7 @@ use gitconf_text::NoMemory;
 use gitconf_views::section::SectionRef;
 
 impl Store {
-    /// The entry that decides in the last of the passing sections where one does. Takes no memory.
+    /// The entry that decides in the last of the passing sections in which one does. Takes no memory.
     fn find<F: FnMut(&Metadata) -> bool>(
         &self,
         section_name: &str,
@@ -33,7 +33,7 @@ impl Store {
         requires { F.IsAlwaysCallable filter }
         ensures exact { (keeps : Meta → Bool) → ComputesKey F.FnMut keeps filter
             → option_map place_of result ≡ last_place deciding value_name.now keeps (sections_named section_name.now (option_copied subsection_name.entry) self.now) }
-        // Whatever the filter answers.
+        // For any filter.
         ensures some { WithSome (λ s. option_map place_of result
             ≡ last_place deciding value_name.now (λ _. true) (sections_named section_name.now (option_copied subsection_name.entry) s)) self.now }
     {
@@ -52,7 +52,7 @@ impl Store {
         requires { F.IsAlwaysCallable filter }
         ensures exact { (keeps : Meta → Bool) → ComputesKey F.FnMut keeps filter
             → AreFound result (all_places value_name.now keeps (sections_named section_name.now (option_copied subsection_name.entry) self.now)) }
-        // Whatever the filter answers.
+        // For any filter.
         ensures some { WithSome (λ s. AreFound result
             (all_places value_name.now (λ _. true) (sections_named section_name.now (option_copied subsection_name.entry) s))) self.now }
     {
@@ -61,14 +61,14 @@ impl Store {
         all_found(alloc, sections, value_name.as_bytes(), filter)
     }
 
-    /// Whether a section has the name. Takes no memory.
+    /// Whether some section has the name. Takes no memory.
     fn has_section(&self, section_name: &str) -> bool
         ensures { result ≡ list_any (has_name section_name.now) (listed self.now) }
     {
         self.sections.with_name(section_name).next().is_some()
     }
 
-    /// Whether a section has the name and the subsection. Takes no memory.
+    /// Whether some section has the name and the subsection. Takes no memory.
     fn has_subsection(&self, section_name: &str, subsection_name: Option<&[u8]>) -> bool
         ensures { result ≡ list_any (is_named section_name.now (option_copied subsection_name.entry)) (listed self.now) }
     {
@@ -76,7 +76,7 @@ impl Store {
         sections.next().is_some()
     }
 
-    /// Why a look-up in the sections of a name and subsection finds nothing. Takes no memory.
+    /// Why a lookup in the sections of a name and subsection finds nothing. Takes no memory.
     pub(crate) fn miss(&self, section_name: &str, subsection_name: Option<&[u8]>) -> existing::Error
         ensures { result ≡ missing (miss_of section_name.now (option_copied subsection_name.entry) (listed self.now)) }
     {
@@ -105,15 +105,15 @@ impl Store {
         }
     }
 
-    /// The meaning of the last value of a key, or `None` where there is none: that of the last section that has the name,
+    /// The meaning of the last value of a key, or `None` if there is none: that of the last section that has the name,
     /// without ASCII case, and exactly the subsection, whose metadata passes the filter, and whose last entry of the
     /// key has a value. No entry of the front is found.
     ///
-    /// It walks over the sections of the name from the last one on, up to that one. A miss takes no memory.
+    /// It walks over the sections of the name from the last one up to that one. A miss takes no memory.
     ///
     /// # Errors
     ///
-    /// Want of memory for the answer.
+    /// Out of memory for the result.
     pub fn string_filter_by<F: FnMut(&Metadata) -> bool>(
         &self,
         section_name: &str,
@@ -122,10 +122,10 @@ impl Store {
         filter: F,
     ) -> Result<Option<BString>, NoMemory>
         requires { F.IsAlwaysCallable filter }
-        // For a filter that answers by what it is shown.
+        // For a filter whose result depends only on what it is shown.
         ensures exact { (keeps : Meta → Bool) → ComputesKey F.FnMut keeps filter
             → IsString (key_at section_name.now (option_copied subsection_name.entry) value_name.now) keeps self.now result }
-        // Whatever the filter answers.
+        // For any filter.
         ensures some { WithSome (λ s. IsString (key_at section_name.now (option_copied subsection_name.entry) value_name.now) (λ _. true) s result) self.now }
     {
         let found = self.find(
@@ -138,14 +138,14 @@ impl Store {
         text(*self.buffer.allocator(), &found)
     }
 
-    /// What the last entry of a key means in the last passing section that has one: `None` where none has, `Some(None)` where
+    /// What the last entry of a key means in the last passing section that has one: `None` if none has, `Some(None)` if
     /// that entry has no value. Sections are found as by [`Store::string_filter_by`].
     ///
-    /// It walks over the sections of the name from the last one on, up to that one. A miss takes no memory.
+    /// It walks over the sections of the name from the last one up to that one. A miss takes no memory.
     ///
     /// # Errors
     ///
-    /// Want of memory for the answer.
+    /// Out of memory for the result.
     pub fn value_implicit_filter_by<F: FnMut(&Metadata) -> bool>(
         &self,
         section_name: &str,
@@ -154,10 +154,10 @@ impl Store {
         filter: F,
     ) -> Result<Option<Option<BString>>, NoMemory>
         requires { F.IsAlwaysCallable filter }
-        // For a filter that answers by what it is shown.
+        // For a filter whose result depends only on what it is shown.
         ensures exact { (keeps : Meta → Bool) → ComputesKey F.FnMut keeps filter
             → IsImplicit (key_at section_name.now (option_copied subsection_name.entry) value_name.now) keeps self.now result }
-        // Whatever the filter answers.
+        // For any filter.
         ensures some { WithSome (λ s. IsImplicit (key_at section_name.now (option_copied subsection_name.entry) value_name.now) (λ _. true) s result) self.now }
     {
         let found = self.find(
@@ -170,14 +170,14 @@ impl Store {
         implicit_text(*self.buffer.allocator(), &found)
     }
 
-    /// The meanings of all values of a key in the passing sections, in file order, or `None` where there are none. An entry
+    /// The meanings of all values of a key in the passing sections, in file order, or `None` if there are none. An entry
     /// without a value counts as empty. Sections are found as by [`Store::string_filter_by`].
     ///
     /// It walks over the sections of the name. A miss takes no memory.
     ///
     /// # Errors
     ///
-    /// Want of memory for the answer.
+    /// Out of memory for the result.
     pub fn strings_filter_by<F: FnMut(&Metadata) -> bool>(
         &self,
         section_name: &str,
@@ -186,10 +186,10 @@ impl Store {
         filter: F,
     ) -> Result<Option<Vec<BString>>, NoMemory>
         requires { F.IsAlwaysCallable filter }
-        // For a filter that answers by what it is shown.
+        // For a filter whose result depends only on what it is shown.
         ensures exact { (keeps : Meta → Bool) → ComputesKey F.FnMut keeps filter
             → AreStrings (key_at section_name.now (option_copied subsection_name.entry) value_name.now) keeps self.now result }
-        // Whatever the filter answers.
+        // For any filter.
         ensures some { WithSome (λ s. AreStrings (key_at section_name.now (option_copied subsection_name.entry) value_name.now) (λ _. true) s result) self.now }
     {
         let found = self.find_all(section_name, subsection_name, value_name, filter);
@@ -200,8 +200,8 @@ impl Store {
     ///
     /// # Errors
     ///
-    /// Refusals 7, 8 and 9 where there is none: no section has the name, none of these has the subsection, or none of these that
-    /// pass has such a value. Refusal 27 for want of memory for the answer.
+    /// Refusals 7, 8 and 9 if there is none: no section has the name, none of these has the subsection, or none of these that
+    /// pass has such a value. Refusal 27 when out of memory for the result.
     pub fn raw_value_filter_by<F: FnMut(&Metadata) -> bool>(
         &self,
         section_name: &str,
@@ -210,22 +210,22 @@ impl Store {
         filter: F,
     ) -> Result<BString, existing::Error>
         requires { F.IsAlwaysCallable filter }
-        // For a filter that answers by what it is shown.
+        // For a filter whose result depends only on what it is shown.
         ensures exact { (keeps : Meta → Bool) → ComputesKey F.FnMut keeps filter
             → IsRawValue (key_at section_name.now (option_copied subsection_name.entry) value_name.now) keeps self.now result }
-        // Whatever the filter answers.
+        // For any filter.
         ensures some { IsSomeRawValue (key_at section_name.now (option_copied subsection_name.entry) value_name.now) self.now result }
     {
         let found = self.string_filter_by(section_name, subsection_name, value_name, filter);
         self.existing(section_name, subsection_name, found)
     }
 
-    /// The meaning of the last value of a key, and the section in which it stands, found as by [`Store::string_filter_by`].
+    /// The meaning of the last value of a key, and its section, found as by [`Store::string_filter_by`].
     ///
     /// # Errors
     ///
-    /// Refusals 7, 8 and 9 where there is none: no section has the name, none of these has the subsection, or none of these that
-    /// pass has such a value. Refusal 27 for want of memory for the answer.
+    /// Refusals 7, 8 and 9 if there is none: no section has the name, none of these has the subsection, or none of these that
+    /// pass has such a value. Refusal 27 when out of memory for the result.
     pub fn raw_value_with_section_filter_by<F: FnMut(&Metadata) -> bool>(
         &self,
         section_name: &str,
@@ -234,10 +234,10 @@ impl Store {
         filter: F,
     ) -> Result<(BString, SectionRef<'_>), existing::Error>
         requires { F.IsAlwaysCallable filter }
-        // For a filter that answers by what it is shown.
+        // For a filter whose result depends only on what it is shown.
         ensures exact { (keeps : Meta → Bool) → ComputesKey F.FnMut keeps filter
             → IsRawValueWithSection (key_at section_name.now (option_copied subsection_name.entry) value_name.now) keeps self.now result }
-        // Whatever the filter answers.
+        // For any filter.
         ensures some { IsSomeRawValueWithSection (key_at section_name.now (option_copied subsection_name.entry) value_name.now) self.now result }
     {
         let found = self.find(
@@ -255,8 +255,8 @@ impl Store {
     ///
     /// # Errors
     ///
-    /// Refusals 7, 8 and 9 where there is none: no section has the name, none of these has the subsection, or none of these that
-    /// pass has such a value. Refusal 27 for want of memory for the answer.
+    /// Refusals 7, 8 and 9 if there is none: no section has the name, none of these has the subsection, or none of these that
+    /// pass has such a value. Refusal 27 when out of memory for the result.
     pub fn raw_values_filter_by<F: FnMut(&Metadata) -> bool>(
         &self,
         section_name: &str,
@@ -265,23 +265,23 @@ impl Store {
         filter: F,
     ) -> Result<Vec<BString>, existing::Error>
         requires { F.IsAlwaysCallable filter }
-        // For a filter that answers by what it is shown.
+        // For a filter whose result depends only on what it is shown.
         ensures exact { (keeps : Meta → Bool) → ComputesKey F.FnMut keeps filter
             → AreRawValues (key_at section_name.now (option_copied subsection_name.entry) value_name.now) keeps self.now result }
-        // Whatever the filter answers.
+        // For any filter.
         ensures some { AreSomeRawValues (key_at section_name.now (option_copied subsection_name.entry) value_name.now) self.now result }
     {
         let found = self.strings_filter_by(section_name, subsection_name, value_name, filter);
         self.existing(section_name, subsection_name, found)
     }
 
-    /// The meanings of all values of a key, each with the section in which it stands, found as by
+    /// The meanings of all values of a key, each with its section, found as by
     /// [`Store::strings_filter_by`]: one or more.
     ///
     /// # Errors
     ///
-    /// Refusals 7, 8 and 9 where there is none: no section has the name, none of these has the subsection, or none of these that
-    /// pass has such a value. Refusal 27 for want of memory for the answer.
+    /// Refusals 7, 8 and 9 if there is none: no section has the name, none of these has the subsection, or none of these that
+    /// pass has such a value. Refusal 27 when out of memory for the result.
     pub fn raw_values_with_sections_filter_by<F: FnMut(&Metadata) -> bool>(
         &self,
         section_name: &str,
@@ -290,10 +290,10 @@ impl Store {
         filter: F,
     ) -> Result<Vec<(BString, SectionRef<'_>)>, existing::Error>
         requires { F.IsAlwaysCallable filter }
-        // For a filter that answers by what it is shown.
+        // For a filter whose result depends only on what it is shown.
         ensures exact { (keeps : Meta → Bool) → ComputesKey F.FnMut keeps filter
             → AreRawValuesWithSections (key_at section_name.now (option_copied subsection_name.entry) value_name.now) keeps self.now result }
-        // Whatever the filter answers.
+        // For any filter.
         ensures some { AreSomeRawValuesWithSections (key_at section_name.now (option_copied subsection_name.entry) value_name.now) self.now result }
     {
         let found = self.find_all(section_name, subsection_name, value_name, filter);

@@ -1,4 +1,4 @@
-//! Sections that are made.
+//! Making sections.
 use crate::store::Store;
 use gitconf_body::section;
 use gitconf_lines::blanks::Blanks;
@@ -21,16 +21,16 @@ impl Store {
     ghost use Rattle.gitconf_store.specs.NewSections.{IsSectionChecked};
     ghost use Rattle.gitconf_store.specs.Renamings.{header_numbers};
 
-    /// Makes a section behind all others, its body one line end, the file's; it has the file's metadata. Answers its number.
+    /// Makes a section after all others, whose body is one line ending, the file's; it has the file's metadata. Returns its number.
     ///
-    /// A walk over the file's items up to the first line end. Takes memory for what is put into the buffer, for the items, and for the
+    /// A walk over the file's items up to the first line ending. Takes memory for what is added to the buffer, for the items, and for the
     /// section's place.
     ///
     /// # Errors
     ///
-    /// Refusal 4 for a name that a section can't be made of, else 5 for a subsection that it can't be made of; 3 where the buffer would
-    /// be longer than 4294967295 bytes, which is asked before any growth, or there is no number left; 27 for want of memory. The file is
-    /// then as it was, but that its buffer may have grown.
+    /// Refusal 4 for a name that a section can't be made of, otherwise 5 for a subsection that it can't be made of; 3 if the buffer would
+    /// be longer than 4294967295 bytes, which is checked before any growth, or there is no number left; 27 when out of memory. The file is
+    /// then as it was, except that its buffer may have grown.
     pub fn new_section(
         &mut self,
         name: &str,
@@ -69,11 +69,11 @@ impl Store {
         Ok(id)
     }
 
-    /// Asks whether [`Store::new_section`] may make a section. Takes no memory; a walk over the file's items up to the first line end.
+    /// Checks whether [`Store::new_section`] may make a section. Takes no memory; a walk over the file's items up to the first line ending.
     ///
     /// # Errors
     ///
-    /// Refusals 4 and 5, each exactly where [`Store::new_section`] has it; else 3 exactly where the buffer would be longer than
+    /// Refusals 4 and 5, each if and only if [`Store::new_section`] returns it; otherwise 3 if and only if the buffer would be longer than
     /// 4294967295 bytes or no number is left.
     pub fn check_new_section(&self, name: &str, subsection_name: Option<&[u8]>) -> Result<(), Error>
         ensures { IsSectionChecked name.now (option_copied subsection_name.entry) self.now result }
@@ -87,11 +87,11 @@ impl Store {
         Ok(())
     }
 
-    /// The blanks that an editor of a body without entries has.
+    /// The blanks that an editor of a body without entries writes.
     ///
     /// # Errors
     ///
-    /// Want of memory.
+    /// Out of memory.
     pub fn fresh_blanks(&self) -> Result<Blanks, NoMemory>
         ensures { IfOk result (λ blanks. blanks ≡ spacing_of []) }
     {

@@ -1,4 +1,4 @@
-//! Sections of a store that are found by their numbers, and taken out.
+//! Sections of a store, found by their numbers, and removed.
 ghost use Rattle.std.specs.Fn.{ComputesKey};
 ghost use Rattle.std.specs.Option.{option_copied, option_map};
 ghost use Rattle.std.specs.Prelude.{◌≡◌, Bool, OnErr, OnOk, true};
@@ -22,7 +22,7 @@ impl Store {
     pub fn section_by_id(&self, id: SectionId) -> Option<SectionRef<'_>>
         ensures { option_map shown result ≡ numbered id self.now }
     {
-        // No number was given twice.
+        // The contract of `next_id` says that no number was given twice.
         prove!(self.sections.next_id() == self.sections.next_id());
         match self.sections.get(id) {
             Some(section) => Some(SectionRef {
@@ -39,19 +39,19 @@ impl Store {
         }
     }
 
-    /// Takes out the section of a number, if there is one. Takes no memory.
+    /// Removes the section of a number, if there is one. Takes no memory.
     fn take_out(&mut self, id: SectionId)
         ensures { self.new ≡ apply (RemoveNumbered id) self.old }
     {
         self.sections.remove(id);
     }
 
-    /// Takes out the section of a number, and hands it out with a buffer of its own; `None` where there is none. What is held behind it is
-    /// dropped. Its bytes and items are copied once, and all places behind it are told anew.
+    /// Removes the section of a number, and returns it with a buffer of its own; `None` if there is none. What is held after it is
+    /// dropped. Its bytes and items are copied once, and the places of all sections after it are updated.
     ///
     /// # Errors
     ///
-    /// Want of memory for the copy. The file is then as it was.
+    /// Out of memory for the copy. The file is then as it was.
     pub fn remove_section_by_id(
         &mut self,
         id: SectionId,
@@ -70,9 +70,9 @@ impl Store {
         }
     }
 
-    /// Takes out the last section of the name, without ASCII case, and exactly the subsection, whose metadata passes the filter, and hands
-    /// it out as [`Store::remove_section_by_id`] does; `None` where none passes. The filter is asked of the sections of these names
-    /// from the last one on, up to that one.
+    /// Removes the last section of the name, without ASCII case, and exactly the subsection, whose metadata passes the filter, and returns
+    /// it as [`Store::remove_section_by_id`] does; `None` if none passes. The filter is called for the sections of these names
+    /// from the last one up to that one.
     ///
     /// # Errors
     ///
@@ -84,12 +84,12 @@ impl Store {
         filter: F,
     ) -> Result<Option<detached::Section>, NoMemory>
         requires { F.IsAlwaysCallable filter }
-        // For a filter that answers by what it is shown.
+        // For a filter whose result depends only on what it is shown.
         ensures ok { (keeps : Meta → Bool) → ComputesKey F.FnMut keeps filter
             → OnOk result (self.new ≡ apply (RemoveSection name.now (option_copied subsection_name.entry) keeps) self.old) }
         ensures taken { (keeps : Meta → Bool) → ComputesKey F.FnMut keeps filter
             → IsTakenOut (picked name.now (option_copied subsection_name.entry) keeps self.old) result self.old self.new }
-        // Whatever the filter answers.
+        // For any filter.
         ensures some { WithSome (λ s. IsTakenOut (picked name.now (option_copied subsection_name.entry) (λ _. true) s) result self.old self.new) self.old }
         ensures err { OnErr result (self.new ≡ self.old) }
     {

@@ -1,4 +1,4 @@
-//! Sections of a store that are renamed.
+//! Renaming sections of a store.
 ghost use Rattle.std.specs.Fn.{ComputesKey};
 ghost use Rattle.std.specs.List.{list_any};
 ghost use Rattle.std.specs.Option.{option_copied};
@@ -26,7 +26,7 @@ use gitconf_text::parse::section::header::{Error as HeaderError, validate};
 use gitconf_text::parse::span;
 
 impl Store {
-    /// Gives the sections at these places one header that is made. All growth comes before any change.
+    /// Gives the sections at these places one header that is made. Everything that can fail comes before any change.
     fn put_header(
         &mut self,
         places: &[usize],
@@ -53,17 +53,17 @@ impl Store {
         Ok(())
     }
 
-    /// Gives the section of a number another name and subsection, by a header that is made: the name as given, and a subsection in quotes
-    /// behind a space. All else stays as it is; where no section has the number, all does. Later look-ups find it by its new names.
+    /// Gives the section of a number another name and subsection, with a header that is made: the name as given, and a subsection in quotes
+    /// after a space. All else stays as it is; if no section has the number, everything does. Later lookups find it by its new names.
     ///
     /// Takes time for the bytes of the names, and for the sections that have the new name, by an index; memory for the header and the
     /// names.
     ///
     /// # Errors
     ///
-    /// Refusal 4 exactly where a byte of the name is no letter, digit or dash, else 5 exactly where the subsection has LF or NUL; both
-    /// also where no section has the number. Then 3 exactly where the buffer would be longer than 4294967295 bytes, before any growth;
-    /// 27 for want of memory. The file is then as it was, but that its buffer may have grown.
+    /// Refusal 4 if and only if a byte of the name is not a letter, digit or dash, otherwise 5 if and only if the subsection has LF or NUL;
+    /// both also if no section has the number. Then 3 if and only if the buffer would be longer than 4294967295 bytes, before any growth;
+    /// 27 when out of memory. The file is then as it was, except that its buffer may have grown.
     pub fn rename(
         &mut self,
         id: SectionId,
@@ -80,7 +80,7 @@ impl Store {
         ensures known { IfErr result (λ e. list_any (λ number. number == header_number e) header_numbers ≡ true) }
     {
         validate(name.as_bytes(), subsection_name)?;
-        // No number was given twice.
+        // The contract of `next_id` says that no number was given twice.
         prove!(self.sections.next_id() == self.sections.next_id());
         let Some(at) = self.sections.position(id) else {
             return Ok(());
@@ -89,7 +89,7 @@ impl Store {
         Ok(())
     }
 
-    /// Asks whether a header may be made of a name and a subsection, and put into the buffer. Takes no memory.
+    /// Checks whether a header may be made of a name and a subsection, and added to the buffer. Takes no memory.
     fn check_header(&self, name: &str, subsection_name: Option<&[u8]>) -> Result<(), HeaderError>
         ensures { IsHeaderChecked name.now (option_copied subsection_name.entry) self.now.used result }
     {
@@ -118,16 +118,16 @@ impl Store {
     }
 
     /// Gives all sections that have the name, without ASCII case, and exactly the subsection, and whose metadata passes the filter, another
-    /// name and subsection, as [`Store::rename`] does. The filter is asked of the sections of these names, in file order; where the new
-    /// names are refused, from the last one on, up to the first that passes.
+    /// name and subsection, as [`Store::rename`] does. The filter is called for the sections of these names, in file order; if the new
+    /// names are refused, from the last one up to the first that passes.
     ///
     /// Walks over the sections of these names and over those that have the new name, by an index, and over no others. The new header
-    /// stands in the buffer once; memory is taken for it, for the names and for the places of the sections.
+    /// is in the buffer once; memory is taken for it, for the names and for the places of the sections.
     ///
     /// # Errors
     ///
-    /// Refusal 7 where no section has the name, 8 where none of these has the subsection, 9 where none passes; then those of
-    /// [`Store::rename`]. The file is then as it was, but that its buffer may have grown.
+    /// Refusal 7 if no section has the name, 8 if none of these has the subsection, 9 if none passes; then those of
+    /// [`Store::rename`]. The file is then as it was, except that its buffer may have grown.
     pub fn rename_section_filter<F: FnMut(&Metadata) -> bool>(
         &mut self,
         name: &str,
@@ -137,10 +137,10 @@ impl Store {
         filter: F,
     ) -> Result<(), rename_section::Error>
         requires { F.IsAlwaysCallable filter }
-        // For a filter that answers by what it is shown.
+        // For a filter whose result depends only on what it is shown.
         ensures exact { (keeps : Meta → Bool) → ComputesKey F.FnMut keeps filter
             → IsRenamed name.now (option_copied subsection_name.entry) keeps new_name.now (option_copied new_subsection_name.entry) result self.old self.new }
-        // Whatever the filter answers.
+        // For any filter.
         ensures some { OnOk result (AreSomeRenamed name.now (option_copied subsection_name.entry) new_name.now (option_copied new_subsection_name.entry) self.old self.new) }
         ensures err { OnErr result (self.new ≡ with_used self.new.used self.old) }
         ensures grown { self.new.used ≤ self.old.used + header_bytes new_name.now (option_copied new_subsection_name.entry) }
@@ -161,7 +161,7 @@ impl Store {
     }
 }
 
-/// Sections have the names, and none of them passes.
+/// The refusal if sections have the names, and none of them passes.
 fn missing() -> rename_section::Error
     ensures { result ≡ Lookup KeyMissing }
 {

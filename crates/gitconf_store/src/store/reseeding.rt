@@ -1,11 +1,11 @@
-//! Words of names that are made from another seed.
+//! Words of names, made from another seed.
 ghost use Rattle.std.specs.Prelude.{◌≡◌};
 
 use crate::store::Store;
 
 impl Store {
-    /// Makes the words by which sections are found from another seed, as [`gitconf_table::table::SectionTable::reseed`] does: takes no memory, and
-    /// one pass over the sections' names. No answer rests on the seed.
+    /// Makes the words by which sections are found from another seed, as [`gitconf_table::table::SectionTable::reseed`] does: takes no
+    /// memory, and one pass over the sections' names. No result depends on the seed.
     pub fn reseed(&mut self, seed: u64)
         ensures { self.new ≡ self.old }
     {

@@ -1,4 +1,4 @@
-//! Several values of entries that stand: set anew, deleted, and what they mean.
+//! Several values of existing entries: set again, deleted, and what they mean.
 use crate::set_raw_value;
 use crate::store::Store;
 use crate::store::leaving_out::before_run;
@@ -16,16 +16,16 @@ impl Store {
     ghost use Rattle.gitconf_finding.specs.Lookups.{key_at, texts_of};
     ghost use Rattle.gitconf_store.specs.Several.{all_deleted, all_meanings, meaning_of_place, AreRewritten, AreSetExisting};
 
-    /// Writes the entries at places anew, the first one with the first value and so on, up to the end of the shorter list. A place is the
-    /// number of a section, and a place among the items of its body, counted in items from the first one, 0. Each entry has the key as it
-    /// is given, and `=` with the blanks around it that its section has when it is written, and the value as a file spells it; nothing
-    /// stays of its old value. All else stays as it is, and so do the places of entries. Where no section has the number, all does.
-    ///
-    /// Each section is found in constant time, and walked over once an entry. Takes memory for what is put into the buffer.
+    /// Writes the entries at places again, the first one with the first value and so on, up to the end of the shorter list. A place is the
+    /// number of a section, and a place among the items of its body, counted in items from 0. Each entry has the key as it
+    /// is given, `=` with the blanks around it that its section uses when it is written, and the value as a file spells it; nothing
+    /// stays of its old value. All else stays as it is, and so do the places of entries. If no section has the number, everything does.
+    /// Each section is found in constant time, and walked over once for each entry. Takes memory for what is added to the buffer.
+    /// Each section is found in constant time, and walked over once an entry. Takes memory for what is added to the buffer.
     ///
     /// # Errors
     ///
-    /// Those of [`Store::push_entry`]. The entries before the one that was refused have their values then, and no other is changed.
+    /// Those of [`Store::push_entry`]. The entries before the one that was refused then have their values, and no other is changed.
     pub fn rewrite_entries_at(
         &mut self,
         places: &[(SectionId, usize)],
@@ -69,10 +69,10 @@ impl Store {
     }
 
     /// Deletes the items at places, the last one first, so that those before it keep their places; each alone, as
-    /// [`Store::delete_entry_at`] does. Is never refused, and takes no memory.
+    /// [`Store::delete_entry_at`] does. It can't fail, and takes no memory.
     ///
-    /// Places of one section that stand next to each other in the list, each before the next one in the section, go at once: the section
-    /// is found in constant time, and walked over once. So for places in order each section that they are in is walked over once.
+    /// Places of one section that are next to each other in the list, each before the next one in the section, are removed at once: the
+    /// section is found in constant time, and walked over once. So for places in order each section that they are in is walked over once.
     #[tactic(auto, using(crate::proofs::LeavingOut::leaving))]
     pub fn delete_entries_at(&mut self, places: &[(SectionId, usize)])
         ensures { self.new ≡ all_deleted places.now self.old }
@@ -85,7 +85,7 @@ impl Store {
         }
     }
 
-    /// What the entry at a place means; without `=` it is empty, and where none stands.
+    /// What the entry at a place means; empty without `=`, and if no entry is there.
     fn meaning_or_empty(&self, place: (SectionId, usize)) -> Result<BString, NoMemory>
         ensures { IfOk result (λ text. bstring_bytes text ≡ meaning_of_place self.now place) }
     {
@@ -95,11 +95,11 @@ impl Store {
         }
     }
 
-    /// What the entries at places mean, in order; without `=` an entry is empty. Each section is found in constant time.
+    /// What the entries at places mean, in order; an entry without `=` is empty. Each section is found in constant time.
     ///
     /// # Errors
     ///
-    /// Want of memory for the answer.
+    /// Out of memory for the result.
     pub fn meanings_at(&self, places: &[(SectionId, usize)]) -> Result<Vec<BString>, NoMemory>
         ensures { IfOk result (λ texts. texts_of texts ≡ all_meanings places.now self.now) }
     {
@@ -110,19 +110,19 @@ impl Store {
         Ok(texts)
     }
 
-    /// Gives the entries of a key other values, with `=` or without it, in the sections that have the name, without ASCII case, and exactly
-    /// the subsection: the first entry gets the first value and so on, up to the end of the shorter list, in the order of
-    /// [`Store::value_places_filter_by`]. Each is written anew, by the name that is given, with the blanks around `=` that its section has
-    /// then, and the value as a file spells it. All else stays as it is; no entry is made, and none goes.
+    /// Gives the entries of a key other values, whether they have `=` or not, in the sections that have the name, without ASCII case, and
+    /// exactly the subsection: the first entry gets the first value and so on, up to the end of the shorter list, in the order of
+    /// [`Store::value_places_filter_by`]. Each is rewritten, with the name that is given, the blanks around `=` that its section then uses,
+    /// and the value as a file spells it. All else stays as it is; no entry is made, and none removed.
     ///
     /// It walks over the sections of the names and over their items, puts the places in order, and walks over a section once more for each
-    /// entry that is written. Takes memory for the places, and for what is put into the buffer.
+    /// entry that is written. Takes memory for the places, and for what is added to the buffer.
     ///
     /// # Errors
     ///
-    /// Refusal 7 where no section has the name, 8 where none of these has the subsection; else 6 for a name of a value that is none; else 9
-    /// where none of these has such an entry; 3 where the buffer would be longer than 4294967295 bytes; 27 for want of memory. The entries
-    /// before the one that was refused have their values then, by 3 or by 27; all else is as it was, but that the buffer may have grown.
+    /// Refusal 7 if no section has the name, 8 if none of these has the subsection; otherwise 6 for an invalid value name; otherwise 9 if
+    /// none of these has such an entry; 3 if the buffer would be longer than 4294967295 bytes; 27 when out of memory. After 3 or 27 the
+    /// entries before the one that was refused have their values; all else is as it was, except that the buffer may have grown.
     pub fn set_existing_raw_multi_value_by(
         &mut self,
         section_name: &str,

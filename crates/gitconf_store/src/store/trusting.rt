@@ -1,4 +1,4 @@
-//! How far a section of a store is trusted.
+//! The trust of a section of a store.
 ghost use Rattle.std.specs.Prelude.{◌≡◌, IfOk, IsOk, None, OnErr, OnOk};
 ghost use Rattle.gitconf_state.specs.Edits.{SetTrust, apply, numbered};
 
@@ -9,20 +9,20 @@ use gitconf_text::NoMemory;
 use gitconf_views::section::trusted;
 
 impl Store {
-    /// Says how far the section of a number is trusted. Its metadata is its own from then on; those of other sections and of the file stay,
-    /// also where they were shared with it. Where no section has the number, nothing is changed.
+    /// Sets how far the section of a number is trusted. Its metadata is its own from then on; that of other sections and of the file stays,
+    /// even if it was shared with it. If no section has the number, nothing is changed.
     ///
-    /// Constant time but for the path of the metadata, which is copied.
+    /// Constant time except for the path of the metadata, which is copied.
     ///
     /// # Errors
     ///
-    /// Want of memory, only where a section has the number. The file is then as it was.
+    /// Out of memory, only if a section has the number. The file is then as it was.
     pub fn set_trust(&mut self, id: SectionId, trust: Trust) -> Result<(), NoMemory>
         ensures ok { OnOk result (self.new ≡ apply (SetTrust id trust) self.old) }
         ensures none { numbered id self.old ≡ None → IsOk result }
         ensures err { OnErr result (self.new ≡ self.old) }
     {
-        // No number was given twice.
+        // The contract of `next_id` says that no number was given twice.
         prove!(self.sections.next_id() == self.sections.next_id());
         let Some(at) = self.sections.position(id) else {
             return Ok(());

@@ -1,4 +1,4 @@
-//! Entries at a place in the section of a number, on which an editor of values stands.
+//! Entries at a place in the section of a number, for the editors of values.
 use crate::store::Store;
 use bstr::BString;
 use gitconf_base::meta::Metadata;
@@ -28,16 +28,16 @@ impl Store {
     ghost use Rattle.gitconf_finding.specs.Lookups.{IsFound, key_at};
     ghost use Rattle.gitconf_finding.specs.ValuePlaces.{all_stand, editor_of_numbered, meaning_at, AreSomeValuePlaces, AreValuePlaces, IsSomeValuePlace, IsValuePlace};
 
-    /// Where the last entry of a key stands, with `=` or without it, in the last section that has one, of those that have the name,
+    /// The place of the last entry of a key, with `=` or without it, in the last section that has one, of those that have the name,
     /// without ASCII case, and exactly the subsection, and whose metadata passes the filter: the number of the section, and the entry's
-    /// place among the items of its body, counted in items from the first one, 0.
+    /// place among the items of its body, counted in items from 0.
     ///
-    /// It walks over the sections of the name from the last one on, up to that one. Takes no memory.
+    /// It walks over the sections of the name from the last one up to that one. Takes no memory.
     ///
     /// # Errors
     ///
-    /// Refusal 7 where no section has the name, 8 where none of these has the subsection; else 6 for a name of a value that is none; else 9
-    /// where none of these that pass has such an entry.
+    /// Refusal 7 if no section has the name, 8 if none of these has the subsection; otherwise 6 for an invalid value name; otherwise 9
+    /// if none of these that pass has such an entry.
     pub fn value_place_filter_by<F: FnMut(&Metadata) -> bool>(
         &self,
         section_name: &str,
@@ -46,11 +46,11 @@ impl Store {
         filter: F,
     ) -> Result<(SectionId, usize), existing::Error>
         requires { F.IsAlwaysCallable filter }
-        // For a filter that answers by what it is shown.
+        // For a filter whose result depends only on what it is shown.
         ensures exact { (keeps : Meta → Bool) → ComputesKey F.FnMut keeps filter
             → IsValuePlace (key_at section_name.now (option_copied subsection_name.entry) value_name.now) keeps self.now result }
         ensures stands { IfOk result (λ place. list_any (λ s. s.number == place.0) self.now.sections ≡ true) }
-        // Whatever the filter answers.
+        // For any filter.
         ensures some { IsSomeValuePlace (key_at section_name.now (option_copied subsection_name.entry) value_name.now) self.now result }
     {
         self.check_named(section_name, subsection_name)?;
@@ -65,16 +65,16 @@ impl Store {
         }
     }
 
-    /// Where all entries of a key stand, with `=` or without it, in the sections that have the name, without ASCII case, and exactly the
-    /// subsection, and whose metadata passes the filter: of each the number of the section, and the entry's place among the items of its
-    /// body, counted in items from the first one, 0. They are in the order of the numbers, and in each section in that of the places.
+    /// The places of all entries of a key, with `=` or without it, in the sections that have the name, without ASCII case, and exactly the
+    /// subsection, and whose metadata passes the filter: for each the number of the section, and the entry's place among the items of its
+    /// body, counted in items from 0. They are in the order of the numbers, and in each section in that of the places.
     ///
-    /// It walks over the sections of the name and over their items, and puts the places in order. Takes memory for them.
+    /// It walks over the sections of the name and over their items, and sorts the places. Takes memory for them.
     ///
     /// # Errors
     ///
-    /// Refusal 7 where no section has the name, 8 where none of these has the subsection; else 6 for a name of a value that is none; else 9
-    /// where none of these that pass has such an entry; else 27 for want of memory.
+    /// Refusal 7 if no section has the name, 8 if none of these has the subsection; otherwise 6 for an invalid value name; otherwise 9
+    /// if none of these that pass has such an entry; otherwise 27 when out of memory.
     pub fn value_places_filter_by<F: FnMut(&Metadata) -> bool>(
         &self,
         section_name: &str,
@@ -83,12 +83,12 @@ impl Store {
         filter: F,
     ) -> Result<Vec<(SectionId, usize)>, existing::Error>
         requires { F.IsAlwaysCallable filter }
-        // For a filter that answers by what it is shown.
+        // For a filter whose result depends only on what it is shown.
         ensures exact { (keeps : Meta → Bool) → ComputesKey F.FnMut keeps filter
             → AreValuePlaces (key_at section_name.now (option_copied subsection_name.entry) value_name.now) keeps self.now result }
         ensures stand { IfOk result (λ places. all_stand places.items self.now ≡ true) }
         ensures name { IfOk result (λ _. is_value_name value_name.now ≡ true) }
-        // Whatever the filter answers.
+        // For any filter.
         ensures some { AreSomeValuePlaces (key_at section_name.now (option_copied subsection_name.entry) value_name.now) self.now result }
     {
         self.check_named(section_name, subsection_name)?;
@@ -106,12 +106,12 @@ impl Store {
         Ok(places)
     }
 
-    /// What the entry means that stands at a place in the section of a number; without `=` it is empty. `None` where no entry stands there,
+    /// What the entry at a place in the section of a number means; without `=` it is empty. `None` if no entry is there,
     /// or no section has the number. The section is found in constant time.
     ///
     /// # Errors
     ///
-    /// Want of memory for the answer, only where there is an entry.
+    /// Out of memory for the result, only if there is an entry.
     pub fn meaning_at(&self, id: SectionId, place: usize) -> Result<Option<BString>, NoMemory>
         ensures { IsFound bstring_bytes result (told_of id (meaning_at place) self.now) }
     {
@@ -121,12 +121,12 @@ impl Store {
         }
     }
 
-    /// Writes an entry at a place among the items of the section of a number, which is counted in items from the first one, 0; behind all
-    /// of them where there are fewer. The entry has the key as it is given, and `=` with the editor's blanks around it and the value as a
-    /// file spells it. It stands in place of the entry there, as it is asked for; where no entry stands there, it stands before what does.
-    /// All else stays as it is; where no section has the number, all does.
+    /// Writes an entry at a place among the items of the section of a number, counted in items from 0; after all
+    /// of them if there are fewer. The entry has the key as it is given, and `=` with the editor's blanks around it and the value as a
+    /// file spells it. It replaces the entry there, as `in_place_of` says; if no entry is there, it comes before what is there.
+    /// All else stays as it is; if no section has the number, everything does.
     ///
-    /// The section is found in constant time. Takes memory for what is put into the buffer, and for at most one item more.
+    /// The section is found in constant time. Takes memory for what is added to the buffer, and for at most one more item.
     ///
     /// # Errors
     ///
@@ -148,7 +148,7 @@ impl Store {
         ensures err { OnErr result (self.new ≡ with_used self.new.used self.old) }
         ensures used { PutsIn id result (written_put editor.now key.now value.now) self.old self.new }
     {
-        // No number stands twice.
+        // The contract of `next_id` says that no number was given twice.
         prove!(self.sections.next_id() == self.sections.next_id());
         let Some(at) = self.sections.position(id) else {
             return Ok(());
@@ -168,8 +168,8 @@ impl Store {
         written
     }
 
-    /// As [`Store::write_entry_at`], with the blanks around `=` that the section has: those around its first one; none where it has
-    /// entries, but no `=`; and a space and a space where it has no entry. One walk over its items more.
+    /// As [`Store::write_entry_at`], with the blanks around `=` that the section uses: those around its first one; none if it has
+    /// entries, but no `=`; and a space and a space if it has no entry. One more walk over its items.
     ///
     /// # Errors
     ///
@@ -187,9 +187,10 @@ impl Store {
             (apply (WriteAt id (editor_of_numbered id self.old) place (stands in_place_of) (keeps_line_end in_place_of) key.now value.now) self.old)) }
         ensures err { OnErr result (self.new ≡ with_used self.new.used self.old) }
         ensures used { PutsIn id result (rewritten_put key.now value.now (items_of_numbered id self.old)) self.old self.new }
-        // Only an entry of a section that stands is refused.
+        // If no section has the number, it can't fail.
         ensures missing { numbered id self.old ≡ None → IsOk result }
     {
+        // The contract of `next_id` says that no number was given twice.
         prove!(self.sections.next_id() == self.sections.next_id());
         let Some(at) = self.sections.position(id) else {
             return Ok(());
@@ -209,9 +210,9 @@ impl Store {
         written
     }
 
-    /// Deletes the item at a place among those of the section of a number, which is counted in items from the first one, 0. All else
-    /// stays as it is, also the blanks and line ends around it; where the section has fewer items, or no section has the number, all
-    /// does. Is never refused, and takes no memory. The section is found in constant time.
+    /// Deletes the item at a place among those of the section of a number, counted in items from 0. All else
+    /// stays as it is, even the blanks and line endings around it; if the section has fewer items, or no section has the number, everything
+    /// does. It can't fail, and takes no memory. The section is found in constant time.
     pub fn delete_entry_at(&mut self, id: SectionId, place: usize)
         ensures { self.new ≡ apply (DeleteAt id place) self.old }
     {

@@ -1,4 +1,4 @@
-//! The sections of a store, walked over and looked up by name.
+//! The sections of a store, walked over and found by name.
 
 use crate::store::Store;
 use gitconf_base::meta::Metadata;
@@ -21,8 +21,8 @@ impl Store {
     ghost use Rattle.gitconf_finding.specs.SomeSections.{IsSomeSection};
     ghost use Rattle.gitconf_finding.specs.Walks.{named_left, and_held_left, and_ids_by_name_left, and_ids_left, by_name_left, section_ids_left, with_held, with_id, with_name};
 
-    /// The sections that have the name, without ASCII case, and any subsection, in file order; `None` where there is none.
-    /// The sections are found by an index: constant time but for the bytes of the names, and no memory.
+    /// The sections that have the name, without ASCII case, and any subsection, in file order; `None` if there is none.
+    /// The sections are found by an index: constant time except for the bytes of the names, and no memory.
     pub fn sections_by_name<'a, 'n>(&'a self, name: &'n str) -> Option<SectionsByName<'a, 'n>>
         ensures none { IsNone result ↔ (with_name name.now self.now.sections ≡ []) }
         ensures left { IfSome result (λ it. by_name_left it ≡ with_name name.now self.now.sections) }
@@ -51,7 +51,7 @@ impl Store {
         }
     }
 
-    /// As [`Store::sections_by_name`], those alone whose metadata passes the filter. Where sections have the name and none
+    /// As [`Store::sections_by_name`], but only those whose metadata passes the filter. If sections have the name and none
     /// passes, the walk is empty.
     pub fn sections_by_name_and_filter<'a, 'n, F: FnMut(&Metadata) -> bool + Drop>(
         &'a self,
@@ -86,7 +86,7 @@ impl Store {
         }
     }
 
-    /// The sections in file order, each with the events of what is held behind it, which stood before the first section of a
+    /// The sections in file order, each with the events of what is held after it, which came before the first section of a
     /// file that was appended or included.
     pub fn sections_and_postmatter(&self) -> SectionsAndPostmatter<'_>
         ensures { and_held_left result ≡ map with_held self.now.sections }
@@ -111,7 +111,7 @@ impl Store {
         }
     }
 
-    /// Whether there is a section of the name and subsection; refused as what is missing where there is none.
+    /// Whether there is a section of the name and subsection; if not, the refusal says what is missing.
     pub(crate) fn check_named(
         &self,
         name: &str,
@@ -132,12 +132,12 @@ impl Store {
     }
 
     /// The last section of the name, without ASCII case, and exactly the subsection, whose metadata passes the filter; `None` where
-    /// none of them passes. The sections are found by an index, and the filter is asked of them from the last one on, up to that
+    /// none of them passes. The sections are found by an index, and the filter is called for them from the last one up to that
     /// one. Takes no memory.
     ///
     /// # Errors
     ///
-    /// Refusal 7 where no section has the name, 8 where none of these has the subsection.
+    /// Refusal 7 if no section has the name, 8 if none of these has the subsection.
     pub fn section_filter<F: FnMut(&Metadata) -> bool>(
         &self,
         name: &str,
@@ -147,10 +147,10 @@ impl Store {
         requires { F.IsAlwaysCallable filter }
         ensures refused { IfErr result (IsMissing name.now (option_copied subsection_name.entry) self.now) }
         ensures found { IfOk result (λ _. HasSection name.now (option_copied subsection_name.entry) self.now) }
-        // For a filter that answers by what it is shown.
+        // For a filter whose result depends only on what it is shown.
         ensures exact { (keeps : Meta → Bool) → ComputesKey F.FnMut keeps filter
             → IsPassingSection name.now (option_copied subsection_name.entry) keeps self.now result }
-        // Whatever the filter answers.
+        // For any filter.
         ensures some { IsSomeSection name.now (option_copied subsection_name.entry) self.now result }
     {
         self.check_named(name, subsection_name)?;

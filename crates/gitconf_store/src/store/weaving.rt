@@ -1,4 +1,4 @@
-//! Sections that were put behind the others go where they belong.
+//! Sections that were added at the end are moved to where they belong.
 ghost use Rattle.std.specs.Prelude.{◌≡◌, ◌-◌, ◌≤◌, length};
 ghost use Rattle.gitconf_table.specs.Runs.{woven, AreRuns};
 
@@ -6,7 +6,7 @@ use crate::store::Store;
 use gitconf_table::runs::Run;
 
 impl Store {
-    /// Weaves the sections from `first` on among those before them: of each run so many of the first ones, and then so many of the
+    /// Weaves the sections from `first` on among those before them: for each run that many of the first ones, and then that many of the
     /// others. Their numbers and what they hold stay. Takes no memory, and time for all sections: those between the runs are moved
     /// once for each time that the runs can be halved. No bytes and no items are moved.
     pub fn weave(&mut self, first: usize, runs: &[Run])

@@ -1,4 +1,4 @@
-//! Places that get another word: each is taken out of its bucket's chain and put into the other's.
+//! Places that get another word: each is removed from its bucket's chain and put into the other's.
 ghost use Rattle.std.specs.Prelude.{◌≡◌, ◌≢◌, ℕ, ◌+◌, ◌<◌, ◌≤◌, length, slice_set, vec_capacity, vec_len};
 ghost use Rattle.std.specs.List.{AllByRecursion};
 ghost use Rattle.gitconf_table.specs.Links.{bucket_of, no_place, words_of, AreLinked, IsBehindLast, IsFirst, IsLed};
@@ -8,7 +8,7 @@ ghost use Rattle.gitconf_table.specs.Walk.{bucket_at};
 
 use crate::index::{Bucket, Link, bucket_of, lead};
 
-// Where a place stands in a chain: what is directly behind the previous place of the bucket, or 0, and the next place, or
+// Where a place is in a chain: one more than the previous place of the bucket, or 0, and the next place, or
 // the greatest number.
 #[derive(Clone, Copy)]
 struct Gap {
@@ -16,7 +16,7 @@ struct Gap {
     next: u32,
 }
 
-// Where nothing stands before `behind`, the bucket leads on to the place.
+// If nothing comes before `behind`, makes the bucket lead on to the place.
 fn lead_bucket(buckets: &mut [Bucket], bucket: usize, behind: u32, at: u32)
     requires { bucket < length buckets.old }
     ensures { LeadsOn buckets.old bucket behind at buckets.new }
@@ -26,7 +26,7 @@ fn lead_bucket(buckets: &mut [Bucket], bucket: usize, behind: u32, at: u32)
     }
 }
 
-// Leads back from the place, if there is one, to what stands before `behind`.
+// Makes the place, if there is one, lead back to what comes before `behind`.
 fn lead_back(links: &mut [Link], at: u32, behind: u32)
     ensures words { words_of links.new ≡ words_of links.old }
     ensures led { IsLedBack links.old at behind links.new }
@@ -36,7 +36,7 @@ fn lead_back(links: &mut [Link], at: u32, behind: u32)
     }
 }
 
-// Where there is no such place among so many, the bucket leads back to what stands before `behind`.
+// If there is no such place among `count`, makes the bucket lead back to what comes before `behind`.
 fn lead_bucket_back(buckets: &mut [Bucket], bucket: usize, count: usize, at: u32, behind: u32)
     requires { bucket < length buckets.old }
     ensures { LeadsBack buckets.old bucket count at behind buckets.new }
@@ -46,7 +46,7 @@ fn lead_bucket_back(buckets: &mut [Bucket], bucket: usize, count: usize, at: u32
     }
 }
 
-// Takes the place out of its chain: those beside it lead to each other.
+// Removes the place from its chain: those beside it lead to each other.
 fn take_out(links: &mut [Link], buckets: &mut [Bucket], at: u32)
     requires within { at < length links.old }
     requires long { length links.old ≤ no_place }
@@ -87,7 +87,7 @@ fn put_in(links: &mut [Link], buckets: &mut [Bucket], at: u32, word: u32, gap: G
     lead_bucket_back(buckets, bucket, links.len(), next, at + 1);
 }
 
-// Where a place of another bucket would stand in the chain of a bucket. Walks from what stands before `from`.
+// Where a place of another bucket would be in the chain of a bucket. Walks from what comes before `from`.
 fn find_gap(links: &[Link], buckets: &[Bucket], bucket: usize, from: u32, at: u32) -> Gap
     requires within { at < length links.now }
     requires long { length links.now ≤ no_place }
@@ -108,7 +108,7 @@ fn find_gap(links: &[Link], buckets: &[Bucket], bucket: usize, from: u32, at: u3
     Gap { behind, next }
 }
 
-// The first place of a bucket behind the one before `from`, which is of it, or the first of all.
+// The first place of a bucket after the one before `from`, which is in it, or the first of all.
 fn first_from(links: &[Link], buckets: &[Bucket], bucket: usize, from: u32) -> u32
     requires within { from ≤ length links.now }
     requires bucket { bucket < length buckets.now }
@@ -123,8 +123,8 @@ fn first_from(links: &[Link], buckets: &[Bucket], bucket: usize, from: u32) -> u
     }
 }
 
-// Puts a word at the place, and the place into the word's chain. A walk along that chain from what stands before `from`, or,
-// where the place stands before that, from its front.
+// Puts a word at the place, and the place into the word's chain. Takes a walk along that chain from what comes before `from`, or,
+// if the place comes before that, from its front.
 fn move_one(links: &mut [Link], buckets: &mut [Bucket], at: u32, word: u32, from: u32)
     requires within { at < length links.old }
     requires long { length links.old ≤ no_place }
@@ -145,7 +145,7 @@ fn move_one(links: &mut [Link], buckets: &mut [Bucket], at: u32, word: u32, from
     put_in(links, buckets, at, word, gap);
 }
 
-// Puts a word at all these places, each behind a walk along the word's chain from where the one before it stands.
+// Puts a word at all these places, each after a walk along the word's chain from where the one before it is.
 fn move_places(links: &mut [Link], buckets: &mut [Bucket], places: &[usize], word: u32)
     requires within { AllByRecursion (λ at. at < length (words_of links.old)) places.now }
     requires long { length links.old ≤ no_place }

@@ -11,8 +11,8 @@ use gitconf_text::NoMemory;
 
 impl<T> SectionTable<T> {
     /// Gives the sections at all these places other names, `name` in ASCII lower case; their numbers, their places and what
-    /// they hold stay. Takes memory for the names once. Where the places ascend, takes time for them and, once, for the
-    /// sections that have the new name, or share a bucket with them; no other sections are looked at. For want of memory the
+    /// they hold stay. Takes memory for the names once. If the places ascend, takes time for them and, once, for the
+    /// sections that have the new name, or share a bucket with them; no other sections are looked at. When out of memory the
     /// table is as it was.
     pub fn rename_each(
         &mut self,

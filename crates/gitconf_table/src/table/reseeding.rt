@@ -1,4 +1,4 @@
-//! Words of names that are made from another seed.
+//! Words of names, made from another seed.
 ghost use Rattle.std.specs.Prelude.{◌≡◌, ◌+◌, ◌≤◌, length, map, vec_len};
 ghost use Rattle.gitconf_table.specs.Rows.{entries_of};
 ghost use Rattle.gitconf_table.specs.Tables.{word_of_name, word_of_names};
@@ -9,10 +9,10 @@ use crate::table::{Row, SectionTable};
 use crate::word::{full_state, name_state, word_of};
 
 impl<T> SectionTable<T> {
-    /// Makes the words by which names are found from another seed, in place. Nothing that the table answers rests on the seed;
-    /// what does is the time of a look-up in a table whose names were made to share words or buckets. A table begins with a
-    /// seed that everyone may know. Who reads the text of a stranger draws one that the stranger can't know, where the names
-    /// are in. Takes no memory, and one pass over the sections and the bytes of their names.
+    /// Makes the words by which names are found from another seed, in place. Nothing that the table returns depends on the seed;
+    /// only the time of lookups does, if names were chosen to share words or buckets. A table begins with a
+    /// seed that everyone can know. A program that loads untrusted text should draw a seed that its author can't know, once the
+    /// names are in. Takes no memory, and one pass over the sections and the bytes of their names.
     pub fn reseed(&mut self, seed: u64)
         ensures { self.new ≡ self.old }
     {

@@ -1,4 +1,4 @@
-//! Sections that were put behind all others go where they belong.
+//! Sections that were added at the end are moved to where they belong.
 ghost use Rattle.std.specs.Prelude.{◌≡◌, ◌-◌, ◌≤◌, length};
 ghost use Rattle.gitconf_table.specs.Runs.{woven, AreRuns};
 

@@ -6,7 +6,7 @@ use std::alloc::{AllocError, AllocFailed};
 use std::fmt;
 use std::marker::Model;
 
-/// A place past byte 4294967295, or no section number left; or a growth was refused.
+/// A place past byte 4294967295, no section number left, or a refused growth.
 #[derive(Clone, Copy, Debug, PartialEq, Eq, PartialOrd, Ord)]
 pub struct Error {
     cause: Cause,
@@ -26,7 +26,7 @@ impl Model for Error {
 impl Error {
     ghost use Rattle.std.specs.Prelude.{◌==◌};
 
-    /// The refusal of what passes the limit.
+    /// The refusal of a place or a number that passes the limit.
     pub fn too_large() -> Error
         ensures { result ≡ 3 }
     {
@@ -35,14 +35,14 @@ impl Error {
         }
     }
 
-    /// The refusal's number: 3, or 27 where memory was wanting.
+    /// The refusal's number: 3, or 27 when memory ran out.
     pub fn number(&self) -> u8
         ensures { result ≡ self.now }
     {
         self.cause.number(3)
     }
 
-    /// Whether memory was wanting. It is for the crates above this one, whose own errors have a case for that.
+    /// Whether memory ran out. It is for the crates above this one, whose own errors have a case for that.
     pub fn is_memory(&self) -> bool
         ensures { result ≡ (self.now == 27) }
     {

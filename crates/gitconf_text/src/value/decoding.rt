@@ -9,7 +9,7 @@ use crate::memory::NoMemory;
 use std::alloc::Global;
 use std::borrow::CowSlice;
 
-/// What the byte behind a backslash stands for.
+/// What the byte after a backslash stands for.
 fn escape_meaning(b: u8) -> u8
     ensures { result ≡ escape_meaning b }
 {
@@ -21,7 +21,7 @@ fn escape_meaning(b: u8) -> u8
     }
 }
 
-/// Quotes stand first and last, the last not behind a backslash.
+/// Whether the first and the last byte are quotes, and the last doesn't follow a backslash.
 #[tactic(auto, using(crate::proofs::ValuesPlain::enclosed_at))]
 fn is_enclosed(text: &[u8]) -> bool
     ensures { result ≡ spec.is_enclosed text.now }
@@ -42,7 +42,7 @@ fn stripped(text: &[u8]) -> &[u8]
     left
 }
 
-/// Whether a byte of the text doesn't stand for itself.
+/// Whether the text has a byte that doesn't stand for itself.
 #[tactic(auto, using(crate::proofs::ValuesPlain::coding))]
 fn has_coded_byte(text: &[u8]) -> bool
     ensures { result ≡ list_any spec.is_coded text.now }
@@ -89,19 +89,19 @@ fn decoded(alloc: Global, text: &[u8]) -> Result<Vec<u8>, NoMemory>
     Ok(out)
 }
 
-/// The meaning of a raw value, as a file spells it behind `=`.
+/// The meaning of a raw value, as a file spells it after `=`.
 ///
-/// Unescaped quotes are dropped, `\n`, `\t` and `\b` stand for LF, tab and byte 8, any other byte behind a backslash
-/// for itself, and a lone last backslash for nothing. (The manual page of `git-config`, section "Syntax", tells the
-/// escapes; what bytes mean that no file may hold is the Rust crate's.)
+/// Unescaped quotes are dropped, `\n`, `\t` and `\b` stand for LF, tab and byte 8, any other byte after a backslash
+/// for itself, and a lone backslash at the end for nothing. (The escapes are those of the manual page of `git-config`,
+/// section "Syntax"; what bytes mean that no file may hold is the Rust crate's rule.)
 ///
-/// Quotes that enclose the whole are stripped first, as often as they stand, which leaves the meaning as it is. Where
-/// neither a quote nor a backslash is left then, the answer is a part of `input`, and takes no memory. Else it takes
-/// memory once, no more than `input.len()` bytes. The time is linear in `input.len()`.
+/// Quotes that enclose the whole are stripped first, as often as there are some, which leaves the meaning as it is. If
+/// neither a quote nor a backslash is left then, the result is a part of `input`, and takes no memory. Otherwise it takes
+/// memory once, at most `input.len()` bytes. The time is linear in `input.len()`.
 ///
 /// # Errors
 ///
-/// Only where memory is wanting, and never where the answer is a part of `input`.
+/// Only when out of memory, and never if the result is a part of `input`.
 #[tactic(auto, using(crate::proofs::ValuesPlain::normalizing))]
 pub fn normalize(alloc: Global, input: &[u8]) -> Result<CowSlice<'_, u8>, NoMemory>
     ensures meaning { IfOk result (λ it. cow_slice_items it ≡ plain input.now) }

@@ -8,7 +8,7 @@ ghost use Rattle.gitconf_text.specs.Value as spec;
 use crate::memory::NoMemory;
 use std::alloc::Global;
 
-/// Whether white space stands first.
+/// Whether the first byte is white space.
 fn begins_white(bytes: &[u8]) -> bool
     ensures { result ≡ text.begins is_whitespace bytes.now }
 {
@@ -18,7 +18,7 @@ fn begins_white(bytes: &[u8]) -> bool
     }
 }
 
-/// Whether white space stands last.
+/// Whether the last byte is white space.
 fn ends_white(bytes: &[u8]) -> bool
     ensures { result ≡ text.ends is_whitespace bytes.now }
 {
@@ -47,14 +47,14 @@ fn escaped_byte_len(b: u8) -> usize
     }
 }
 
-/// How a value is written: whether in quotes, and with how many bytes but for these.
+/// How a value is written: whether in quotes, and with how many bytes apart from them.
 #[derive(Drop)]
 struct Spelling {
     quoted: bool,
     length: usize,
 }
 
-/// Reads the bytes once.
+/// How these bytes are written. It reads them once.
 fn spelling_of(bytes: &[u8]) -> Spelling
     ensures quoted { result.quoted ≡ spec.needs_quotes bytes.now }
     ensures exact { result.length ≡ length (flat_map spec.escaped_byte bytes.now) }
@@ -108,7 +108,7 @@ fn put_bytes(out: &mut Vec<u8>, bytes: &[u8])
     }
 }
 
-/// How many bytes [`escape`] writes; the greatest number where they are more. It reads `bytes` once, and takes no memory.
+/// How many bytes [`escape`] writes, or `usize::MAX` if there are more. It reads `bytes` once and takes no memory.
 #[tactic(auto, using(crate::proofs::ValuesEscaped::escaping))]
 pub fn escaped_len(bytes: &[u8]) -> usize
     ensures { result ≡ min (length (spec.escaped bytes.now)) (2 ^ 64 - 1) }
@@ -121,15 +121,15 @@ pub fn escaped_len(bytes: &[u8]) -> usize
     }
 }
 
-/// Appends a value as a file spells it, whose meaning is `bytes`.
+/// Appends the value whose meaning is `bytes`, as a file spells it.
 ///
-/// LF, tab, `"` and `\` are written as `\n`, `\t`, `\"` and `\\`, all other bytes as they are. Quotes stand round the
-/// whole where its first or last byte is ASCII white space, or a byte is `;` or `#` (the Rust crate's rule). It reads
+/// LF, tab, `"` and `\` are written as `\n`, `\t`, `\"` and `\\`, all other bytes as they are. The whole is put in quotes
+/// if its first or last byte is ASCII white space, or a byte is `;` or `#` (the Rust crate's rule). It reads
 /// `bytes` twice, once for the room that it needs, and asks for memory once.
 ///
 /// # Errors
 ///
-/// Only where memory is wanting: `out` had no room, and is as before.
+/// Only when out of memory: `out` had no room, and is as before.
 #[tactic(auto, using(crate::proofs::ValuesEscaped::escaping))]
 pub fn append_escaped(out: &mut Vec<u8>, bytes: &[u8]) -> Result<(), NoMemory>
     ensures ok { OnOk result (out.new.items ≡ out.old.items ++ spec.escaped bytes.now) }
@@ -152,13 +152,13 @@ pub fn append_escaped(out: &mut Vec<u8>, bytes: &[u8]) -> Result<(), NoMemory>
     Ok(())
 }
 
-/// The value as a file spells it, whose meaning is `bytes`, in memory of its own.
+/// The value whose meaning is `bytes`, as a file spells it, in memory of its own.
 ///
 /// It is what `append_escaped` appends, at the same cost.
 ///
 /// # Errors
 ///
-/// Only where memory is wanting, and never where there are no bytes.
+/// Only when out of memory, and never if there are no bytes.
 #[tactic(auto, using(crate::proofs::ValuesEscaped::escaping))]
 pub fn escape(alloc: Global, bytes: &[u8]) -> Result<Vec<u8>, NoMemory>
     ensures ok { IfOk result (λ it. it.items ≡ spec.escaped bytes.now) }

@@ -1,4 +1,4 @@
-//! How a value is refused by the type that it is to have.
+//! Why a value doesn't have the type that is asked for.
 ghost use Rattle.std.specs.Prelude.{◌≡◌, Some, codes};
 ghost use Rattle.bstr.specs.Owned.{bstring_bytes};
 ghost use Rattle.gitconf_text.specs.ValueErrors.{refused, value_error_text, wanting};
@@ -15,10 +15,10 @@ struct Told {
     input: BString,
 }
 
-/// A value that is no boolean or no integer, or overflows: refusal 11. Or a growth was refused: refusal 27.
+/// A value that is not a boolean or not an integer, or an integer that is too large: refusal 11. Or a refused growth: refusal 27.
 #[derive(Debug, Drop)]
 pub struct Error {
-    /// None where memory was wanting.
+    /// None when memory ran out.
     told: Option<Told>,
 }
 
@@ -31,7 +31,7 @@ impl Model for Error {
 }
 
 impl Error {
-    /// The refusal of bytes that are no boolean. It keeps them, and takes no memory.
+    /// The refusal of bytes that are not a boolean. It keeps them and takes no memory.
     pub fn not_a_boolean(input: BString) -> Error
         ensures { result ≡ refused (codes "not a boolean") (bstring_bytes input) }
     {
@@ -43,7 +43,7 @@ impl Error {
         }
     }
 
-    /// The refusal of bytes that are no integer. It keeps them, and takes no memory.
+    /// The refusal of bytes that are not an integer. It keeps them and takes no memory.
     pub fn not_an_integer(input: BString) -> Error
         ensures { result ≡ refused (codes "not an integer") (bstring_bytes input) }
     {
@@ -55,7 +55,7 @@ impl Error {
         }
     }
 
-    /// The refusal of an integer that 64 bits with a sign don't hold. It keeps its bytes, and takes no memory.
+    /// The refusal of an integer that a signed 64-bit integer can't hold. It keeps its bytes and takes no memory.
     pub fn overflow(input: BString) -> Error
         ensures { result ≡ refused (codes "Integer overflow") (bstring_bytes input) }
     {
@@ -67,7 +67,7 @@ impl Error {
         }
     }
 
-    /// The refusal's number: 11, or 27 where memory was wanting.
+    /// The refusal's number: 11, or 27 when memory ran out.
     pub fn number(&self) -> u8
         ensures { result ≡ self.now.number }
     {
@@ -77,7 +77,7 @@ impl Error {
         }
     }
 
-    /// What is wrong with the input; empty where memory was wanting.
+    /// What is wrong with the input; empty when memory ran out.
     pub fn message(&self) -> &str
         ensures { result.now ≡ self.now.message }
     {
@@ -87,7 +87,7 @@ impl Error {
         }
     }
 
-    /// The bytes that were refused; none where memory was wanting.
+    /// The bytes that were refused; none when memory ran out.
     pub fn input(&self) -> &[u8]
         ensures { result.now ≡ self.now.input }
     {

@@ -14,7 +14,7 @@ use std::marker::Model;
 use std::str::Utf8Error;
 use thiserror::Error;
 
-/// What the shorthands of a path stand for. What is `None` can't be asked for, and a path that needs it is refused.
+/// What the shorthands of a path stand for. What is `None` is not known, and a path that needs it is refused.
 /// The default has nothing.
 #[derive(Clone, Copy, Default)]
 pub struct Context<'a> {
@@ -26,13 +26,13 @@ pub struct Context<'a> {
     pub home_for_user: Option<&'a Homes>,
 }
 
-/// How a path is refused whose shorthand is to be replaced.
+/// Why the shorthand of a path can't be replaced.
 #[derive(Debug, Drop, Error)]
 pub enum Error {
-    /// The path is empty, or a folder, a table of users or a user is not there: refusal 12.
+    /// The path is empty, or a folder, the table of users or a user is not known: refusal 12.
     #[error("{what} is missing")]
     Missing { what: &'static str },
-    /// What is left of the path isn't UTF-8: refusal 13.
+    /// The rest of the path isn't UTF-8: refusal 13.
     #[error("Ill-formed UTF-8 in {what}")]
     Utf8Conversion { what: &'static str, err: Utf8Error },
     /// The name of the user isn't UTF-8: refusal 14.
@@ -83,11 +83,11 @@ impl Homes {
         }
     }
 
-    /// Gives a user that folder, in place of the one that was given before. Takes a walk down a tree of the users.
+    /// Gives a user this folder, in place of the one that the user had. Takes a walk down a tree of the users.
     ///
     /// # Errors
     ///
-    /// Want of memory, which comes for a new user alone. The table then is as it was.
+    /// Out of memory, only for a new user. The table is then as it was.
     pub fn insert(&mut self, user: String, folder: String) -> Result<(), NoMemory>
         ensures ok { OnOk result (self.new ≡ with_home (string_bytes user) (string_bytes folder) self.old) }
         ensures err { OnErr result (self.new ≡ self.old) }
@@ -99,7 +99,7 @@ impl Homes {
         put_home(&mut self.folders, user, folder)
     }
 
-    /// The folder of a user, or `None` where it has none. Takes no memory, and a walk down a tree of the users.
+    /// The folder of a user, or `None` if the user has none. Takes no memory, and a walk down a tree of the users.
     pub fn get(&self, user: &str) -> Option<&str>
         ensures { option_copied result ≡ folder_of user.now self.now }
     {
@@ -133,28 +133,28 @@ fn home_of<'a>(folders: &'a BTreeMap<String, String>, user: &str) -> Option<&'a 
     }
 }
 
-/// The bytes as text.
+/// The bytes as text, if they are UTF-8.
 fn text(bytes: &[u8]) -> Result<&str, Utf8Error>
     ensures { Reads result bytes.now }
 {
     str::from_utf8(bytes)
 }
 
-/// What stands behind a beginning.
+/// What follows a beginning of a path, if the path begins with it.
 fn behind<'a>(beginning: &[u8], path: &'a [u8]) -> Option<&'a [u8]>
     ensures { option_copied result ≡ spec.behind beginning.now path.now }
 {
     path.strip_prefix(beginning)
 }
 
-/// Where the first slash stands.
+/// Where the first slash is.
 fn first_slash(text: &[u8]) -> Option<usize>
     ensures { result ≡ position (λ b. b == 47) text.now }
 {
     text.iter().position(|b| *b == b'/')
 }
 
-/// A path by itself.
+/// A path that stands for itself.
 fn plain(alloc: Global, path: &[u8]) -> Result<String, Error>
     ensures { Gives result (spec.plain path.now) }
 {
@@ -167,7 +167,7 @@ fn plain(alloc: Global, path: &[u8]) -> Result<String, Error>
     }
 }
 
-/// What is left of a path, in a folder that has to be there; `what` names it in a refusal.
+/// The rest of a path, in a folder that must be known; `what` names it in a refusal.
 fn below(
     alloc: Global,
     folder: Option<&str>,
@@ -188,7 +188,7 @@ fn below(
     }
 }
 
-/// What is left of a path, in the folder of a user.
+/// The rest of a path, in the folder of a user.
 fn below_user(
     alloc: Global,
     homes: Option<&Homes>,
@@ -208,7 +208,7 @@ fn below_user(
     }
 }
 
-/// A path behind its `~`: that of a user where a slash follows.
+/// A path that begins with `~`: with a slash later on it is in a user's folder.
 fn of_user(
     alloc: Global,
     homes: Option<&Homes>,

@@ -1,4 +1,4 @@
-//! Edits of a section that stands in no file, on which its editor stands.
+//! Edits of a section that is in no file, for its editor.
 ghost use Rattle.std.specs.Prelude.{◌≡◌, IfOk};
 
 use crate::detached::Section;
@@ -29,23 +29,23 @@ impl Section {
     ghost use Rattle.gitconf_views.specs.Growth.{UsedGrows};
     ghost use Rattle.gitconf_lines.specs.Blanks.{given_editor, IsGiven};
 
-    /// The line end that its editor writes: that of its body's first newline, or LF. It stops at the first one.
+    /// The line ending that its editor writes: that of its body's first newline, or LF. It stops at the first one.
     pub fn line_end(&self) -> LineEnd
         ensures { bytes_of_line_end result ≡ section_line_end self.now.section }
     {
         body_line_end(&self.buffer, &self.section.items)
     }
 
-    /// Pushes a line behind the items: the editor's blanks, the key, and where a value is given `=` with the editor's blanks around it and
-    /// the value as a file spells it; then the comment, if one is given, behind a space and `#`, with a space before a first byte that is
-    /// no white space, and each LF turned to a space; then the editor's line end, unless it is switched off. All else stays as it is.
+    /// Pushes a line after the items: the editor's blanks, the key, and if a value is given `=` with the editor's blanks around it and
+    /// the value as a file spells it; then the comment, if one is given, after a space and `#`, with a space before a first byte that is
+    /// not white space, and each LF turned to a space; then the editor's line ending, unless it is switched off. All else stays as it is.
     ///
-    /// It looks at no item. Takes memory for what is put into the buffer, and for the new items.
+    /// It looks at no item. Takes memory for what is added to the buffer, and for the new items.
     ///
     /// # Errors
     ///
-    /// A [`span::Error`]: number 3 exactly where the buffer would be longer than 4294967295 bytes, before any growth, and else 27 for want
-    /// of memory. The section is then as it was, but that its buffer may have grown.
+    /// A [`span::Error`]: number 3 if and only if the buffer would be longer than 4294967295 bytes, before any growth, otherwise 27 when out
+    /// of memory. The section is then as it was, except that its buffer may have grown.
     pub fn push_entry(
         &mut self,
         editor: &Editor<'_>,
@@ -71,9 +71,9 @@ impl Section {
         )
     }
 
-    /// Pushes the editor's line end behind the items, also where it is switched off behind lines. All else stays as it is.
+    /// Pushes the editor's line ending after the items, even if it is switched off after lines. All else stays as it is.
     ///
-    /// It looks at no item. Takes memory for the line end in the buffer, and for the new item.
+    /// It looks at no item. Takes memory for the line ending in the buffer, and for the new item.
     ///
     /// # Errors
     ///
@@ -87,12 +87,12 @@ impl Section {
         push::push_newline(&mut self.buffer, &mut self.section.items, editor)
     }
 
-    /// Gives the last entry of a key another value: what stands behind `=` is replaced, and `=` is put in where there is none, with the
-    /// editor's blanks around it. Where no entry has the key, a line with it is pushed, as [`Section::push_entry`] does. All else stays as
-    /// it is. Answers the raw text of the old value: its pieces joined, not decoded; nothing for an entry without `=`; `None` where there
+    /// Gives the last entry of a key another value: what follows `=` is replaced, and `=` is added if there is none, with the
+    /// editor's blanks around it. If no entry has the key, a line with it is pushed, as [`Section::push_entry`] does. All else stays as
+    /// it is. Returns the raw text of the old value: its pieces joined, not decoded; no bytes for an entry without `=`; `None` if there
     /// was no entry.
     ///
-    /// One walk over the items. Takes memory for the old value, for what is put into the buffer, and for new items.
+    /// One walk over the items. Takes memory for the old value, for what is added to the buffer, and for new items.
     ///
     /// # Errors
     ///
@@ -120,15 +120,15 @@ impl Section {
         )
     }
 
-    /// Takes out the last entry of a key, with the blanks directly before it and the line ends directly behind it. All else stays as it
-    /// is. Answers the raw text of its value: its pieces joined, not decoded; nothing for an entry without `=`. Where no entry has the key,
-    /// nothing is changed, and the answer is `None`.
+    /// Removes the last entry of a key, with the blanks directly before it and the line endings directly after it. All else stays as it
+    /// is. Returns the raw text of its value: its pieces joined, not decoded; no bytes for an entry without `=`. If no entry has the key,
+    /// nothing is changed, and the result is `None`.
     ///
-    /// One walk over the items. Takes memory for the answer alone; no byte is put into the buffer.
+    /// One walk over the items. Takes memory for the result alone; no byte is added to the buffer.
     ///
     /// # Errors
     ///
-    /// Want of memory, only where there is an entry. The section is then as it was.
+    /// Out of memory, only if there is an entry. The section is then as it was.
     pub fn remove_entry(&mut self, key: &[u8]) -> Result<Option<Vec<u8>>, NoMemory>
         ensures ok { OnOk result (self.new ≡ record { section = with_items (removed key.now) self.old.section; used = self.old.used }) }
         ensures answer { IfOk result (λ o. option_map (λ v. v.items) o ≡ old_value key.now self.old.section.items) }
@@ -138,15 +138,15 @@ impl Section {
         take_out::remove(&self.buffer, &mut self.section.items, key)
     }
 
-    /// Takes out the last entry, whatever its key, with the blanks directly before it and all that stands behind it; all that the body
-    /// has, where it has no entry. Answers the key as it is spelled and what its value means; no bytes for an entry without `=`; `None`
-    /// where there is no entry.
+    /// Removes the last entry, whatever its key, with the blanks directly before it and everything after it; everything in the body
+    /// if it has no entry. Returns the key as it is spelled and what its value means; no bytes for an entry without `=`; `None`
+    /// if there is no entry.
     ///
-    /// One walk over the items. Takes memory for the answer and the raw text of the value; no byte is put into the buffer.
+    /// One walk over the items. Takes memory for the result and the raw text of the value; no byte is added to the buffer.
     ///
     /// # Errors
     ///
-    /// Want of memory, only where there is an entry. The section is then as it was.
+    /// Out of memory, only if there is an entry. The section is then as it was.
     pub fn pop_entry(&mut self) -> Result<Option<(Vec<u8>, Vec<u8>)>, NoMemory>
         ensures ok { OnOk result (self.new ≡ record { section = with_items popped self.old.section; used = self.old.used }) }
         ensures answer { IfOk result (λ o. option_map (λ t. (t.0.items, t.1.items)) o ≡ popped_entry self.old.section.items) }
@@ -157,14 +157,14 @@ impl Section {
         take_out::pop(&self.buffer, &mut self.section.items)
     }
 
-    /// Gives it a header that is made of a name and a subsection, as [`Section::new`] makes it. All else stays as it is. One pass over
-    /// both, which takes memory for their text and for a copy of a subsection that is spelled otherwise.
+    /// Gives it a header that is made of a name and a subsection, as [`Section::new`] makes one. All else stays as it is. One pass over
+    /// both, which takes memory for their text and for a decoded copy of a subsection that is spelled differently.
     ///
     /// # Errors
     ///
-    /// `InvalidName` where a byte of the name is no letter, digit or dash, and else `InvalidSubSection` where the subsection holds LF or
-    /// NUL; else `Span`, number 3, exactly where the buffer would be longer than 4294967295 bytes, before any growth, and `Memory` for want
-    /// of memory. The section is then as it was, but that its buffer may have grown.
+    /// `InvalidName` if a byte of the name is not a letter, digit or dash, otherwise `InvalidSubSection` if the subsection holds LF or NUL;
+    /// otherwise `Span`, number 3, if and only if the buffer would be longer than 4294967295 bytes, before any growth, and `Memory` when
+    /// out of memory. The section is then as it was, except that its buffer may have grown.
     pub fn rename(&mut self, name: &str, subsection: Option<&[u8]>) -> Result<(), header::Error>
         ensures ok { OnOk result (self.new.section ≡ renamed name.now (option_copied subsection.entry) self.old.section) }
         ensures invalid_name { IsErrOf result InvalidName ↔ (is_made_name name.now ≡ false) }
@@ -182,11 +182,11 @@ impl Section {
         Ok(())
     }
 
-    /// Gives it another trust. All else stays as it is, and so does what shared its metadata. Takes memory for metadata of its own.
+    /// Gives it another trust. All else stays as it is, and so does metadata that was shared with it. Takes memory for metadata of its own.
     ///
     /// # Errors
     ///
-    /// Want of memory. The section is then as it was.
+    /// Out of memory. The section is then as it was.
     pub fn set_trust(&mut self, trust: Trust) -> Result<(), NoMemory>
         ensures ok { OnOk result (self.new ≡ record { section = with_trust trust self.old.section; used = self.old.used }) }
         ensures err { OnErr result (self.new ≡ self.old) }

@@ -1,4 +1,4 @@
-//! The editor of a section that stands in no file.
+//! The editor of a section that is in no file.
 use crate::detached::Section;
 use crate::detached::writing::text_of;
 use crate::lists::bytes_of;
@@ -12,13 +12,16 @@ use gitconf_text::line_end::LineEnd;
 use gitconf_text::parse::section::header;
 use gitconf_text::parse::span;
 
-/// An editor of a section that stands in no file. What it writes beside names and values stays as it was when the editor was made, also
-/// while the section changes: the blanks before a name, those around `=`, and the line end, that of the section's first newline, or LF.
+/// An editor of a section that is in no file. What it writes besides names and values stays as it was when the editor was made, even
+/// while the section changes: the blanks before a name, those around `=`, and the line ending, that of the section's first newline, or LF.
 pub struct DetachedSectionMut<'a, B: Drop = Blanks> {
+    /// The section that is edited.
     pub section: &'a mut Section,
+    /// The blanks that it writes.
     pub blanks: B,
+    /// The line ending that it writes.
     pub line_end: LineEnd,
-    /// Whether a line end is put behind what is pushed.
+    /// Whether a line ending is added after what is pushed.
     ends: bool,
 }
 
@@ -26,7 +29,7 @@ impl<B: Drop> Drop for DetachedSectionMut<'_, B> {
     ghost use Rattle.std.specs.Prelude.{◌≡◌};
     ghost use Rattle.gitconf_views.specs.AloneEditors.{edited};
 
-    // By hand, so that callers know what the section is when the editor is gone.
+    // Written by hand, so that callers know what the section is after the editor is gone.
     fn drop(self)
         ensures { self.exit.0.now ≡ edited self.entry }
     {
@@ -37,6 +40,7 @@ impl<B: Drop> Drop for DetachedSectionMut<'_, B> {
             ends: _,
         } = self;
         drop(blanks);
+        // The section's loan ends here.
         let _ = section;
     }
 }
@@ -48,11 +52,11 @@ impl Section {
     ghost use Rattle.gitconf_views.specs.contracts.detached.Section.{the_row};
     ghost use Rattle.gitconf_views.specs.AloneEditors.{edited, editor, lent};
 
-    /// An editor of it. One walk over its items, which takes memory for the blanks that it has.
+    /// An editor of it. One walk over its items, which takes memory for the blanks that it uses.
     ///
     /// # Errors
     ///
-    /// Want of memory. The section is then as it was.
+    /// Out of memory. The section is then as it was.
     pub fn to_mut(&mut self) -> Result<DetachedSectionMut<'_>, NoMemory>
         ensures same_section { IfOk result (λ e. lent e ≡ self.entry.ghost_name) }
         ensures same_state { IfOk result (λ e. edited e ≡ self.old) }
@@ -86,14 +90,14 @@ impl<'a> DetachedSectionMut<'a> {
     ghost use Rattle.gitconf_views.specs.AloneEditors.{edited, editor, lent};
     ghost use Rattle.gitconf_views.specs.ValueErrors.{value_number};
 
-    /// Pushes a line behind the section's others: the blanks before a name, the name, and where a value is given `=` with the blanks around it
-    /// and the value, spelled as a file has it; then the line end, unless it is switched off. It looks at no item. Takes memory for what is
-    /// put into the section's buffer, and for the new items.
+    /// Pushes a line after the section's others: the blanks before a name, the name, and if a value is given `=` with the blanks around it
+    /// and the value, as a file spells it; then the line ending, unless it is switched off. It looks at no item. Takes memory for what is
+    /// added to the section's buffer, and for the new items.
     ///
     /// # Errors
     ///
-    /// Refusal 6 exactly for a name that is none; else 3 exactly where the section's buffer would be longer than 4294967295 bytes, before any
-    /// growth, and 27 for want of memory. The section is then as it was, but that its buffer may have grown.
+    /// Refusal 6 if and only if the name is invalid; otherwise 3 if and only if the section's buffer would be longer than 4294967295 bytes,
+    /// before any growth, and 27 when out of memory. The section is then as it was, except that its buffer may have grown.
     pub fn push(&mut self, value_name: &str, value: Option<&[u8]>) -> Result<(), value::Error>
         ensures same_section { lent self.new ≡ lent self.old }
         ensures same_editor { editor self.new ≡ editor self.old }
@@ -104,7 +108,7 @@ impl<'a> DetachedSectionMut<'a> {
         self.section.push_line(&editor, value_name, value, None)
     }
 
-    /// As [`DetachedSectionMut::push`], with a comment behind the value: a space, `#` and the comment, with a space in front where it doesn't
+    /// As [`DetachedSectionMut::push`], with a comment after the value: a space, `#` and the comment, with a space before it if it doesn't
     /// begin with white space, and each LF turned to a space.
     ///
     /// # Errors
@@ -126,11 +130,11 @@ impl<'a> DetachedSectionMut<'a> {
             .push_line(&editor, value_name, value, Some(comment))
     }
 
-    /// Pushes the line end, also where it is switched off behind lines.
+    /// Pushes the line ending, even if it is switched off after lines.
     ///
     /// # Errors
     ///
-    /// Number 3 exactly where the section's buffer would be longer than 4294967295 bytes, and 27 for want of memory. The section is then as
+    /// Number 3 if and only if the section's buffer would be longer than 4294967295 bytes, and 27 when out of memory. The section is then as
     /// it was.
     pub fn push_newline(&mut self) -> Result<(), span::Error>
         ensures same_section { lent self.new ≡ lent self.old }
@@ -141,10 +145,10 @@ impl<'a> DetachedSectionMut<'a> {
         self.section.push_line_end(&editor)
     }
 
-    /// Gives the last entry of the name another value: what stands behind `=` is replaced, and `=` is put in where there is none, with the
-    /// editor's blanks around it. Where no entry has the name, a line with it is pushed, as [`DetachedSectionMut::push`] does. Answers the
-    /// raw text of the old value: its pieces joined, not decoded; nothing for an entry without `=`; `None` where there was no entry. One
-    /// walk over the items. Takes memory for the old value, for what is put into the section's buffer, and for new items.
+    /// Gives the last entry of the name another value: what follows `=` is replaced, and `=` is added if there is none, with the
+    /// editor's blanks around it. If no entry has the name, a line with it is pushed, as [`DetachedSectionMut::push`] does. Returns the
+    /// raw text of the old value: its pieces joined, not decoded; no bytes for an entry without `=`; `None` if there was no entry. One
+    /// walk over the items. Takes memory for the old value, for what is added to the section's buffer, and for new items.
     ///
     /// # Errors
     ///
@@ -160,13 +164,13 @@ impl<'a> DetachedSectionMut<'a> {
         self.section.set_line(&editor, value_name, value)
     }
 
-    /// Takes out the last entry of the name, with the blanks directly before it and the line ends directly behind it. Answers the raw text of
-    /// its value, as [`DetachedSectionMut::set`] does; `None` where there is no such entry. One walk over the items. Takes memory for the
-    /// answer alone.
+    /// Removes the last entry of the name, with the blanks directly before it and the line endings directly after it. Returns the raw text of
+    /// its value, as [`DetachedSectionMut::set`] does; `None` if there is no such entry. One walk over the items. Takes memory for the
+    /// result alone.
     ///
     /// # Errors
     ///
-    /// Want of memory, only where there is an entry. The section is then as it was.
+    /// Out of memory, only if there is an entry. The section is then as it was.
     pub fn remove(&mut self, value_name: &str) -> Result<Option<BString>, NoMemory>
         ensures same_section { lent self.new ≡ lent self.old }
         ensures same_editor { editor self.new ≡ editor self.old }
@@ -179,13 +183,13 @@ impl<'a> DetachedSectionMut<'a> {
         Ok(text_of(old))
     }
 
-    /// Takes out the last entry, whatever its name, with the blanks directly before it and all that stands behind it; all that the body has,
-    /// where it has no entry. Answers the name as it is spelled and what the value means; an empty text for an entry without `=`; `None`
-    /// where there is no entry. One walk over the items. Takes memory for the answer and the raw text of the value.
+    /// Removes the last entry, whatever its name, with the blanks directly before it and everything after it; everything in the body
+    /// if it has no entry. Returns the name as it is spelled and what the value means; an empty text for an entry without `=`; `None`
+    /// if there is no entry. One walk over the items. Takes memory for the result and the raw text of the value.
     ///
     /// # Errors
     ///
-    /// Want of memory, only where there is an entry. The section is then as it was.
+    /// Out of memory, only if there is an entry. The section is then as it was.
     pub fn pop(&mut self) -> Result<Option<(String, BString)>, NoMemory>
         ensures same_section { lent self.new ≡ lent self.old }
         ensures same_editor { editor self.new ≡ editor self.old }
@@ -198,7 +202,7 @@ impl<'a> DetachedSectionMut<'a> {
         Ok(texts_of(popped))
     }
 
-    /// Whether a line end is put behind what is pushed from now on; it is, unless this says otherwise.
+    /// Whether a line ending is added after what is pushed from now on; it is, unless this is set to `false`.
     pub fn set_implicit_newline(&mut self, on: bool) -> &mut Self
         ensures same { result.ghost_name ≡ self.entry.ghost_name }
         ensures same_section { lent result.now ≡ lent self.old }
@@ -209,11 +213,11 @@ impl<'a> DetachedSectionMut<'a> {
         self
     }
 
-    /// Gives the section a header that is made of a name and a subsection, as [`Section::new`] makes it. All else stays as it is.
+    /// Gives the section a header that is made of a name and a subsection, as [`Section::new`] makes one. All else stays as it is.
     ///
     /// # Errors
     ///
-    /// Those of [`Section::new`], number 3 exactly where the section's buffer would be longer than 4294967295 bytes. The section is then as
+    /// Those of [`Section::new`], number 3 if and only if the section's buffer would be longer than 4294967295 bytes. The section is then as
     /// it was.
     pub fn rename(
         &mut self,
@@ -235,11 +239,12 @@ impl<'a> DetachedSectionMut<'a> {
         self.section.rename(name, bytes_of(&subsection_name))
     }
 
-    /// Gives the section another trust. All else stays as it is, and so does what shared its metadata. Takes memory for metadata of its own.
+    /// Gives the section another trust. All else stays as it is, and so does metadata that was shared with it. Takes memory for metadata of
+    /// its own.
     ///
     /// # Errors
     ///
-    /// Want of memory. The section is then as it was.
+    /// Out of memory. The section is then as it was.
     pub fn set_trust(&mut self, trust: Trust) -> Result<(), NoMemory>
         ensures same_section { lent self.new ≡ lent self.old }
         ensures same_editor { editor self.new ≡ editor self.old }
@@ -249,11 +254,11 @@ impl<'a> DetachedSectionMut<'a> {
         self.section.set_trust(trust)
     }
 
-    /// Puts other blanks before names from now on, or none. They have to be ASCII white space. Takes memory for a copy of them.
+    /// Sets other blanks before names from now on, or none. They have to be ASCII white space. Takes memory for a copy of them.
     ///
     /// # Errors
     ///
-    /// Want of memory. The blanks are then as they were.
+    /// Out of memory. The blanks are then as they were.
     pub fn set_leading_whitespace(&mut self, whitespace: Option<BString>) -> Result<(), NoMemory>
         requires white { IfSome whitespace (λ blanks. list_all is_whitespace (bstring_bytes blanks) ≡ true) }
         ensures same_section { lent self.new ≡ lent self.old }

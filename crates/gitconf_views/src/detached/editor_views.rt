@@ -1,4 +1,4 @@
-//! What the editor of a section that stands in no file shows of it, and of what it writes.
+//! What the editor of a section that is in no file shows of it, and of what it writes.
 use crate::detached::editor::DetachedSectionMut;
 use crate::lists::unless_empty;
 use crate::section::SectionRef;
@@ -20,14 +20,14 @@ impl<'a> DetachedSectionMut<'a> {
     ghost use Rattle.gitconf_views.specs.Found.{unless_empty, IsFound};
     ghost use Rattle.gitconf_views.specs.Views.{names_left, shown, shown_body, shown_header};
 
-    /// The section as it now stands. Constant time, and no memory.
+    /// The section as it now is. Constant time, and no memory.
     pub fn section(&self) -> SectionRef<'_>
         ensures { shown result ≡ (edited self.now).section }
     {
         self.section.to_ref()
     }
 
-    /// The number under which the section stood in a file; the greatest for one that stood in none.
+    /// The number that the section had in a file; the greatest for one that was in none.
     pub fn id(&self) -> SectionId
         ensures { result ≡ (edited self.now).section.number }
     {
@@ -59,7 +59,7 @@ impl<'a> DetachedSectionMut<'a> {
     ///
     /// # Errors
     ///
-    /// Want of memory.
+    /// Out of memory.
     pub fn to_bstring(&self) -> Result<BString, NoMemory>
         ensures { IfOk result (λ text. bstring_bytes text ≡ printed_section (edited self.now).section) }
     {
@@ -70,7 +70,7 @@ impl<'a> DetachedSectionMut<'a> {
     ///
     /// # Errors
     ///
-    /// Want of memory for the answer.
+    /// Out of memory for the result.
     pub fn value(&self, value_name: &str) -> Result<Option<BString>, NoMemory>
         ensures { IsFound bstring_bytes result (value_in value_name.now (entries_of (edited self.now).section.items)) }
     {
@@ -81,7 +81,7 @@ impl<'a> DetachedSectionMut<'a> {
     ///
     /// # Errors
     ///
-    /// Want of memory for the answer.
+    /// Out of memory for the result.
     pub fn value_implicit(&self, value_name: &str) -> Result<Option<Option<BString>>, NoMemory>
         ensures { IsFoundImplicit result (implicit_value_in value_name.now (entries_of (edited self.now).section.items)) }
     {
@@ -92,7 +92,7 @@ impl<'a> DetachedSectionMut<'a> {
     ///
     /// # Errors
     ///
-    /// Want of memory.
+    /// Out of memory.
     pub fn values(&self, value_name: &str) -> Result<Vec<BString>, NoMemory>
         ensures { AreFound result (values_in value_name.now (entries_of (edited self.now).section.items)) }
     {
@@ -127,7 +127,7 @@ impl<'a> DetachedSectionMut<'a> {
         self.body().is_void()
     }
 
-    /// The line end that it writes: that of the section, as it was when the editor was made. LF or CR LF.
+    /// The line ending that it writes: that of the section when the editor was made, LF or CR LF.
     pub fn newline(&self) -> &'static [u8]
         ensures { result.now ≡ (editor self.now).line_end }
     {
@@ -141,7 +141,7 @@ impl<'a> DetachedSectionMut<'a> {
         self.blanks.leading()
     }
 
-    /// The blanks that it writes before and behind `=`; `None` where it writes none there.
+    /// The blanks that it writes before and after `=`; `None` if it writes none there.
     pub fn separator_whitespace(&self) -> (Option<&[u8]>, Option<&[u8]>)
         ensures before { option_copied result.0 ≡ unless_empty (editor self.now).spacing.before }
         ensures behind { option_copied result.1 ≡ unless_empty (editor self.now).spacing.behind }

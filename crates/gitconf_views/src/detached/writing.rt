@@ -1,4 +1,4 @@
-//! What the editor of a section that stands in no file writes, by the blanks and the line end that it has.
+//! What the editor of a section that is in no file writes, by the blanks and the line ending that it has.
 ghost use Rattle.std.specs.Prelude.{◌≡◌, option_map};
 ghost use Rattle.bstr.specs.Owned.{bstring_bytes};
 
@@ -33,7 +33,7 @@ impl Section {
     ghost use Rattle.gitconf_lines.specs.Puts.{line_bytes, value_set_bytes};
     ghost use Rattle.gitconf_views.specs.ValueErrors.{value_number};
 
-    /// [`Section::push_entry`], where the name may be none.
+    /// [`Section::push_entry`], for a name that may be invalid.
     #[tactic(auto, using(crate::proofs::AloneEdits::done_alone, crate::proofs::AloneEdits::done_with, crate::proofs::AloneEdits::refused_with, crate::proofs::AloneEdits::span_number, crate::proofs::AloneEdits::unnamed, gitconf_lines::proofs::Puts::line_is))]
     pub fn push_line(
         &mut self,
@@ -65,7 +65,7 @@ impl Section {
         self.push_newline(editor)
     }
 
-    /// [`Section::set_entry`], where the name may be none.
+    /// [`Section::set_entry`], for a name that may be invalid.
     #[tactic(auto, using(crate::proofs::AloneEdits::done_alone, crate::proofs::AloneEdits::done_with, crate::proofs::AloneEdits::refused_with, crate::proofs::AloneEdits::span_number, crate::proofs::AloneEdits::unnamed, gitconf_lines::proofs::Puts::set_is))]
     pub fn set_line(
         &mut self,

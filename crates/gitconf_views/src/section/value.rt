@@ -1,4 +1,4 @@
-//! How an editor refuses to write a value.
+//! Why an editor doesn't write a value.
 ghost use Rattle.std.specs.Prelude.{◌≡◌};
 
 use gitconf_text::NoMemory;
@@ -6,13 +6,13 @@ use gitconf_text::parse::section::ValueNameError;
 use gitconf_text::parse::span;
 use thiserror::Error;
 
-/// How an editor refuses to write a value.
+/// Why an editor doesn't write a value.
 #[derive(Debug, Drop, Error)]
 pub enum Error {
-    /// The name of the value is none: refusal 6.
+    /// The name of the value is invalid: refusal 6.
     #[error(transparent)]
     ValueName(ValueNameError),
-    /// The new bytes have no place in the text: refusal 3.
+    /// There is no room for the new bytes: refusal 3.
     #[error(transparent)]
     Span(span::Error),
     /// A growth was refused: refusal 27.

@@ -1,4 +1,4 @@
-//! Look-ups of all values of a key, in types of the caller's.
+//! Lookups of all values of a key, in types of the caller's.
 ghost use Rattle.std.specs.Option.{option_copied};
 ghost use Rattle.std.specs.Prelude.{◌≡◌, ℕ, List, IfOk, IfErr, IsSome, map};
 ghost use Rattle.gitconf_base.specs.Key.{the_key};
@@ -44,7 +44,7 @@ fn converted<T: TryFrom<BString> + Drop>(
     }
 }
 
-/// The values of texts, each beside its section, up to the first that the type refuses.
+/// The values of texts, each with its section, up to the first that the type refuses.
 fn values_with_sections_of<'a, T: TryFrom<BString> + Drop>(
     found: Vec<(BString, SectionRef<'a>)>,
 ) -> Result<Vec<(T, SectionRef<'a>)>, lookup::Error<T::Error>>
@@ -75,12 +75,12 @@ fn converted_with_sections<'a, T: TryFrom<BString> + Drop>(
 }
 
 impl File {
-    /// All values of a key in a type, found as by [`File::raw_values`]: one or more. The key has to be one, which
-    /// [`AsKey::try_as_key`] tells.
+    /// All values of a key in a type, found as by [`File::raw_values`]: one or more. The key has to be valid, as
+    /// [`AsKey::try_as_key`] says.
     ///
     /// # Errors
     ///
-    /// Those of [`File::raw_values`], and refusal 10 where the type refuses a value, with its refusal of the first.
+    /// Those of [`File::raw_values`], and refusal 10 if the type refuses a value, with its refusal of the first such value.
     pub fn values<T: TryFrom<BString> + Drop, K: AsKey>(
         &self,
         key: K,
@@ -107,8 +107,8 @@ impl File {
     {
         converted(self.raw_values_by(section_name, subsection_name, value_name))
     }
-    /// All values of a key in a type, each with the section in which it stands, found as by [`File::raw_values_with_sections`]: one
-    /// or more. The key has to be one, which [`AsKey::try_as_key`] tells.
+    /// All values of a key in a type, each with its section, found as by [`File::raw_values_with_sections`]: one
+    /// or more. The key has to be valid, as [`AsKey::try_as_key`] says.
     ///
     /// # Errors
     ///

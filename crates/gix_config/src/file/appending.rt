@@ -11,8 +11,8 @@ use gitconf_lines::blanks::Blanks;
 use gitconf_text::parse::span;
 
 impl File {
-    /// Puts a section that stands alone behind all others, and answers its number and the blanks of an editor of it. What may be refused by
-    /// number 3 is looked at first.
+    /// Adds a section that is in no file after all others, and returns its number and the blanks of an editor of it. What may be refused by
+    /// number 3 is checked first.
     pub(crate) fn put_section(
         &mut self,
         section: Section,
@@ -31,17 +31,17 @@ impl File {
         Ok((id, blanks))
     }
 
-    /// Puts the sections of another file behind all others, in their order and under the next numbers; each keeps where it comes from. What
-    /// stands before the other's first section is held behind our last section, or joins what stands before our first where we have none; a
-    /// line end goes between where there is something that doesn't end with one, and what comes doesn't begin with one.
+    /// Adds the sections of another file after all others, in their order and under the next numbers; each keeps where it comes from. What
+    /// comes before the other's first section is held after our last section, or joins what comes before our first if we have none; a
+    /// line ending goes between if there is something that doesn't end with one, and what comes doesn't begin with one.
     ///
-    /// The other's bytes are copied once, and its parts are moved in one pass: the time is linear in the other file, but for a walk up to
-    /// our first line end. Takes memory for the bytes, the names and the places.
+    /// The other's bytes are copied once, and its parts are moved in one pass: the time is linear in the other file, except for a walk up to
+    /// our first line ending. Takes memory for the bytes, the names and the places.
     ///
     /// # Errors
     ///
-    /// A [`span::Error`]: number 3 exactly where the buffer would be longer than 4294967295 bytes or fewer numbers are left than the other
-    /// has sections, before any growth, and else 27 for want of memory. The other is then dropped, and the file as it was, but that its
+    /// A [`span::Error`]: number 3 if and only if the buffer would be longer than 4294967295 bytes or fewer numbers are left than the other
+    /// has sections, before any growth, otherwise 27 when out of memory. The other is then dropped, and the file as it was, except that its
     /// buffer may have grown.
     pub fn append(&mut self, other: File) -> Result<(), span::Error>
         ensures ok { OnOk result (self.new ≡ with_used self.new.used (apply (Append other) self.old)) }

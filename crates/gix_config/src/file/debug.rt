@@ -1,4 +1,4 @@
-//! Files and their editors are shown by their names; what they have is told by their calls.
+//! `Debug` shows files and their editors by their type's name alone; their calls show what they have.
 use crate::file::{File, MultiValueMut, SectionMut, ValueMut};
 use std::fmt;
 

@@ -1,4 +1,4 @@
-//! Edits of the section of a number, on which editors stand.
+//! Edits of the section of a number, for editors.
 use crate::file::{File, SectionId, SectionRef};
 use gitconf_base::source::Trust;
 use gitconf_lines::blanks::Blanks;
@@ -113,7 +113,7 @@ impl File {
         self.store.pop_entry(id)
     }
 
-    /// The section of a number that one has.
+    /// The section of a number that some section has.
     pub(crate) fn section_of(&self, id: SectionId) -> SectionRef<'_>
         requires { has_number id self.now ≡ true }
         ensures { numbered id self.now ≡ Some (shown result) }
@@ -124,14 +124,14 @@ impl File {
         }
     }
 
-    /// The line end that the file uses.
+    /// The line ending that the file uses.
     pub(crate) fn line_end(&self) -> LineEnd
         ensures { bytes_of_line_end result ≡ file_line_end self.now }
     {
         self.store.line_end()
     }
 
-    /// Makes a section, and answers its number and the blanks of an editor of it. The names and the room are looked at first.
+    /// Makes a section, and returns its number and the blanks of an editor of it. The names and the room are checked first.
     pub(crate) fn make_section(
         &mut self,
         name: &str,

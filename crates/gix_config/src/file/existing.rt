@@ -1,4 +1,4 @@
-//! Values of entries that stand, set anew.
+//! Setting the values of existing entries.
 ghost use Rattle.std.specs.Option.{option_copied};
 ghost use Rattle.std.specs.Prelude.{IsSome, map};
 ghost use Rattle.gitconf_base.specs.Key.{the_key};
@@ -10,19 +10,19 @@ use crate::file::{File, set_raw_value};
 use gitconf_base::key::AsKey;
 
 impl File {
-    /// Gives the last entry of a key such as `remote.origin.url` another value, with `=` or without it, in the last section of the key's
-    /// name and subsection that has one: the entry is written anew, by the name as it is given, with the blanks around `=` that the
-    /// section has, and the value as a file spells it. Where the old value ended in an empty last piece and a comment comes next, blanks
-    /// aside, the last line end of the old value stays before it. All else stays as it is; no entry is made. The key has to be one, which
-    /// [`AsKey::try_as_key`] tells.
+    /// Gives the last entry of a key such as `remote.origin.url` another value, whether it has `=` or not, in the last section of the key's
+    /// name and subsection that has one: the entry is rewritten, with the name as it is given, the blanks around `=` that the
+    /// section uses, and the value as a file spells it. If the old value ended in an empty last piece and a comment comes next, apart from
+    /// blanks, the last line ending of the old value stays before it. All else stays as it is; no entry is made. The key has to be valid, as
+    /// [`AsKey::try_as_key`] says.
     ///
-    /// It walks over the sections of the key's name and subsection from the last one on, up to that one, and over its items. Takes memory
-    /// for what is put into the file's buffer, and for at most one item more.
+    /// It walks over the sections of the key's name and subsection from the last one up to that one, and over its items. Takes memory
+    /// for what is added to the file's buffer, and for at most one more item.
     ///
     /// # Errors
     ///
-    /// Refusal 7 where no section has the name, 8 where none of these has the subsection; else 6 for a name of a value that is none; else 9
-    /// where none of these has such an entry; 3 where the file would take more than 4294967295 bytes, 27 for want of memory. The file is
+    /// Refusal 7 if no section has the name, 8 if none of these has the subsection; otherwise 6 for an invalid value name; otherwise 9
+    /// if none of these has such an entry; 3 if the file would take more than 4294967295 bytes, 27 when out of memory. The file is
     /// then as it was.
     pub fn set_existing_raw_value<K: AsKey>(
         &mut self,
@@ -59,15 +59,15 @@ impl File {
             .set_existing_raw_value_by(section_name, subsection_name, value_name, new_value)
     }
 
-    /// Gives the entries of a key other values, with `=` or without it, in all sections of the key's name and subsection: the first entry
-    /// gets the first value and so on, up to the end of the shorter list. The entries are in the order of their sections' numbers, and in
-    /// a section in that of the text. Each is written anew, by the name as it is given, with the blanks around `=` that its section has
-    /// then, and the value as a file spells it. All else stays as it is; no entry is made, and none goes. The key has to be one.
+    /// Gives the entries of a key other values, whether they have `=` or not, in all sections of the key's name and subsection: the first
+    /// entry gets the first value and so on, up to the end of the shorter list. The entries are in the order of their sections' numbers,
+    /// and in a section in that of the text. Each is rewritten, with the name as it is given, the blanks around `=` that its section then
+    /// uses, and the value as a file spells it. All else stays as it is; no entry is made, and none removed. The key has to be valid.
     ///
     /// # Errors
     ///
-    /// Refusals 7, 8, 6 and 9 as of [`File::set_existing_raw_value`], with the file as it was; 3 where the file would take more than
-    /// 4294967295 bytes and 27 for want of memory, with the entries before the one that was refused done.
+    /// Refusals 7, 8, 6 and 9 as those of [`File::set_existing_raw_value`], with the file as it was; 3 if the file would take more than
+    /// 4294967295 bytes and 27 when out of memory, after the entries before the one that was refused got their values.
     pub fn set_existing_raw_multi_value<K: AsKey>(
         &mut self,
         key: K,

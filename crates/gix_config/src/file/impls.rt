@@ -1,4 +1,4 @@
-//! Files compared and shown.
+//! Files, compared and shown.
 use crate::file::File;
 use std::fmt;
 
@@ -12,8 +12,8 @@ impl PartialEq for File {
 
     ghost laws = { same_state_partial };
 
-    /// Whether both have the same headers in order, names without ASCII case, with the same keys, without ASCII case, that mean
-    /// the same; an entry without `=` means nothing. What stands before the first section and where sections come from aren't
+    /// Whether both have the same headers in order, with names compared without ASCII case, and the same keys, without ASCII case, that mean
+    /// the same; an entry without `=` counts as empty. What comes before the first section and where sections come from aren't
     /// compared. One walk over both, up to the first difference, which takes no memory.
     fn eq(&self, other: &File) -> bool
         ensures same { result ≡ same_state self.now other.now }
@@ -29,8 +29,8 @@ impl Eq for File {
     ghost laws = { same_state_equiv };
 }
 
-/// The text of [`File::to_bstring`], with U+FFFD for what is no character. It takes memory for the text; where that is refused
-/// nothing is written, and the answer is an error.
+/// The text of [`File::to_bstring`], with U+FFFD for what isn't UTF-8. It takes memory for the text; if that is refused,
+/// nothing is written, and the result is an error.
 impl fmt::Display for File {
     fn fmt<W: fmt::Write>(&self, f: &mut fmt::Formatter<W>) -> fmt::Result {
         match self.to_bstring() {

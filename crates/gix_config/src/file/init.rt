@@ -1,4 +1,4 @@
-//! Files that are made of bytes, that are loaded by their paths, and that variables and repositories tell.
+//! Files that are made of bytes, loaded by their paths, or made of variables or of a repository.
 
 mod environment;
 mod loading;
@@ -25,13 +25,13 @@ impl File {
     ghost use Rattle.gix_config.specs.Made.{loaded_tokens, IsParseRefusal};
 
     /// The file that a text is, with the metadata that it and each of its sections get. No include is followed,
-    /// whatever the options say of them. A lossy load leaves out blanks, comments and line ends, and has the document
+    /// whatever the options say about them. A lossy load leaves out blanks, comments and line endings, and has the document
     /// of the whole text. One pass, which copies the text once.
     ///
     /// # Errors
     ///
-    /// `Error::Parse`, with number 1 where the text has no document, and the line and the data from where it can't be
-    /// read on; number 2 for more than 4294967295 bytes; number 27 for want of memory.
+    /// `Error::Parse`, with number 1 if the text has no document, and the line and the data from where it can't be
+    /// read on; number 2 for more than 4294967295 bytes; number 27 when out of memory.
     pub fn from_bytes_no_includes(
         alloc: Global,
         input: &[u8],

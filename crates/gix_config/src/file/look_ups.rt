@@ -1,4 +1,4 @@
-//! Look-ups of values as they are: texts, alone or with their sections.
+//! Lookups of values as they are: texts, alone or with their sections.
 ghost use Rattle.std.specs.Fn.{ComputesKey};
 ghost use Rattle.std.specs.Option.{option_copied};
 ghost use Rattle.std.specs.Prelude.{◌≡◌, Bool, true, IsSome};
@@ -15,13 +15,13 @@ use gitconf_base::key::AsKey;
 use gitconf_text::NoMemory;
 
 impl File {
-    /// The meaning of the last value of a key such as `remote.origin.url`, or `None` where there is none or where
-    /// the key can't be parsed: that of the last section of the key's name and subsection whose last entry of the
-    /// name has a value. It walks over the sections of the name from the last one on, up to that one. A miss takes no memory.
+    /// The meaning of the last value of a key such as `remote.origin.url`, or `None` if there is none or
+    /// the key can't be parsed: that of the last section of the key's name and subsection in which the last entry of the
+    /// name has a value. It walks over the sections of the name from the last one up to that one. A miss takes no memory.
     ///
     /// # Errors
     ///
-    /// Want of memory for the answer.
+    /// Out of memory for the result.
     pub fn string<K: AsKey>(&self, key: K) -> Result<Option<BString>, NoMemory>
         ensures { OfKey (K.key key) (λ key. IsString key (λ _. true) self.now result) result }
     {
@@ -59,9 +59,9 @@ impl File {
         filter: F,
     ) -> Result<Option<BString>, NoMemory>
         requires { F.IsAlwaysCallable filter }
-        // For a filter that answers by what it is shown.
+        // For a filter whose result depends only on what it is shown.
         ensures exact { (keeps : Meta → Bool) → ComputesKey F.FnMut keeps filter → OfKey (K.key key) (λ key. IsString key keeps self.now result) result }
-        // Whatever the filter answers.
+        // For any filter.
         ensures some { OfKey (K.key key) (λ key. WithSome (λ s. IsString key (λ _. true) s result) self.now) result }
     {
         match key.try_as_key() {
@@ -88,21 +88,21 @@ impl File {
         filter: F,
     ) -> Result<Option<BString>, NoMemory>
         requires { F.IsAlwaysCallable filter }
-        // For a filter that answers by what it is shown.
+        // For a filter whose result depends only on what it is shown.
         ensures exact { (keeps : Meta → Bool) → ComputesKey F.FnMut keeps filter → IsString (key_at section_name.now (option_copied subsection_name.entry) value_name.now) keeps self.now result }
-        // Whatever the filter answers.
+        // For any filter.
         ensures some { WithSome (λ s. IsString (key_at section_name.now (option_copied subsection_name.entry) value_name.now) (λ _. true) s result) self.now }
     {
         self.store
             .string_filter_by(section_name, subsection_name, value_name, filter)
     }
 
-    /// The meanings of all values of a key, in file order, or `None` where there are none or where the key can't be parsed. An entry
+    /// The meanings of all values of a key, in file order, or `None` if there are none or the key can't be parsed. An entry
     /// without `=` counts as empty. It walks over the sections of the name. A miss takes no memory.
     ///
     /// # Errors
     ///
-    /// Want of memory for the answer.
+    /// Out of memory for the result.
     pub fn strings<K: AsKey>(&self, key: K) -> Result<Option<Vec<BString>>, NoMemory>
         ensures { OfKey (K.key key) (λ key. AreStrings key (λ _. true) self.now result) result }
     {
@@ -140,9 +140,9 @@ impl File {
         filter: F,
     ) -> Result<Option<Vec<BString>>, NoMemory>
         requires { F.IsAlwaysCallable filter }
-        // For a filter that answers by what it is shown.
+        // For a filter whose result depends only on what it is shown.
         ensures exact { (keeps : Meta → Bool) → ComputesKey F.FnMut keeps filter → OfKey (K.key key) (λ key. AreStrings key keeps self.now result) result }
-        // Whatever the filter answers.
+        // For any filter.
         ensures some { OfKey (K.key key) (λ key. WithSome (λ s. AreStrings key (λ _. true) s result) self.now) result }
     {
         match key.try_as_key() {
@@ -169,22 +169,22 @@ impl File {
         filter: F,
     ) -> Result<Option<Vec<BString>>, NoMemory>
         requires { F.IsAlwaysCallable filter }
-        // For a filter that answers by what it is shown.
+        // For a filter whose result depends only on what it is shown.
         ensures exact { (keeps : Meta → Bool) → ComputesKey F.FnMut keeps filter → AreStrings (key_at section_name.now (option_copied subsection_name.entry) value_name.now) keeps self.now result }
-        // Whatever the filter answers.
+        // For any filter.
         ensures some { WithSome (λ s. AreStrings (key_at section_name.now (option_copied subsection_name.entry) value_name.now) (λ _. true) s result) self.now }
     {
         self.store
             .strings_filter_by(section_name, subsection_name, value_name, filter)
     }
 
-    /// The meaning of the last value of a key, found as by [`File::string`]. The key has to be one, which
-    /// [`AsKey::try_as_key`] tells.
+    /// The meaning of the last value of a key, found as by [`File::string`]. The key has to be valid, as
+    /// [`AsKey::try_as_key`] says.
     ///
     /// # Errors
     ///
-    /// Refusals 7, 8 and 9 where there is none: no section has the name, none of these has the subsection, or none of these that
-    /// pass has such a value. Refusal 27 for want of memory for the answer.
+    /// Refusals 7, 8 and 9 if there is none: no section has the name, none of these has the subsection, or none of these that
+    /// pass has such a value. Refusal 27 when out of memory for the result.
     pub fn raw_value<K: AsKey>(&self, key: K) -> Result<BString, existing::Error>
         requires { IsSome (K.key key) }
         ensures { IsRawValue (the_key (K.key key)) (λ _. true) self.now result }
@@ -222,9 +222,9 @@ impl File {
     ) -> Result<BString, existing::Error>
         requires known { IsSome (K.key key) }
         requires callable { F.IsAlwaysCallable filter }
-        // For a filter that answers by what it is shown.
+        // For a filter whose result depends only on what it is shown.
         ensures exact { (keeps : Meta → Bool) → ComputesKey F.FnMut keeps filter → IsRawValue (the_key (K.key key)) keeps self.now result }
-        // Whatever the filter answers.
+        // For any filter.
         ensures some { IsSomeRawValue (the_key (K.key key)) self.now result }
     {
         let key = key.as_key();
@@ -249,22 +249,22 @@ impl File {
         filter: F,
     ) -> Result<BString, existing::Error>
         requires { F.IsAlwaysCallable filter }
-        // For a filter that answers by what it is shown.
+        // For a filter whose result depends only on what it is shown.
         ensures exact { (keeps : Meta → Bool) → ComputesKey F.FnMut keeps filter → IsRawValue (key_at section_name.now (option_copied subsection_name.entry) value_name.now) keeps self.now result }
-        // Whatever the filter answers.
+        // For any filter.
         ensures some { IsSomeRawValue (key_at section_name.now (option_copied subsection_name.entry) value_name.now) self.now result }
     {
         self.store
             .raw_value_filter_by(section_name, subsection_name, value_name, filter)
     }
 
-    /// The meaning of the last value of a key, and the section in which it stands, found as by [`File::string`]. The key has to be
-    /// one, which [`AsKey::try_as_key`] tells.
+    /// The meaning of the last value of a key, and its section, found as by [`File::string`]. The key has to be
+    /// valid, as [`AsKey::try_as_key`] says.
     ///
     /// # Errors
     ///
-    /// Refusals 7, 8 and 9 where there is none: no section has the name, none of these has the subsection, or none of these that
-    /// pass has such a value. Refusal 27 for want of memory for the answer.
+    /// Refusals 7, 8 and 9 if there is none: no section has the name, none of these has the subsection, or none of these that
+    /// pass has such a value. Refusal 27 when out of memory for the result.
     pub fn raw_value_with_section<K: AsKey>(
         &self,
         key: K,
@@ -305,9 +305,9 @@ impl File {
     ) -> Result<(BString, SectionRef<'_>), existing::Error>
         requires known { IsSome (K.key key) }
         requires callable { F.IsAlwaysCallable filter }
-        // For a filter that answers by what it is shown.
+        // For a filter whose result depends only on what it is shown.
         ensures exact { (keeps : Meta → Bool) → ComputesKey F.FnMut keeps filter → IsRawValueWithSection (the_key (K.key key)) keeps self.now result }
-        // Whatever the filter answers.
+        // For any filter.
         ensures some { IsSomeRawValueWithSection (the_key (K.key key)) self.now result }
     {
         let key = key.as_key();
@@ -332,22 +332,22 @@ impl File {
         filter: F,
     ) -> Result<(BString, SectionRef<'_>), existing::Error>
         requires { F.IsAlwaysCallable filter }
-        // For a filter that answers by what it is shown.
+        // For a filter whose result depends only on what it is shown.
         ensures exact { (keeps : Meta → Bool) → ComputesKey F.FnMut keeps filter → IsRawValueWithSection (key_at section_name.now (option_copied subsection_name.entry) value_name.now) keeps self.now result }
-        // Whatever the filter answers.
+        // For any filter.
         ensures some { IsSomeRawValueWithSection (key_at section_name.now (option_copied subsection_name.entry) value_name.now) self.now result }
     {
         self.store
             .raw_value_with_section_filter_by(section_name, subsection_name, value_name, filter)
     }
 
-    /// The meanings of all values of a key, found as by [`File::strings`]: one or more. The key has to be one, which
-    /// [`AsKey::try_as_key`] tells.
+    /// The meanings of all values of a key, found as by [`File::strings`]: one or more. The key has to be valid, as
+    /// [`AsKey::try_as_key`] says.
     ///
     /// # Errors
     ///
-    /// Refusals 7, 8 and 9 where there is none: no section has the name, none of these has the subsection, or none of these that
-    /// pass has such a value. Refusal 27 for want of memory for the answer.
+    /// Refusals 7, 8 and 9 if there is none: no section has the name, none of these has the subsection, or none of these that
+    /// pass has such a value. Refusal 27 when out of memory for the result.
     pub fn raw_values<K: AsKey>(&self, key: K) -> Result<Vec<BString>, existing::Error>
         requires { IsSome (K.key key) }
         ensures { AreRawValues (the_key (K.key key)) (λ _. true) self.now result }
@@ -385,9 +385,9 @@ impl File {
     ) -> Result<Vec<BString>, existing::Error>
         requires known { IsSome (K.key key) }
         requires callable { F.IsAlwaysCallable filter }
-        // For a filter that answers by what it is shown.
+        // For a filter whose result depends only on what it is shown.
         ensures exact { (keeps : Meta → Bool) → ComputesKey F.FnMut keeps filter → AreRawValues (the_key (K.key key)) keeps self.now result }
-        // Whatever the filter answers.
+        // For any filter.
         ensures some { AreSomeRawValues (the_key (K.key key)) self.now result }
     {
         let key = key.as_key();
@@ -412,22 +412,22 @@ impl File {
         filter: F,
     ) -> Result<Vec<BString>, existing::Error>
         requires { F.IsAlwaysCallable filter }
-        // For a filter that answers by what it is shown.
+        // For a filter whose result depends only on what it is shown.
         ensures exact { (keeps : Meta → Bool) → ComputesKey F.FnMut keeps filter → AreRawValues (key_at section_name.now (option_copied subsection_name.entry) value_name.now) keeps self.now result }
-        // Whatever the filter answers.
+        // For any filter.
         ensures some { AreSomeRawValues (key_at section_name.now (option_copied subsection_name.entry) value_name.now) self.now result }
     {
         self.store
             .raw_values_filter_by(section_name, subsection_name, value_name, filter)
     }
 
-    /// The meanings of all values of a key, each with the section in which it stands, found as by [`File::strings`]: one or more. The
-    /// key has to be one, which [`AsKey::try_as_key`] tells.
+    /// The meanings of all values of a key, each with its section, found as by [`File::strings`]: one or more. The
+    /// key has to be valid, as [`AsKey::try_as_key`] says.
     ///
     /// # Errors
     ///
-    /// Refusals 7, 8 and 9 where there is none: no section has the name, none of these has the subsection, or none of these that
-    /// pass has such a value. Refusal 27 for want of memory for the answer.
+    /// Refusals 7, 8 and 9 if there is none: no section has the name, none of these has the subsection, or none of these that
+    /// pass has such a value. Refusal 27 when out of memory for the result.
     pub fn raw_values_with_sections<K: AsKey>(
         &self,
         key: K,
@@ -468,9 +468,9 @@ impl File {
     ) -> Result<Vec<(BString, SectionRef<'_>)>, existing::Error>
         requires known { IsSome (K.key key) }
         requires callable { F.IsAlwaysCallable filter }
-        // For a filter that answers by what it is shown.
+        // For a filter whose result depends only on what it is shown.
         ensures exact { (keeps : Meta → Bool) → ComputesKey F.FnMut keeps filter → AreRawValuesWithSections (the_key (K.key key)) keeps self.now result }
-        // Whatever the filter answers.
+        // For any filter.
         ensures some { AreSomeRawValuesWithSections (the_key (K.key key)) self.now result }
     {
         let key = key.as_key();
@@ -495,9 +495,9 @@ impl File {
         filter: F,
     ) -> Result<Vec<(BString, SectionRef<'_>)>, existing::Error>
         requires { F.IsAlwaysCallable filter }
-        // For a filter that answers by what it is shown.
+        // For a filter whose result depends only on what it is shown.
         ensures exact { (keeps : Meta → Bool) → ComputesKey F.FnMut keeps filter → AreRawValuesWithSections (key_at section_name.now (option_copied subsection_name.entry) value_name.now) keeps self.now result }
-        // Whatever the filter answers.
+        // For any filter.
         ensures some { AreSomeRawValuesWithSections (key_at section_name.now (option_copied subsection_name.entry) value_name.now) self.now result }
     {
         self.store

@@ -10,8 +10,8 @@ use bstr::BString;
 use gitconf_text::parse::span;
 use targets::Targets;
 
-/// An editor of the values of all entries of a key of a file, with `=` or without it. It stands on their places, in the order of the numbers
-/// of their sections, and in each section in that in which they stand. What it writes has the name as the caller spelled it.
+/// An editor of the values of all entries of a key of a file, with `=` or without it. It has their places, in the order of the numbers
+/// of their sections, and in each section in the order of its entries. What it writes has the name as the caller spelled it.
 pub struct MultiValueMut<'a, T: Drop = Targets> {
     file: &'a mut File,
     targets: T,
@@ -21,12 +21,13 @@ impl<T: Drop> Drop for MultiValueMut<'_, T> {
     ghost use Rattle.std.specs.Prelude.{◌≡◌};
     ghost use Rattle.gix_config.specs.MultiValueEditors.{edited};
 
-    // By hand, so that callers know what the file is when the editor is gone.
+    // Written by hand, so that callers know what the file is after the editor is gone.
     fn drop(self)
         ensures { self.exit.0.now ≡ edited self.entry }
     {
         let MultiValueMut { file, targets } = self;
         drop(targets);
+        // The file's loan ends here.
         let _ = file;
     }
 }
@@ -42,7 +43,7 @@ impl<'a> MultiValueMut<'a> {
     ///
     /// # Errors
     ///
-    /// Refusal 9 where no entry is left; 27 for want of memory for the answer.
+    /// Refusal 9 if no entry is left; 27 when out of memory for the result.
     pub fn get(&self) -> Result<Vec<BString>, existing::Error>
         ensures { AreMeanings (places_of self.now) (edited self.now) result }
     {
@@ -69,15 +70,15 @@ impl<'a> MultiValueMut<'a> {
         self.targets.places().is_empty()
     }
 
-    /// Gives the entry at an index, counted from the first one, 0, another value: it is written anew, by the name as the caller spelled it,
-    /// `=` with the blanks around it that its section then has, and the value as a file spells it. Nothing of its old value stays, also no
-    /// line end. All else stays as it is, and so do the places of entries.
+    /// Gives the entry at an index, counted from 0, another value: it is rewritten, with the name as the caller spelled it, `=` with the
+    /// blanks around it that its section then uses, and the value as a file spells it. Nothing of its old value stays, not even a line
+    /// ending. All else stays as it is, and so do the places of entries.
     ///
-    /// One walk over the items of the section. Takes memory for what is put into the file's buffer.
+    /// One walk over the items of the section. Takes memory for what is added to the file's buffer.
     ///
     /// # Errors
     ///
-    /// Number 3 where the file would take more than 4294967295 bytes, and 27 for want of memory. The file is then as it was.
+    /// Number 3 if the file would take more than 4294967295 bytes, and 27 when out of memory. The file is then as it was.
     pub fn set_at(&mut self, index: usize, value: &[u8]) -> Result<(), span::Error>
         requires { index < length (places_of self.old) }
         ensures same_file { lent self.new ≡ lent self.old }
@@ -89,7 +90,7 @@ impl<'a> MultiValueMut<'a> {
         self.file.rewrite_entry_at(place, self.targets.key(), value)
     }
 
-    /// As [`MultiValueMut::set_at`], the bytes of a text.
+    /// As [`MultiValueMut::set_at`], with the bytes of a text.
     ///
     /// # Errors
     ///
@@ -107,11 +108,11 @@ impl<'a> MultiValueMut<'a> {
     /// Gives the entries other values, the first one the first value and so on, up to the end of the shorter list; each as
     /// [`MultiValueMut::set_at`] does.
     ///
-    /// One walk over the items of its section for each entry that is written. Takes memory for what is put into the file's buffer.
+    /// One walk over the items of its section for each entry that is written. Takes memory for what is added to the file's buffer.
     ///
     /// # Errors
     ///
-    /// Those of [`MultiValueMut::set_at`]. The entries before the one that was refused have their values then; all else is as it was.
+    /// Those of [`MultiValueMut::set_at`]. The entries before the one that was refused then have their values; all else is as it was.
     pub fn set_values(&mut self, values: &[&[u8]]) -> Result<(), span::Error>
         ensures same_file { lent self.new ≡ lent self.old }
         ensures same_key { key_of self.new ≡ key_of self.old }
@@ -137,11 +138,12 @@ impl<'a> MultiValueMut<'a> {
             .rewrite_all_entries_at(self.targets.places(), self.targets.key(), value)
     }
 
-    /// Deletes the entry at an index, counted from the first one, 0: its name, `=` and value, and the blanks between them. What stands around
-    /// it stays, also the blanks before its name and the line end behind its value. The entries behind it have an index one less then. Is
-    /// never refused, and takes no memory.
+    /// Deletes the entry at an index, counted from 0: its name, `=` and value, and the blanks between them. What is around it stays, even
+    /// the blanks before its name and the line ending after its value. The entries after it then have an index that is one less. It can't
+    /// fail, and takes no memory.
     ///
-    /// The section is found in constant time; what stands behind the entry in it moves up by one, and so do the entries that are left.
+    /// The section is found in constant time; what follows the entry there moves up by one, and so do the places of the entries that are
+    /// left.
     pub fn delete(&mut self, index: usize)
         requires { index < length (places_of self.old) }
         ensures same_file { lent self.new ≡ lent self.old }
@@ -153,7 +155,7 @@ impl<'a> MultiValueMut<'a> {
         self.file.delete_entry_at(gone.0, gone.1);
     }
 
-    /// Deletes all entries that are left, each as [`MultiValueMut::delete`] does, the last one first. Is never refused, and takes no memory.
+    /// Deletes all entries that are left, each as [`MultiValueMut::delete`] does, the last one first. It can't fail, and takes no memory.
     ///
     /// Each section that they are in is found in constant time, and walked over once.
     pub fn delete_all(&mut self)

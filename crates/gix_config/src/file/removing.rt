@@ -1,4 +1,4 @@
-//! Sections taken out of a file.
+//! Sections, removed from a file.
 ghost use Rattle.std.specs.Fn.{ComputesKey};
 ghost use Rattle.std.specs.Option.{option_copied};
 ghost use Rattle.std.specs.Prelude.{◌≡◌, Bool, OnErr, OnOk, true};
@@ -12,13 +12,13 @@ use crate::file::{File, Metadata, Section, SectionId};
 use gitconf_text::NoMemory;
 
 impl File {
-    /// Takes out the last section that has the name, without ASCII case, and exactly the subsection, and hands it out, under its number
-    /// and with a buffer of its own; `None` where there is none. What is held behind it is dropped. Its bytes and items are copied
-    /// once, and the places of the sections behind it are told anew.
+    /// Removes the last section that has the name, without ASCII case, and exactly the subsection, and returns it, with its number
+    /// and with a buffer of its own; `None` if there is none. What is held after it is dropped. Its bytes and items are copied
+    /// once, and the places of the sections after it are updated.
     ///
     /// # Errors
     ///
-    /// Want of memory for the copy. The file is then as it was.
+    /// Out of memory for the copy. The file is then as it was.
     #[tactic(auto, using(std::proofs::lemmas::Fn::always_returns_same))]
     pub fn remove_section(
         &mut self,
@@ -45,8 +45,8 @@ impl File {
         self.store.remove_section_by_id(id)
     }
 
-    /// As [`File::remove_section`], the last section whose metadata passes the filter; `None` where none passes. The filter is asked of
-    /// the sections of these names from the last one on, up to that one.
+    /// As [`File::remove_section`], the last section whose metadata passes the filter; `None` if none passes. The filter is asked about
+    /// the sections of these names from the last one up to that one.
     ///
     /// # Errors
     ///
@@ -58,12 +58,12 @@ impl File {
         filter: F,
     ) -> Result<Option<Section>, NoMemory>
         requires { F.IsAlwaysCallable filter }
-        // For a filter that answers by what it is shown.
+        // For a filter whose result depends only on what it is shown.
         ensures ok { (keeps : Meta → Bool) → ComputesKey F.FnMut keeps filter
             → OnOk result (self.new ≡ apply (RemoveSection name.now (option_copied subsection_name.entry) keeps) self.old) }
         ensures taken { (keeps : Meta → Bool) → ComputesKey F.FnMut keeps filter
             → IsTakenOut (picked name.now (option_copied subsection_name.entry) keeps self.old) result self.old self.new }
-        // Whatever the filter answers.
+        // For any filter.
         ensures some { WithSome (λ s. IsTakenOut (picked name.now (option_copied subsection_name.entry) (λ _. true) s) result self.old self.new) self.old }
         ensures err { OnErr result (self.new ≡ self.old) }
     {

@@ -1,4 +1,4 @@
-//! Sections of a file that are renamed.
+//! Renaming sections of a file.
 ghost use Rattle.std.specs.Fn.{ComputesKey};
 ghost use Rattle.std.specs.Option.{option_copied};
 ghost use Rattle.std.specs.Prelude.{◌≡◌, ◌+◌, ◌≤◌, option_map, Bool, OnErr, OnOk, true};
@@ -12,18 +12,18 @@ use bstr::BString;
 use gitconf_views::lists::bytes_of;
 
 impl File {
-    /// Gives all sections that have the name, without ASCII case, and exactly the subsection, another name and subsection: their headers
-    /// are made anew, the name as given, and a subsection in quotes behind a space. What else they have stays, and they are found by their
+    /// Gives all sections that have the name, without ASCII case, and exactly the subsection, another name and subsection: they get new
+    /// headers, with the name as given, and a subsection in quotes after a space. All else stays as it is, and they are found by their
     /// new names from then on.
     ///
     /// Walks over the sections of these names and over those that have the new name, by an index, and over no others. The new header
-    /// stands in the buffer once; memory is taken for it, for the names and for the places of the sections.
+    /// is in the buffer once; memory is taken for it, for the names and for the places of the sections.
     ///
     /// # Errors
     ///
-    /// Refusal 7 where no section has the name, 8 where none of these has the subsection; then 4 where a byte of the new name is no letter,
-    /// digit or dash, 5 where the new subsection has LF or NUL, and 3 where the buffer would be longer than 4294967295 bytes, before any
-    /// growth; 27 for want of memory. The file is then as it was, but that its buffer may have grown.
+    /// Refusal 7 if no section has the name, 8 if none of these has the subsection; then 4 if a byte of the new name is not a letter,
+    /// digit or dash, 5 if the new subsection has LF or NUL, and 3 if the buffer would be longer than 4294967295 bytes, before any
+    /// growth; 27 when out of memory. The file is then as it was, except that its buffer may have grown.
     #[tactic(auto, using(std::proofs::lemmas::Fn::always_returns_same))]
     pub fn rename_section(
         &mut self,
@@ -41,11 +41,11 @@ impl File {
         })
     }
 
-    /// As [`File::rename_section`], those sections whose metadata passes the filter, which is asked of the sections of these names.
+    /// As [`File::rename_section`], for those sections whose metadata passes the filter, which is called for the sections of these names.
     ///
     /// # Errors
     ///
-    /// Those of [`File::rename_section`]; and refusal 9 where sections have the names and none passes, before those of the new names.
+    /// Those of [`File::rename_section`]; and refusal 9 if sections have the names and none passes, before those of the new names.
     pub fn rename_section_filter<F: FnMut(&Metadata) -> bool>(
         &mut self,
         name: &str,
@@ -55,10 +55,10 @@ impl File {
         filter: F,
     ) -> Result<(), rename_section::Error>
         requires { F.IsAlwaysCallable filter }
-        // For a filter that answers by what it is shown.
+        // For a filter whose result depends only on what it is shown.
         ensures exact { (keeps : Meta → Bool) → ComputesKey F.FnMut keeps filter
             → IsRenamed name.now (option_copied subsection_name.entry) keeps new_name.now (option_map bstring_bytes new_subsection_name) result self.old self.new }
-        // Whatever the filter answers.
+        // For any filter.
         ensures some { OnOk result (AreSomeRenamed name.now (option_copied subsection_name.entry) new_name.now (option_map bstring_bytes new_subsection_name) self.old self.new) }
         ensures err { OnErr result (self.new ≡ with_used self.new.used self.old) }
         ensures grown { self.new.used ≤ self.old.used + header_bytes new_name.now (option_map bstring_bytes new_subsection_name) }

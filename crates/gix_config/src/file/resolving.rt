@@ -18,21 +18,22 @@ impl File {
     ghost use Rattle.gitconf_includes.specs.Errors.{includes_number, init_number};
     ghost use Rattle.gitconf_resolving.specs.Resolving.{IsMadeCause, IsMadeOf, MakesCounted};
 
-    /// Reads the files that the file's sections include, and puts each, with what it includes itself, behind the section that includes it: its
-    /// sections in their order under the next numbers, and what stands before its first section held behind the section before. Of an
-    /// `include` without a subsection each `path` is followed, in order; of an `includeIf` where its condition holds. A path that names no
-    /// file is passed over. Sections that are put in are visited as those of the file that they are of, once, and so not again.
+    /// Reads the files that the file's sections include, and puts each, with what it includes itself, after the section that includes it: its
+    /// sections in their order under the next numbers, and what comes before its first section held after the section before. For an
+    /// `include` without a subsection each `path` is followed, in order; for an `includeIf` only if its condition holds. A path that names no
+    /// file is skipped. Sections that are put in are visited once, as those of their own file, and so not again.
     ///
-    /// A condition `hasconfig` is judged by the file as it then stands; below the first level by the file that includes.
+    /// A condition `hasconfig` is judged by the file as it then is; below the first level, by the file that includes.
     ///
-    /// Each included file is read and parsed once for each time that it is included. Beside that the time is linear in the file and in what is
-    /// put in, but for the order of the sections, which is made once, at the end.
+    /// Each included file is read and parsed once for each time that it is included. Besides that the time is linear in the file and in
+    /// what is put in, except for the order of the sections, which is made once, at the end.
     ///
     /// # Errors
     ///
-    /// 12 to 18 as the options and [`includes::Error`] tell; 19 and 20 where a file can't be opened or read; 1 and 2 where one is refused by the
-    /// parser; 3 where there is no room for one; 27 for want of memory. The file then has all that was put in before the refusal; a file that
-    /// was refused, or in which one was, is left out whole. At `max_depth` 0 nothing is followed, and nothing refused.
+    /// 12 to 18 as the options and [`includes::Error`] say; 19 and 20 if a file can't be opened or read; 1 and 2 if one is refused by the
+    /// parser; 3 if there is no room for one; 27 when out of memory. The file then has everything that was put in before the refusal; a
+    /// file that was refused, or that includes a refused one, is left out whole. With `max_depth` 0 nothing is followed, and nothing
+    /// refused.
     pub fn resolve_includes(
         &mut self,
         options: Options<'_>,
@@ -57,13 +58,13 @@ impl File {
     }
 
     /// The file that a text is, with the metadata that it and each of its sections get, and with what it includes as
-    /// [`File::resolve_includes`] puts it in. The text is handed over. A lossy load leaves out blanks, comments and line ends, of included files
-    /// too.
+    /// [`File::resolve_includes`] puts it in. The text becomes the buffer. A lossy load leaves out blanks, comments and line endings, of
+    /// included files too.
     ///
     /// # Errors
     ///
-    /// 1 and 2 where the parser refuses the text, and those of [`File::resolve_includes`]; 15 too where `max_depth` is 0 and the options ask for
-    /// it, whatever the text says.
+    /// 1 and 2 if the parser refuses the text, and those of [`File::resolve_includes`]; 15 also if `max_depth` is 0 and the options ask for
+    /// it, whatever the text has.
     pub fn from_bytes_owned(
         alloc: Global,
         text: Vec<u8>,

@@ -1,3 +1,3 @@
-//! Views of a section's parts, and how its values are refused.
+//! Views of a section's parts, and why values are not written to it.
 pub use gitconf_views::section::value;
 pub use gitconf_views::views::{BodyRef, BodyRefIter, HeaderRef, ValueNames};

@@ -20,14 +20,14 @@ use gitconf_views::lists::bytes_of;
 use gitconf_views::popped::texts_of;
 pub use making::Error;
 
-/// An editor of one section of a file. What it writes beside names and values stays as it was when the editor was made, also while the
-/// section changes: the blanks before a name, those around `=`, and the line end, the file's.
+/// An editor of one section of a file. What it writes besides names and values stays as it was when the editor was made, even while the
+/// section changes: the blanks before a name, those around `=`, and the line ending, the file's.
 pub struct SectionMut<'a, B: Drop = Blanks> {
     pub(super) file: &'a mut File,
     pub(super) id: SectionId,
     pub(super) blanks: B,
     pub(super) line_end: LineEnd,
-    /// Whether a line end is put behind what is pushed.
+    /// Whether a line ending is added after what is pushed.
     pub(super) ends: bool,
     ghost stands: { has_number id file.now ≡ true } by { Bool-set (has_number id file.now) true },
 }
@@ -36,7 +36,7 @@ impl<B: Drop> Drop for SectionMut<'_, B> {
     ghost use Rattle.std.specs.Prelude.{◌≡◌};
     ghost use Rattle.gix_config.specs.SectionEditors.{edited};
 
-    // By hand, so that callers know what the file is when the editor is gone.
+    // Written by hand, so that callers know what the file is after the editor is gone.
     fn drop(self)
         ensures { self.exit.0.now ≡ edited self.entry }
     {
@@ -48,6 +48,7 @@ impl<B: Drop> Drop for SectionMut<'_, B> {
             ends: _,
         } = self;
         drop(blanks);
+        // The file's loan ends here.
         let _ = file;
     }
 }
@@ -89,15 +90,15 @@ impl<'a> SectionMut<'a> {
         Ok(())
     }
 
-    /// Pushes a line behind the section's others: the blanks before a name, the name, and where a value is given `=` with the blanks
-    /// around it and the value, spelled as a file has it; then the line end, unless it is switched off.
+    /// Pushes a line after the section's others: the blanks before a name, the name, and if a value is given `=` with the blanks
+    /// around it and the value, as a file spells it; then the line ending, unless it is switched off.
     ///
-    /// Nothing that grows with the file or the section. Takes memory for what is put into
+    /// Its time doesn't grow with the file or the section. Takes memory for what is added to
     /// the file's buffer, and for the new items.
     ///
     /// # Errors
     ///
-    /// Refusal 6 for a name that is none; else 3 where the file would take more than 4294967295 bytes, and 27 for want of memory. The
+    /// Refusal 6 for an invalid name; otherwise 3 if the file would take more than 4294967295 bytes, and 27 when out of memory. The
     /// file is then as it was.
     pub fn push(&mut self, value_name: &str, value: Option<&[u8]>) -> Result<(), value::Error>
         ensures same_file { lent self.new ≡ lent self.old }
@@ -110,7 +111,7 @@ impl<'a> SectionMut<'a> {
         self.push_line(value_name, value, None)
     }
 
-    /// As [`SectionMut::push`], with a comment behind the value: a space, `#` and the comment, with a space in front where it doesn't
+    /// As [`SectionMut::push`], with a comment after the value: a space, `#` and the comment, with a space before it if it doesn't
     /// begin with white space, and each LF turned to a space.
     ///
     /// # Errors
@@ -132,11 +133,11 @@ impl<'a> SectionMut<'a> {
         self.push_line(value_name, value, Some(comment))
     }
 
-    /// Pushes the line end, also where it is switched off behind lines.
+    /// Pushes the line ending, even if it is switched off after lines.
     ///
     /// # Errors
     ///
-    /// Number 3 where the file would take more than 4294967295 bytes, and 27 for want of memory. The file is then as it was.
+    /// Number 3 if the file would take more than 4294967295 bytes, and 27 when out of memory. The file is then as it was.
     pub fn push_newline(&mut self) -> Result<(), span::Error>
         ensures same_file { lent self.new ≡ lent self.old }
         ensures same_section { number_of self.new ≡ number_of self.old }
@@ -147,12 +148,12 @@ impl<'a> SectionMut<'a> {
         self.file.push_newline(self.id, &editor)
     }
 
-    /// Gives the last entry of the name another value: what stands behind `=` is replaced, and `=` is put in where there is none, with
-    /// the editor's blanks around it. Where no entry has the name, a line with it is pushed, as [`SectionMut::push`] does. Answers the
-    /// raw text of the old value: its pieces joined, not decoded; nothing for an entry without `=`; `None` where there was no entry.
+    /// Gives the last entry of the name another value: what follows `=` is replaced, and `=` is added if there is none, with
+    /// the editor's blanks around it. If no entry has the name, a line with it is pushed, as [`SectionMut::push`] does. Returns the
+    /// raw text of the old value: its pieces joined, not decoded; no bytes for an entry without `=`; `None` if there was no entry.
     ///
-    /// One walk over its items. Takes memory for the old value, for what is put
-    /// into the file's buffer, and for new items.
+    /// One walk over its items. Takes memory for the old value, for what is added
+    /// to the file's buffer, and for new items.
     ///
     /// # Errors
     ///
@@ -177,14 +178,14 @@ impl<'a> SectionMut<'a> {
         }
     }
 
-    /// Takes out the last entry of the name, with the blanks directly before it and the line ends directly behind it. Answers the raw
-    /// text of its value, as [`SectionMut::set`] does; `None` where there is no such entry.
+    /// Removes the last entry of the name, with the blanks directly before it and the line endings directly after it. Returns the raw
+    /// text of its value, as [`SectionMut::set`] does; `None` if there is no such entry.
     ///
-    /// One walk over its items. Takes memory for the answer alone.
+    /// One walk over its items. Takes memory for the result alone.
     ///
     /// # Errors
     ///
-    /// Want of memory, only where there is an entry. The file is then as it was.
+    /// Out of memory, only if there is an entry. The file is then as it was.
     pub fn remove(&mut self, value_name: &str) -> Result<Option<BString>, NoMemory>
         ensures same_file { lent self.new ≡ lent self.old }
         ensures same_section { number_of self.new ≡ number_of self.old }
@@ -200,15 +201,15 @@ impl<'a> SectionMut<'a> {
         }
     }
 
-    /// Takes out the last entry, whatever its name, with the blanks directly before it and all that stands behind it; all that the section
-    /// has, where it has no entry. Answers the name as it is spelled and what the value means; an empty text for an entry without `=`;
-    /// `None` where there is no entry.
+    /// Removes the last entry, whatever its name, with the blanks directly before it and everything after it; everything in the section
+    /// if it has no entry. Returns the name as it is spelled and what the value means; an empty text for an entry without `=`;
+    /// `None` if there is no entry.
     ///
-    /// One walk over its items. Takes memory for the answer and the raw text of the value.
+    /// One walk over its items. Takes memory for the result and the raw text of the value.
     ///
     /// # Errors
     ///
-    /// Want of memory, only where there is an entry. The file is then as it was.
+    /// Out of memory, only if there is an entry. The file is then as it was.
     pub fn pop(&mut self) -> Result<Option<(String, BString)>, NoMemory>
         ensures same_file { lent self.new ≡ lent self.old }
         ensures same_section { number_of self.new ≡ number_of self.old }
@@ -222,16 +223,16 @@ impl<'a> SectionMut<'a> {
         Ok(texts_of(popped))
     }
 
-    /// Gives the section another name and subsection, by a header that is made: the name as given, and a subsection in quotes behind a
-    /// space. All else stays as it is, and later look-ups find the section by its new names.
+    /// Gives the section another name and subsection, with a header that is made: the name as given, and a subsection in quotes after a
+    /// space. All else stays as it is, and later lookups find the section by its new names.
     ///
     /// Takes time for the bytes of the names, and for the sections that have the new name, by an index; memory for the header and the
     /// names.
     ///
     /// # Errors
     ///
-    /// Refusal 4 where a byte of the name is no letter, digit or dash, else 5 where the subsection has LF or NUL; then 3 where the file
-    /// would take more than 4294967295 bytes, and 27 for want of memory. The file is then as it was.
+    /// Refusal 4 if a byte of the name is not a letter, digit or dash, otherwise 5 if the subsection has LF or NUL; then 3 if the file
+    /// would take more than 4294967295 bytes, and 27 when out of memory. The file is then as it was.
     pub fn rename(
         &mut self,
         name: &str,
@@ -251,11 +252,11 @@ impl<'a> SectionMut<'a> {
             .rename_numbered(self.id, name, bytes_of(&subsection_name))
     }
 
-    /// Says how far the section is trusted. Metadata that it shared with others is its own from then on. Takes memory for that.
+    /// Sets how far the section is trusted. If it shared its metadata with others, it has its own from then on. Takes memory for that.
     ///
     /// # Errors
     ///
-    /// Want of memory. The file is then as it was.
+    /// Out of memory. The file is then as it was.
     pub fn set_trust(&mut self, trust: Trust) -> Result<(), NoMemory>
         ensures same_file { lent self.new ≡ lent self.old }
         ensures same_section { number_of self.new ≡ number_of self.old }
@@ -266,11 +267,11 @@ impl<'a> SectionMut<'a> {
         self.file.set_trust_of(self.id, trust)
     }
 
-    /// Puts other blanks before names, or none. Only white space may be given ([`is_whitespace`](crate::file::is_whitespace)).
+    /// Sets other blanks before names, or none. Only white space may be given ([`is_whitespace`](crate::file::is_whitespace)).
     ///
     /// # Errors
     ///
-    /// Want of memory. The editor is then as it was.
+    /// Out of memory. The editor is then as it was.
     pub fn set_leading_whitespace(&mut self, whitespace: Option<BString>) -> Result<(), NoMemory>
         requires { IfSome whitespace (λ run. list_all is_whitespace (bstring_bytes run) ≡ true) }
         ensures same_file { lent self.new ≡ lent self.old }
@@ -282,7 +283,7 @@ impl<'a> SectionMut<'a> {
         self.blanks.set_leading(bytes_of(&whitespace))
     }
 
-    /// Whether a line end is put behind what is pushed from now on; it is, unless this says otherwise.
+    /// Whether a line ending is added after what is pushed from now on; it is, unless this is set to `false`.
     pub fn set_implicit_newline(&mut self, on: bool) -> &mut Self
         ensures same { result.ghost_name ≡ self.entry.ghost_name }
         ensures same_file { lent result.now ≡ lent self.old }

@@ -1,4 +1,4 @@
-//! The sections of a file, walked over and looked up by name.
+//! The sections of a file, walked over and found by name.
 use crate::file::{File, Metadata, SectionRef};
 use crate::lookup::existing::Error;
 pub use gitconf_finding::walks::{
@@ -17,8 +17,8 @@ impl File {
     ghost use Rattle.gitconf_finding.specs.SomeSections.{IsSomeSection, IsSomeSectionOfKey};
     ghost use Rattle.gitconf_finding.specs.Walks.{and_held_left, and_ids_by_name_left, and_ids_left, by_name_left, section_ids_left, with_held, with_id, with_name};
 
-    /// The sections that have the name, without ASCII case, and any subsection, in file order; `None` where there is none.
-    /// They are found by an index: constant time but for the bytes of the names, and no memory.
+    /// The sections that have the name, without ASCII case, and any subsection, in file order; `None` if there is none.
+    /// They are found by an index: constant time except for the bytes of the names, and no memory.
     pub fn sections_by_name<'a, 'n>(&'a self, name: &'n str) -> Option<SectionsByName<'a, 'n>>
         ensures none { IsNone result ↔ (with_name name.now self.now.sections ≡ []) }
         ensures left { IfSome result (λ it. by_name_left it ≡ with_name name.now self.now.sections) }
@@ -37,8 +37,8 @@ impl File {
         self.store.sections_and_ids_by_name(name)
     }
 
-    /// As [`File::sections_by_name`], those alone whose metadata passes the filter. Where sections have the name and none
-    /// passes, the walk is empty. The filter is asked about each section when its turn comes.
+    /// As [`File::sections_by_name`], but only those whose metadata passes the filter. If sections have the name and none
+    /// passes, the walk is empty. The filter is called for each section when the walk reaches it.
     pub fn sections_by_name_and_filter<'a, 'n, F: FnMut(&Metadata) -> bool + Drop>(
         &'a self,
         name: &'n str,
@@ -65,7 +65,7 @@ impl File {
         self.store.section_ids()
     }
 
-    /// The sections in file order, each with the events of what is held behind it, which stood before the first section of a
+    /// The sections in file order, each with the events of what is held after it, which came before the first section of a
     /// file that was appended or included.
     pub fn sections_and_postmatter(&self) -> SectionsAndPostmatter<'_>
         ensures { and_held_left result ≡ map with_held self.now.sections }
@@ -77,7 +77,7 @@ impl File {
     ///
     /// # Errors
     ///
-    /// Refusal 7 where no section has the name, 8 where none of these has the subsection.
+    /// Refusal 7 if no section has the name, 8 if none of these has the subsection.
     pub fn section(
         &self,
         name: &str,
@@ -88,12 +88,12 @@ impl File {
         self.store.section(name, subsection_name)
     }
 
-    /// As [`File::section`], by a key such as `remote.origin`: the name stands before its first dot, and all behind it is the
+    /// As [`File::section`], by a key such as `remote.origin`: the name is before its first dot, and all after it is the
     /// subsection; without a dot there is none.
     ///
     /// # Errors
     ///
-    /// Refusal 9 where the name isn't UTF-8, and those of [`File::section`].
+    /// Refusal 9 if the name isn't UTF-8, and those of [`File::section`].
     pub fn section_by_key(&self, section_key: &[u8]) -> Result<SectionRef<'_>, Error>
         ensures { IsSectionOfKey (parsed_section_key section_key.now) self.now result }
     {
@@ -103,12 +103,12 @@ impl File {
         }
     }
 
-    /// As [`File::section`], the last one whose metadata passes the filter; `None` where there are such sections and none passes.
-    /// The filter is asked of them from the last one on, up to that one.
+    /// As [`File::section`], the last one whose metadata passes the filter; `None` if there are such sections and none passes.
+    /// The filter is called for them from the last one up to that one.
     ///
     /// # Errors
     ///
-    /// Those of [`File::section`], whatever the filter answers.
+    /// Those of [`File::section`], whatever the filter returns.
     pub fn section_filter<F: FnMut(&Metadata) -> bool>(
         &self,
         name: &str,
@@ -117,10 +117,10 @@ impl File {
     ) -> Result<Option<SectionRef<'_>>, Error>
         requires { F.IsAlwaysCallable filter }
         ensures refused { IfErr result (IsMissing name.now (option_copied subsection_name.entry) self.now) }
-        // For a filter that answers by what it is shown.
+        // For a filter whose result depends only on what it is shown.
         ensures exact { (keeps : Meta → Bool) → ComputesKey F.FnMut keeps filter
             → IsPassingSection name.now (option_copied subsection_name.entry) keeps self.now result }
-        // Whatever the filter answers.
+        // For any filter.
         ensures some { IsSomeSection name.now (option_copied subsection_name.entry) self.now result }
     {
         self.store.section_filter(name, subsection_name, filter)
@@ -137,10 +137,10 @@ impl File {
         filter: F,
     ) -> Result<Option<SectionRef<'_>>, Error>
         requires { F.IsAlwaysCallable filter }
-        // For a filter that answers by what it is shown.
+        // For a filter whose result depends only on what it is shown.
         ensures exact { (keeps : Meta → Bool) → ComputesKey F.FnMut keeps filter
             → IsPassingSectionOfKey (parsed_section_key section_key.now) keeps self.now result }
-        // Whatever the filter answers.
+        // For any filter.
         ensures some { IsSomeSectionOfKey (parsed_section_key section_key.now) self.now result }
     {
         match KeyRef::parse(section_key) {

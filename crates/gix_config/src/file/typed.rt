@@ -1,4 +1,4 @@
-//! Look-ups of paths, booleans and integers.
+//! Lookups of paths, booleans and integers.
 ghost use Rattle.std.specs.Fn.{ComputesKey};
 ghost use Rattle.std.specs.Option.{option_copied};
 ghost use Rattle.std.specs.Prelude.{◌≡◌, Bool, true, IsSome};
@@ -89,11 +89,11 @@ fn found_integers(
 }
 
 impl File {
-    /// The last value of a key as a path, found as by [`File::string`]; its shorthands stand as they are ([`Path::interpolate`]).
+    /// The last value of a key as a path, found as by [`File::string`]; its shorthands are not replaced ([`Path::interpolate`] does that).
     ///
     /// # Errors
     ///
-    /// Want of memory for the answer.
+    /// Out of memory for the result.
     pub fn path<K: AsKey>(&self, key: K) -> Result<Option<Path>, NoMemory>
         ensures { OfKey (K.key key) (λ key. IsPath key (λ _. true) self.now result) result }
     {
@@ -131,9 +131,9 @@ impl File {
         filter: F,
     ) -> Result<Option<Path>, NoMemory>
         requires { F.IsAlwaysCallable filter }
-        // For a filter that answers by what it is shown.
+        // For a filter whose result depends only on what it is shown.
         ensures exact { (keeps : Meta → Bool) → ComputesKey F.FnMut keeps filter → OfKey (K.key key) (λ key. IsPath key keeps self.now result) result }
-        // Whatever the filter answers.
+        // For any filter.
         ensures some { OfKey (K.key key) (λ key. WithSome (λ s. IsPath key (λ _. true) s result) self.now) result }
     {
         match key.try_as_key() {
@@ -160,9 +160,9 @@ impl File {
         filter: F,
     ) -> Result<Option<Path>, NoMemory>
         requires { F.IsAlwaysCallable filter }
-        // For a filter that answers by what it is shown.
+        // For a filter whose result depends only on what it is shown.
         ensures exact { (keeps : Meta → Bool) → ComputesKey F.FnMut keeps filter → IsPath (key_at section_name.now (option_copied subsection_name.entry) value_name.now) keeps self.now result }
-        // Whatever the filter answers.
+        // For any filter.
         ensures some { WithSome (λ s. IsPath (key_at section_name.now (option_copied subsection_name.entry) value_name.now) (λ _. true) s result) self.now }
     {
         let found = self
@@ -171,12 +171,12 @@ impl File {
         found_path(found)
     }
 
-    /// The boolean of a key's last entry in the last section of the key's name and subsection that has one: true where that entry has no
-    /// `=`. `None` where there is none or where the key can't be parsed. A miss takes no memory.
+    /// The boolean of a key's last entry in the last section of the key's name and subsection that has one: true if that entry has no
+    /// `=`. `None` if there is none or the key can't be parsed. A miss takes no memory.
     ///
     /// # Errors
     ///
-    /// Refusal 11 for a value that is no boolean, `not a boolean`, with its bytes. Refusal 27 for want of memory.
+    /// Refusal 11 for a value that is not a boolean, `not a boolean`, with its bytes. Refusal 27 when out of memory.
     pub fn boolean<K: AsKey>(&self, key: K) -> Result<Option<bool>, value::Error>
         ensures { OfKey (K.key key) (λ key. IsBoolean key (λ _. true) self.now result) result }
     {
@@ -214,9 +214,9 @@ impl File {
         filter: F,
     ) -> Result<Option<bool>, value::Error>
         requires { F.IsAlwaysCallable filter }
-        // For a filter that answers by what it is shown.
+        // For a filter whose result depends only on what it is shown.
         ensures exact { (keeps : Meta → Bool) → ComputesKey F.FnMut keeps filter → OfKey (K.key key) (λ key. IsBoolean key keeps self.now result) result }
-        // Whatever the filter answers.
+        // For any filter.
         ensures some { OfKey (K.key key) (λ key. WithSome (λ s. IsBoolean key (λ _. true) s result) self.now) result }
     {
         match key.try_as_key() {
@@ -243,9 +243,9 @@ impl File {
         filter: F,
     ) -> Result<Option<bool>, value::Error>
         requires { F.IsAlwaysCallable filter }
-        // For a filter that answers by what it is shown.
+        // For a filter whose result depends only on what it is shown.
         ensures exact { (keeps : Meta → Bool) → ComputesKey F.FnMut keeps filter → IsBoolean (key_at section_name.now (option_copied subsection_name.entry) value_name.now) keeps self.now result }
-        // Whatever the filter answers.
+        // For any filter.
         ensures some { WithSome (λ s. IsBoolean (key_at section_name.now (option_copied subsection_name.entry) value_name.now) (λ _. true) s result) self.now }
     {
         let found = self
@@ -258,8 +258,8 @@ impl File {
     ///
     /// # Errors
     ///
-    /// Refusal 11 for a value that is none, `not an integer`, or one that 64 bits don't hold, `Integer overflow`, with its bytes. Refusal 27
-    /// for want of memory.
+    /// Refusal 11 for a value that is not an integer, `not an integer`, or one that 64 bits don't hold, `Integer overflow`, with its bytes.
+    /// Refusal 27 when out of memory.
     pub fn integer<K: AsKey>(&self, key: K) -> Result<Option<i64>, value::Error>
         ensures { OfKey (K.key key) (λ key. IsInteger key (λ _. true) self.now result) result }
     {
@@ -297,9 +297,9 @@ impl File {
         filter: F,
     ) -> Result<Option<i64>, value::Error>
         requires { F.IsAlwaysCallable filter }
-        // For a filter that answers by what it is shown.
+        // For a filter whose result depends only on what it is shown.
         ensures exact { (keeps : Meta → Bool) → ComputesKey F.FnMut keeps filter → OfKey (K.key key) (λ key. IsInteger key keeps self.now result) result }
-        // Whatever the filter answers.
+        // For any filter.
         ensures some { OfKey (K.key key) (λ key. WithSome (λ s. IsInteger key (λ _. true) s result) self.now) result }
     {
         match key.try_as_key() {
@@ -326,9 +326,9 @@ impl File {
         filter: F,
     ) -> Result<Option<i64>, value::Error>
         requires { F.IsAlwaysCallable filter }
-        // For a filter that answers by what it is shown.
+        // For a filter whose result depends only on what it is shown.
         ensures exact { (keeps : Meta → Bool) → ComputesKey F.FnMut keeps filter → IsInteger (key_at section_name.now (option_copied subsection_name.entry) value_name.now) keeps self.now result }
-        // Whatever the filter answers.
+        // For any filter.
         ensures some { WithSome (λ s. IsInteger (key_at section_name.now (option_copied subsection_name.entry) value_name.now) (λ _. true) s result) self.now }
     {
         let found = self
@@ -338,12 +338,12 @@ impl File {
     }
 
     /// All values of a key, found as by [`File::strings`], as integers times their suffixes. An entry without `=` counts as empty, which is
-    /// no integer. A miss takes no memory.
+    /// not an integer. A miss takes no memory.
     ///
     /// # Errors
     ///
-    /// Refusal 11 for the first value that is none, `not an integer`, or that 64 bits don't hold, `Integer overflow`, with its bytes. Refusal
-    /// 27 for want of memory.
+    /// Refusal 11 for the first value that is not an integer, `not an integer`, or that 64 bits don't hold, `Integer overflow`, with its
+    /// bytes. Refusal 27 when out of memory.
     pub fn integers<K: AsKey>(&self, key: K) -> Result<Option<Vec<i64>>, value::Error>
         ensures { OfKey (K.key key) (λ key. AreIntegers key (λ _. true) self.now result) result }
     {
@@ -381,9 +381,9 @@ impl File {
         filter: F,
     ) -> Result<Option<Vec<i64>>, value::Error>
         requires { F.IsAlwaysCallable filter }
-        // For a filter that answers by what it is shown.
+        // For a filter whose result depends only on what it is shown.
         ensures exact { (keeps : Meta → Bool) → ComputesKey F.FnMut keeps filter → OfKey (K.key key) (λ key. AreIntegers key keeps self.now result) result }
-        // Whatever the filter answers.
+        // For any filter.
         ensures some { OfKey (K.key key) (λ key. WithSome (λ s. AreIntegers key (λ _. true) s result) self.now) result }
     {
         match key.try_as_key() {
@@ -410,9 +410,9 @@ impl File {
         filter: F,
     ) -> Result<Option<Vec<i64>>, value::Error>
         requires { F.IsAlwaysCallable filter }
-        // For a filter that answers by what it is shown.
+        // For a filter whose result depends only on what it is shown.
         ensures exact { (keeps : Meta → Bool) → ComputesKey F.FnMut keeps filter → AreIntegers (key_at section_name.now (option_copied subsection_name.entry) value_name.now) keeps self.now result }
-        // Whatever the filter answers.
+        // For any filter.
         ensures some { WithSome (λ s. AreIntegers (key_at section_name.now (option_copied subsection_name.entry) value_name.now) (λ _. true) s result) self.now }
     {
         let found = self

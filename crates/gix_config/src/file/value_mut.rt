@@ -16,13 +16,13 @@ use gitconf_text::line_end::LineEnd;
 use gitconf_text::parse::span;
 use spelling::Spelling;
 
-/// An editor of the value of one entry of a file. It stands on the entry's place in its section. What it writes beside the value stays as
-/// it was when the editor was made: the name, as the caller spelled it, and the blanks round `=`, those of the section.
+/// An editor of the value of one entry of a file. It has the entry's place in its section. What it writes besides the value stays as
+/// it was when the editor was made: the name, as the caller spelled it, and the blanks around `=`, those of the section.
 pub struct ValueMut<'a, S: Drop = Spelling> {
     file: &'a mut File,
     id: SectionId,
     place: usize,
-    /// Whether the entry stands at its place, and wasn't deleted.
+    /// Whether the entry is at its place, and wasn't deleted.
     stands: bool,
     spelling: S,
     line_end: LineEnd,
@@ -33,7 +33,7 @@ impl<S: Drop> Drop for ValueMut<'_, S> {
     ghost use Rattle.std.specs.Prelude.{◌≡◌};
     ghost use Rattle.gix_config.specs.ValueEditors.{edited};
 
-    // By hand, so that callers know what the file is when the editor is gone.
+    // Written by hand, so that callers know what the file is after the editor is gone.
     fn drop(self)
         ensures { self.exit.0.now ≡ edited self.entry }
     {
@@ -46,6 +46,7 @@ impl<S: Drop> Drop for ValueMut<'_, S> {
             line_end: _,
         } = self;
         drop(spelling);
+        // The file's loan ends here.
         let _ = file;
     }
 }
@@ -61,11 +62,11 @@ impl<'a> ValueMut<'a> {
     ghost use Rattle.gix_config.specs.SectionEditors as sections;
     ghost use Rattle.gix_config.specs.ValueEditors.{edited, editor, key_of, lent, meaning_of, place_of, stands_there, without_entry, writing};
 
-    /// What the value means; no bytes where the entry has no `=`.
+    /// What the value means; no bytes if the entry has no `=`.
     ///
     /// # Errors
     ///
-    /// Refusal 9 where the entry was deleted; 27 for want of memory for the answer.
+    /// Refusal 9 if the entry was deleted; 27 when out of memory for the result.
     pub fn get(&self) -> Result<BString, existing::Error>
         ensures { IsExisting bstring_bytes result (meaning_of self.now) KeyMissing }
     {
@@ -79,15 +80,15 @@ impl<'a> ValueMut<'a> {
         }
     }
 
-    /// Gives the entry another value: it is written anew, by the name as the caller spelled it, `=` with the blanks around it, and the value
-    /// as a file spells it. Where the old value ended in an empty last piece and a comment comes next, blanks aside, the last line end of
-    /// the old value stays before it. An entry that was deleted is written at its place.
+    /// Gives the entry another value: it is rewritten, with the name as the caller spelled it, `=` with the blanks around it, and the value
+    /// as a file spells it. If the old value ended in an empty last piece and a comment comes next, apart from blanks, the last line ending
+    /// of the old value stays before it. An entry that was deleted is written at its place.
     ///
-    /// Nothing that grows with the file. Takes memory for what is put into the file's buffer, and for at most one item more.
+    /// Its time doesn't grow with the file. Takes memory for what is added to the file's buffer, and for at most one more item.
     ///
     /// # Errors
     ///
-    /// Number 3 where the file would take more than 4294967295 bytes, and 27 for want of memory. The file is then as it was.
+    /// Number 3 if the file would take more than 4294967295 bytes, and 27 when out of memory. The file is then as it was.
     pub fn set(&mut self, value: &[u8]) -> Result<(), span::Error>
         ensures same_file { lent self.new ≡ lent self.old }
         ensures same_place { place_of self.new ≡ place_of self.old }
@@ -115,7 +116,7 @@ impl<'a> ValueMut<'a> {
         Ok(())
     }
 
-    /// As [`ValueMut::set`], the bytes of a text.
+    /// As [`ValueMut::set`], with the bytes of a text.
     ///
     /// # Errors
     ///
@@ -132,8 +133,8 @@ impl<'a> ValueMut<'a> {
         self.set(value.as_bytes())
     }
 
-    /// Deletes the entry, where it stands: its name, `=` and value, and the blanks between them. What stands around it stays, also the
-    /// blanks before its name and the line end behind its value. Is never refused, and takes no memory.
+    /// Deletes the entry, if it is there: its name, `=` and value, and the blanks between them. What is around it stays, even the
+    /// blanks before its name and the line ending after its value. It can't fail, and takes no memory.
     pub fn delete(&mut self)
         ensures same_file { lent self.new ≡ lent self.old }
         ensures same_place { place_of self.new ≡ place_of self.old }
@@ -148,14 +149,15 @@ impl<'a> ValueMut<'a> {
         }
     }
 
-    /// The section as it now stands. Constant time, and no memory.
+    /// The section as it now is. Constant time, and no memory.
     pub fn section(&self) -> SectionRef<'_>
         ensures { numbered (place_of self.now).0 (edited self.now) ≡ Some (shown result) }
     {
         self.file.section_of(self.id)
     }
 
-    /// An editor of the section, which writes the blanks and the line end that the section and the file had when this one was made.
+    /// An editor of the section, which writes the blanks that the section used, and the file's line ending, as they were when this editor
+    /// was made.
     pub fn into_section_mut(self) -> SectionMut<'a>
         ensures same_file { sections.lent result ≡ lent self.entry }
         ensures same_state { sections.edited result ≡ edited self.entry }

@@ -1,4 +1,4 @@
-//! Look-ups of values in types of the caller's.
+//! Lookups of values in types of the caller's.
 ghost use Rattle.std.specs.Option.{option_copied};
 ghost use Rattle.std.specs.Prelude.{◌≡◌, ℕ, Bool, true, List, Option, IsSome};
 ghost use Rattle.bstr.specs.Owned.{bstring_bytes};
@@ -65,12 +65,12 @@ fn tried<T: TryFrom<BString>>(
 }
 
 impl File {
-    /// The last value of a key in a type, found as by [`File::raw_value`]. The key has to be one, which [`AsKey::try_as_key`]
-    /// tells.
+    /// The last value of a key in a type, found as by [`File::raw_value`]. The key has to be valid, as [`AsKey::try_as_key`]
+    /// says.
     ///
     /// # Errors
     ///
-    /// Those of [`File::raw_value`], and refusal 10 where the type refuses the value.
+    /// Those of [`File::raw_value`], and refusal 10 if the type refuses the value.
     pub fn value<T: TryFrom<BString>, K: AsKey>(&self, key: K) -> Result<T, lookup::Error<T::Error>>
         requires { IsSome (K.key key) }
         ensures { IsValue T.try_from_gives (the_key (K.key key)) self.now result }
@@ -95,8 +95,8 @@ impl File {
         converted(self.raw_value_by(section_name, subsection_name, value_name))
     }
 
-    /// The last value of a key in a type, and the section in which it stands, found as by [`File::raw_value_with_section`]. The key
-    /// has to be one, which [`AsKey::try_as_key`] tells.
+    /// The last value of a key in a type, and its section, found as by [`File::raw_value_with_section`]. The key
+    /// has to be valid, as [`AsKey::try_as_key`] says.
     ///
     /// # Errors
     ///
@@ -132,12 +132,12 @@ impl File {
         ))
     }
 
-    /// The last value of a key in a type, or `None` where there is none, found as by [`File::string`]. The key has to be one,
-    /// which [`AsKey::try_as_key`] tells.
+    /// The last value of a key in a type, or `None` if there is none, found as by [`File::string`]. The key has to be valid,
+    /// as [`AsKey::try_as_key`] says.
     ///
     /// # Errors
     ///
-    /// Refusal 10 where the type refuses the value; refusal 27 for want of memory.
+    /// Refusal 10 if the type refuses the value; refusal 27 when out of memory.
     pub fn try_value<T: TryFrom<BString>, K: AsKey>(
         &self,
         key: K,

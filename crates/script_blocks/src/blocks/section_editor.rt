@@ -1,4 +1,4 @@
-//! The editor of a section, which stands in a file or alone.
+//! The editor of a section, in a file or in none.
 
 use bstr::BString;
 use gitconf_script::editor_arguments::PushedLine;
@@ -91,6 +91,7 @@ impl SectionEditor for SectionMut<'_> {
     }
 
     fn end_lines(&mut self, on: bool) {
+        // It returns the editor, which isn't needed here.
         let _ = self.set_implicit_newline(on);
     }
 
@@ -160,6 +161,7 @@ impl SectionEditor for DetachedSectionMut<'_> {
     }
 
     fn end_lines(&mut self, on: bool) {
+        // It returns the editor, which isn't needed here.
         let _ = self.set_implicit_newline(on);
     }
 

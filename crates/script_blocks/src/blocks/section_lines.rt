@@ -24,7 +24,7 @@ use script_answers::rendering::line_of;
 use std::alloc::{AllocError, Global};
 use std::io::{Read, Write};
 
-/// Tells that the editor stands, and answers its lines.
+/// Writes that there is an editor, and answers its lines.
 pub fn play<R: Read + Drop, W: Write + Drop, E: SectionEditor>(
     alloc: Global,
     bracket: Bracket,
@@ -45,7 +45,7 @@ pub fn play<R: Read + Drop, W: Write + Drop, E: SectionEditor>(
     Ok(())
 }
 
-/// The answer to a line, as a line. Only what the editor does stands in the bracket.
+/// The answer to a line, as a line. Only what the editor does is in the bracket.
 fn answer_to<E: SectionEditor>(
     alloc: Global,
     editor: &mut E,
@@ -77,7 +77,7 @@ fn outcome_of<'a, E: SectionEditor>(
         Some(SectionLine::Change(change)) => change_outcome(alloc, editor, change, words),
         Some(SectionLine::Style(style)) => style_outcome(alloc, editor, style, words),
         Some(SectionLine::View(view)) => view_outcome(alloc, editor, view, words),
-        // It has words behind it, which it must not have.
+        // `end` must have no words after it, and here it has some.
         Some(SectionLine::End) => Err(Refusal::Line),
     }
 }
@@ -133,7 +133,7 @@ fn view_outcome<'a, E: SectionEditor>(
     }
 }
 
-/// `push BYTES OPT`, `pushc BYTES OPT BYTES`: a line behind the others, with a comment or without one.
+/// `push BYTES OPT`, `pushc BYTES OPT BYTES`: a line after the others, with a comment or without one.
 fn push<'a, E: SectionEditor>(editor: &mut E, line: PushedLine<'_>) -> Outcome<'a>
     ensures { E.held editor.new ≡ E.held editor.old }
 {
@@ -149,7 +149,7 @@ fn set<'a, E: SectionEditor>(editor: &mut E, words: &[Word<'_>]) -> Outcome<'a>
     Ok(Answer::found(editor.set(name, value)?))
 }
 
-/// `remove BYTES`: takes the last entry of the name out; its raw value.
+/// `remove BYTES`: removes the last entry of the name; its raw value.
 fn remove<'a, E: SectionEditor>(editor: &mut E, words: &[Word<'_>]) -> Outcome<'a>
     ensures { E.held editor.new ≡ E.held editor.old }
 {
@@ -157,7 +157,7 @@ fn remove<'a, E: SectionEditor>(editor: &mut E, words: &[Word<'_>]) -> Outcome<'
     Ok(Answer::found(editor.remove(name)?))
 }
 
-/// `pop`: takes the last entry out with all behind it; its name and what it means.
+/// `pop`: removes the last entry and everything after it; its name and what it means.
 fn pop<'a, E: SectionEditor>(editor: &mut E, words: &[Word<'_>]) -> Outcome<'a>
     ensures { E.held editor.new ≡ E.held editor.old }
 {
@@ -178,7 +178,7 @@ fn header<'a, E: SectionEditor>(alloc: Global, editor: &mut E, words: &[Word<'_>
     Ok(Answer::Done)
 }
 
-/// `nl`: a line end behind all.
+/// `nl`: a line ending after all.
 fn nl<'a, E: SectionEditor>(editor: &mut E, words: &[Word<'_>]) -> Outcome<'a>
     ensures { E.held editor.new ≡ E.held editor.old }
 {
@@ -187,7 +187,7 @@ fn nl<'a, E: SectionEditor>(editor: &mut E, words: &[Word<'_>]) -> Outcome<'a>
     Ok(Answer::Done)
 }
 
-/// `implicit B`: whether a line end is put behind what is pushed.
+/// `implicit B`: whether a line ending is added after what is pushed.
 fn implicit<'a, E: SectionEditor>(editor: &mut E, words: &[Word<'_>]) -> Outcome<'a>
     ensures { E.held editor.new ≡ E.held editor.old }
 {
@@ -212,7 +212,7 @@ fn leading<'a, E: SectionEditor>(alloc: Global, editor: &mut E, words: &[Word<'_
     Ok(Answer::Done)
 }
 
-/// `blanks`: what the editor writes before a name, before and behind `=`, and as a line end.
+/// `blanks`: what the editor writes before a name, before and after `=`, and as a line ending.
 fn blanks<'a, E: SectionEditor>(alloc: Global, editor: &E, words: &[Word<'_>]) -> Outcome<'a> {
     no_words(words)?;
     let (before, behind) = editor.around();
@@ -224,7 +224,7 @@ fn blanks<'a, E: SectionEditor>(alloc: Global, editor: &E, words: &[Word<'_>]) -
     Ok(Answer::Words(told))
 }
 
-/// `implicitvalue BYTES`: the meaning of the last entry of the name, and an entry without `=` told.
+/// `implicitvalue BYTES`: the meaning of the last entry of the name; an entry without `=` is distinguished.
 fn implicitvalue<'a, E: SectionEditor>(editor: &E, words: &[Word<'_>]) -> Outcome<'a> {
     match editor.value_implicit(text(words)?)? {
         Some(value) => Ok(Answer::Optional(value)),

@@ -16,7 +16,7 @@ use script_answers::rendering::line_of;
 use std::alloc::{AllocError, Global};
 use std::io::{Read, Write};
 
-/// Tells that the editor stands, and answers its lines.
+/// Writes that there is an editor, and answers its lines.
 pub fn play<R: Read + Drop, W: Write + Drop>(
     alloc: Global,
     bracket: Bracket,
@@ -37,7 +37,7 @@ pub fn play<R: Read + Drop, W: Write + Drop>(
     Ok(())
 }
 
-/// The answer to a line, as a line. Only what the editor does stands in the bracket.
+/// The answer to a line, as a line. Only what the editor does is in the bracket.
 fn answer_to(
     alloc: Global,
     editor: &mut ValueMut<'_>,
@@ -68,7 +68,7 @@ fn outcome_of<'a>(
         Some(ValueLine::Get) => get(editor, words),
         Some(ValueLine::Set) => set(editor, words),
         Some(ValueLine::Delete) => delete(editor, words),
-        // It has words behind it, which it must not have.
+        // `end` must have no words after it, and here it has some.
         Some(ValueLine::End) => Err(Refusal::Line),
     }
 }

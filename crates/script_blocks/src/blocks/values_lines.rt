@@ -18,7 +18,7 @@ use script_answers::rendering::line_of;
 use std::alloc::{AllocError, Global};
 use std::io::{Read, Write};
 
-/// Tells that the editor stands, and answers its lines.
+/// Writes that there is an editor, and answers its lines.
 pub fn play<R: Read + Drop, W: Write + Drop>(
     alloc: Global,
     bracket: Bracket,
@@ -39,7 +39,7 @@ pub fn play<R: Read + Drop, W: Write + Drop>(
     Ok(())
 }
 
-/// The answer to a line, as a line. Only what the editor does stands in the bracket.
+/// The answer to a line, as a line. Only what the editor does is in the bracket.
 fn answer_to(
     alloc: Global,
     editor: &mut MultiValueMut<'_>,
@@ -75,7 +75,7 @@ fn outcome_of<'a>(
         Some(ValuesLine::SetAll) => setall(editor, words),
         Some(ValuesLine::DeleteAt) => delete(editor, words),
         Some(ValuesLine::DeleteAll) => deleteall(editor, words),
-        // It has words behind it, which it must not have.
+        // `end` must have no words after it, and here it has some.
         Some(ValuesLine::End) => Err(Refusal::Line),
     }
 }

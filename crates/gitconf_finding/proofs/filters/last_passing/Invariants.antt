@@ -6,7 +6,7 @@ use Rattle.gitconf_state.specs.State.{SectionState}
 use Rattle.gitconf_finding.specs.Walks.{named_left, passing}
 use Rattle.gitconf_finding.proofs.filters.last_passing.Given as goal
 
--- no section behind those that are left passes
+-- no section after those that are left passes
 abbrev pub invariant-loop-section : goal.invariant-loop-section
 invariant-loop-section g l = record {
   callable : goal.F-IsAlwaysCallable g l.filter;

@@ -6,7 +6,7 @@ use Rattle.gitconf_finding.specs.ValuePlaces.{last_value_place}
 use Rattle.gitconf_finding.specs.Walks.{named_left}
 use Rattle.gitconf_finding.proofs.places.last_value_place.Given as goal
 
--- no passing section behind those that are left has an entry of the key
+-- no passing section after those that are left has an entry of the key
 abbrev pub invariant-loop-section : goal.invariant-loop-section
 invariant-loop-section g l = record {
   callable : goal.F-IsAlwaysCallable g l.filter;

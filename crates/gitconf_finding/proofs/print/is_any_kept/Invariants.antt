@@ -5,7 +5,7 @@ use Rattle.gitconf_state.specs.State.{SectionState}
 use Rattle.gitconf_views.specs.Views.{shown, sections_left}
 use Rattle.gitconf_finding.proofs.print.is_any_kept.Given as goal
 
--- a filter that answers by what it is shown keeps none of the sections before
+-- a filter whose result depends only on what it is shown keeps none of the sections before
 abbrev pub invariant-loop-section : goal.invariant-loop-section
 invariant-loop-section g l = record {
   can_next : (goal.iterator-loop-section g).can_next l.section-iterator;

@@ -8,7 +8,7 @@ use Rattle.gitconf_views.specs.Views.{shown, sections_left}
 use Rattle.gitconf_finding.proofs.SomeTexts.{IsSomeLeft}
 use Rattle.gitconf_finding.proofs.print.write_sections.Given as goal
 
--- the sections before were written, where the filter answers by what it is shown, and no failure was counted
+-- the sections before were written, where the filter returns by what it is shown, and no failure was counted
 abbrev pub invariant-loop-section : goal.invariant-loop-section
 invariant-loop-section g l = record {
   can_next : (goal.iterator-loop-section g).can_next l.section-iterator;

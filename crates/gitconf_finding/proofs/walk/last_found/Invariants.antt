@@ -6,7 +6,7 @@ use Rattle.gitconf_finding.specs.Finding.{last_place}
 use Rattle.gitconf_finding.specs.Walks.{named_left}
 use Rattle.gitconf_finding.proofs.walk.last_found.Given as goal
 
--- no passing section behind those that are left decides
+-- no passing section after those that are left decides
 abbrev pub invariant-loop-section : goal.invariant-loop-section
 invariant-loop-section g l = record {
   callable : goal.F-IsAlwaysCallable g l.filter;

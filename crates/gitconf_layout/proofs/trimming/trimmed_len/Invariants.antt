@@ -2,7 +2,7 @@ use Rattle.std.proofs.Common.{◌≡◌, ◌≤◌, length, take}
 use Rattle.gitconf_layout.specs.Layout.{trimmed}
 use Rattle.gitconf_layout.proofs.trimming.trimmed_len.Given as goal
 
--- behind what is kept stand CRs and LFs alone
+-- after what is kept are CRs and LFs alone
 abbrev pub invariant-loop-kept : goal.invariant-loop-kept
 invariant-loop-kept l = (l.kept ≤ length l.text) × (trimmed (take l.kept l.text) ≡ trimmed l.text)
 

@@ -3,7 +3,7 @@ use Rattle.gitconf_parse.specs.Compact.{is_kept_header}
 use Rattle.gitconf_items.specs.Sections.{front_of, sections_of}
 use Rattle.gitconf_parse.proofs.compact.front_len.Given as goal
 
--- so many stand before the first header
+-- that many come before the first header
 abbrev pub invariant-loop-len : goal.invariant-loop-len
 invariant-loop-len l = record {
   within : l.len ≤ length l.list;

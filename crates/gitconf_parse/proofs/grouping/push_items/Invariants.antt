@@ -6,7 +6,7 @@ use Rattle.gitconf_items.specs.Items.{tokens_of_items}
 use Rattle.gitconf_items.specs.Grouping.{Between, are_items}
 use Rattle.gitconf_parse.proofs.grouping.push_items.Given as goal
 
--- these items were read, and behind them go others on
+-- these items were read, and after them go others on
 abbrev pub invariant-loop-first : goal.invariant-loop-first
 invariant-loop-first l = record {
   joined : tokens_of_items l.buffer l.items.items ++ map (token_of l.buffer) (events_of l.rest) ≡ map (token_of l.buffer) (events_of l.events);

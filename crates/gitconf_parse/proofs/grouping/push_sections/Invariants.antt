@@ -6,7 +6,7 @@ use Rattle.gitconf_items.specs.Sections.{is_header_event, is_cut}
 use Rattle.gitconf_items.specs.Grouping.{Between, are_items}
 use Rattle.gitconf_parse.proofs.grouping.push_sections.Given as goal
 
--- these sections were handed over, and behind them go others on
+-- these sections were handed over, and after them go others on
 abbrev pub invariant-loop-header : goal.invariant-loop-header
 invariant-loop-header g l = record {
   joined : g.S.SectionSink.tokens l.buffer l.sections ++ map (token_of l.buffer) (events_of l.rest)

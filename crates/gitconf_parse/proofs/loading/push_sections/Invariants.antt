@@ -2,7 +2,7 @@ use Rattle.std.proofs.Common.{◌≡◌, ◌-◌, ◌≤◌, ◌<◌, [], length
 use Rattle.gitconf_parse.specs.Stretches.{IsReadOn}
 use Rattle.gitconf_parse.proofs.loading.push_sections.Given as goal
 
--- the sections up to here were read and handed over; here stands a header, or the end
+-- the sections up to here were read and handed over; here is a header, or the end
 abbrev pub invariant-loop-at : goal.invariant-loop-at
 invariant-loop-at g l = record {
   inside : l.at ≤ length l.input;

@@ -7,16 +7,16 @@ use crate::memory::NoMemory;
 use crate::parse::span;
 use thiserror::Error;
 
-/// How a header is refused that is to be made.
+/// Why a header can't be made.
 #[derive(Debug, Drop, PartialEq, Eq, PartialOrd, Error)]
 pub enum Error {
-    /// A byte of the section's name is no letter, digit or dash: refusal 4.
+    /// The section's name has a byte other than a letter, a digit or a dash: refusal 4.
     #[error("section names can only be ascii, '-'")]
     InvalidName,
     /// The subsection holds LF or NUL: refusal 5.
     #[error("sub-section names must not contain newlines or null bytes")]
     InvalidSubSection,
-    /// The header has no place in the text, or there is no section number for it: refusal 3.
+    /// The text has no room for the header, or there is no section number left: refusal 3.
     #[error(transparent)]
     Span(span::Error),
     /// A growth was refused: refusal 27.
@@ -48,7 +48,7 @@ impl From<NoMemory> for Error {
     }
 }
 
-/// Whether `name` may be a subsection of a header that is made: it holds neither LF nor NUL.
+/// Whether `name` may be the subsection of a header that is made: it holds neither LF nor NUL.
 ///
 /// It reads `name` once.
 pub fn is_valid_subsection(name: &[u8]) -> bool
@@ -57,13 +57,13 @@ pub fn is_valid_subsection(name: &[u8]) -> bool
     name.iter().all(|b| !(*b == b'\n' || *b == b'\0'))
 }
 
-/// Tests the parts of a header that is to be made. The name may be empty.
+/// Tests the parts of a header before it is made. The name may be empty.
 ///
-/// It is for the crates above this one. It reads both parts once, and takes no memory.
+/// It is for the crates above this one. It reads both parts once and takes no memory.
 ///
 /// # Errors
 ///
-/// `InvalidName` where a byte of the name is no letter, digit or dash, and else `InvalidSubSection` where there
+/// `InvalidName` where the name has a byte other than a letter, a digit or a dash, otherwise `InvalidSubSection` where there
 /// is a subsection that `is_valid_subsection` refuses.
 pub fn validate(name: &[u8], subsection: Option<&[u8]>) -> Result<(), Error>
     ensures name { IsErrOf result Error.InvalidName ↔ (spec.is_made_name name.now ≡ false) }

@@ -20,7 +20,7 @@ use std::marker::Model;
 /// The name of a section, like `remote`: letters, digits and dashes.
 ///
 /// It keeps its spelling, and is compared, ordered and hashed without ASCII case. `try_from` makes one of a `String`
-/// or a `BString`, whose memory it keeps; its only refusal is number 6, of bytes that are no such name.
+/// or a `BString`, whose memory it keeps; its only refusal is number 6, of bytes that are not such a name.
 #[derive(Debug, Drop)]
 pub struct Name {
     text: String,
@@ -38,11 +38,11 @@ impl Model for Name {
 }
 
 impl Name {
-    /// A copy of the bytes, where they are such a name.
+    /// A copy of the bytes, if they are such a name.
     ///
     /// # Errors
     ///
-    /// Refusal 6 where they are none, and 27 where memory is wanting.
+    /// Refusal 6 if they are not, and 27 when out of memory.
     pub fn try_from_bytes(alloc: Global, bytes: &[u8]) -> Result<Name, NameError>
         ensures ok { IfOk result (λ name. name ≡ bytes.now) }
         ensures invalid { IsErrOf result 6 ↔ (spec.is_name bytes.now ≡ false) }
@@ -68,7 +68,7 @@ impl Name {
     ///
     /// # Errors
     ///
-    /// Only where memory is wanting.
+    /// Only when out of memory.
     pub fn to_owned(&self) -> Result<Name, NoMemory>
         ensures { IfOk result (λ name. name ≡ self.now) }
     {
@@ -182,7 +182,7 @@ impl Hash for Name {
 /// The name of a value, like `path` in `include.path`: a letter, and then letters, digits and dashes.
 ///
 /// It keeps its spelling, and is compared, ordered and hashed without ASCII case. `try_from` makes one of a `String`
-/// or a `BString`, whose memory it keeps; its only refusal is number 6, of bytes that are no such name.
+/// or a `BString`, whose memory it keeps; its only refusal is number 6, of bytes that are not such a name.
 #[derive(Debug, Drop)]
 pub struct ValueName {
     text: String,
@@ -200,11 +200,11 @@ impl Model for ValueName {
 }
 
 impl ValueName {
-    /// A copy of the bytes, where they are such a name.
+    /// A copy of the bytes, if they are such a name.
     ///
     /// # Errors
     ///
-    /// Refusal 6 where they are none, and 27 where memory is wanting.
+    /// Refusal 6 if they are not, and 27 when out of memory.
     pub fn try_from_bytes(alloc: Global, bytes: &[u8]) -> Result<ValueName, ValueNameError>
         ensures ok { IfOk result (λ name. name ≡ bytes.now) }
         ensures invalid { IsErrOf result 6 ↔ (spec.is_value_name bytes.now ≡ false) }
@@ -230,7 +230,7 @@ impl ValueName {
     ///
     /// # Errors
     ///
-    /// Only where memory is wanting.
+    /// Only when out of memory.
     pub fn to_owned(&self) -> Result<ValueName, NoMemory>
         ensures { IfOk result (λ name. name ≡ self.now) }
     {

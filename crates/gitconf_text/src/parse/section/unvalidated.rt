@@ -1,4 +1,4 @@
-//! Keys that no test has seen.
+//! Keys of sections that nothing has checked yet.
 ghost use Rattle.std.specs.Prelude.{◌≡◌, option_map, option_copied, position};
 ghost use Rattle.gitconf_text.specs.SectionKeys as spec;
 ghost use Rattle.gitconf_text.specs.SectionKeys.{parsed_section_key, cut_key, is_dot};
@@ -14,10 +14,10 @@ pub struct KeyRef<'a> {
 }
 
 impl<'a> KeyRef<'a> {
-    /// Cuts `input` at its first dot: the section's name stands before it, and all behind it is the subsection.
-    /// Without a dot there is no subsection. The answer is `None` where the name isn't UTF-8.
+    /// Cuts `input` at its first dot: the section's name is before it, and all after it is the subsection.
+    /// Without a dot there is no subsection. Returns `None` if the name isn't UTF-8.
     ///
-    /// It reads `input` once, and takes no memory.
+    /// It reads `input` once and takes no memory.
     pub fn parse(input: &'a [u8]) -> Option<KeyRef<'a>>
         ensures { option_map section_key_of result ≡ parsed_section_key input.now }
     {
@@ -42,7 +42,7 @@ fn as_utf8(bytes: &[u8]) -> Option<&str>
     str::from_utf8(bytes).ok()
 }
 
-// What stands before the first dot, and what behind it.
+// What is before the first dot, and what is after it.
 fn cut(text: &[u8]) -> (&[u8], Option<&[u8]>)
     ensures section { result.0.now ≡ (cut_key text.now).section }
     ensures subsection { option_copied result.1 ≡ (cut_key text.now).subsection }

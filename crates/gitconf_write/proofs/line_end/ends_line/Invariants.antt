@@ -4,7 +4,7 @@ use Rattle.gitconf_items.specs.Items.{items_of}
 use Rattle.gitconf_text.specs.LineEnds.{bytes_of_line_end}
 use Rattle.gitconf_write.proofs.line_end.ends_line.Given as goal
 
--- behind the rest stand blanks and line ends that hold none
+-- after the rest are blanks and line endings that hold none
 abbrev pub invariant-loop-item : goal.invariant-loop-item
 invariant-loop-item l =
     spec.ends_line (bytes_of_line_end l.line_end) (items_of l.buffer l.rest) ≡ spec.ends_line (bytes_of_line_end l.line_end) (items_of l.buffer l.items)

@@ -3,7 +3,7 @@ use Rattle.gitconf_state.specs.Printing as spec
 use Rattle.gitconf_items.specs.Items.{items_of}
 use Rattle.gitconf_write.proofs.sections.begins_on_a_line.Given as goal
 
--- blanks and comments stand before
+-- blanks and comments come before
 abbrev pub invariant-loop-item : goal.invariant-loop-item
 invariant-loop-item l =
     (buffer : List ℕ) → spec.begins_on_a_line (items_of buffer l.rest) ≡ spec.begins_on_a_line (items_of buffer l.items)

@@ -1,4 +1,4 @@
-//! Files that are made of what variables of the environment tell.
+//! Files that are made of the entries that variables of the environment set.
 ghost use Rattle.std.specs.Option.{option_map};
 ghost use Rattle.std.specs.Prelude.{◌≡◌, ℕ, Ok, unwrap_or, IfErr, IfOk, string_bytes};
 ghost use Rattle.gitconf_base.specs.Key.{key_of, parsed_key};
@@ -28,11 +28,11 @@ use gitconf_resolving::resolving::{Resolved, resolve};
 use gitconf_text::NoMemory;
 use std::alloc::Global;
 
-/// Pushes the value of an entry, counted from 0, behind those of a section.
+/// Pushes the value of an entry, counted from 0, after those of a section.
 ///
 /// # Errors
 ///
-/// 22 for a value that is no text; 6 for a name that is none, 3 where there is no room; 27 for want of memory.
+/// 22 for a value that isn't UTF-8; 6 for an invalid name, 3 if there is no room; 27 when out of memory.
 fn push_value(
     section: &mut SectionMut<'_>,
     name: &str,
@@ -59,7 +59,7 @@ fn push_value(
 ///
 /// # Errors
 ///
-/// 4, 5 and 3 where a section can't be made, and those of [`push_value`].
+/// 4, 5 and 3 if a section can't be made, and those of [`push_value`].
 fn put_value(
     file: &mut File,
     key: KeyRef<'_>,
@@ -75,7 +75,7 @@ fn put_value(
     }
 }
 
-/// The same by the text of the key.
+/// The same, by the text of the key.
 ///
 /// # Errors
 ///
@@ -93,11 +93,11 @@ fn put_under(file: &mut File, key: String, value: Option<String>, index: usize) 
     }
 }
 
-/// Puts the entry that variables tell, counted from 0, into the file.
+/// Puts an entry that variables set, counted from 0, into the file.
 ///
 /// # Errors
 ///
-/// 24 where the key isn't set, 22 where it is no text, 26 where the value isn't set, and those of [`put_under`].
+/// 24 if the key isn't set, 22 if it isn't UTF-8, 26 if the value isn't set, and those of [`put_under`].
 fn put_entry<E: Env>(alloc: Global, env: &mut E, index: usize, file: &mut File) -> Result<(), Error>
     ensures put { IsEntryPut (E.variables env.old) index file.old (left_by env_number result file.new) }
     ensures cause { IfErr result (IsEntryCause index) }
@@ -108,7 +108,7 @@ fn put_entry<E: Env>(alloc: Global, env: &mut E, index: usize, file: &mut File) 
     put_under(file, key, value, index)
 }
 
-/// Puts so many entries into the file, in order.
+/// Puts that many entries into the file, in order.
 ///
 /// # Errors
 ///
@@ -133,14 +133,14 @@ fn put_entries<E: Env>(
 ///
 /// # Errors
 ///
-/// Want of memory.
+/// Out of memory.
 fn empty(alloc: Global, meta: Metadata) -> Result<File, NoMemory>
     ensures { IfOk result (λ file. file ≡ empty_file meta) }
 {
     Ok(File::new(alloc, shared(alloc, meta)?))
 }
 
-/// The file with what it includes.
+/// The file, with what it includes.
 ///
 /// # Errors
 ///
@@ -167,7 +167,7 @@ pub(crate) fn expanded<F: Files>(
     }
 }
 
-/// The file of the entries that variables tell, with what it includes; `None` without entries.
+/// The file of the entries that variables set, with what it includes; `None` without entries.
 ///
 /// # Errors
 ///
@@ -197,7 +197,7 @@ pub(crate) fn env_file<F: Files, E: Env>(
 ///
 /// # Errors
 ///
-/// Want of memory.
+/// Out of memory.
 fn or_empty(alloc: Global, made: Option<File>) -> Result<File, NoMemory>
     ensures { IfOk result (λ file. file ≡ unwrap_or made (empty_file api_meta)) }
 {
@@ -235,19 +235,19 @@ impl File {
     ghost use Rattle.gitconf_loaders.specs.Paths.{CountsLoad, numbered};
     ghost use Rattle.gix_config.specs.Environment.{IsEnvCause, IsFromEnv, IsOverrides, IsOverridesCause};
 
-    /// The file that variables tell, which comes from no path and from the source `Env`, fully trusted, at level 0; with what it includes by
-    /// the options. `GIT_CONFIG_COUNT` tells how many entries there are, and the key and the value of each stand in `GIT_CONFIG_KEY_0`,
-    /// `GIT_CONFIG_VALUE_0` and so on. Each entry goes into the last section of the key's names, or into a new one. `None` where there is no
-    /// count, or it is 0 or no text.
+    /// The file of the entries that variables set, which comes from no path and from the source `Env`, fully trusted, at level 0; with what
+    /// it includes by the options. `GIT_CONFIG_COUNT` says how many entries there are, and the key and the value of each are in
+    /// `GIT_CONFIG_KEY_0`, `GIT_CONFIG_VALUE_0` and so on. Each entry goes into the last section of the key's names, or into a new one.
+    /// `None` if there is no count, or the count is 0 or isn't UTF-8.
     ///
-    /// Three variables are asked at most for an entry, and its section is found by an index.
+    /// At most three variables are asked for an entry, and its section is found by an index.
     ///
     /// # Errors
     ///
-    /// 23 for a count that is no number below 2 to the 64th. Of the first entry that can't be put, the first that fits: 24 for a key that isn't
-    /// set, 22 for one that is no text, 26 for a value that isn't set, 25 for a key without a dot, 4 and 5 for names that a section can't be made
-    /// of, 22 for a value that is no text, 6 for a name that is none; 3 where there is no room. Then those of
-    /// [`File::resolve_includes`], and 15 too where `max_depth` is 0 and the options ask for it. 27 for want of memory.
+    /// 23 for a count that is not a number below 2 to the 64th. For the first entry that can't be put in, the first of these: 24 for a key
+    /// that isn't set, 22 for one that isn't UTF-8, 26 for a value that isn't set, 25 for a key without a dot, 4 and 5 for names that a
+    /// section can't be made of, 22 for a value that isn't UTF-8, 6 for an invalid name; 3 if there is no room. Then those of
+    /// [`File::resolve_includes`], and 15 also if `max_depth` is 0 and the options ask for it. 27 when out of memory.
     pub fn from_env(
         alloc: Global,
         options: Options<'_>,
@@ -268,7 +268,7 @@ impl File {
         env_file(alloc, files, env, &options)
     }
 
-    /// [`File::from_env`], where includes go by the home folders of the host's places; an empty file where that is `None`.
+    /// [`File::from_env`], whose includes know the home folders of the host's places; an empty file if that is `None`.
     ///
     /// # Errors
     ///

@@ -17,12 +17,12 @@ impl File {
     ghost use Rattle.gitconf_loaders.specs.Globals.{IsGlobal, IsGlobalCause};
     ghost use Rattle.gitconf_loaders.specs.Paths.{CountsLoad, IsLoadedFrom, IsLoadOfPaths, numbered};
 
-    /// The file at a path, of that source, at level 0, with the trust that the host tells, which is asked first. No include is followed.
+    /// The file at a path, of that source, at level 0, with the trust that the host reports, which is asked first. No include is followed.
     /// The file is read and parsed once.
     ///
     /// # Errors
     ///
-    /// 21 where the trust can't be told, or the file can't be opened or read; 1 and 2 where the parser refuses it; 27 for want of memory.
+    /// 21 if the trust can't be asked, or the file can't be opened or read; 1 and 2 if the parser refuses it; 27 when out of memory.
     pub fn from_path_no_includes(
         alloc: Global,
         path: String,
@@ -40,16 +40,16 @@ impl File {
         Ok(File { store })
     }
 
-    /// The files of metadata that has a path, each with what it includes by the options, one behind the other as [`File::append`] puts them;
-    /// `None` where no file was loaded. Metadata without a path is passed over, and of several with one path the first is taken. The options
-    /// tell whether faults are ignored: a file that can't be opened is passed over then, and one that can't be read counts as empty.
+    /// The files of metadata that has a path, each with what it includes by the options, one after the other as [`File::append`] puts them;
+    /// `None` if no file was loaded. Metadata without a path is skipped, and of several with one path the first is taken. The options
+    /// say whether faults are ignored: then a file that can't be opened is skipped, and one that can't be read counts as empty.
     ///
-    /// Each file is read and parsed once. What is put behind others is moved once, and the paths are kept in a tree.
+    /// Each file is read and parsed once. What is appended is moved once, and the paths are kept in a tree.
     ///
     /// # Errors
     ///
-    /// 21 where a file can't be opened, also where there is none, or read, and that isn't ignored; 1, 2 and 12 to 20 as a file and its includes
-    /// are refused; 3 where there is no room for one; 27 for want of memory.
+    /// 21 if a file can't be opened (also if there is none) or read, and that isn't ignored; 1, 2 and 12 to 20 if a file or its includes
+    /// are refused; 3 if there is no room for one; 27 when out of memory.
     pub fn from_paths_metadata(
         alloc: Global,
         metas: Vec<Metadata>,
@@ -66,8 +66,8 @@ impl File {
         File::from_paths_metadata_buf(alloc, metas, true, options, host)
     }
 
-    /// As [`File::from_paths_metadata`]; a file that isn't there is passed over unless it must exist. The Rust crate takes a buffer too, which
-    /// texts are read into; here each text is handed over to its file.
+    /// As [`File::from_paths_metadata`]; a file that isn't there is skipped unless it must exist. The Rust crate also takes a buffer, into
+    /// which texts are read; here each text becomes its file's buffer.
     ///
     /// # Errors
     ///
@@ -99,7 +99,7 @@ impl File {
         }
     }
 
-    /// As [`File::from_paths_metadata`], of any source of files: for a program that is generic over where its files come from.
+    /// As [`File::from_paths_metadata`], for any source of files: for a program that is generic over where its files come from.
     ///
     /// # Errors
     ///
@@ -122,9 +122,9 @@ impl File {
         }
     }
 
-    /// The configuration of the machine and of the user: what stands at the places of the sources `GitInstallation`, `System`, `Git` and
-    /// `User`, in this order, each with what it includes, one behind the other; an empty file where no file stands at any. Each is fully
-    /// trusted, at level 0. Includes go by the home folders of the host's places. Variables are asked anew for each place.
+    /// The configuration of the machine and of the user: what is at the places of the sources `GitInstallation`, `System`, `Git` and
+    /// `User`, in this order, each with what it includes, one after the other; an empty file if there is none. Each is fully
+    /// trusted, at level 0. Includes know the home folders of the host's places. Variables are asked again for each place.
     ///
     /// # Errors
     ///

@@ -29,13 +29,13 @@ use std::alloc::Global;
 struct Parts {
     /// The repository's own configuration.
     local: File,
-    /// That of its worktree, if it has some.
+    /// The configuration of its worktree, if it has some.
     worktree: Option<File>,
-    /// That of the machine and of the user.
+    /// The configuration of the machine and of the user.
     globals: File,
 }
 
-/// The folder that the repository's configuration stands in.
+/// The folder that the repository's configuration is in.
 fn folder_of(path: &str) -> &str
     ensures { result.now ≡ spec.folder_of path.now }
 {
@@ -49,7 +49,7 @@ fn folder_of(path: &str) -> &str
 ///
 /// # Errors
 ///
-/// Want of memory.
+/// Out of memory.
 fn has_worktree(local: &File) -> Result<bool, NoMemory>
     ensures { IfOk result (λ has. has ≡ spec.has_worktree local.now) }
 {
@@ -85,7 +85,7 @@ fn worktree<F: Files>(
     Ok(Some(File { store }))
 }
 
-/// How the repository's files are expanded: by the home folder and the repository's own, and on no branch.
+/// How the repository's files are expanded: with the home folder and the repository's own folder, and no branch.
 fn options<'a>(places: &'a Places, folder: &'a str, real: Result<&'a str, FileFault>) -> Options<'a>
     ensures { rules_of result ≡ repository_rules places.now folder.now (resolved real.entry) }
 {
@@ -103,11 +103,11 @@ fn options<'a>(places: &'a Places, folder: &'a str, real: Result<&'a str, FileFa
     }
 }
 
-/// Expands a file, and puts it behind another one.
+/// Expands a file, and appends it to another one.
 ///
 /// # Errors
 ///
-/// Those of includes; 3 where there is no room; 27 for want of memory.
+/// Those of includes; 3 if there is no room; 27 when out of memory.
 fn put_behind<F: Files>(
     alloc: Global,
     files: &mut F,
@@ -124,7 +124,7 @@ fn put_behind<F: Files>(
     Ok(target.append(file)?)
 }
 
-/// The same of the worktree's configuration, if it has some.
+/// The same for the worktree's configuration, if it has some.
 ///
 /// # Errors
 ///
@@ -147,11 +147,11 @@ fn put_worktree<F: Files>(
     }
 }
 
-/// Puts the overrides behind a file.
+/// Appends the overrides to a file.
 ///
 /// # Errors
 ///
-/// Those of the overrides; 3 where there is no room; 27 for want of memory.
+/// Those of the overrides; 3 if there is no room; 27 when out of memory.
 fn put_overrides<F: Files, E: Env>(
     alloc: Global,
     files: &mut F,
@@ -169,7 +169,7 @@ fn put_overrides<F: Files, E: Env>(
     Ok(target.append(file)?)
 }
 
-/// Puts the repository's files behind those of the machine and of the user, and the overrides behind all.
+/// Appends the repository's files to those of the machine and of the user, and the overrides to all.
 ///
 /// # Errors
 ///
@@ -233,7 +233,7 @@ fn read<F: Files, E: Env>(
     })
 }
 
-/// The configuration of the repository whose folder that is.
+/// The configuration of the repository whose git folder is `dir`.
 ///
 /// # Errors
 ///
@@ -267,16 +267,16 @@ impl File {
     ghost use Rattle.gitconf_loaders.specs.Paths.{CountsLoad, numbered};
     ghost use Rattle.gix_config.specs.Repository.{IsRepository, IsRepositoryCause};
 
-    /// The configuration of the repository whose git folder is `dir`, which is `real` with its symbolic links resolved: of the machine and of
-    /// the user ([`File::from_globals`]), of the repository (`config` in the folder), of its worktree (`config.worktree`, where
-    /// `extensions.worktreeConfig` is true), and the overrides ([`File::from_environment_overrides`]), one behind the other as
-    /// [`File::append`] puts them. Includes of the repository's files go by the home folder of the host's places and by the git folder; as in
-    /// the Rust crate those of the machine and of the user are expanded once more by these.
+    /// The configuration of the repository whose git folder is `dir`, which is `real` with its symbolic links resolved: that of the machine
+    /// and of the user ([`File::from_globals`]), of the repository (`config` in the folder), of its worktree (`config.worktree`, if
+    /// `extensions.worktreeConfig` is true), and the overrides ([`File::from_environment_overrides`]), one after the other as
+    /// [`File::append`] puts them. Includes of the repository's files know the home folder of the host's places and the git folder; as in
+    /// the Rust crate, the files of the machine and of the user are expanded once more with these.
     ///
     /// # Errors
     ///
-    /// 21 where a file can't be opened or read, or its trust can't be told; 18 where a condition asks for the resolved folder and that is a
-    /// fault; else those of the calls that are named.
+    /// 21 if a file can't be opened or read, or its trust can't be asked; 18 if a condition asks for the resolved folder and that is a
+    /// fault; otherwise those of the calls named above.
     pub fn from_git_dir(
         alloc: Global,
         dir: &str,

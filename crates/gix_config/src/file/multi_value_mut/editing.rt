@@ -1,4 +1,4 @@
-//! Edits of several entries, on which editors of several values stand.
+//! Edits of several entries, for editors of several values.
 use crate::file::multi_value_mut::targets::Targets;
 use crate::file::{File, Metadata, SectionId};
 use crate::lookup::existing;

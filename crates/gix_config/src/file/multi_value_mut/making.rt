@@ -16,15 +16,15 @@ impl File {
     ghost use Rattle.gix_config.specs.MultiValueEditors.{edited, lent, IsEditorOfSomeValues, IsEditorOfValues};
 
     /// An editor of all entries of a key such as `remote.origin.fetch`, with `=` or without it, in the sections of the key's name and
-    /// subsection. They are in the order of the sections' numbers, and in each section in that in which they stand.
+    /// subsection. They are in the order of the sections' numbers, and in each section in the order of its entries.
     ///
-    /// It walks over the sections of the key's name and subsection and over their items, and puts the places in order. Takes memory for the
+    /// It walks over the sections of the key's name and subsection and over their items, and sorts the places. Takes memory for the
     /// places, and for the name.
     ///
     /// # Errors
     ///
-    /// Refusal 7 where no section has the name, 8 where none of these has the subsection; else 6 for a name of a value that is none; else 9
-    /// where none of these has such an entry; 27 for want of memory. The file is then as it was.
+    /// Refusal 7 if no section has the name, 8 if none of these has the subsection; otherwise 6 for an invalid value name; otherwise 9
+    /// if none of these has such an entry; 27 when out of memory. The file is then as it was.
     pub fn raw_values_mut<K: AsKey>(&mut self, key: K) -> Result<MultiValueMut<'_>, existing::Error>
         requires { IsSome (K.key key) }
         ensures same_file { IfOk result (λ e. lent e ≡ self.entry.ghost_name) }
@@ -56,7 +56,7 @@ impl File {
         self.raw_values_mut_filter_by(section_name, subsection_name, value_name, |_| true)
     }
 
-    /// As [`File::raw_values_mut`], in the sections whose metadata passes the filter, which is asked in file order.
+    /// As [`File::raw_values_mut`], in the sections whose metadata passes the filter, which is called for them in file order.
     ///
     /// # Errors
     ///
@@ -70,9 +70,9 @@ impl File {
         requires callable { F.IsAlwaysCallable filter }
         ensures same_file { IfOk result (λ e. lent e ≡ self.entry.ghost_name) }
         ensures same_state { IfOk result (λ e. edited e ≡ self.old) }
-        // For a filter that answers by what it is shown.
+        // For a filter whose result depends only on what it is shown.
         ensures found { (keeps : Meta → Bool) → ComputesKey F.FnMut keeps filter → IsEditorOfValues (the_key (K.key key)) keeps self.old result }
-        // Whatever the filter answers.
+        // For any filter.
         ensures some { IsEditorOfSomeValues (the_key (K.key key)) self.old result }
         ensures* refused { sem 𝓛 (RestsIfErr the_row self.entry lent result (λ n. n ≡ self.old)) }
     {
@@ -100,10 +100,10 @@ impl File {
         requires { F.IsAlwaysCallable filter }
         ensures same_file { IfOk result (λ e. lent e ≡ self.entry.ghost_name) }
         ensures same_state { IfOk result (λ e. edited e ≡ self.old) }
-        // For a filter that answers by what it is shown.
+        // For a filter whose result depends only on what it is shown.
         ensures found { (keeps : Meta → Bool) → ComputesKey F.FnMut keeps filter
             → IsEditorOfValues (key_at section_name.now (option_copied subsection_name.entry) value_name.now) keeps self.old result }
-        // Whatever the filter answers.
+        // For any filter.
         ensures some { IsEditorOfSomeValues (key_at section_name.now (option_copied subsection_name.entry) value_name.now) self.old result }
         ensures* refused { sem 𝓛 (RestsIfErr the_row self.entry lent result (λ n. n ≡ self.old)) }
     {

@@ -1,4 +1,4 @@
-//! The entries on which an editor of several values stands.
+//! The entries of an editor of several values.
 ghost use Rattle.std.specs.Prelude.{◌≡◌, map};
 ghost use Rattle.gitconf_store.specs.Several as spec;
 
@@ -6,8 +6,8 @@ use crate::file::SectionId;
 use gitconf_text::NoMemory;
 use std::marker::Model;
 
-/// The name of a value as the caller spelled it, and where the entries stand, in order: each by the number of its section, and by its place
-/// among the items of the body, counted in items from the first one, 0.
+/// The name of a value as the caller spelled it, and the places of the entries, in order: each by the number of its section and its place
+/// among the items of the body, counted in items from 0.
 #[derive(Drop)]
 pub struct Targets {
     key: Vec<u8>,
@@ -27,7 +27,7 @@ impl Model for Targets {
     ghost invariant = { λ t. is_value_name t.key.items ≡ true };
 }
 
-/// The place of an entry in its section when another one is gone.
+/// The place of an entry in its section after another one is removed.
 fn moved_up(place: &(SectionId, usize), gone: &(SectionId, usize)) -> usize
     ensures { result ≡ (spec.moved_up gone.now place.now).1 }
 {
@@ -38,7 +38,7 @@ fn moved_up(place: &(SectionId, usize), gone: &(SectionId, usize)) -> usize
     }
 }
 
-/// Moves all places up when an entry is gone.
+/// Moves all places up after an entry is removed.
 fn move_up(places: &mut [(SectionId, usize)], gone: &(SectionId, usize))
     ensures { places.new ≡ map (spec.moved_up gone.now) places.old }
 {
@@ -47,7 +47,7 @@ fn move_up(places: &mut [(SectionId, usize)], gone: &(SectionId, usize))
     }
 }
 
-/// Moves all places of a list up when an entry is gone.
+/// Moves all places of a list up after an entry is removed.
 fn move_all_up(places: &mut Vec<(SectionId, usize)>, gone: &(SectionId, usize))
     ensures { places.new.items ≡ map (spec.moved_up gone.now) places.old.items }
 {
@@ -63,7 +63,7 @@ impl Targets {
     ///
     /// # Errors
     ///
-    /// Want of memory.
+    /// Out of memory.
     pub(crate) fn new(key: &[u8], places: Vec<(SectionId, usize)>) -> Result<Targets, NoMemory>
         requires { is_value_name key.now ≡ true }
         ensures { IfOk result (λ t. t ≡ record { key = key.now; places = places.items }) }
@@ -81,14 +81,14 @@ impl Targets {
         &self.key
     }
 
-    /// Where the entries stand, in order.
+    /// The places of the entries, in order.
     pub(crate) fn places(&self) -> &[(SectionId, usize)]
         ensures { result.now ≡ self.now.places }
     {
         &self.places
     }
 
-    /// Where one of them stands.
+    /// The place of one of the entries.
     pub(crate) fn at(&self, index: usize) -> (SectionId, usize)
         requires { index < length self.now.places }
         ensures { result ≡ place_at self.now.places index }
@@ -96,7 +96,7 @@ impl Targets {
         self.places[index]
     }
 
-    /// Takes one of them out, which is gone: those behind it in its section stand one place nearer to the front. Answers where it stood.
+    /// Removes one of the entries from the list; those after it in its section move one place nearer to the front. Returns its place.
     pub(crate) fn take(&mut self, index: usize) -> (SectionId, usize)
         requires { index < length self.old.places }
         ensures gone { result ≡ place_at self.old.places index }
@@ -107,7 +107,7 @@ impl Targets {
         gone
     }
 
-    /// Takes all of them out.
+    /// Removes all of them.
     pub(crate) fn clear(&mut self)
         ensures { self.new ≡ record self.old { places = [] } }
     {

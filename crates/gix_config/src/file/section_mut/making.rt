@@ -14,7 +14,7 @@ use thiserror::Error;
 /// Why there is no editor.
 #[derive(Debug, Drop, Error)]
 pub enum Error {
-    /// There are such sections, and none passes the filter; or no section has the number. It has no number among the refusals of its own,
+    /// There are such sections, and none passes the filter; or no section has the number. It has no refusal number of its own,
     /// and counts as 9 ([`Refusal`](crate::refusals::Refusal)).
     #[error("No section passes")]
     NonePasses,
@@ -92,7 +92,7 @@ impl File {
         Ok((id, blanks))
     }
 
-    /// Those of the last one whose metadata passes the filter.
+    /// The same for the last one whose metadata passes the filter.
     fn blanks_of_passing<F: FnMut(&Metadata) -> bool>(
         &self,
         name: &str,
@@ -138,7 +138,7 @@ impl File {
         Ok(Some((id, blanks)))
     }
 
-    /// The same; where there is none, a section is made.
+    /// The same; if there is none, a section is made.
     fn find_or_make<F: FnMut(&Metadata) -> bool>(
         &mut self,
         name: &str,
@@ -185,11 +185,11 @@ impl File {
     }
 
     /// An editor of the last section that has the name, without ASCII case, and exactly the subsection. It is found by an index; then one
-    /// walk over its items, and one over the file's up to the first line end. Takes memory for the blanks that the section has.
+    /// walk over its items, and one over the file's up to the first line ending. Takes memory for the blanks that the section uses.
     ///
     /// # Errors
     ///
-    /// Refusal 7 where no section has the name, 8 where none of these has the subsection; 27 for want of memory. The file is then as it
+    /// Refusal 7 if no section has the name, 8 if none of these has the subsection; 27 when out of memory. The file is then as it
     /// was.
     pub fn section_mut(
         &mut self,
@@ -214,12 +214,12 @@ impl File {
         })
     }
 
-    /// As [`File::section_mut`], by a key such as `remote.origin`: the name stands before its first dot, and all behind it is the
+    /// As [`File::section_mut`], by a key such as `remote.origin`: the name is before its first dot, and all after it is the
     /// subsection; without a dot there is none.
     ///
     /// # Errors
     ///
-    /// Refusal 9 where the name isn't UTF-8, and those of [`File::section_mut`].
+    /// Refusal 9 if the name isn't UTF-8, and those of [`File::section_mut`].
     pub fn section_mut_by_key(
         &mut self,
         section_key: &[u8],
@@ -235,11 +235,11 @@ impl File {
         self.section_mut(key.section_name, key.subsection_name)
     }
 
-    /// As [`File::section_mut`], the last section whose metadata passes the filter, which is asked from the last one on, up to that one.
+    /// As [`File::section_mut`], for the last section whose metadata passes the filter, which is called from the last one up to that one.
     ///
     /// # Errors
     ///
-    /// [`Error::NonePasses`] where there are such sections and none passes; else those of [`File::section_mut`].
+    /// [`Error::NonePasses`] if there are such sections and none passes; otherwise those of [`File::section_mut`].
     pub fn section_mut_filter<F: FnMut(&Metadata) -> bool>(
         &mut self,
         name: &str,
@@ -249,10 +249,10 @@ impl File {
         requires { F.IsAlwaysCallable filter }
         ensures same_file { IfOk result (λ e. lent e ≡ self.entry.ghost_name) }
         ensures same_state { IfOk result (λ e. edited e ≡ self.old) }
-        // For a filter that answers by what it is shown.
+        // For a filter whose result depends only on what it is shown.
         ensures exact { (keeps : Meta → Bool) → ComputesKey F.FnMut keeps filter
             → IsPassing told (editor_at self.old) name.now (option_copied subsection_name.entry) keeps self.old result }
-        // Whatever the filter answers.
+        // For any filter.
         ensures some { IsSomePassing told (editor_at self.old) name.now (option_copied subsection_name.entry) self.old result }
         ensures* refused { sem 𝓛 (RestsIfErr the_row self.entry lent result (λ n. n ≡ self.old)) }
     {
@@ -271,7 +271,7 @@ impl File {
     ///
     /// # Errors
     ///
-    /// Refusal 9 where the name isn't UTF-8, and those of [`File::section_mut_filter`].
+    /// Refusal 9 if the name isn't UTF-8, and those of [`File::section_mut_filter`].
     pub fn section_mut_filter_by_key<F: FnMut(&Metadata) -> bool>(
         &mut self,
         section_key: &[u8],
@@ -280,10 +280,10 @@ impl File {
         requires { F.IsAlwaysCallable filter }
         ensures same_file { IfOk result (λ e. lent e ≡ self.entry.ghost_name) }
         ensures same_state { IfOk result (λ e. edited e ≡ self.old) }
-        // For a filter that answers by what it is shown.
+        // For a filter whose result depends only on what it is shown.
         ensures exact { (keeps : Meta → Bool) → ComputesKey F.FnMut keeps filter
             → IsPassingEditorOfKey (parsed_section_key section_key.now) keeps self.old result }
-        // Whatever the filter answers.
+        // For any filter.
         ensures some { IsSomePassingEditorOfKey (parsed_section_key section_key.now) self.old result }
         ensures* refused { sem 𝓛 (RestsIfErr the_row self.entry lent result (λ n. n ≡ self.old)) }
     {
@@ -293,11 +293,11 @@ impl File {
         self.section_mut_filter(key.section_name, key.subsection_name, filter)
     }
 
-    /// An editor of the section of a number: no walk over sections, one over its items, and one over the file's up to the first line end.
+    /// An editor of the section of a number: no walk over sections, one over its items, and one over the file's up to the first line ending.
     ///
     /// # Errors
     ///
-    /// [`Error::NonePasses`] where no section has the number; 27 for want of memory. The file is then as it was.
+    /// [`Error::NonePasses`] if no section has the number; 27 when out of memory. The file is then as it was.
     pub fn section_mut_by_id(&mut self, id: SectionId) -> Result<SectionMut<'_>, Error>
         ensures same_file { IfOk result (λ e. lent e ≡ self.entry.ghost_name) }
         ensures same_state { IfOk result (λ e. edited e ≡ self.old) }
@@ -315,17 +315,17 @@ impl File {
         })
     }
 
-    /// Makes a section behind all others, its body one line end, the file's, with the file's metadata; and answers an editor of it, which
-    /// writes a tab before names and a space on both sides of `=`.
+    /// Makes a section after all others, whose body is one line ending, the file's, with the file's metadata; and returns an editor of it,
+    /// which writes a tab before names and a space on both sides of `=`.
     ///
-    /// Three walks over the file's items up to the first line end. Takes memory for what is put into the buffer, for the items, and for the
-    /// section's place.
+    /// Three walks over the file's items up to the first line ending. Takes memory for what is added to the buffer, for the items, and for
+    /// the section's place.
     ///
     /// # Errors
     ///
-    /// Refusal 4 for a name that a section can't be made of, else 5 for a subsection that it can't be made of; else 3 where the file would
-    /// take more than 4294967295 bytes, or there is no number left, before any growth; else 27 for want of memory. The file is then as it
-    /// was, but that its buffer may have grown.
+    /// Refusal 4 for a name that a section can't be made of, otherwise 5 for a subsection that it can't be made of; otherwise 3 if the file
+    /// would take more than 4294967295 bytes, or there is no number left, before any growth; otherwise 27 when out of memory. The file is
+    /// then as it was, except that its buffer may have grown.
     pub fn new_section(
         &mut self,
         name: &str,
@@ -355,16 +355,16 @@ impl File {
         })
     }
 
-    /// Puts a section that stands alone behind all others, under the next number, and answers an editor of it, which writes the blanks that
-    /// the section has, and the line end that the file then uses. Its header, its body and where it comes from stay.
+    /// Adds a section that is in no file after all others, under the next number, and returns an editor of it, which writes the blanks that
+    /// the section uses, and the line ending that the file then uses. Its header, its body and where it comes from stay.
     ///
-    /// Its bytes are copied once, and its items are moved in one pass; and a walk over the file's items up to the first line end. Takes
+    /// Its bytes are copied once, and its items are moved in one pass; and a walk over the file's items up to the first line ending. Takes
     /// memory for the bytes, the names, the place, and for the blanks.
     ///
     /// # Errors
     ///
-    /// A [`span::Error`]: number 3 exactly where the buffer would be longer than 4294967295 bytes or no number is left, before any growth,
-    /// and else 27 for want of memory. The section is then dropped, and the file as it was, but that its buffer may have grown.
+    /// A [`span::Error`]: number 3 if and only if the buffer would be longer than 4294967295 bytes or no number is left, before any growth,
+    /// otherwise 27 when out of memory. The section is then dropped, and the file as it was, except that its buffer may have grown.
     pub fn push_section(&mut self, section: Section) -> Result<SectionMut<'_>, span::Error>
         ensures same_file { IfOk result (λ e. lent e ≡ self.entry.ghost_name) }
         ensures put { IfOk result (λ e. edited e ≡ with_used (edited e).used (apply (PushSection section) self.old)) }
@@ -385,11 +385,11 @@ impl File {
         })
     }
 
-    /// As [`File::section_mut`]; where there is no such section one is made, as by [`File::new_section`].
+    /// As [`File::section_mut`]; if there is no such section, one is made as by [`File::new_section`].
     ///
     /// # Errors
     ///
-    /// Where a section is made, those of [`File::new_section`]; else want of memory. The file is then as it was, but that its buffer may
+    /// If a section is made, those of [`File::new_section`]; otherwise out of memory. The file is then as it was, except that its buffer may
     /// have grown.
     pub fn section_mut_or_create_new(
         &mut self,
@@ -411,7 +411,7 @@ impl File {
         })
     }
 
-    /// As [`File::section_mut_filter`]; where no section passes one is made, as by [`File::new_section`], whether or not the filter would
+    /// As [`File::section_mut_filter`]; if no section passes, one is made as by [`File::new_section`], whether or not the filter would
     /// pass it.
     ///
     /// # Errors
@@ -425,10 +425,10 @@ impl File {
     ) -> Result<SectionMut<'_>, header::Error>
         requires { F.IsAlwaysCallable filter }
         ensures same_file { IfOk result (λ e. lent e ≡ self.entry.ghost_name) }
-        // For a filter that answers by what it is shown.
+        // For a filter whose result depends only on what it is shown.
         ensures exact { (keeps : Meta → Bool) → ComputesKey F.FnMut keeps filter
             → IsFoundOrMade edited told (editor_at self.old) name.now (option_copied subsection_name.entry) keeps self.old result }
-        // Whatever the filter answers.
+        // For any filter.
         ensures some { IsSomeFoundOrMade edited told (editor_at self.old) name.now (option_copied subsection_name.entry) self.old result }
         ensures* refused { sem 𝓛 (RestsIfErr the_row self.entry lent result (IsUnmade name.now (option_copied subsection_name.entry) self.old)) }
     {

@@ -27,7 +27,7 @@ impl<'a> SectionMut<'a> {
         self.id
     }
 
-    /// The section as it now stands. Constant time, and no memory.
+    /// The section as it now is. Constant time, and no memory.
     pub fn section(&self) -> SectionRef<'_>
         ensures section { numbered (number_of self.now) (edited self.now) ≡ Some (shown result) }
         ensures items { (shown result).items ≡ items_of_numbered (number_of self.now) (edited self.now) }
@@ -60,7 +60,7 @@ impl<'a> SectionMut<'a> {
     ///
     /// # Errors
     ///
-    /// Want of memory.
+    /// Out of memory.
     pub fn to_bstring(&self) -> Result<BString, NoMemory>
         ensures { IfSome (numbered (number_of self.now) (edited self.now)) (λ s. IfOk result (λ text. bstring_bytes text ≡ printed_section s)) }
     {
@@ -71,7 +71,7 @@ impl<'a> SectionMut<'a> {
     ///
     /// # Errors
     ///
-    /// Want of memory for the answer.
+    /// Out of memory for the result.
     pub fn value(&self, value_name: &str) -> Result<Option<BString>, NoMemory>
         ensures { IsFound bstring_bytes result (value_in value_name.now (entries_of (items_of_numbered (number_of self.now) (edited self.now)))) }
     {
@@ -82,7 +82,7 @@ impl<'a> SectionMut<'a> {
     ///
     /// # Errors
     ///
-    /// Want of memory for the answer.
+    /// Out of memory for the result.
     pub fn value_implicit(&self, value_name: &str) -> Result<Option<Option<BString>>, NoMemory>
         ensures { IsFoundImplicit result (implicit_value_in value_name.now (entries_of (items_of_numbered (number_of self.now) (edited self.now)))) }
     {
@@ -93,7 +93,7 @@ impl<'a> SectionMut<'a> {
     ///
     /// # Errors
     ///
-    /// Want of memory.
+    /// Out of memory.
     pub fn values(&self, value_name: &str) -> Result<Vec<BString>, NoMemory>
         ensures { AreFound result (values_in value_name.now (entries_of (items_of_numbered (number_of self.now) (edited self.now)))) }
     {
@@ -128,7 +128,7 @@ impl<'a> SectionMut<'a> {
         self.body().is_void()
     }
 
-    /// The line end that the editor writes: the file's, as it was when the editor was made. LF or CR LF.
+    /// The line ending that the editor writes: the file's when the editor was made, LF or CR LF.
     pub fn newline(&self) -> &'static [u8]
         ensures { result.now ≡ (editor self.now).line_end }
     {
@@ -142,7 +142,7 @@ impl<'a> SectionMut<'a> {
         self.blanks.leading()
     }
 
-    /// The blanks that the editor writes before and behind `=`; `None` where it writes none there.
+    /// The blanks that the editor writes before and after `=`; `None` if it writes none there.
     pub fn separator_whitespace(&self) -> (Option<&[u8]>, Option<&[u8]>)
         ensures before { option_copied result.0 ≡ unless_empty (editor self.now).spacing.before }
         ensures behind { option_copied result.1 ≡ unless_empty (editor self.now).spacing.behind }

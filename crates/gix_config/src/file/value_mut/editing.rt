@@ -1,4 +1,4 @@
-//! Edits of the entry at a place, on which editors of values stand.
+//! Edits of the entry at a place, for editors of values.
 use crate::file::value_mut::spelling::Spelling;
 use crate::file::{File, Metadata, SectionId};
 use crate::lookup::existing;
@@ -85,7 +85,7 @@ impl File {
         self.store.delete_entry_at(id, place);
     }
 
-    /// A name, and the blanks that the section of a number has.
+    /// A name, and the blanks that the section of a number uses.
     pub(crate) fn spelling_at(&self, id: SectionId, key: &[u8]) -> Result<Spelling, NoMemory>
         requires stands { has_number id self.now ≡ true }
         requires key { is_value_name key.now ≡ true }

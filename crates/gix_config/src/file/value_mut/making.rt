@@ -16,15 +16,15 @@ impl File {
     ghost use Rattle.gix_config.specs.ValueEditors.{edited, lent, IsEditorOfValue, IsEditorOfSomeValue};
 
     /// An editor of the last entry of a key such as `remote.origin.url`, with `=` or without it, in the last section of the key's name and
-    /// subsection that has one. The key has to be one, which [`AsKey::try_as_key`] tells.
+    /// subsection that has one. The key has to be valid, as [`AsKey::try_as_key`] says.
     ///
-    /// It walks over the sections of the key's name and subsection from the last one on, up to that one, over its items, and over the
-    /// file's up to the first line end. Takes memory for the name and for the blanks that the section has.
+    /// It walks over the sections of the key's name and subsection from the last one up to that one, over its items, and over the
+    /// file's up to the first line ending. Takes memory for the name and for the blanks that the section uses.
     ///
     /// # Errors
     ///
-    /// Refusal 7 where no section has the name, 8 where none of these has the subsection; else 6 for a name of a value that is none; else 9
-    /// where none of these has such an entry; 27 for want of memory. The file is then as it was.
+    /// Refusal 7 if no section has the name, 8 if none of these has the subsection; otherwise 6 for an invalid value name; otherwise 9
+    /// if none of these has such an entry; 27 when out of memory. The file is then as it was.
     pub fn raw_value_mut<K: AsKey>(&mut self, key: K) -> Result<ValueMut<'_>, existing::Error>
         requires { IsSome (K.key key) }
         ensures same_file { IfOk result (λ e. lent e ≡ self.entry.ghost_name) }
@@ -56,7 +56,7 @@ impl File {
         self.raw_value_mut_filter_by(section_name, subsection_name, value_name, |_| true)
     }
 
-    /// As [`File::raw_value_mut`], in the sections whose metadata passes the filter, which is asked from the last one on, up to the one with
+    /// As [`File::raw_value_mut`], in the sections whose metadata passes the filter, which is called from the last one up to the one with
     /// the entry.
     ///
     /// # Errors
@@ -71,9 +71,9 @@ impl File {
         requires callable { F.IsAlwaysCallable filter }
         ensures same_file { IfOk result (λ e. lent e ≡ self.entry.ghost_name) }
         ensures same_state { IfOk result (λ e. edited e ≡ self.old) }
-        // For a filter that answers by what it is shown.
+        // For a filter whose result depends only on what it is shown.
         ensures found { (keeps : Meta → Bool) → ComputesKey F.FnMut keeps filter → IsEditorOfValue (the_key (K.key key)) keeps self.old result }
-        // Whatever the filter answers.
+        // For any filter.
         ensures some { IsEditorOfSomeValue (the_key (K.key key)) self.old result }
         ensures* refused { sem 𝓛 (RestsIfErr the_row self.entry lent result (λ n. n ≡ self.old)) }
     {
@@ -101,10 +101,10 @@ impl File {
         requires { F.IsAlwaysCallable filter }
         ensures same_file { IfOk result (λ e. lent e ≡ self.entry.ghost_name) }
         ensures same_state { IfOk result (λ e. edited e ≡ self.old) }
-        // For a filter that answers by what it is shown.
+        // For a filter whose result depends only on what it is shown.
         ensures found { (keeps : Meta → Bool) → ComputesKey F.FnMut keeps filter
             → IsEditorOfValue (key_at section_name.now (option_copied subsection_name.entry) value_name.now) keeps self.old result }
-        // Whatever the filter answers.
+        // For any filter.
         ensures some { IsEditorOfSomeValue (key_at section_name.now (option_copied subsection_name.entry) value_name.now) self.old result }
         ensures* refused { sem 𝓛 (RestsIfErr the_row self.entry lent result (λ n. n ≡ self.old)) }
     {

@@ -1,4 +1,4 @@
-//! What an editor of a value writes beside the value.
+//! What an editor of a value writes besides the value.
 ghost use Rattle.std.specs.Prelude.{◌≡◌, IfOk, true};
 ghost use Rattle.gitconf_text.specs.Names.{is_value_name};
 
@@ -9,7 +9,7 @@ use gitconf_text::line_end::LineEnd;
 use std::alloc::Global;
 use std::marker::Model;
 
-/// The name of a value as the caller spelled it, and the blanks round its `=`. They stay as they were when the editor was made.
+/// The name of a value as the caller spelled it, and the blanks around its `=`. They stay as they were when the editor was made.
 #[derive(Drop)]
 pub struct Spelling {
     key: Vec<u8>,
@@ -39,7 +39,7 @@ impl Spelling {
     ///
     /// # Errors
     ///
-    /// Want of memory.
+    /// Out of memory.
     pub(crate) fn new(key: &[u8], blanks: Blanks) -> Result<Spelling, NoMemory>
         requires { is_value_name key.now ≡ true }
         ensures { IfOk result (λ s. s ≡ record { key = key.now; spacing = blanks }) }
@@ -67,7 +67,7 @@ impl Spelling {
         self.blanks.editor(line_end, true)
     }
 
-    /// The blanks, where the name is needed no more.
+    /// The blanks, when the name is no longer needed.
     pub(crate) fn into_blanks(self) -> Blanks
         ensures { result ≡ self.spacing }
     {

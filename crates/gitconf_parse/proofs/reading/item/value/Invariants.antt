@@ -4,7 +4,7 @@ use Rattle.gitconf_items.specs.ItemsFit.{PieceFits}
 use Rattle.gitconf_parse.proofs.ItemReading.{IsBegun}
 use Rattle.gitconf_parse.proofs.reading.item.value.Given as goal
 
--- these pieces were read, and the value goes on behind them
+-- these pieces were read, and the value continues after them
 abbrev pub invariant-loop-end : goal.invariant-loop-end
 invariant-loop-end l = record {
   ordered : (l.first ≤ l.from) × (l.from ≤ length l.input);

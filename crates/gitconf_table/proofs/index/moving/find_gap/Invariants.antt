@@ -3,7 +3,7 @@ use Rattle.gitconf_table.specs.Links.{IsFirst}
 use Rattle.gitconf_table.specs.Walk.{bucket_at}
 use Rattle.gitconf_table.proofs.index.moving.find_gap.Given as goal
 
--- the walk stands behind a place of the bucket, or at its front, and knows the next one
+-- the walk follows a place of the bucket, or at its front, and knows the next one
 abbrev pub invariant-loop-next : goal.invariant-loop-next
 invariant-loop-next l = record {
   before : l.behind ≤ l.at;
