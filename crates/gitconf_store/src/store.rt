@@ -301,7 +301,7 @@ impl Store {
         shared(&self.meta)
     }
 
-    /// Sets where the file comes from, and each section that is made from now on. Existing sections keep theirs.
+    /// Sets where the file, and each section that is made from now on, comes from. Existing sections keep theirs.
     pub fn set_meta(&mut self, meta: Rc<Metadata>)
         ensures { self.new ≡ record self.old { meta = meta.value } }
     {

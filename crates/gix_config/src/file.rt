@@ -119,7 +119,7 @@ impl File {
         Ok(File { store })
     }
 
-    /// The file that a text is, all of it, from the calling program ([`Metadata::api`]). One pass, which copies
+    /// The file of a text, all of it, as coming from the calling program ([`Metadata::api`]). One pass, which copies
     /// the text once.
     ///
     /// # Errors
@@ -140,7 +140,7 @@ impl File {
         Ok(File { store })
     }
 
-    /// The same file as [`File::try_from_bytes`] makes it, of the text itself: the text becomes the buffer, and no byte of it is copied
+    /// The same file as [`File::try_from_bytes`] makes, of the text itself: the text becomes the buffer, and no byte of it is copied
     /// except the names and subsections of sections. An edit that finds no room after the text makes the buffer larger.
     ///
     /// # Errors
@@ -227,7 +227,7 @@ impl File {
         self.store.meta_owned()
     }
 
-    /// Sets where the file comes from, and each section that is made from now on. Existing sections keep theirs.
+    /// Sets where the file, and each section that is made from now on, comes from. Existing sections keep theirs.
     pub fn set_meta(&mut self, meta: Rc<Metadata>) -> &mut File
         ensures same { result.ghost_name ≡ self.entry.ghost_name }
         ensures value { result.now ≡ record self.old { meta = meta.value } }
