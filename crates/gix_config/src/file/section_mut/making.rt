@@ -5,6 +5,7 @@ use crate::lookup::existing;
 use bstr::BString;
 use gitconf_lines::blanks::Blanks;
 use gitconf_text::NoMemory;
+use gitconf_text::line_end::LineEnd;
 use gitconf_text::parse::section::header;
 use gitconf_text::parse::section::unvalidated::KeyRef;
 use gitconf_text::parse::span;
@@ -61,6 +62,7 @@ impl File {
     ghost use Rattle.gitconf_state.specs.Edit.{new_section, with_used};
     ghost use Rattle.gitconf_state.specs.Edits.{NewSection, PushSection, apply};
     ghost use Rattle.gitconf_state.specs.Editors.{editor_of};
+    ghost use Rattle.gitconf_lines.specs.Blanks.{editor_with};
     ghost use Rattle.gitconf_table.specs.Sections.{no_number};
     ghost use Rattle.gitconf_state.specs.Lookup.{listed, miss_of};
     ghost use Rattle.gitconf_finding.specs.Misses.{IsExisting};
@@ -93,7 +95,7 @@ impl File {
     }
 
     /// The same for the last one whose metadata passes the filter.
-    fn blanks_of_passing<F: FnMut(&Metadata) -> bool>(
+    fn passing_section<F: FnMut(&Metadata) -> bool>(
         &self,
         name: &str,
         subsection_name: Option<&[u8]>,
@@ -115,7 +117,7 @@ impl File {
     }
 
     /// The number and the blanks of the last section whose metadata passes the filter, if there is one.
-    fn blanks_if_passing<F: FnMut(&Metadata) -> bool>(
+    fn find_passing<F: FnMut(&Metadata) -> bool>(
         &self,
         name: &str,
         subsection_name: Option<&[u8]>,
@@ -152,7 +154,7 @@ impl File {
         ensures stands { IfOk result (λ f. has_number f.0 self.new ≡ true) }
         ensures err { OnErr result (IsUnmade name.now (option_copied subsection_name.entry) self.old self.new) }
     {
-        match self.blanks_if_passing(name, subsection_name, filter) {
+        match self.find_passing(name, subsection_name, filter) {
             Ok(Some(found)) => Ok(found),
             Ok(None) => self.make_section(name, subsection_name),
             Err(_) => Err(header::Error::Memory),
@@ -184,6 +186,22 @@ impl File {
         Ok(blanks?)
     }
 
+    /// An editor of the section of that number, which writes these blanks and this line ending.
+    fn editor(&mut self, id: SectionId, blanks: Blanks, line_end: LineEnd) -> SectionMut<'_>
+        requires stands { has_number id self.old ≡ true }
+        ensures same_file { lent result ≡ self.entry.ghost_name }
+        ensures same_state { edited result ≡ self.old }
+        ensures told { told result ≡ (id, editor_with blanks line_end true) }
+    {
+        SectionMut {
+            file: self,
+            id,
+            blanks,
+            line_end,
+            ends: true,
+        }
+    }
+
     /// An editor of the last section that has the name, without ASCII case, and exactly the subsection. It is found by an index; then one
     /// walk over its items, and one over the file's up to the first line ending. Takes memory for the blanks that the section uses.
     ///
@@ -205,13 +223,7 @@ impl File {
     {
         let (id, blanks) = self.blanks_by_names(name, subsection_name)?;
         let line_end = self.line_end();
-        Ok(SectionMut {
-            file: self,
-            id,
-            blanks,
-            line_end,
-            ends: true,
-        })
+        Ok(self.editor(id, blanks, line_end))
     }
 
     /// As [`File::section_mut`], by a key such as `remote.origin`: the name is before its first dot, and all after it is the
@@ -256,15 +268,9 @@ impl File {
         ensures some { IsSomePassing told (editor_at self.old) name.now (option_copied subsection_name.entry) self.old result }
         ensures* refused { sem 𝓛 (RestsIfErr the_row self.entry lent result (λ n. n ≡ self.old)) }
     {
-        let (id, blanks) = self.blanks_of_passing(name, subsection_name, filter)?;
+        let (id, blanks) = self.passing_section(name, subsection_name, filter)?;
         let line_end = self.line_end();
-        Ok(SectionMut {
-            file: self,
-            id,
-            blanks,
-            line_end,
-            ends: true,
-        })
+        Ok(self.editor(id, blanks, line_end))
     }
 
     /// As [`File::section_mut_filter`], by a key as in [`File::section_mut_by_key`].
@@ -306,13 +312,7 @@ impl File {
     {
         let blanks = self.blanks_of_numbered(id)?;
         let line_end = self.line_end();
-        Ok(SectionMut {
-            file: self,
-            id,
-            blanks,
-            line_end,
-            ends: true,
-        })
+        Ok(self.editor(id, blanks, line_end))
     }
 
     /// Makes a section after all others, whose body is one line ending, the file's, with the file's metadata; and returns an editor of it,
@@ -346,13 +346,7 @@ impl File {
     {
         let line_end = self.line_end();
         let (id, blanks) = self.make_section(name, bytes_of(&subsection_name))?;
-        Ok(SectionMut {
-            file: self,
-            id,
-            blanks,
-            line_end,
-            ends: true,
-        })
+        Ok(self.editor(id, blanks, line_end))
     }
 
     /// Adds a section that is in no file after all others, under the next number, and returns an editor of it, which writes the blanks that
@@ -376,13 +370,7 @@ impl File {
     {
         let (id, blanks) = self.put_section(section)?;
         let line_end = self.line_end();
-        Ok(SectionMut {
-            file: self,
-            id,
-            blanks,
-            line_end,
-            ends: true,
-        })
+        Ok(self.editor(id, blanks, line_end))
     }
 
     /// As [`File::section_mut`]; if there is no such section, one is made as by [`File::new_section`].
@@ -402,13 +390,7 @@ impl File {
     {
         let line_end = self.line_end();
         let (id, blanks) = self.find_any_or_make(name, subsection_name)?;
-        Ok(SectionMut {
-            file: self,
-            id,
-            blanks,
-            line_end,
-            ends: true,
-        })
+        Ok(self.editor(id, blanks, line_end))
     }
 
     /// As [`File::section_mut_filter`]; if no section passes, one is made as by [`File::new_section`], whether or not the filter would
@@ -434,12 +416,6 @@ impl File {
     {
         let line_end = self.line_end();
         let (id, blanks) = self.find_or_make(name, subsection_name, filter)?;
-        Ok(SectionMut {
-            file: self,
-            id,
-            blanks,
-            line_end,
-            ends: true,
-        })
+        Ok(self.editor(id, blanks, line_end))
     }
 }

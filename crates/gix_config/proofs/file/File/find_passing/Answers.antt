@@ -5,7 +5,7 @@ use Rattle.gitconf_finding.proofs.SomeSections.{none_of}
 use Rattle.gix_config.specs.Edited.{has_number}
 use Rattle.gix_config.specs.SectionEditors.{blanks_at}
 use Rattle.gix_config.proofs.Standing.{named_none, some_stands}
-use Rattle.gix_config.proofs.file.File.blanks_if_passing.Goals as goal
+use Rattle.gix_config.proofs.file.File.find_passing.Goals as goal
 
 pub returns-in-Err-clause-exact : goal.returns-in-Err-clause-exact
 returns-in-Err-clause-exact g c = λ keeps h.

@@ -5,7 +5,7 @@ use Rattle.gix_config.specs.Edited.{has_number}
 use Rattle.gitconf_finding.proofs.SomeSections.{none_of}
 use Rattle.gix_config.specs.SectionEditors.{blanks_at}
 use Rattle.gix_config.proofs.Standing.{missing_picked, some_stands}
-use Rattle.gix_config.proofs.file.File.blanks_of_passing.Goals as goal
+use Rattle.gix_config.proofs.file.File.passing_section.Goals as goal
 
 pub returns-in-Err-clause-some : goal.returns-in-Err-clause-some
 returns-in-Err-clause-some g c = (
