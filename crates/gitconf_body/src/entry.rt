@@ -71,7 +71,8 @@ pub fn set_value(
     ensures within { AreItemsWithin (length buffer.new.items) items.new.items }
     ensures grows { Grows result (state.set_bytes (bytes_of_line_end line_end) key.now value.now (items_of buffer.old.items items.old.items))
         buffer.old.items buffer.new.items }
-    ensures refused { 2 ^ 32 ≤ length buffer.old.items + state.set_bytes (bytes_of_line_end line_end) key.now value.now (items_of buffer.old.items items.old.items)
+    ensures refused { 2 ^ 32 ≤ length buffer.old.items + state.set_bytes (bytes_of_line_end line_end) key.now value.now
+        (items_of buffer.old.items items.old.items)
         → IsErrOf result 3 }
     ensures err { OnErr result (items.new.items ≡ items.old.items) }
 {

@@ -199,8 +199,10 @@ pub fn section_with(
     ensures items { IfOk result (λ s. items_of buffer.new.items s.items.items
         ≡ set_value (bytes_of_line_end line_end) key.now value.now (parts.LineEndsItem (bytes_of_line_end line_end) ∷ [])) }
     ensures within { IfOk result (λ s. AreItemsWithin (length buffer.new.items) s.items.items) }
-    ensures grows { Grows result (new_section_bytes (bytes_of_line_end line_end) name.now (option_copied subsection.entry) key.now value.now) buffer.old.items buffer.new.items }
-    ensures refused { 2 ^ 32 ≤ length buffer.old.items + new_section_bytes (bytes_of_line_end line_end) name.now (option_copied subsection.entry) key.now value.now → IsErrOf result 3 }
+    ensures grows { Grows result (new_section_bytes (bytes_of_line_end line_end) name.now (option_copied subsection.entry) key.now value.now)
+        buffer.old.items buffer.new.items }
+    ensures refused { 2 ^ 32 ≤ length buffer.old.items + new_section_bytes (bytes_of_line_end line_end) name.now (option_copied subsection.entry)
+        key.now value.now → IsErrOf result 3 }
     ensures extended { IsExtended copies.old.items copies.new.items }
 {
     check_room(buffer, section_len(line_end, name, subsection, key, value))?;
@@ -249,8 +251,10 @@ pub fn new_section(
     ensures shown { IfOk result (λ s. IsShown buffer.new.items copies.new.items (events.SectionHeader s.header)) }
     ensures items { IfOk result (λ s. items_of buffer.new.items s.items.items ≡ parts.LineEndsItem (bytes_of_line_end line_end) ∷ []) }
     ensures within { IfOk result (λ s. AreItemsWithin (length buffer.new.items) s.items.items) }
-    ensures grows { Grows result (length (bytes_of_line_end line_end) + header_bytes name.now (option_copied subsection.entry)) buffer.old.items buffer.new.items }
-    ensures refused { 2 ^ 32 ≤ length buffer.old.items + (length (bytes_of_line_end line_end) + header_bytes name.now (option_copied subsection.entry)) → IsErrOf result 3 }
+    ensures grows { Grows result (length (bytes_of_line_end line_end) + header_bytes name.now (option_copied subsection.entry)) buffer.old.items
+        buffer.new.items }
+    ensures refused { 2 ^ 32 ≤ length buffer.old.items + (length (bytes_of_line_end line_end) + header_bytes name.now
+        (option_copied subsection.entry)) → IsErrOf result 3 }
     ensures extended { IsExtended copies.old.items copies.new.items }
 {
     check_section(buffer, line_end, name, subsection)?;

@@ -58,7 +58,11 @@ fn changed_entry(
     requires entry { EntryFits (length buffer.old.items) entry.now }
     requires fits { AroundFits (length buffer.old.items) around.now }
     ensures stands { (blanks : Option (List ℕ)) → IfOk result (λ e. Stand buffer.new.items (kinds.Entry e ∷ [])
-        (with_value (record { leading = blanks; before = (around_in buffer.old.items around.now).0; behind = (around_in buffer.old.items around.now).1 }) value.now
+        (with_value (record {
+          leading = blanks;
+          before = (around_in buffer.old.items around.now).0;
+          behind = (around_in buffer.old.items around.now).1;
+        }) value.now
         (parts.EntryItem (entry_of buffer.old.items entry.now)) ∷ [])) }
     ensures grows { Grows result (spec.separator_put around.now entry.now + length (escaped value.now)) buffer.old.items buffer.new.items }
 {
@@ -143,7 +147,8 @@ fn change_checked(
     ensures answer { IfOk result (λ o. Some o.items ≡ old_value key.now (items_of buffer.old.items items.old.items)) }
     ensures within { AreItemsWithin (length buffer.new.items) items.new.items }
     ensures grows { Grows result (spec.set_put editor.now key.now value.now (items_of buffer.old.items items.old.items)) buffer.old.items buffer.new.items }
-    ensures refused { 2 ^ 32 ≤ length buffer.old.items + spec.set_put editor.now key.now value.now (items_of buffer.old.items items.old.items) → IsErrOf result 3 }
+    ensures refused { 2 ^ 32 ≤ length buffer.old.items + spec.set_put editor.now key.now value.now (items_of buffer.old.items items.old.items)
+        → IsErrOf result 3 }
     ensures err { OnErr result (items.new.items ≡ items.old.items) }
 {
     check_change(buffer, items, at, editor, key, value)?;
@@ -200,7 +205,8 @@ pub fn set(
     ensures answer { IfOk result (λ o. option_map (λ v. v.items) o ≡ old_value key.now (items_of buffer.old.items items.old.items)) }
     ensures within { AreItemsWithin (length buffer.new.items) items.new.items }
     ensures grows { Grows result (spec.set_put editor.now key.now value.now (items_of buffer.old.items items.old.items)) buffer.old.items buffer.new.items }
-    ensures refused { 2 ^ 32 ≤ length buffer.old.items + spec.set_put editor.now key.now value.now (items_of buffer.old.items items.old.items) → IsErrOf result 3 }
+    ensures refused { 2 ^ 32 ≤ length buffer.old.items + spec.set_put editor.now key.now value.now (items_of buffer.old.items items.old.items)
+        → IsErrOf result 3 }
     ensures err { OnErr result (items.new.items ≡ items.old.items) }
 {
     let Some(at) = last_place(buffer, items, key) else {

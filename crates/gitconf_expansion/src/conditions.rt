@@ -45,7 +45,8 @@ fn holds<S: ConfigFile>(
     condition: &[u8],
 ) -> Result<bool, Error>
     ensures says { Says (λ holds. holds) result (holds (rules_of_includes options.now) from.now
-        (has_url (unwrap_or (option_map (λ s. whole (S.done s) (S.rest s)) (option_copied parent.entry)) (whole (S.done file.now) (S.rest file.now)))) condition.now) }
+        (has_url (unwrap_or (option_map (λ s. whole (S.done s) (S.rest s)) (option_copied parent.entry))
+        (whole (S.done file.now) (S.rest file.now)))) condition.now) }
     ensures cause { IfErr result (IsOfCondition options.now.conditional.git_dir) }
 {
     match judge(alloc, options, from, condition)? {

@@ -118,7 +118,8 @@ fn obey<'a, 'b, F: Files, S: ConfigFile>(
     requires deep { 0 < left }
     requires some { 0 < length (S.done file.old).sections }
     ensures given { (r : Reached) × Gives (Expands (left - 1) (asks_of options.now (F.table files.old))) (asks_of options.now (F.table files.old))
-        (option_map (λ s. whole (S.done s) (S.rest s)) (option_copied parent.entry)) directive.meta.value (Includes (condition_of directive) (paths_of directive))
+        (option_map (λ s. whole (S.done s) (S.rest s)) (option_copied parent.entry)) directive.meta.value
+        (Includes (condition_of directive) (paths_of directive))
         (S.rest file.old) (S.done file.old) r × LeavesDone result (S.rest file.new) (S.done file.new) r }
     ensures rest { S.rest file.new ≡ S.rest file.old }
     ensures table { F.table files.new ≡ F.table files.old }
@@ -182,7 +183,8 @@ pub fn expand_file<F: Files, S: ConfigFile>(
     file: &mut S,
 ) -> Result<(), Error>
     requires fresh { (S.done file.old).sections ≡ [] }
-    ensures expanded { (r : Reached) × Expands options.now.includes.max_depth (asks_of options.now (F.table files.old)) None (whole (S.done file.old) (S.rest file.old)) r
+    ensures expanded { (r : Reached) × Expands options.now.includes.max_depth (asks_of options.now (F.table files.old)) None
+        (whole (S.done file.old) (S.rest file.old)) r
         × Leaves includes_number result (whole (S.done file.new) (S.rest file.new)) r }
     ensures table { F.table files.new ≡ F.table files.old }
     ensures cause { IfErr result (IsCause options.now (F.table files.old)) }

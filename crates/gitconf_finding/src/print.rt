@@ -55,7 +55,8 @@ pub fn front_is_ended<F: FnMut(&SectionRef<'_>) -> bool>(
     ensures exact { (keeps : SectionState → Bool) → ComputesKey F.FnMut (λ r. keeps (shown r)) filter.old
         → ComputesKey F.FnMut (λ r. keeps (shown r)) filter.new
         × (result ≡ is_front_ended keeps (bytes_of_line_end line_end) (items_of buffer.now front.now) (sections_left sections.entry)) }
-    ensures some { is_front_ended (λ _. true) (bytes_of_line_end line_end) (items_of buffer.now front.now) (sections_left sections.entry) ≡ true → result ≡ true }
+    ensures some { is_front_ended (λ _. true) (bytes_of_line_end line_end) (items_of buffer.now front.now) (sections_left sections.entry) ≡ true
+        → result ≡ true }
 {
     front.is_empty() || ends_line(buffer, front, line_end) || !is_any_kept(filter, sections)
 }
@@ -75,7 +76,8 @@ fn write_next<W: Sink, F: FnMut(&SectionRef<'_>) -> bool>(
         → ComputesKey F.FnMut (λ r. keeps (shown r)) filter.new
         × Writes result (next_text keeps (bytes_of_line_end line_end) ended (shown section.now)) (W.told out.old) (W.told out.new)
         × IfOk result (λ e. e ≡ ended_behind keeps (bytes_of_line_end line_end) ended (shown section.now)) }
-    ensures some { (kept : Bool) × Writes result (next_text (λ _. kept) (bytes_of_line_end line_end) ended (shown section.now)) (W.told out.old) (W.told out.new)
+    ensures some { (kept : Bool) × Writes result (next_text (λ _. kept) (bytes_of_line_end line_end) ended (shown section.now)) (W.told out.old)
+        (W.told out.new)
         × IfOk result (λ e. e ≡ ended_behind (λ _. kept) (bytes_of_line_end line_end) ended (shown section.now)) }
     ensures counted { Counts result (W.faults out.old) (W.faults out.new) }
 {
@@ -97,7 +99,8 @@ pub fn write_sections<W: Sink, F: FnMut(&SectionRef<'_>) -> bool>(
     requires { F.IsAlwaysCallable filter.old }
     ensures exact { (keeps : SectionState → Bool) → ComputesKey F.FnMut (λ r. keeps (shown r)) filter.old
         → Writes result (sections_text keeps (bytes_of_line_end line_end) true (sections_left sections.entry)) (W.told out.old) (W.told out.new) }
-    ensures some { (text : List ℕ) × IsTextOfSome (bytes_of_line_end line_end) true (sections_left sections.entry) text × Writes result text (W.told out.old) (W.told out.new) }
+    ensures some { (text : List ℕ) × IsTextOfSome (bytes_of_line_end line_end) true (sections_left sections.entry) text
+        × Writes result text (W.told out.old) (W.told out.new) }
     ensures counted { Counts result (W.faults out.old) (W.faults out.new) }
 {
     let mut ended = true;

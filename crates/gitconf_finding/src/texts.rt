@@ -100,7 +100,8 @@ pub fn texts_with_sections<'a>(
     alloc: Global,
     found: Result<Vec<Found<'a>>, NoMemory>,
 ) -> Result<Option<Vec<(BString, SectionRef<'a>)>>, NoMemory>
-    ensures { (places : List Place) → AreFound found.entry places → IsFound (λ texts. map shown_with texts.items) result (unless_empty (map (λ (p : Place). (meant p.1, p.0)) places)) }
+    ensures { (places : List Place) → AreFound found.entry places → IsFound (λ texts. map shown_with texts.items) result
+        (unless_empty (map (λ (p : Place). (meant p.1, p.0)) places)) }
 {
     let found = found?;
     if found.is_empty() {

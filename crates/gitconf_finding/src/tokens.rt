@@ -31,7 +31,8 @@ pub fn bodies_line_end(sections: Sections<'_>) -> Option<LineEnd>
 
 /// The line ending of the first newline of a front and of the sections' bodies; LF if there is none.
 pub fn file_line_end(buffer: &[u8], front: &[Item], sections: Sections<'_>) -> LineEnd
-    ensures { bytes_of_line_end result ≡ line_end_of (flat_map item_tokens (items_of buffer.now front.now ++ flat_map (λ s. s.items) (sections_left sections.entry))) }
+    ensures { bytes_of_line_end result ≡ line_end_of (flat_map item_tokens
+        (items_of buffer.now front.now ++ flat_map (λ s. s.items) (sections_left sections.entry))) }
 {
     if let Some(found) = first_line_end(buffer, front) {
         return found;

@@ -48,7 +48,8 @@ fn join(
 
 /// What is known after a member, from what is known of the place there: if `]` is there, the bracket ends and takes nothing more.
 fn told_behind<'a>(pattern: &[u8], place: &'a Option<Place>) -> Option<(&'a [bool], usize)>
-    ensures { (ignore_case : Bool) (text : List ℕ) → shown place.now ≡ told ignore_case text pattern.now → lent result ≡ told_behind ignore_case text pattern.now }
+    ensures { (ignore_case : Bool) (text : List ℕ) → shown place.now ≡ told ignore_case text pattern.now
+        → lent result ≡ told_behind ignore_case text pattern.now }
 {
     if begins_close(pattern) {
         return Some((&[], 1));

@@ -78,7 +78,8 @@ fn put_variable(
     name: String,
     variable: EnvVar,
 ) -> Result<(), NoMemory>
-    ensures ok { OnOk result (variable_entries variables.new.entries ≡ with_entry (string_bytes name) (variable_told variable) (variable_entries variables.old.entries)) }
+    ensures ok { OnOk result (variable_entries variables.new.entries ≡ with_entry (string_bytes name) (variable_told variable)
+        (variable_entries variables.old.entries)) }
     ensures err { OnErr result (variable_entries variables.new.entries ≡ variable_entries variables.old.entries) }
     ensures absent { OnErr result (lookup (bytes_eq (string_bytes name)) (variable_entries variables.old.entries) ≡ None) }
     ensures last { OnOk result ((asked : List ℕ) → variable_at (variable_entries variables.new.entries) asked

@@ -261,7 +261,8 @@ fn judge_kind<'a>(
     kind: &[u8],
     rest: &'a [u8],
 ) -> Result<Judged<'a>, Error>
-    ensures value { (has_url : List ℕ → Bool) → Says (spec.judged has_url) result (spec.holds_kind (rules_of_includes options.now) from.now has_url kind.now rest.now) }
+    ensures value { (has_url : List ℕ → Bool) → Says (spec.judged has_url) result
+        (spec.holds_kind (rules_of_includes options.now) from.now has_url kind.now rest.now) }
     ensures cause { IfErr result (IsOfCondition options.now.conditional.git_dir) }
 {
     if kind == b"gitdir".as_slice() {

@@ -156,7 +156,8 @@ impl Entry {
     /// The entry of a name and a value, with the blanks before and after `=`; `None` if such an entry takes memory.
     #[inline(always)]
     pub fn of_line(name: Span, before: Span, behind: Span, value: Span) -> Option<Entry>
-        ensures told { IfSome result (λ e. (buffer : List ℕ) → entry_of buffer e ≡ entry_of buffer (record { name = name; blanks = before; assigned = assigned.Plain behind value })) }
+        ensures told { IfSome result (λ e. (buffer : List ℕ) → entry_of buffer e
+            ≡ entry_of buffer (record { name = name; blanks = before; assigned = assigned.Plain behind value })) }
         ensures fits { IfSome result (λ e. (limit : ℕ) → SpanFits limit value → EntryFits limit e) }
     {
         match line_form(name, before, behind, value) {
@@ -286,7 +287,8 @@ fn begins_at(span: Span, at: u64) -> bool
 
 /// A name alone, if the blanks directly follow it.
 fn name_form(name: Span, blanks: Span) -> Option<Form>
-    ensures told { IfSome result (λ f. (buffer : List ℕ) → entry_of buffer (parts_in f) ≡ entry_of buffer (record { name = name; blanks = blanks; assigned = assigned.Nothing })) }
+    ensures told { IfSome result (λ f. (buffer : List ℕ) → entry_of buffer (parts_in f)
+        ≡ entry_of buffer (record { name = name; blanks = blanks; assigned = assigned.Nothing })) }
     ensures fits { IfSome result (λ f. (limit : ℕ) → SpanFits limit name → SpanFits limit blanks → EntryFits limit (parts_in f)) }
     ensures inside { IfSome result FormFits }
 {
@@ -303,7 +305,8 @@ fn name_form(name: Span, blanks: Span) -> Option<Form>
 /// A name and its value, if they are as a line has them, and short.
 #[inline(always)]
 fn line_form(name: Span, before: Span, behind: Span, value: Span) -> Option<Form>
-    ensures told { IfSome result (λ f. (buffer : List ℕ) → entry_of buffer (parts_in f) ≡ entry_of buffer (record { name = name; blanks = before; assigned = assigned.Plain behind value })) }
+    ensures told { IfSome result (λ f. (buffer : List ℕ) → entry_of buffer (parts_in f)
+        ≡ entry_of buffer (record { name = name; blanks = before; assigned = assigned.Plain behind value })) }
     ensures fits { IfSome result (λ f. (limit : ℕ) → SpanFits limit value → EntryFits limit (parts_in f)) }
     ensures inside { IfSome result FormFits }
 {

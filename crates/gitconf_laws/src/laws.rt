@@ -29,24 +29,32 @@ ghost use Rattle.gitconf_state.specs.Comments.{item_comments, comments_of, comme
 /// entry comes before its first section.
 pub fn loads_are_clean()
     ensures full { (text : List ℕ) (parts : List Part) (state : State) → IsText text parts → IsFullLoad parts state → HasItems state × IsClean state }
-    ensures full_document { (text : List ℕ) (parts : List Part) (state : State) → IsText text parts → IsFullLoad parts state → document_of state ≡ gathered parts }
-    ensures kept { (keeps : Shown → Bool) (text : List ℕ) (parts : List Part) (state : State) → list_all (keeps_entry_token keeps) (tokens_of parts) ≡ true → IsText text parts → IsLoad keeps parts state → HasItems state }
-    ensures lossy { (text : List ℕ) (parts : List Part) (state : State) → IsText text parts → IsLoad keeps_meaning parts state → entries_of state.front ≡ [] → IsClean state }
-    ensures lossy_document { (text : List ℕ) (parts : List Part) (state : State) → IsText text parts → IsLoad keeps_meaning parts state → document_of state ≡ gathered parts }
+    ensures full_document { (text : List ℕ) (parts : List Part) (state : State) → IsText text parts → IsFullLoad parts state
+        → document_of state ≡ gathered parts }
+    ensures kept { (keeps : Shown → Bool) (text : List ℕ) (parts : List Part) (state : State)
+        → list_all (keeps_entry_token keeps) (tokens_of parts) ≡ true → IsText text parts → IsLoad keeps parts state → HasItems state }
+    ensures lossy { (text : List ℕ) (parts : List Part) (state : State) → IsText text parts → IsLoad keeps_meaning parts state
+        → entries_of state.front ≡ [] → IsClean state }
+    ensures lossy_document { (text : List ℕ) (parts : List Part) (state : State) → IsText text parts → IsLoad keeps_meaning parts state
+        → document_of state ≡ gathered parts }
     ensures part { (text : List ℕ) (parts : List Part) (state : State) → IsText text parts → IsPartLoad parts state → HasItems state }
-    ensures part_clean { (text : List ℕ) (parts : List Part) (state : State) → IsText text parts → IsPartLoad parts state → entries_of state.front ≡ [] → IsClean state }
-    ensures part_document { (text : List ℕ) (parts : List Part) (state : State) → IsText text parts → IsPartLoad parts state → document_of state ≡ gathered parts }
+    ensures part_clean { (text : List ℕ) (parts : List Part) (state : State) → IsText text parts → IsPartLoad parts state
+        → entries_of state.front ≡ [] → IsClean state }
+    ensures part_document { (text : List ℕ) (parts : List Part) (state : State) → IsText text parts → IsPartLoad parts state
+        → document_of state ≡ gathered parts }
 {}
 
 /// Loaded whole and printed, a text keeps the bytes of all its tokens, in order; nothing is inserted but a line ending after some of them.
 pub fn full_load_is_inserted()
-    ensures { (text : List ℕ) (parts : List Part) (state : State) → IsText text parts → IsFullLoad parts state → Inserted (map spelled_token (tokens_of parts)) (printed state) }
+    ensures { (text : List ℕ) (parts : List Part) (state : State) → IsText text parts → IsFullLoad parts state
+        → Inserted (map spelled_token (tokens_of parts)) (printed state) }
 {}
 
 /// A text is printed byte for byte, except for its mark, if its line endings are of one kind and it ends with one, each header is at the
 /// start of a line, no key is on a header's line or on another key's, and no value is left open at the end.
 pub fn byte_for_byte()
-    ensures { (text : List ℕ) (parts : List Part) (state : State) → IsText text parts → IsFullLoad parts state → IsByteForByte parts → printed state ≡ unmarked text }
+    ensures { (text : List ℕ) (parts : List Part) (state : State) → IsText text parts → IsFullLoad parts state → IsByteForByte parts
+        → printed state ≡ unmarked text }
 {}
 
 /// The text of a section alone reads back: its document has the section, and nothing else.
@@ -80,8 +88,10 @@ pub fn edits_keep_states()
     ensures clean { (edit : Edit) (state : State) → IsCleanEdit edit → IsClean state → IsClean (apply edit state) }
     ensures all_items { (edits : List Edit) (state : State) → AreEdits edits state → HasItems state → HasItems (apply_all edits state) }
     ensures all_clean { (edits : List Edit) (state : State) → AreCleanEdits edits → IsClean state → IsClean (apply_all edits state) }
-    ensures numbers { (edits : List Edit) (state : State) → AreNumbered state.next state.sections → AreNumbered (apply_all edits state).next (apply_all edits state).sections }
-    ensures state { (edits : List Edit) (state : State) → AreEdits edits state → IsState state → (apply_all edits state).next ≤ no_number → IsState (apply_all edits state) }
+    ensures numbers { (edits : List Edit) (state : State) → AreNumbered state.next state.sections
+        → AreNumbered (apply_all edits state).next (apply_all edits state).sections }
+    ensures state { (edits : List Edit) (state : State) → AreEdits edits state → IsState state → (apply_all edits state).next ≤ no_number
+        → IsState (apply_all edits state) }
 {}
 
 /// An editor's edit changes only the section of its number, and no section's number.
@@ -95,11 +105,13 @@ pub fn an_editor_changes_one_section()
 pub fn edited_text_reads_back()
     ensures state { (edits : List Edit) (state : State) → AreEdits edits state → AreCleanEdits edits → HasItems state → IsClean state
         → Reads (printed (apply_all edits state)) (document_of (apply_all edits state)) }
-    ensures kept { (edits : List Edit) (keeps : SectionState → Bool) (state : State) → AreEdits edits state → AreCleanEdits edits → HasItems state → IsClean state
+    ensures kept { (edits : List Edit) (keeps : SectionState → Bool) (state : State) → AreEdits edits state → AreCleanEdits edits → HasItems state
+        → IsClean state
         → Reads (printed_kept keeps (apply_all edits state)) (document_of_kept keeps (apply_all edits state)) }
     ensures section { (edits : List Edit) (state : State) → AreEdits edits state → AreCleanEdits edits → HasItems state → IsClean state
         → AllByRecursion (λ s. Reads (printed_section s) (record { front = []; sections = section_document s ∷ [] })) (apply_all edits state).sections }
-    ensures comments { (edits : List Edit) (keeps : SectionState → Bool) (state : State) → AreEdits edits state → AreCleanEdits edits → HasItems state → IsClean state
+    ensures comments { (edits : List Edit) (keeps : SectionState → Bool) (state : State) → AreEdits edits state → AreCleanEdits edits
+        → HasItems state → IsClean state
         → (parts : List Part) → IsText (printed_kept keeps (apply_all edits state)) parts → comments_of parts ≡ comments_of_kept keeps (apply_all edits state) }
     ensures text { (edits : List Edit) (text : List ℕ) (parts : List Part) (state : State) → IsText text parts → IsFullLoad parts state
         → AreEdits edits state → AreCleanEdits edits
@@ -118,7 +130,8 @@ pub fn used_bytes_are_not_asked()
 /// An edit leaves what is said of every key that it is not about: so all lookups of these keys, whatever the filter, return what they
 /// returned before.
 pub fn edits_leave_other_keys()
-    ensures { (edit : Edit) (name : List ℕ) (subsection : Option (List ℕ)) (key : List ℕ) (state : State) → IsEdit edit state → is_about edit name subsection key state ≡ false
+    ensures { (edit : Edit) (name : List ℕ) (subsection : Option (List ℕ)) (key : List ℕ) (state : State) → IsEdit edit state
+        → is_about edit name subsection key state ≡ false
         → said name subsection key (listed (apply edit state)) ≡ said name subsection key (listed state) }
 {}
 
@@ -144,7 +157,8 @@ pub fn equality_is_an_equivalence()
 /// A value that was set is found by its name, subsection and key, if the lookup keeps the sections that the edit keeps and
 /// would keep a new one.
 pub fn set_value_is_found()
-    ensures found { (name : List ℕ) (subsection : Option (List ℕ)) (key value : List ℕ) (state : State) → finds_or_makes name subsection (λ _. true) state ≡ true
+    ensures found { (name : List ℕ) (subsection : Option (List ℕ)) (key value : List ℕ) (state : State)
+        → finds_or_makes name subsection (λ _. true) state ≡ true
         → last_value name subsection key (λ _. true) (listed (set_raw_value name subsection key (λ _. true) value state)) ≡ Some value }
     ensures filtered { (name : List ℕ) (subsection : Option (List ℕ)) (key : List ℕ) (keeps : Meta → Bool) (value : List ℕ) (state : State)
         → finds_or_makes name subsection keeps state ≡ true → keeps state.meta ≡ true
@@ -188,7 +202,8 @@ pub fn set_value_changes_one_entry()
 pub fn set_value_leaves_others()
     ensures keys { (name : List ℕ) (subsection : Option (List ℕ)) (key : List ℕ) (keeps : Meta → Bool) (value : List ℕ) (state : State)
         → (other_name : List ℕ) (other_subsection : Option (List ℕ)) (other : List ℕ) → is_same_name key other ≡ false
-        → said other_name other_subsection other (listed (set_raw_value name subsection key keeps value state)) ≡ said other_name other_subsection other (listed state) }
+        → said other_name other_subsection other (listed (set_raw_value name subsection key keeps value state))
+        ≡ said other_name other_subsection other (listed state) }
     ensures sections { (name : List ℕ) (subsection : Option (List ℕ)) (key : List ℕ) (keeps : Meta → Bool) (value : List ℕ) (state : State)
         → (other_name : List ℕ) (other_subsection : Option (List ℕ)) → finds_or_makes name subsection keeps state ≡ true
         → (is_same_name name other_name ≡ false) ⊎ (subsection ≡ other_subsection → ⊥)

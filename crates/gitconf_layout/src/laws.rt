@@ -22,10 +22,12 @@ pub fn layouts_end_once()
 ///
 /// So `Detect` finds the line ending of a text in its layout too, if that has a newline.
 pub fn layouts_hold_their_line_end()
-    ensures { (options : Options) (text : List ℕ) (parts read : List Part) → IsText text parts → has_no_cr parts ≡ true → IsText (layout options parts) read → HoldLineEnd (line_end_in options parts) read }
+    ensures { (options : Options) (text : List ℕ) (parts read : List Part) → IsText text parts → has_no_cr parts ≡ true
+        → IsText (layout options parts) read → HoldLineEnd (line_end_in options parts) read }
 {}
 
 /// A layout that is laid out again by the same options stays as it is, if no comment of the text ends with a CR.
 pub fn layouts_stay()
-    ensures { (options : Options) (text : List ℕ) (parts read : List Part) → IsText text parts → has_no_cr parts ≡ true → IsText (layout options parts) read → layout options read ≡ layout options parts }
+    ensures { (options : Options) (text : List ℕ) (parts read : List Part) → IsText text parts → has_no_cr parts ≡ true
+        → IsText (layout options parts) read → layout options read ≡ layout options parts }
 {}

@@ -131,7 +131,8 @@ fn set_token(
     place: Place,
     options: &Options,
 ) -> Result<(), NoMemory>
-    ensures { OnOk result (text.new.items ≡ text.old.items ++ spec.set_token options.now place.in_section place.before (shown event.now) (events_left rest.entry)) }
+    ensures { OnOk result (text.new.items ≡ text.old.items ++ spec.set_token options.now place.in_section place.before (shown event.now)
+        (events_left rest.entry)) }
 {
     match *event {
         EventRef::Newline(_) => Ok(()),

@@ -92,7 +92,8 @@ pub fn entry_with(
       blanks = bytes_of buffer before;
       assigned = Some (record { blanks = bytes_of buffer behind; value = record { pieces = []; last = bytes_of buffer value } });
     }) }
-    ensures fits { IfOk result (λ e. (limit : ℕ) → SpanFits limit name → SpanFits limit before → SpanFits limit behind → SpanFits limit value → EntryFits limit e) }
+    ensures fits { IfOk result (λ e. (limit : ℕ) → SpanFits limit name → SpanFits limit before → SpanFits limit behind → SpanFits limit value
+        → EntryFits limit e) }
 {
     let parts = EntryParts {
         name,
@@ -116,7 +117,11 @@ pub fn put_entry(
     requires room { length buffer.old.items < 2 ^ 32 }
     requires fits { AroundFits (length buffer.old.items) around.now }
     ensures stands { (blanks : Option (List ℕ)) → IfOk result (λ e. Stand buffer.new.items (kinds.Entry e ∷ [])
-        (state.entry_made (record { leading = blanks; before = (around_in buffer.old.items around.now).0; behind = (around_in buffer.old.items around.now).1 }) key.now (option_copied value.entry) ∷ [])) }
+        (state.entry_made (record {
+          leading = blanks;
+          before = (around_in buffer.old.items around.now).0;
+          behind = (around_in buffer.old.items around.now).1;
+        }) key.now (option_copied value.entry) ∷ [])) }
     ensures grows { Grows result (length key.now + spec.value_put around.now (option_copied value.entry)) buffer.old.items buffer.new.items }
 {
     let Some(value) = value else {
@@ -227,7 +232,8 @@ fn put_line(
     requires fits { EditorFits (length buffer.old.items) editor.now }
     ensures stands { IfOk result (λ l. Stand buffer.new.items (line_items l)
         (state.line_made (editor_in buffer.old.items editor.now) key.now (option_copied value.entry) (option_copied comment.entry))) }
-    ensures grows { Grows result (spec.line_put editor.now key.now (option_copied value.entry) (option_copied comment.entry)) buffer.old.items buffer.new.items }
+    ensures grows { Grows result (spec.line_put editor.now key.now (option_copied value.entry) (option_copied comment.entry)) buffer.old.items
+        buffer.new.items }
 {
     let leading = put_leading(buffer, &editor.leading)?;
     let entry = put_entry(buffer, &editor.around, key, value)?;
@@ -372,7 +378,8 @@ pub fn push(
     ensures ok { OnOk result (items_of buffer.new.items items.new.items ≡ state.pushed (editor_in buffer.old.items editor.now)
         key.now (option_copied value.entry) (option_copied comment.entry) (items_of buffer.old.items items.old.items)) }
     ensures within { AreItemsWithin (length buffer.new.items) items.new.items }
-    ensures grows { Grows result (spec.line_put editor.now key.now (option_copied value.entry) (option_copied comment.entry)) buffer.old.items buffer.new.items }
+    ensures grows { Grows result (spec.line_put editor.now key.now (option_copied value.entry) (option_copied comment.entry)) buffer.old.items
+        buffer.new.items }
     ensures refused { 2 ^ 32 ≤ length buffer.old.items + spec.line_put editor.now key.now (option_copied value.entry) (option_copied comment.entry)
         → IsErrOf result 3 }
     ensures err { OnErr result (items.new.items ≡ items.old.items) }

@@ -77,7 +77,8 @@ fn find<F: Files, E: Env>(
     source: Source,
     metas: &mut Vec<Metadata>,
 ) -> Result<(), NoMemory>
-    ensures found { OnOk result ((here : List Meta) × IsFound (E.variables env.old) places.now (F.table files.old) source here × (metas.new.items ≡ metas.old.items ++ here)) }
+    ensures found { OnOk result ((here : List Meta) × IsFound (E.variables env.old) places.now (F.table files.old) source here
+        × (metas.new.items ≡ metas.old.items ++ here)) }
     ensures table { F.table files.new ≡ F.table files.old }
     ensures counted { F.failures files.new ≡ F.failures files.old }
     ensures stays { E.variables env.new ≡ E.variables env.old }

@@ -15,8 +15,10 @@ ghost use Rattle.gitconf_loaders.specs.Paths.{IsLoadedFrom, IsLoadOfPaths};
 /// if no text that may be loaded or included has such an entry. A file that is loaded without includes is clean in any case. So what is
 /// written of them reads back.
 pub fn loaded_files_are_clean()
-    ensures path { (table : Option (List ℕ → FileTold)) (path : List ℕ) (source : Source) (file : State) → IsLoadedFrom table path source (Ok file) → IsClean file }
-    ensures paths { (files : List ℕ → FileTold) (must_exist ignores : Bool) (asks : Asks) (metas : List Meta) (file : State) → asks.table ≡ Some files → AreHeaded files
+    ensures path { (table : Option (List ℕ → FileTold)) (path : List ℕ) (source : Source) (file : State) → IsLoadedFrom table path source (Ok file)
+        → IsClean file }
+    ensures paths { (files : List ℕ → FileTold) (must_exist ignores : Bool) (asks : Asks) (metas : List Meta) (file : State)
+        → asks.table ≡ Some files → AreHeaded files
         → IsLoadOfPaths must_exist ignores asks metas (Ok (Some file)) → IsClean file × (entries_of file.front ≡ []) }
     ensures globals { (variables : Option (List ℕ → VariableTold)) (places : Places) (files : List ℕ → FileTold) (file : State) → AreHeaded files
         → IsGlobal variables places (Some files) (Ok file) → IsClean file × (entries_of file.front ≡ []) }

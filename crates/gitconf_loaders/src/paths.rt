@@ -176,7 +176,8 @@ fn load_behind<F: Files>(
     meta: Metadata,
     target: &mut Option<Store>,
 ) -> Result<(), Error>
-    ensures loaded { IsMetaLoaded must_exist options.now.ignore_io_errors (asks_of options.now (F.table files.old)) meta target.old (left_by paths_number result target.new) }
+    ensures loaded { IsMetaLoaded must_exist options.now.ignore_io_errors (asks_of options.now (F.table files.old)) meta target.old
+        (left_by paths_number result target.new) }
     ensures cause { IfErr result (IsMetaCause must_exist options.now (F.table files.old) meta) }
     ensures table { F.table files.new ≡ F.table files.old }
     ensures counted { CountsLoad (left_by paths_number result target.new) (F.failures files.old) (F.failures files.new) }
@@ -222,7 +223,8 @@ pub fn from_paths<F: Files>(
     must_exist: bool,
     options: &Options<'_>,
 ) -> Result<Option<Store>, Error>
-    ensures loaded { IsLoadOfPaths must_exist options.now.ignore_io_errors (asks_of options.now (F.table files.old)) metas.items (numbered paths_number result) }
+    ensures loaded { IsLoadOfPaths must_exist options.now.ignore_io_errors (asks_of options.now (F.table files.old)) metas.items
+        (numbered paths_number result) }
     ensures cause { IfErr result (IsLoadCause must_exist options.now (F.table files.old) metas.items) }
     ensures table { F.table files.new ≡ F.table files.old }
     ensures counted { CountsLoad (numbered paths_number result) (F.failures files.old) (F.failures files.new) }

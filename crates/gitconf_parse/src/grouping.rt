@@ -25,9 +25,11 @@ const NOTHING: Span = Span { start: 0, len: 0 };
 fn blanks_first<'e>(buffer: &[u8], events: EventSlice<'e>) -> (Span, EventSlice<'e>)
     requires within { EventsWithin (length buffer.now) (events_of events) }
     ensures name { are_items BehindName (map (token_of buffer.now) (events_of events.entry)) ≡ true → AreBehind BehindNameBlanks
-        (filled WhitespaceToken (bytes_of buffer.now result.0)) (map (token_of buffer.now) (events_of result.1)) (map (token_of buffer.now) (events_of events.entry)) }
+        (filled WhitespaceToken (bytes_of buffer.now result.0)) (map (token_of buffer.now) (events_of result.1))
+        (map (token_of buffer.now) (events_of events.entry)) }
     ensures separator { are_items BehindSeparator (map (token_of buffer.now) (events_of events.entry)) ≡ true → AreBehind BehindSeparatorBlanks
-        (filled WhitespaceToken (bytes_of buffer.now result.0)) (map (token_of buffer.now) (events_of result.1)) (map (token_of buffer.now) (events_of events.entry)) }
+        (filled WhitespaceToken (bytes_of buffer.now result.0)) (map (token_of buffer.now) (events_of result.1))
+        (map (token_of buffer.now) (events_of events.entry)) }
     ensures first { SpanFits (length buffer.now) result.0 }
     ensures others { EventsWithin (length buffer.now) (events_of result.1) }
 {
@@ -42,7 +44,8 @@ fn line_end_first<'e>(buffer: &[u8], events: EventSlice<'e>) -> (Span, EventSlic
     requires items { are_items BehindPiece (map (token_of buffer.now) (events_of events)) ≡ true }
     requires within { EventsWithin (length buffer.now) (events_of events) }
     ensures tokens { AreBehind BehindPieceEnd
-        (filled NewlineToken (bytes_of buffer.now result.0)) (map (token_of buffer.now) (events_of result.1)) (map (token_of buffer.now) (events_of events.entry)) }
+        (filled NewlineToken (bytes_of buffer.now result.0)) (map (token_of buffer.now) (events_of result.1))
+        (map (token_of buffer.now) (events_of events.entry)) }
     ensures first { SpanFits (length buffer.now) result.0 }
     ensures others { EventsWithin (length buffer.now) (events_of result.1) }
     ensures shorter { length (events_of result.1) ≤ length (events_of events.entry) }
@@ -97,7 +100,8 @@ fn value_first<'e>(
     requires within { EventsWithin (length buffer.now) (events_of events) }
     ensures first { IfOk result (λ r. ValueFits (length buffer.now) r.0) }
     ensures others { IfOk result (λ r. EventsWithin (length buffer.now) (events_of r.1)) }
-    ensures tokens { IfOk result (λ r. AreBehind Between (spec.tokens_of_value buffer.now r.0) (map (token_of buffer.now) (events_of r.1)) (map (token_of buffer.now) (events_of events.entry))) }
+    ensures tokens { IfOk result (λ r. AreBehind Between (spec.tokens_of_value buffer.now r.0) (map (token_of buffer.now) (events_of r.1))
+        (map (token_of buffer.now) (events_of events.entry))) }
 {
     match events.split_first() {
         Some((Event::Value(last), behind)) => {
@@ -122,7 +126,8 @@ fn assigned_first<'e>(
     requires within { EventsWithin (length buffer.now) (events_of events) }
     ensures first { IfOk result (λ r. AssignedFits (length buffer.now) r.0) }
     ensures others { IfOk result (λ r. EventsWithin (length buffer.now) (events_of r.1)) }
-    ensures tokens { IfOk result (λ r. AreBehind Between (assigned_tokens (assigned_of buffer.now r.0)) (map (token_of buffer.now) (events_of r.1)) (map (token_of buffer.now) (events_of events.entry))) }
+    ensures tokens { IfOk result (λ r. AreBehind Between (assigned_tokens (assigned_of buffer.now r.0)) (map (token_of buffer.now) (events_of r.1))
+        (map (token_of buffer.now) (events_of events.entry))) }
 {
     match events.split_first() {
         Some((Event::Value(_), behind)) => Ok((Assigned::Nothing, behind)),
@@ -148,7 +153,8 @@ fn item_first<'e>(
     requires within { EventsWithin (length buffer.now) (events_of behind) }
     ensures first { IfOk result (λ r. ItemFits (length buffer.now) r.0) }
     ensures others { IfOk result (λ r. EventsWithin (length buffer.now) (events_of r.1)) }
-    ensures tokens { IfOk result (λ r. AreBehind Between (item_tokens (item_of buffer.now r.0)) (map (token_of buffer.now) (events_of r.1)) (token_of buffer.now first ∷ map (token_of buffer.now) (events_of behind.entry))) }
+    ensures tokens { IfOk result (λ r. AreBehind Between (item_tokens (item_of buffer.now r.0)) (map (token_of buffer.now) (events_of r.1))
+        (token_of buffer.now first ∷ map (token_of buffer.now) (events_of behind.entry))) }
 {
     match first {
         Event::Comment { tag, text } => Ok((Item::Comment { tag, text }, behind)),
@@ -180,7 +186,8 @@ fn push_items<'e>(
     requires within { EventsWithin (length buffer.now) (events_of events) }
     ensures first { OnOk result (AreItemsWithin (length buffer.now) items.new.items) }
     ensures others { IfOk result (λ behind. EventsWithin (length buffer.now) (events_of behind)) }
-    ensures items { IfOk result (λ behind. AreBehind Between (spec.tokens_of_items buffer.now items.new.items) (map (token_of buffer.now) (events_of behind)) (map (token_of buffer.now) (events_of events.entry))) }
+    ensures items { IfOk result (λ behind. AreBehind Between (spec.tokens_of_items buffer.now items.new.items)
+        (map (token_of buffer.now) (events_of behind)) (map (token_of buffer.now) (events_of events.entry))) }
     ensures cut { IfOk result (λ behind. is_cut is_header_event (events_of behind) ≡ true) }
 {
     let mut rest = events;
@@ -240,7 +247,8 @@ pub(crate) fn grouped<S: SectionSink>(
     requires none { S.tokens buffer.now sections.old ≡ [] }
     ensures within { IfOk result (λ front. AreItemsWithin (length buffer.now) front.items) }
     ensures keeps { OnOk result ((first : S) → S.keeps buffer.now first sections.old → S.keeps buffer.now first sections.new) }
-    ensures tokens { IfOk result (λ front. spec.tokens_of_items buffer.now front.items ++ S.tokens buffer.now sections.new ≡ map (token_of buffer.now) (events_of events.entry)) }
+    ensures tokens { IfOk result (λ front. spec.tokens_of_items buffer.now front.items ++ S.tokens buffer.now sections.new
+        ≡ map (token_of buffer.now) (events_of events.entry)) }
 {
     let mut scratch = Vec::new(alloc);
     let behind = push_items(alloc, buffer, events, &mut scratch)?;

@@ -47,6 +47,8 @@ pub fn lossy_tokens_have_the_document()
 /// and value.
 pub fn kept_entries_make_items()
     ensures whole { (text : List ℕ) (list : EventList) → IsWhole text list → (parts : List Part) × (list.tokens ≡ tokens_of parts) }
-    ensures kept { (p : Shown → Bool) (text : List ℕ) (list : EventList) → IsParsed p text list → list.keeps_entries ≡ true → (parts : List Part) × (list.tokens ≡ tokens_of parts) }
-    ensures selected { (text : List ℕ) (list : EventList) → IsSelected text list → list.keeps_entries ≡ true → (parts : List Part) × (list.tokens ≡ tokens_of parts) }
+    ensures kept { (p : Shown → Bool) (text : List ℕ) (list : EventList) → IsParsed p text list → list.keeps_entries ≡ true
+        → (parts : List Part) × (list.tokens ≡ tokens_of parts) }
+    ensures selected { (text : List ℕ) (list : EventList) → IsSelected text list → list.keeps_entries ≡ true
+        → (parts : List Part) × (list.tokens ≡ tokens_of parts) }
 {}

@@ -161,7 +161,8 @@ impl Gathering {
     /// there is none. They are found by an index: constant time except for the bytes of the names, and no memory.
     pub fn sections_by_name<'a, 'n>(&'a self, name: &'n str) -> Option<SectionsByName<'a, 'n>>
         ensures none { IsNone result → (p : SectionState → Bool) → list_any p (with_name name.now (whole self.now.done self.now.rest).sections) ≡ false }
-        ensures some { IfSome result (λ it. (p : SectionState → Bool) → list_any p (by_name_left it) ≡ list_any p (with_name name.now (whole self.now.done self.now.rest).sections)) }
+        ensures some { IfSome result (λ it. (p : SectionState → Bool) → list_any p (by_name_left it)
+            ≡ list_any p (with_name name.now (whole self.now.done self.now.rest).sections)) }
     {
         self.store.sections_by_name(name)
     }

@@ -48,7 +48,8 @@ pub(crate) fn passing_places<F: FnMut(&Metadata) -> bool>(
     ensures some { IfOk result (λ places. (marks : List Bool) × (places.items ≡ marked_places 0 marks)
         × AreMarks (is_named name.now (option_copied subsection.entry)) marks table.now.entries) }
     ensures exact { (keeps : Meta → Bool) → ComputesKey F.FnMut keeps filter
-        → IfOk result (λ places. places.items ≡ marked_places 0 (map (λ e. is_named name.now (option_copied subsection.entry) e && keeps e.section.meta.value) table.now.entries)) }
+        → IfOk result (λ places. places.items ≡ marked_places 0 (map (λ e. is_named name.now (option_copied subsection.entry) e && keeps
+        e.section.meta.value) table.now.entries)) }
     ensures refused { (keeps : Meta → Bool) → ComputesKey F.FnMut keeps filter
         → OnErr result (list_any (λ e. is_named name.now (option_copied subsection.entry) e && keeps e.section.meta.value) table.now.entries ≡ true) }
 {

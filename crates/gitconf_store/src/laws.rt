@@ -25,7 +25,8 @@ ghost use Rattle.gitconf_finding.specs.ValuePlaces.{editor_of_numbered, meaning_
 
 /// Bytes that are added to a buffer change nothing of what spans within it say, and these are within the longer one.
 pub fn appending_leaves_every_view()
-    ensures items { (buffer more : List ℕ) (items : List Item) → AreItemsWithin (length buffer) items → items_of (buffer ++ more) items ≡ items_of buffer items }
+    ensures items { (buffer more : List ℕ) (items : List Item) → AreItemsWithin (length buffer) items
+        → items_of (buffer ++ more) items ≡ items_of buffer items }
     ensures headers { (buffer more : List ℕ) (h : Header) → HeaderFits (length buffer) h → header_of (buffer ++ more) h ≡ header_of buffer h }
     ensures within { (buffer more : List ℕ) (items : List Item) → AreItemsWithin (length buffer) items → AreItemsWithin (length (buffer ++ more)) items }
 {}
@@ -80,9 +81,12 @@ pub fn headers_put_no_more_than_their_tokens()
 /// the number that it got: whatever happens to its items, its header or its trust.
 pub fn sections_are_edited_alone_as_in_a_file()
     ensures items { (change : List parts.Item → List parts.Item) (detached : Detached) (state : State) → AreNumbered state.next state.sections
-        → change_items state.next change (apply (PushSection detached) state) ≡ apply (PushSection (record detached { section = with_items change detached.section })) state }
+        → change_items state.next change (apply (PushSection detached) state)
+        ≡ apply (PushSection (record detached { section = with_items change detached.section })) state }
     ensures renamed { (name : List ℕ) (subsection : Option (List ℕ)) (detached : Detached) (state : State) → AreNumbered state.next state.sections
-        → apply (Rename state.next name subsection) (apply (PushSection detached) state) ≡ apply (PushSection (record detached { section = renamed name subsection detached.section })) state }
+        → apply (Rename state.next name subsection) (apply (PushSection detached) state)
+        ≡ apply (PushSection (record detached { section = renamed name subsection detached.section })) state }
     ensures trusted { (trust : Trust) (detached : Detached) (state : State) → AreNumbered state.next state.sections
-        → apply (SetTrust state.next trust) (apply (PushSection detached) state) ≡ apply (PushSection (record detached { section = with_trust trust detached.section })) state }
+        → apply (SetTrust state.next trust) (apply (PushSection detached) state)
+        ≡ apply (PushSection (record detached { section = with_trust trust detached.section })) state }
 {}

@@ -175,7 +175,8 @@ impl Store {
     ///
     /// Those of [`Store::from_text`].
     fn of_text(alloc: Global, text: Vec<u8>, keep: Keep, meta: Rc<Metadata>) -> Result<Store, Error>
-        ensures made { IfOk result (λ s. (parts : List Part) × IsText text.items parts × IsMade (tokens_kept keep (tokens_of parts)) meta.value (length text.items) s) }
+        ensures made { IfOk result (λ s. (parts : List Part) × IsText text.items parts
+            × IsMade (tokens_kept keep (tokens_of parts)) meta.value (length text.items) s) }
         ensures refused { IfErr result (IsRefused text.items) }
     {
         check_len(text.len())?;
@@ -404,7 +405,8 @@ impl Store {
     pub fn to_bstring(&self) -> Result<BString, NoMemory>
         ensures text { IfOk result (λ text. bstring_bytes text ≡ printed self.now) }
         ensures reads { IsClean self.now → IfOk result (λ text. Reads (bstring_bytes text) (document_of self.now)) }
-        ensures comments { IsClean self.now → IfOk result (λ text. (parts : List Part) → IsText (bstring_bytes text) parts → comments_of parts ≡ comments self.now) }
+        ensures comments { IsClean self.now → IfOk result (λ text. (parts : List Part) → IsText (bstring_bytes text) parts
+            → comments_of parts ≡ comments self.now) }
     {
         let alloc = *self.buffer.allocator();
         let mut text = Vec::with_capacity(alloc, self.buffer.len())?;
@@ -445,7 +447,8 @@ impl Store {
     ) -> Option<usize>
         requires { F.IsAlwaysCallable filter }
         ensures within { IfSome result (λ at. at < length self.now.sections) }
-        ensures named { IfSome result (λ at. option_map (λ s. is_named section_name.now (option_copied subsection_name.entry) (listing s)) (slice_get self.now.sections at) ≡ Some true) }
+        ensures named { IfSome result (λ at. option_map (λ s. is_named section_name.now (option_copied subsection_name.entry) (listing s))
+            (slice_get self.now.sections at) ≡ Some true) }
         ensures exact { (keeps : Meta → Bool) → ComputesKey F.FnMut keeps filter
             → IsLastPlace (is_target section_name.now (option_copied subsection_name.entry) keeps) self.now.sections result }
     {
@@ -470,7 +473,8 @@ impl Store {
         ensures ok { OnOk result (self.new ≡ with_used self.new.used (edits.set_at at key.now value.now self.old)) }
         ensures old { IfOk result (λ o. IfSome (slice_get self.old.sections at) (λ s. option_map (λ v. v.items) o ≡ old_value key.now s.items)) }
         ensures err { OnErr result (self.new ≡ with_used self.new.used self.old) }
-        ensures used { IfSome (slice_get self.old.sections at) (λ s. UsedGrows result (set_bytes (file_line_end self.old) key.now value.now s.items) self.old.used self.new.used) }
+        ensures used { IfSome (slice_get self.old.sections at) (λ s. UsedGrows result (set_bytes (file_line_end self.old) key.now value.now s.items)
+            self.old.used self.new.used) }
     {
         let line_end = self.line_end();
         let section = self.sections.at(at);
@@ -493,7 +497,8 @@ impl Store {
         ensures name { IsErrOf result HeaderError.InvalidName ↔ (is_made_name section_name.now ≡ false) }
         ensures subsection { IsErrOf result HeaderError.InvalidSubSection
             ↔ ((is_made_name section_name.now ≡ true) × (is_valid_or_none (option_copied subsection_name.entry) ≡ false)) }
-        ensures ok { OnOk result (self.new ≡ with_used self.new.used (edits.set_new section_name.now (option_copied subsection_name.entry) key.now value.now self.old)) }
+        ensures ok { OnOk result (self.new ≡ with_used self.new.used (edits.set_new section_name.now (option_copied subsection_name.entry) key.now
+            value.now self.old)) }
         ensures err { OnErr result (self.new ≡ with_used self.new.used self.old) }
         ensures used { EditGrows result header_number
             (new_section_bytes (file_line_end self.old) section_name.now (option_copied subsection_name.entry) key.now value.now) self.old self.new }

@@ -153,7 +153,8 @@ impl Path {
     /// E12 if the path is empty or what the shorthand needs is not known, E14 before that if the name of the
     /// user isn't UTF-8, E13 last, if the rest of the path isn't UTF-8, and E27.
     pub fn interpolate(&self, context: Context<'_>) -> Result<String, Error>
-        ensures { Gives result (interpolated (option_copied context.entry.git_install_dir) (option_copied context.entry.home_dir) (option_copied context.entry.home_for_user) self.now) }
+        ensures { Gives result (interpolated (option_copied context.entry.git_install_dir) (option_copied context.entry.home_dir)
+            (option_copied context.entry.home_for_user) self.now) }
     {
         let alloc = *self.value.allocator();
         interpolate::interpolated(alloc, self.value.as_slice(), context)

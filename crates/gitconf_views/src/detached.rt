@@ -76,7 +76,8 @@ fn owned_section(
     source: &SectionRef<'_>,
 ) -> Result<section::Section, NoMemory>
     requires room { length to.old.items < 2 ^ 32 }
-    ensures same { IfOk result (λ s. (number : ℕ) → section_under to.new.items number (whole s) ≡ alone (section_under source.now.buffer.now number (seen source.now))) }
+    ensures same { IfOk result (λ s. (number : ℕ) → section_under to.new.items number (whole s)
+        ≡ alone (section_under source.now.buffer.now number (seen source.now))) }
     ensures stands { IfOk result (λ s. StandsAlone to.new.items copies.new.items s) }
 {
     let meta = shared(source.meta)?;

@@ -26,7 +26,8 @@ fn write_piece<W: Sink>(
     piece: &Piece,
     line_end: LineEnd,
 ) -> Result<(), SinkFault>
-    ensures written { Writes result (spelled_piece (closed_piece (bytes_of_line_end line_end) (piece_of buffer.now piece.now))) (W.told out.old) (W.told out.new) }
+    ensures written { Writes result (spelled_piece (closed_piece (bytes_of_line_end line_end) (piece_of buffer.now piece.now))) (W.told out.old)
+        (W.told out.new) }
     ensures counted { Counts result (W.faults out.old) (W.faults out.new) }
 {
     write_all(out, piece.text.bytes_in(buffer))?;
@@ -47,7 +48,8 @@ fn write_value<W: Sink>(
     value: &Value,
     line_end: LineEnd,
 ) -> Result<(), SinkFault>
-    ensures written { Writes result (spelled_value (closed_value (bytes_of_line_end line_end) (value_of buffer.now value.now))) (W.told out.old) (W.told out.new) }
+    ensures written { Writes result (spelled_value (closed_value (bytes_of_line_end line_end) (value_of buffer.now value.now))) (W.told out.old)
+        (W.told out.new) }
     ensures counted { Counts result (W.faults out.old) (W.faults out.new) }
 {
     for piece in value.pieces.as_slice() {
@@ -64,7 +66,8 @@ fn write_entry<W: Sink>(
     entry: &Entry,
     line_end: LineEnd,
 ) -> Result<(), SinkFault>
-    ensures written { Writes result (spelled_item (closed_item (bytes_of_line_end line_end) (EntryItem (entry_of buffer.now entry.now)))) (W.told out.old) (W.told out.new) }
+    ensures written { Writes result (spelled_item (closed_item (bytes_of_line_end line_end) (EntryItem (entry_of buffer.now entry.now))))
+        (W.told out.old) (W.told out.new) }
     ensures counted { Counts result (W.faults out.old) (W.faults out.new) }
 {
     write_all(out, entry.name().bytes_in(buffer))?;
@@ -154,7 +157,8 @@ fn gather<W: Sink>(
     line_end: LineEnd,
 ) -> Result<Run, SinkFault>
     requires ordered { run.start ≤ run.end }
-    ensures written { WritesBut result (run_of buffer.now) (run_of buffer.now run ++ spelled_item (closed_item (bytes_of_line_end line_end) (item_of buffer.now item.now))) (W.told out.old) (W.told out.new) }
+    ensures written { WritesBut result (run_of buffer.now) (run_of buffer.now run
+        ++ spelled_item (closed_item (bytes_of_line_end line_end) (item_of buffer.now item.now))) (W.told out.old) (W.told out.new) }
     ensures counted { Counts result (W.faults out.old) (W.faults out.new) }
     ensures ordered { IfOk result (λ r. r.start ≤ r.end) }
 {
@@ -185,7 +189,8 @@ fn end_before<W: Sink>(
     line_end: LineEnd,
 ) -> Result<Before, SinkFault>
     requires ordered { before.run.start ≤ before.run.end }
-    ensures written { WritesBut result (λ b. run_of buffer.now b.run) (run_of buffer.now before.run ++ line_end_before in_body (bytes_of_line_end line_end) (open_of before.open) (item_of buffer.now item.now)) (W.told out.old) (W.told out.new) }
+    ensures written { WritesBut result (λ b. run_of buffer.now b.run) (run_of buffer.now before.run
+        ++ line_end_before in_body (bytes_of_line_end line_end) (open_of before.open) (item_of buffer.now item.now)) (W.told out.old) (W.told out.new) }
     ensures counted { Counts result (W.faults out.old) (W.faults out.new) }
     ensures open { IfOk result (λ b. open_of b.open ≡ open_before in_body (open_of before.open) (item_of buffer.now item.now)) }
     ensures ordered { IfOk result (λ b. b.run.start ≤ b.run.end) }
@@ -211,7 +216,8 @@ fn write_next<W: Sink>(
     line_end: LineEnd,
 ) -> Result<Before, SinkFault>
     requires ordered { before.run.start ≤ before.run.end }
-    ensures written { WritesBut result (λ b. run_of buffer.now b.run) (run_of buffer.now before.run ++ next_text in_body (bytes_of_line_end line_end) (open_of before.open) (item_of buffer.now item.now)) (W.told out.old) (W.told out.new) }
+    ensures written { WritesBut result (λ b. run_of buffer.now b.run) (run_of buffer.now before.run
+        ++ next_text in_body (bytes_of_line_end line_end) (open_of before.open) (item_of buffer.now item.now)) (W.told out.old) (W.told out.new) }
     ensures counted { Counts result (W.faults out.old) (W.faults out.new) }
     ensures behind { IfOk result (λ b. open_of b.open ≡ behind_next in_body (open_of before.open) (item_of buffer.now item.now)) }
     ensures ordered { IfOk result (λ b. b.run.start ≤ b.run.end) }
@@ -236,7 +242,8 @@ pub(crate) fn write_behind<W: Sink>(
     line_end: LineEnd,
 ) -> Result<(), SinkFault>
     requires ordered { run.start ≤ run.end }
-    ensures written { Writes result (run_of buffer.now run ++ items_text in_body (bytes_of_line_end line_end) Closed (items_of buffer.now items.now)) (W.told out.old) (W.told out.new) }
+    ensures written { Writes result (run_of buffer.now run ++ items_text in_body (bytes_of_line_end line_end) Closed (items_of buffer.now items.now))
+        (W.told out.old) (W.told out.new) }
     ensures counted { Counts result (W.faults out.old) (W.faults out.new) }
 {
     let mut before = Before {

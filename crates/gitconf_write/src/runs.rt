@@ -148,7 +148,8 @@ fn subsection_run(
 
 /// An entry as one run, if its value has one piece and all its parts are side by side.
 fn entry_run(buffer: &[u8], entry: &Entry) -> Option<Run>
-    ensures value { IfSome result (λ r. (line_end : List ℕ) → run_of buffer.now r ≡ spelled_item (closed_item line_end (EntryItem (entry_of buffer.now entry.now)))) }
+    ensures value { IfSome result (λ r. (line_end : List ℕ) → run_of buffer.now r
+        ≡ spelled_item (closed_item line_end (EntryItem (entry_of buffer.now entry.now)))) }
     ensures ordered { IfSome result (λ r. r.start ≤ r.end) }
 {
     let key = Run::of(entry.name()).with(entry.blanks())?;

@@ -159,7 +159,8 @@ pub fn write_held<W: Sink>(
     held: &[Item],
     line_end: LineEnd,
 ) -> Result<(), SinkFault>
-    ensures written { Writes result (held_text (bytes_of_line_end line_end) (items_of buffer.now items.now) (items_of buffer.now held.now)) (W.told out.old) (W.told out.new) }
+    ensures written { Writes result (held_text (bytes_of_line_end line_end) (items_of buffer.now items.now) (items_of buffer.now held.now))
+        (W.told out.old) (W.told out.new) }
     ensures counted { Counts result (W.faults out.old) (W.faults out.new) }
 {
     if held.is_empty() {

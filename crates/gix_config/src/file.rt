@@ -446,7 +446,8 @@ impl File {
     pub fn to_bstring(&self) -> Result<BString, NoMemory>
         ensures text { IfOk result (λ text. bstring_bytes text ≡ printed self.now) }
         ensures reads { IsClean self.now → IfOk result (λ text. Reads (bstring_bytes text) (document_of self.now)) }
-        ensures comments { IsClean self.now → IfOk result (λ text. (parts : List Part) → IsText (bstring_bytes text) parts → comments_of parts ≡ comments self.now) }
+        ensures comments { IsClean self.now → IfOk result (λ text. (parts : List Part) → IsText (bstring_bytes text) parts
+            → comments_of parts ≡ comments self.now) }
     {
         self.store.to_bstring()
     }

@@ -176,7 +176,8 @@ impl SectionList {
         other: SectionList,
     ) -> Result<(), span::Error>
         requires { position < length self.old.entries }
-        ensures ok { OnOk result (self.new ≡ with_all (length self.old.entries) other (edited_at (holding (line_end_item line_end ++ others.old.items)) position self.old)) }
+        ensures ok { OnOk result (self.new ≡ with_all (length self.old.entries) other
+            (edited_at (holding (line_end_item line_end ++ others.old.items)) position self.old)) }
         ensures used_up { IsErrOf result 3 ↔ (no_number < self.old.next + length other.entries) }
         ensures memory { IfErr result (λ e. self.old.next + length other.entries ≤ no_number → e ≡ 27) }
         ensures err { OnErr result (self.new ≡ self.old) }

@@ -105,7 +105,8 @@ impl Store {
         ensures bytes { IfOk result (λ line. line.now ≡ line_at at (bytes_of_line_end line_end) other.now self.now) }
         ensures short { IfOk result (λ line. length line.now ≤ 2) }
         ensures too_large { IsErrOf result 3
-            ↔ ((2 ^ 32 ≤ self.now.used + bytes_at at (bytes_of_line_end line_end) other.now self.now) ⊎ (no_number < self.now.next + length other.now.sections)) }
+            ↔ ((2 ^ 32 ≤ self.now.used + bytes_at at (bytes_of_line_end line_end) other.now self.now)
+            ⊎ (no_number < self.now.next + length other.now.sections)) }
         ensures known { IfErr result (λ e. e ≡ 3) }
     {
         if self.sections.numbers_left() < other.sections.len() {

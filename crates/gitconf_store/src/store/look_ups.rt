@@ -32,7 +32,8 @@ impl Store {
     ) -> Option<Found<'_>>
         requires { F.IsAlwaysCallable filter }
         ensures exact { (keeps : Meta → Bool) → ComputesKey F.FnMut keeps filter
-            → option_map place_of result ≡ last_place deciding value_name.now keeps (sections_named section_name.now (option_copied subsection_name.entry) self.now) }
+            → option_map place_of result ≡ last_place deciding value_name.now keeps
+            (sections_named section_name.now (option_copied subsection_name.entry) self.now) }
         // For any filter.
         ensures some { WithSome (λ s. option_map place_of result
             ≡ last_place deciding value_name.now (λ _. true) (sections_named section_name.now (option_copied subsection_name.entry) s)) self.now }

@@ -141,7 +141,8 @@ impl Store {
         ensures exact { (keeps : Meta → Bool) → ComputesKey F.FnMut keeps filter
             → IsRenamed name.now (option_copied subsection_name.entry) keeps new_name.now (option_copied new_subsection_name.entry) result self.old self.new }
         // For any filter.
-        ensures some { OnOk result (AreSomeRenamed name.now (option_copied subsection_name.entry) new_name.now (option_copied new_subsection_name.entry) self.old self.new) }
+        ensures some { OnOk result (AreSomeRenamed name.now (option_copied subsection_name.entry) new_name.now
+            (option_copied new_subsection_name.entry) self.old self.new) }
         ensures err { OnErr result (self.new ≡ with_used self.new.used self.old) }
         ensures grown { self.new.used ≤ self.old.used + header_bytes new_name.now (option_copied new_subsection_name.entry) }
     {

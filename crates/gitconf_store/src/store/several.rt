@@ -130,7 +130,8 @@ impl Store {
         value_name: &str,
         new_values: &[&[u8]],
     ) -> Result<(), set_raw_value::Error>
-        ensures { AreSetExisting (key_at section_name.now (option_copied subsection_name.entry) value_name.now) (map (λ v. v.now) new_values.now) result self.old self.new }
+        ensures { AreSetExisting (key_at section_name.now (option_copied subsection_name.entry) value_name.now) (map (λ v. v.now) new_values.now)
+            result self.old self.new }
     {
         let places = self.value_places_filter_by(
             section_name,

@@ -117,7 +117,8 @@ impl Store {
         name: &str,
         subsection_name: Option<&[u8]>,
     ) -> Result<(), Error>
-        ensures { MatchResult result (λ _. HasSection name.now (option_copied subsection_name.entry) self.now) (IsMissing name.now (option_copied subsection_name.entry) self.now) }
+        ensures { MatchResult result (λ _. HasSection name.now (option_copied subsection_name.entry) self.now)
+            (IsMissing name.now (option_copied subsection_name.entry) self.now) }
     {
         match self.sections_named(name, subsection_name).next() {
             Some(_) => Ok(()),

@@ -239,7 +239,8 @@ pub(super) fn interpolated(
     path: &[u8],
     context: Context<'_>,
 ) -> Result<String, Error>
-    ensures { Gives result (spec.interpolated (option_copied context.entry.git_install_dir) (option_copied context.entry.home_dir) (option_copied context.entry.home_for_user) path.now) }
+    ensures { Gives result (spec.interpolated (option_copied context.entry.git_install_dir) (option_copied context.entry.home_dir)
+        (option_copied context.entry.home_for_user) path.now) }
 {
     if path.is_empty() {
         return Err(Error::Missing { what: "path" });

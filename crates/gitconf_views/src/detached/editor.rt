@@ -123,7 +123,8 @@ impl<'a> DetachedSectionMut<'a> {
         ensures same_section { lent self.new ≡ lent self.old }
         ensures same_editor { editor self.new ≡ editor self.old }
         ensures done { IsEditedAlone (pushed (editor self.old) value_name.now (option_copied value.entry) (Some comment.now)) (is_value_name value_name.now)
-            (line_bytes (editor self.old) value_name.now (option_copied value.entry) (Some comment.now)) value_number result (edited self.old) (edited self.new) }
+            (line_bytes (editor self.old) value_name.now (option_copied value.entry) (Some comment.now)) value_number result (edited self.old)
+            (edited self.new) }
     {
         let editor = self.blanks.editor(self.line_end, self.ends);
         self.section
@@ -139,7 +140,8 @@ impl<'a> DetachedSectionMut<'a> {
     pub fn push_newline(&mut self) -> Result<(), span::Error>
         ensures same_section { lent self.new ≡ lent self.old }
         ensures same_editor { editor self.new ≡ editor self.old }
-        ensures done { IsEditedAlone (line_end_pushed (editor self.old)) true (length (editor self.old).line_end) (λ e. e) result (edited self.old) (edited self.new) }
+        ensures done { IsEditedAlone (line_end_pushed (editor self.old)) true (length (editor self.old).line_end) (λ e. e) result (edited self.old)
+            (edited self.new) }
     {
         let editor = self.blanks.editor(self.line_end, self.ends);
         self.section.push_line_end(&editor)
@@ -157,7 +159,8 @@ impl<'a> DetachedSectionMut<'a> {
         ensures same_section { lent self.new ≡ lent self.old }
         ensures same_editor { editor self.new ≡ editor self.old }
         ensures done { IsEditedAlone (value_set (editor self.old) value_name.now value.now) (is_value_name value_name.now)
-            (value_set_bytes (editor self.old) value_name.now value.now (edited self.old).section.items) value_number result (edited self.old) (edited self.new) }
+            (value_set_bytes (editor self.old) value_name.now value.now (edited self.old).section.items) value_number result (edited self.old)
+            (edited self.new) }
         ensures answer { IfOk result (λ o. option_map bstring_bytes o ≡ old_value value_name.now (edited self.old).section.items) }
     {
         let editor = self.blanks.editor(self.line_end, self.ends);
@@ -174,7 +177,10 @@ impl<'a> DetachedSectionMut<'a> {
     pub fn remove(&mut self, value_name: &str) -> Result<Option<BString>, NoMemory>
         ensures same_section { lent self.new ≡ lent self.old }
         ensures same_editor { editor self.new ≡ editor self.old }
-        ensures ok { OnOk result (edited self.new ≡ record { section = with_items (removed value_name.now) (edited self.old).section; used = (edited self.old).used }) }
+        ensures ok { OnOk result (edited self.new ≡ record {
+          section = with_items (removed value_name.now) (edited self.old).section;
+          used = (edited self.old).used;
+        }) }
         ensures answer { IfOk result (λ o. option_map bstring_bytes o ≡ old_value value_name.now (edited self.old).section.items) }
         ensures none { old_value value_name.now (edited self.old).section.items ≡ None → IsOk result }
         ensures err { OnErr result (edited self.new ≡ edited self.old) }
@@ -263,7 +269,10 @@ impl<'a> DetachedSectionMut<'a> {
         requires white { IfSome whitespace (λ blanks. list_all is_whitespace (bstring_bytes blanks) ≡ true) }
         ensures same_section { lent self.new ≡ lent self.old }
         ensures same_state { edited self.new ≡ edited self.old }
-        ensures ok { OnOk result (editor self.new ≡ record (editor self.old) { spacing = record (editor self.old).spacing { leading = option_map bstring_bytes whitespace } }) }
+        ensures ok { OnOk result (editor self.new ≡ record (editor self.old) {
+          spacing = record
+              (editor self.old).spacing { leading = option_map bstring_bytes whitespace };
+        }) }
         ensures err { OnErr result (editor self.new ≡ editor self.old) }
     {
         self.blanks.set_leading(bytes_of(&whitespace))

@@ -45,8 +45,10 @@ impl Section {
         requires given { IsGiven editor.now }
         requires puts { PutsAround editor.now }
         requires editor { IsEditor (given_editor editor.now) }
-        ensures done { IsEditedAlone (pushed (given_editor editor.now) value_name.now (option_copied value.entry) (option_copied comment.entry)) (is_value_name value_name.now)
-            (line_bytes (given_editor editor.now) value_name.now (option_copied value.entry) (option_copied comment.entry)) value_number result self.old self.new }
+        ensures done { IsEditedAlone (pushed (given_editor editor.now) value_name.now (option_copied value.entry) (option_copied comment.entry))
+            (is_value_name value_name.now)
+            (line_bytes (given_editor editor.now) value_name.now (option_copied value.entry) (option_copied comment.entry)) value_number result
+            self.old self.new }
     {
         let key = value_name.as_bytes();
         if !is_value_name(key) {
@@ -60,7 +62,8 @@ impl Section {
     #[tactic(auto, using(crate::proofs::AloneEdits::done_alone))]
     pub fn push_line_end(&mut self, editor: &Editor<'_>) -> Result<(), span::Error>
         requires editor { IsEditor (given_editor editor.now) }
-        ensures done { IsEditedAlone (line_end_pushed (given_editor editor.now)) true (length (given_editor editor.now).line_end) (λ e. e) result self.old self.new }
+        ensures done { IsEditedAlone (line_end_pushed (given_editor editor.now)) true (length (given_editor editor.now).line_end) (λ e. e) result
+            self.old self.new }
     {
         self.push_newline(editor)
     }

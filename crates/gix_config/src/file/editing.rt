@@ -41,7 +41,8 @@ impl File {
         requires puts { PutsAround editor.now }
         requires editor { IsEditor (given_editor editor.now) }
         requires key { is_value_name key.now ≡ true }
-        ensures done { IsEdited (Push id (given_editor editor.now) key.now (option_copied value.entry) (option_copied comment.entry)) (λ e. e) result self.old self.new }
+        ensures done { IsEdited (Push id (given_editor editor.now) key.now (option_copied value.entry) (option_copied comment.entry)) (λ e. e) result
+            self.old self.new }
         ensures stands { has_number id self.new ≡ true }
     {
         self.store.push_entry(id, editor, key, value, comment)

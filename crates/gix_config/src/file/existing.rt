@@ -97,7 +97,8 @@ impl File {
         value_name: &str,
         new_values: &[&[u8]],
     ) -> Result<(), set_raw_value::Error>
-        ensures { AreSetExisting (key_at section_name.now (option_copied subsection_name.entry) value_name.now) (map (λ v. v.now) new_values.now) result self.old self.new }
+        ensures { AreSetExisting (key_at section_name.now (option_copied subsection_name.entry) value_name.now) (map (λ v. v.now) new_values.now)
+            result self.old self.new }
     {
         self.store
             .set_existing_raw_multi_value_by(section_name, subsection_name, value_name, new_values)

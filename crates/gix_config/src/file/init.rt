@@ -42,8 +42,10 @@ impl File {
             × IsMade (loaded_tokens options.entry.lossy parts) meta.value (length input.now) f) }
         ensures document { IfOk result (λ f. Reads input.now (document_of f)) }
         ensures clean { IfOk result (λ f. (options.entry.lossy ≡ true → entries_of f.front ≡ []) → IsClean f) }
-        ensures inserted { options.entry.lossy ≡ false → IfOk result (λ f. (parts : List Part) → IsText input.now parts → Inserted (map spelled_token (tokens_of parts)) (printed f)) }
-        ensures byte_for_byte { options.entry.lossy ≡ false → IfOk result (λ f. (parts : List Part) → IsText input.now parts → IsByteForByte parts → printed f ≡ unmarked input.now) }
+        ensures inserted { options.entry.lossy ≡ false → IfOk result (λ f. (parts : List Part) → IsText input.now parts
+            → Inserted (map spelled_token (tokens_of parts)) (printed f)) }
+        ensures byte_for_byte { options.entry.lossy ≡ false → IfOk result
+            (λ f. (parts : List Part) → IsText input.now parts → IsByteForByte parts → printed f ≡ unmarked input.now) }
         ensures refused { IfErr result (IsParseRefusal input.now) }
     {
         if options.lossy {

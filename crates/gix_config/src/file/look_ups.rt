@@ -89,7 +89,8 @@ impl File {
     ) -> Result<Option<BString>, NoMemory>
         requires { F.IsAlwaysCallable filter }
         // For a filter whose result depends only on what it is shown.
-        ensures exact { (keeps : Meta → Bool) → ComputesKey F.FnMut keeps filter → IsString (key_at section_name.now (option_copied subsection_name.entry) value_name.now) keeps self.now result }
+        ensures exact { (keeps : Meta → Bool) → ComputesKey F.FnMut keeps filter
+            → IsString (key_at section_name.now (option_copied subsection_name.entry) value_name.now) keeps self.now result }
         // For any filter.
         ensures some { WithSome (λ s. IsString (key_at section_name.now (option_copied subsection_name.entry) value_name.now) (λ _. true) s result) self.now }
     {
@@ -170,7 +171,8 @@ impl File {
     ) -> Result<Option<Vec<BString>>, NoMemory>
         requires { F.IsAlwaysCallable filter }
         // For a filter whose result depends only on what it is shown.
-        ensures exact { (keeps : Meta → Bool) → ComputesKey F.FnMut keeps filter → AreStrings (key_at section_name.now (option_copied subsection_name.entry) value_name.now) keeps self.now result }
+        ensures exact { (keeps : Meta → Bool) → ComputesKey F.FnMut keeps filter
+            → AreStrings (key_at section_name.now (option_copied subsection_name.entry) value_name.now) keeps self.now result }
         // For any filter.
         ensures some { WithSome (λ s. AreStrings (key_at section_name.now (option_copied subsection_name.entry) value_name.now) (λ _. true) s result) self.now }
     {
@@ -250,7 +252,8 @@ impl File {
     ) -> Result<BString, existing::Error>
         requires { F.IsAlwaysCallable filter }
         // For a filter whose result depends only on what it is shown.
-        ensures exact { (keeps : Meta → Bool) → ComputesKey F.FnMut keeps filter → IsRawValue (key_at section_name.now (option_copied subsection_name.entry) value_name.now) keeps self.now result }
+        ensures exact { (keeps : Meta → Bool) → ComputesKey F.FnMut keeps filter
+            → IsRawValue (key_at section_name.now (option_copied subsection_name.entry) value_name.now) keeps self.now result }
         // For any filter.
         ensures some { IsSomeRawValue (key_at section_name.now (option_copied subsection_name.entry) value_name.now) self.now result }
     {
@@ -333,7 +336,8 @@ impl File {
     ) -> Result<(BString, SectionRef<'_>), existing::Error>
         requires { F.IsAlwaysCallable filter }
         // For a filter whose result depends only on what it is shown.
-        ensures exact { (keeps : Meta → Bool) → ComputesKey F.FnMut keeps filter → IsRawValueWithSection (key_at section_name.now (option_copied subsection_name.entry) value_name.now) keeps self.now result }
+        ensures exact { (keeps : Meta → Bool) → ComputesKey F.FnMut keeps filter
+            → IsRawValueWithSection (key_at section_name.now (option_copied subsection_name.entry) value_name.now) keeps self.now result }
         // For any filter.
         ensures some { IsSomeRawValueWithSection (key_at section_name.now (option_copied subsection_name.entry) value_name.now) self.now result }
     {
@@ -413,7 +417,8 @@ impl File {
     ) -> Result<Vec<BString>, existing::Error>
         requires { F.IsAlwaysCallable filter }
         // For a filter whose result depends only on what it is shown.
-        ensures exact { (keeps : Meta → Bool) → ComputesKey F.FnMut keeps filter → AreRawValues (key_at section_name.now (option_copied subsection_name.entry) value_name.now) keeps self.now result }
+        ensures exact { (keeps : Meta → Bool) → ComputesKey F.FnMut keeps filter
+            → AreRawValues (key_at section_name.now (option_copied subsection_name.entry) value_name.now) keeps self.now result }
         // For any filter.
         ensures some { AreSomeRawValues (key_at section_name.now (option_copied subsection_name.entry) value_name.now) self.now result }
     {
@@ -496,7 +501,8 @@ impl File {
     ) -> Result<Vec<(BString, SectionRef<'_>)>, existing::Error>
         requires { F.IsAlwaysCallable filter }
         // For a filter whose result depends only on what it is shown.
-        ensures exact { (keeps : Meta → Bool) → ComputesKey F.FnMut keeps filter → AreRawValuesWithSections (key_at section_name.now (option_copied subsection_name.entry) value_name.now) keeps self.now result }
+        ensures exact { (keeps : Meta → Bool) → ComputesKey F.FnMut keeps filter
+            → AreRawValuesWithSections (key_at section_name.now (option_copied subsection_name.entry) value_name.now) keeps self.now result }
         // For any filter.
         ensures some { AreSomeRawValuesWithSections (key_at section_name.now (option_copied subsection_name.entry) value_name.now) self.now result }
     {

@@ -32,7 +32,8 @@ impl File {
         new_name: &str,
         new_subsection_name: Option<BString>,
     ) -> Result<(), rename_section::Error>
-        ensures exact { IsRenamed name.now (option_copied subsection_name.entry) (λ _. true) new_name.now (option_map bstring_bytes new_subsection_name) result self.old self.new }
+        ensures exact { IsRenamed name.now (option_copied subsection_name.entry) (λ _. true) new_name.now
+            (option_map bstring_bytes new_subsection_name) result self.old self.new }
         ensures err { OnErr result (self.new ≡ with_used self.new.used self.old) }
         ensures grown { self.new.used ≤ self.old.used + header_bytes new_name.now (option_map bstring_bytes new_subsection_name) }
     {
@@ -57,9 +58,11 @@ impl File {
         requires { F.IsAlwaysCallable filter }
         // For a filter whose result depends only on what it is shown.
         ensures exact { (keeps : Meta → Bool) → ComputesKey F.FnMut keeps filter
-            → IsRenamed name.now (option_copied subsection_name.entry) keeps new_name.now (option_map bstring_bytes new_subsection_name) result self.old self.new }
+            → IsRenamed name.now (option_copied subsection_name.entry) keeps new_name.now (option_map bstring_bytes new_subsection_name) result
+            self.old self.new }
         // For any filter.
-        ensures some { OnOk result (AreSomeRenamed name.now (option_copied subsection_name.entry) new_name.now (option_map bstring_bytes new_subsection_name) self.old self.new) }
+        ensures some { OnOk result (AreSomeRenamed name.now (option_copied subsection_name.entry) new_name.now
+            (option_map bstring_bytes new_subsection_name) self.old self.new) }
         ensures err { OnErr result (self.new ≡ with_used self.new.used self.old) }
         ensures grown { self.new.used ≤ self.old.used + header_bytes new_name.now (option_map bstring_bytes new_subsection_name) }
     {

@@ -163,8 +163,10 @@ impl<'a> SectionMut<'a> {
         ensures same_section { number_of self.new ≡ number_of self.old }
         ensures same_editor { editor self.new ≡ editor self.old }
         ensures invalid { IsErrAnd result (λ e. value_number e ≡ 6) ↔ (is_value_name value_name.now ≡ false) }
-        ensures done { IsEdited (SetValue (number_of self.old) (editor self.old) value_name.now value.now) value_number result (edited self.old) (edited self.new) }
-        ensures answer { IfOk result (λ o. Raw (option_map bstring_bytes o) ≡ answer (SetValue (number_of self.old) (editor self.old) value_name.now value.now) (edited self.old)) }
+        ensures done { IsEdited (SetValue (number_of self.old) (editor self.old) value_name.now value.now) value_number result (edited self.old)
+            (edited self.new) }
+        ensures answer { IfOk result (λ o. Raw (option_map bstring_bytes o)
+            ≡ answer (SetValue (number_of self.old) (editor self.old) value_name.now value.now) (edited self.old)) }
     {
         let key = value_name.as_bytes();
         if !is_value_name(key) {
@@ -215,7 +217,8 @@ impl<'a> SectionMut<'a> {
         ensures same_section { number_of self.new ≡ number_of self.old }
         ensures same_editor { editor self.new ≡ editor self.old }
         ensures ok { OnOk result (edited self.new ≡ apply (Pop (number_of self.old)) (edited self.old)) }
-        ensures answer { IfOk result (λ o. Entry (option_map (λ t. (string_bytes t.0, bstring_bytes t.1)) o) ≡ answer (Pop (number_of self.old)) (edited self.old)) }
+        ensures answer { IfOk result (λ o. Entry (option_map (λ t. (string_bytes t.0, bstring_bytes t.1)) o)
+            ≡ answer (Pop (number_of self.old)) (edited self.old)) }
         ensures none { answer (Pop (number_of self.old)) (edited self.old) ≡ Entry None → IsOk result }
         ensures err { OnErr result (edited self.new ≡ edited self.old) }
     {
@@ -244,7 +247,8 @@ impl<'a> SectionMut<'a> {
         ensures invalid_name { IsErrOf result InvalidName ↔ (is_made_name name.now ≡ false) }
         ensures invalid_subsection { IsErrOf result InvalidSubSection
             ↔ ((is_made_name name.now ≡ true) × (is_valid_or_none (option_map bstring_bytes subsection_name) ≡ false)) }
-        ensures ok { OnOk result (edited self.new ≡ with_used (edited self.new).used (apply (Rename (number_of self.old) name.now (option_map bstring_bytes subsection_name)) (edited self.old))) }
+        ensures ok { OnOk result (edited self.new ≡ with_used (edited self.new).used
+            (apply (Rename (number_of self.old) name.now (option_map bstring_bytes subsection_name)) (edited self.old))) }
         ensures err { OnErr result (edited self.new ≡ with_used (edited self.new).used (edited self.old)) }
         ensures used { HeaderGrows name.now (option_map bstring_bytes subsection_name) result (edited self.old).used (edited self.new).used }
     {

@@ -36,7 +36,8 @@ fn converted<T: TryFrom<BString>>(
 fn converted_with_section<'a, T: TryFrom<BString>>(
     found: Result<(BString, SectionRef<'a>), existing::Error>,
 ) -> Result<(T, SectionRef<'a>), lookup::Error<T::Error>>
-    ensures { (value : Option (List ℕ × SectionState)) (miss : Miss) → IsExisting shown_with found.entry value miss → IsConvertedWith T.try_from_gives value miss result }
+    ensures { (value : Option (List ℕ × SectionState)) (miss : Miss) → IsExisting shown_with found.entry value miss
+        → IsConvertedWith T.try_from_gives value miss result }
 {
     match found {
         Ok((value, section)) => match T::try_from(value) {

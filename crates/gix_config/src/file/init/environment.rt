@@ -253,10 +253,13 @@ impl File {
         options: Options<'_>,
         host: &mut Host,
     ) -> Result<Option<File>, Error>
-        ensures made { IsFromEnv (⟦<Box<dyn Env> as Env>⟧.variables host.old.env) (asks_of options.entry (⟦<Box<dyn Files> as Files>⟧.table host.old.files)) (numbered env_number result) }
-        ensures cause { IfErr result (IsEnvCause (⟦<Box<dyn Env> as Env>⟧.variables host.old.env) options.entry (⟦<Box<dyn Files> as Files>⟧.table host.old.files)) }
+        ensures made { IsFromEnv (⟦<Box<dyn Env> as Env>⟧.variables host.old.env)
+            (asks_of options.entry (⟦<Box<dyn Files> as Files>⟧.table host.old.files)) (numbered env_number result) }
+        ensures cause { IfErr result (IsEnvCause (⟦<Box<dyn Env> as Env>⟧.variables host.old.env) options.entry
+            (⟦<Box<dyn Files> as Files>⟧.table host.old.files)) }
         ensures table { ⟦<Box<dyn Files> as Files>⟧.table host.new.files ≡ ⟦<Box<dyn Files> as Files>⟧.table host.old.files }
-        ensures counted { CountsLoad (numbered env_number result) (⟦<Box<dyn Files> as Files>⟧.failures host.old.files) (⟦<Box<dyn Files> as Files>⟧.failures host.new.files) }
+        ensures counted { CountsLoad (numbered env_number result) (⟦<Box<dyn Files> as Files>⟧.failures host.old.files)
+            (⟦<Box<dyn Files> as Files>⟧.failures host.new.files) }
         ensures env { ⟦<Box<dyn Env> as Env>⟧.variables host.new.env ≡ ⟦<Box<dyn Env> as Env>⟧.variables host.old.env }
         ensures places { host.new.places ≡ host.old.places }
     {
@@ -274,10 +277,13 @@ impl File {
     ///
     /// Those of [`File::from_env`].
     pub fn from_environment_overrides(alloc: Global, host: &mut Host) -> Result<File, Error>
-        ensures made { IsOverrides (⟦<Box<dyn Env> as Env>⟧.variables host.old.env) host.old.places (⟦<Box<dyn Files> as Files>⟧.table host.old.files) (numbered env_number result) }
-        ensures cause { IfErr result (IsOverridesCause (⟦<Box<dyn Env> as Env>⟧.variables host.old.env) host.old.places (⟦<Box<dyn Files> as Files>⟧.table host.old.files)) }
+        ensures made { IsOverrides (⟦<Box<dyn Env> as Env>⟧.variables host.old.env) host.old.places
+            (⟦<Box<dyn Files> as Files>⟧.table host.old.files) (numbered env_number result) }
+        ensures cause { IfErr result (IsOverridesCause (⟦<Box<dyn Env> as Env>⟧.variables host.old.env) host.old.places
+            (⟦<Box<dyn Files> as Files>⟧.table host.old.files)) }
         ensures table { ⟦<Box<dyn Files> as Files>⟧.table host.new.files ≡ ⟦<Box<dyn Files> as Files>⟧.table host.old.files }
-        ensures counted { CountsLoad (numbered env_number result) (⟦<Box<dyn Files> as Files>⟧.failures host.old.files) (⟦<Box<dyn Files> as Files>⟧.failures host.new.files) }
+        ensures counted { CountsLoad (numbered env_number result) (⟦<Box<dyn Files> as Files>⟧.failures host.old.files)
+            (⟦<Box<dyn Files> as Files>⟧.failures host.new.files) }
         ensures env { ⟦<Box<dyn Env> as Env>⟧.variables host.new.env ≡ ⟦<Box<dyn Env> as Env>⟧.variables host.old.env }
         ensures places { host.new.places ≡ host.old.places }
     {

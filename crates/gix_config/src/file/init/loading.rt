@@ -32,7 +32,8 @@ impl File {
         ensures loaded { IsLoadedFrom (⟦<Box<dyn Files> as Files>⟧.table host.old.files) (string_bytes path) source (numbered paths_number result) }
         ensures cause { IfErr result (IsFileCause (⟦<Box<dyn Files> as Files>⟧.table host.old.files) (string_bytes path)) }
         ensures table { ⟦<Box<dyn Files> as Files>⟧.table host.new.files ≡ ⟦<Box<dyn Files> as Files>⟧.table host.old.files }
-        ensures counted { CountsLoad (numbered paths_number result) (⟦<Box<dyn Files> as Files>⟧.failures host.old.files) (⟦<Box<dyn Files> as Files>⟧.failures host.new.files) }
+        ensures counted { CountsLoad (numbered paths_number result) (⟦<Box<dyn Files> as Files>⟧.failures host.old.files)
+            (⟦<Box<dyn Files> as Files>⟧.failures host.new.files) }
         ensures env { host.new.env ≡ host.old.env }
         ensures places { host.new.places ≡ host.old.places }
     {
@@ -56,10 +57,12 @@ impl File {
         options: Options<'_>,
         host: &mut Host,
     ) -> Result<Option<File>, Error>
-        ensures loaded { IsLoadOfPaths true options.entry.ignore_io_errors (asks_of options.entry (⟦<Box<dyn Files> as Files>⟧.table host.old.files)) metas.items (numbered paths_number result) }
+        ensures loaded { IsLoadOfPaths true options.entry.ignore_io_errors (asks_of options.entry (⟦<Box<dyn Files> as Files>⟧.table host.old.files))
+            metas.items (numbered paths_number result) }
         ensures cause { IfErr result (IsLoadCause true options.entry (⟦<Box<dyn Files> as Files>⟧.table host.old.files) metas.items) }
         ensures table { ⟦<Box<dyn Files> as Files>⟧.table host.new.files ≡ ⟦<Box<dyn Files> as Files>⟧.table host.old.files }
-        ensures counted { CountsLoad (numbered paths_number result) (⟦<Box<dyn Files> as Files>⟧.failures host.old.files) (⟦<Box<dyn Files> as Files>⟧.failures host.new.files) }
+        ensures counted { CountsLoad (numbered paths_number result) (⟦<Box<dyn Files> as Files>⟧.failures host.old.files)
+            (⟦<Box<dyn Files> as Files>⟧.failures host.new.files) }
         ensures env { host.new.env ≡ host.old.env }
         ensures places { host.new.places ≡ host.old.places }
     {
@@ -79,10 +82,12 @@ impl File {
         options: Options<'_>,
         host: &mut Host,
     ) -> Result<Option<File>, Error>
-        ensures loaded { IsLoadOfPaths err_on_non_existing_paths options.entry.ignore_io_errors (asks_of options.entry (⟦<Box<dyn Files> as Files>⟧.table host.old.files)) metas.items (numbered paths_number result) }
+        ensures loaded { IsLoadOfPaths err_on_non_existing_paths options.entry.ignore_io_errors
+            (asks_of options.entry (⟦<Box<dyn Files> as Files>⟧.table host.old.files)) metas.items (numbered paths_number result) }
         ensures cause { IfErr result (IsLoadCause err_on_non_existing_paths options.entry (⟦<Box<dyn Files> as Files>⟧.table host.old.files) metas.items) }
         ensures table { ⟦<Box<dyn Files> as Files>⟧.table host.new.files ≡ ⟦<Box<dyn Files> as Files>⟧.table host.old.files }
-        ensures counted { CountsLoad (numbered paths_number result) (⟦<Box<dyn Files> as Files>⟧.failures host.old.files) (⟦<Box<dyn Files> as Files>⟧.failures host.new.files) }
+        ensures counted { CountsLoad (numbered paths_number result) (⟦<Box<dyn Files> as Files>⟧.failures host.old.files)
+            (⟦<Box<dyn Files> as Files>⟧.failures host.new.files) }
         ensures env { host.new.env ≡ host.old.env }
         ensures places { host.new.places ≡ host.old.places }
     {
@@ -110,7 +115,8 @@ impl File {
         options: Options<'_>,
         files: &mut F,
     ) -> Result<Option<File>, Error>
-        ensures loaded { IsLoadOfPaths true options.entry.ignore_io_errors (asks_of options.entry (F.table files.old)) metas.items (numbered paths_number result) }
+        ensures loaded { IsLoadOfPaths true options.entry.ignore_io_errors (asks_of options.entry (F.table files.old)) metas.items
+            (numbered paths_number result) }
         ensures cause { IfErr result (IsLoadCause true options.entry (F.table files.old) metas.items) }
         ensures table { F.table files.new ≡ F.table files.old }
         ensures counted { CountsLoad (numbered paths_number result) (F.failures files.old) (F.failures files.new) }
@@ -130,10 +136,12 @@ impl File {
     ///
     /// Those of [`File::from_paths_metadata`].
     pub fn from_globals(alloc: Global, host: &mut Host) -> Result<File, Error>
-        ensures loaded { IsGlobal (⟦<Box<dyn Env> as Env>⟧.variables host.old.env) host.old.places (⟦<Box<dyn Files> as Files>⟧.table host.old.files) (numbered paths_number result) }
+        ensures loaded { IsGlobal (⟦<Box<dyn Env> as Env>⟧.variables host.old.env) host.old.places (⟦<Box<dyn Files> as Files>⟧.table host.old.files)
+            (numbered paths_number result) }
         ensures cause { IfErr result (IsGlobalCause host.old.places (⟦<Box<dyn Files> as Files>⟧.table host.old.files)) }
         ensures table { ⟦<Box<dyn Files> as Files>⟧.table host.new.files ≡ ⟦<Box<dyn Files> as Files>⟧.table host.old.files }
-        ensures counted { CountsLoad (numbered paths_number result) (⟦<Box<dyn Files> as Files>⟧.failures host.old.files) (⟦<Box<dyn Files> as Files>⟧.failures host.new.files) }
+        ensures counted { CountsLoad (numbered paths_number result) (⟦<Box<dyn Files> as Files>⟧.failures host.old.files)
+            (⟦<Box<dyn Files> as Files>⟧.failures host.new.files) }
         ensures env { ⟦<Box<dyn Env> as Env>⟧.variables host.new.env ≡ ⟦<Box<dyn Env> as Env>⟧.variables host.old.env }
         ensures places { host.new.places ≡ host.old.places }
     {

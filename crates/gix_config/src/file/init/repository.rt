@@ -182,7 +182,8 @@ fn joined<F: Files, E: Env>(
     options: &Options<'_>,
     parts: Parts,
 ) -> Result<File, Error>
-    ensures joined { IsJoined (E.variables env.old) places.now (F.table files.old) (asks_of options.now (F.table files.old)) (parts_of parts) (numbered git_number result) }
+    ensures joined { IsJoined (E.variables env.old) places.now (F.table files.old) (asks_of options.now (F.table files.old)) (parts_of parts)
+        (numbered git_number result) }
     ensures cause { IfErr result (IsGitCause (E.variables env.old) options.now places.now (F.table files.old)) }
     ensures table { F.table files.new ≡ F.table files.old }
     ensures counted { CountsLoad (numbered git_number result) (F.failures files.old) (F.failures files.new) }
@@ -283,10 +284,13 @@ impl File {
         real: Result<&str, FileFault>,
         host: &mut Host,
     ) -> Result<File, Error>
-        ensures loaded { IsRepository (⟦<Box<dyn Env> as Env>⟧.variables host.old.env) host.old.places (⟦<Box<dyn Files> as Files>⟧.table host.old.files) dir.now (resolved real.entry) (numbered git_number result) }
-        ensures cause { IfErr result (IsRepositoryCause (⟦<Box<dyn Env> as Env>⟧.variables host.old.env) host.old.places (⟦<Box<dyn Files> as Files>⟧.table host.old.files) dir.now (resolved real.entry)) }
+        ensures loaded { IsRepository (⟦<Box<dyn Env> as Env>⟧.variables host.old.env) host.old.places
+            (⟦<Box<dyn Files> as Files>⟧.table host.old.files) dir.now (resolved real.entry) (numbered git_number result) }
+        ensures cause { IfErr result (IsRepositoryCause (⟦<Box<dyn Env> as Env>⟧.variables host.old.env) host.old.places
+            (⟦<Box<dyn Files> as Files>⟧.table host.old.files) dir.now (resolved real.entry)) }
         ensures table { ⟦<Box<dyn Files> as Files>⟧.table host.new.files ≡ ⟦<Box<dyn Files> as Files>⟧.table host.old.files }
-        ensures counted { CountsLoad (numbered git_number result) (⟦<Box<dyn Files> as Files>⟧.failures host.old.files) (⟦<Box<dyn Files> as Files>⟧.failures host.new.files) }
+        ensures counted { CountsLoad (numbered git_number result) (⟦<Box<dyn Files> as Files>⟧.failures host.old.files)
+            (⟦<Box<dyn Files> as Files>⟧.failures host.new.files) }
         ensures env { ⟦<Box<dyn Env> as Env>⟧.variables host.new.env ≡ ⟦<Box<dyn Env> as Env>⟧.variables host.old.env }
         ensures places { host.new.places ≡ host.old.places }
     {

@@ -127,7 +127,8 @@ impl File {
         ensures exact { (keeps : Meta → Bool) → ComputesKey F.FnMut keeps filter
             → MatchResult result (λ found. found ≡ option_map blanks_at (picked name.now (option_copied subsection_name.entry) keeps self.now))
             (λ _. picked name.now (option_copied subsection_name.entry) keeps self.now ≢ None) }
-        ensures some { WithSome (λ s. MatchResult result (λ found. found ≡ option_map blanks_at (picked name.now (option_copied subsection_name.entry) (λ _. true) s))
+        ensures some { WithSome (λ s. MatchResult result (λ found. found
+            ≡ option_map blanks_at (picked name.now (option_copied subsection_name.entry) (λ _. true) s))
             (λ _. picked name.now (option_copied subsection_name.entry) (λ _. true) s ≢ None)) self.now }
         ensures stands { IfOk result (λ found. IfSome found (λ f. has_number f.0 self.now ≡ true)) }
     {
@@ -332,7 +333,8 @@ impl File {
         subsection_name: Option<BString>,
     ) -> Result<SectionMut<'_>, header::Error>
         ensures same_file { IfOk result (λ e. lent e ≡ self.entry.ghost_name) }
-        ensures made { IfOk result (λ e. edited e ≡ with_used (edited e).used (apply (NewSection name.now (option_map bstring_bytes subsection_name)) self.old)) }
+        ensures made { IfOk result (λ e. edited e ≡ with_used (edited e).used
+            (apply (NewSection name.now (option_map bstring_bytes subsection_name)) self.old)) }
         ensures editor { IfOk result (λ e. told e ≡ editor_at self.old (new_section name.now (option_map bstring_bytes subsection_name) self.old)) }
         ensures name { IsErrOf result InvalidName ↔ (is_made_name name.now ≡ false) }
         ensures subsection { IsErrOf result InvalidSubSection
@@ -341,7 +343,8 @@ impl File {
             ↔ ((is_made_name name.now ≡ true) × (is_valid_or_none (option_map bstring_bytes subsection_name) ≡ true)
             × HasNoPlace name.now (option_map bstring_bytes subsection_name) self.old) }
         ensures known { IfErr result (λ e. list_any (λ number. number == header_number e) header_numbers ≡ true) }
-        ensures grown { IfOk result (λ e. (edited e).used ≤ self.old.used + put_bytes (NewSection name.now (option_map bstring_bytes subsection_name)) self.old) }
+        ensures grown { IfOk result (λ e. (edited e).used ≤ self.old.used + put_bytes
+            (NewSection name.now (option_map bstring_bytes subsection_name)) self.old) }
         ensures* refused { sem 𝓛 (RestsIfErr the_row self.entry lent result (IsUnmade name.now (option_map bstring_bytes subsection_name) self.old)) }
     {
         let line_end = self.line_end();
