@@ -14,7 +14,7 @@ use Rattle.gitconf_finding.specs.declared.existing.Error.{Error}
 use Rattle.gitconf_views.specs.declared.section.SectionRef.{SectionRef}
 use Rattle.gitconf_finding.specs.Misses.{IsExisting}
 use Rattle.gitconf_views.specs.Views.{shown}
-pub use Rattle.gitconf_views.specs.Found.{IsFound, unless_empty}
+pub use Rattle.gitconf_views.specs.Found.{IsFound, if_any}
 
 -- the key of three names
 abbrev pub key_at : (section : List ℕ) → (subsection : Option (List ℕ)) → (name : List ℕ) → Key
@@ -65,7 +65,7 @@ abbrev pub IsString : {E : Type 0} → Key → (keeps : Meta → Bool) → State
 IsString key keeps state result = IsFound bstring_bytes result (value_at key keeps state)
 
 abbrev pub AreStrings : {Z E : Type 0} → Key → (keeps : Meta → Bool) → State → Result (Option (Vec BString Z)) E → Type 0
-AreStrings key keeps state result = IsFound texts_of result (unless_empty (values_at key keeps state))
+AreStrings key keeps state result = IsFound texts_of result (if_any (values_at key keeps state))
 
 abbrev pub IsImplicit : {E : Type 0} → Key → (keeps : Meta → Bool) → State → Result (Option (Option BString)) E → Type 0
 IsImplicit key keeps state result = IsFound (option_map bstring_bytes) result (implicit_at key keeps state)
@@ -77,8 +77,8 @@ abbrev pub IsRawValueWithSection : Key → (keeps : Meta → Bool) → State →
 IsRawValueWithSection key keeps state result = IsExisting shown_with result (value_in key keeps state) (miss_at key state)
 
 abbrev pub AreRawValues : {Z : Type 0} → Key → (keeps : Meta → Bool) → State → Result (Vec BString Z) Error → Type 0
-AreRawValues key keeps state result = IsExisting texts_of result (unless_empty (values_at key keeps state)) (miss_at key state)
+AreRawValues key keeps state result = IsExisting texts_of result (if_any (values_at key keeps state)) (miss_at key state)
 
 abbrev pub AreRawValuesWithSections : {Z : Type 0} → Key → (keeps : Meta → Bool) → State → Result (Vec (BString × SectionRef) Z) Error → Type 0
 AreRawValuesWithSections {Z = Z} key keeps state result =
-    IsExisting (λ (found : Vec (BString × SectionRef) Z). map shown_with found.items) result (unless_empty (values_in key keeps state)) (miss_at key state)
+    IsExisting (λ (found : Vec (BString × SectionRef) Z). map shown_with found.items) result (if_any (values_in key keeps state)) (miss_at key state)

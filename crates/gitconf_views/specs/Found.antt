@@ -7,6 +7,6 @@ IsFound shown (Ok found) value = option_map shown found ≡ value
 IsFound shown (Err refusal) value = value ≢ None
 
 -- what there is, where there is something
-abbrev pub unless_empty : {A : Type 0} → List A → Option (List A)
-unless_empty [] = None
-unless_empty (x ∷ xs) = Some (x ∷ xs)
+abbrev pub if_any : {A : Type 0} → List A → Option (List A)
+if_any [] = None
+if_any (x ∷ xs) = Some (x ∷ xs)
