@@ -1,6 +1,8 @@
 -- Copies stand while their buffer grows.
-use Rattle.std.proofs.Common.{◌≡◌, ℕ, ◌<◌, ◌^◌, List, [], ◌∷◌, ◌++◌, length, map, Option, Some, None, refl, ap, sym, subst, ◌∙◌, append_assoc, append-nil}
+use Rattle.std.proofs.Common.{◌≡◌, ℕ, ◌+◌, ◌<◌, ◌^◌, Bool, true, false, if◌then◌else◌, bytes_eq, List, [], ◌∷◌, ◌++◌, length, map, Option, Some, None, refl, ap, sym, subst, ◌∙◌, append_assoc, append-nil}
 use Rattle.std.specs.List.{AllByRecursion}
+use Rattle.std.proofs.lemmas.Slice.Eq.{bytes_eq-Decides}
+use Rattle.gitconf_text.specs.Header.{DottedHeader, QuotedHeader}
 use Rattle.gitconf_text.specs.Part as parts
 use Rattle.gitconf_items.specs.declared.event.Span.{Span}
 use Rattle.gitconf_items.specs.declared.event.Copied.{Copied}
@@ -17,7 +19,7 @@ use Rattle.gitconf_items.specs.Items.{piece_of, value_of, assigned_of, entry_of,
 use Rattle.gitconf_items.specs.ItemsFit.{PieceFits, ValueFits, AssignedFits, EntryFits, ItemFits}
 use Rattle.gitconf_items.specs.ShownEvents.{IsExtended}
 use Rattle.gitconf_lines.specs.Buffers.{StandsAt}
-use Rattle.gitconf_copying.specs.Copies.{IsCopy, IsLonger}
+use Rattle.gitconf_copying.specs.Copies.{header_size, IsCopy, IsLonger}
 use Rattle.gitconf_lines.proofs.Append.{bytes_more, span_more, item_more, item_fits_more}
 use Rattle.gitconf_lines.proofs.Buffers.{stands_more, twice_extended, same_extended}
 
@@ -174,6 +176,25 @@ subsection_copied from first second to name separator subsection n s t decoded s
       within = record { name = a.fits; separator = b.fits; subsection = last.fits; both = refl };
       same = rw (a.is, b.is, last.is) refl;
     }
+
+-- a header with a subsection has the bytes of its three spans
+pub subsection_put : (from : List ℕ) (name separator subsection : Span) (decoded : Option Copied)
+    → header_size (header_of from (record { name = name; separator = Some separator; subsection = Some subsection; decoded = decoded }))
+    ≡ length (bytes_of from name) + (length (bytes_of from separator) + length (bytes_of from subsection))
+subsection_put from name separator subsection decoded = go (bytes_eq (bytes_of from separator) (46 ∷ [])) refl
+  where
+    n : List ℕ
+    n = bytes_of from name
+
+    s : List ℕ
+    s = bytes_of from separator
+
+    t : List ℕ
+    t = bytes_of from subsection
+
+    go : (b : Bool) → bytes_eq s (46 ∷ []) ≡ b → header_size (if b then DottedHeader n t else QuotedHeader n s t) ≡ length n + (length s + length t)
+    go true is = ap (λ (dot : List ℕ). length n + (length dot + length t)) (sym ((bytes_eq-Decides s (46 ∷ [])).0 is))
+    go false is = refl
 
 pub ruleset copying = (
   longer_then,

@@ -20,7 +20,7 @@ use Rattle.gitconf_finding.specs.declared.found.Found.{Found}
 use Rattle.gitconf_views.specs.declared.section.SectionRef.{SectionRef}
 use Rattle.gitconf_finding.specs.Finding.{AreFound, Place, all_places, decides, deciding_place, last_place, places_in}
 use Rattle.gitconf_finding.specs.Misses.{IsExisting, existing_or, missing}
-use Rattle.gitconf_finding.specs.Lookups.{AreStrings, IsFound, IsImplicit, IsString, implicit_at, sections_named, sections_passing, shown_with, texts_of, unless_empty, value_at, value_in, values_at, values_in}
+use Rattle.gitconf_finding.specs.Lookups.{AreStrings, IsFound, IsImplicit, IsString, implicit_at, sections_named, sections_passing, shown_with, texts_of, if_any, value_at, value_in, values_at, values_in}
 
 -- what is known of the last one is what is known of each
 map_last : {A B C : Type 0} (g : B → C) (f : A → Option B) (h : A → Option C) → ((x : A) → option_map g (f x) ≡ h x) → (o : Option B) (xs : List A)
@@ -226,18 +226,18 @@ implicit_told key keeps state found result told is =
 
 -- all values of a key, told as they were found
 pub texts_told : {Z Y E F : Type 0} (key : Key) (keeps : Meta → Bool) (state : State) (found : Result (Vec Found Z) F) (result : Result (Option (Vec BString Y)) E)
-    → ((places : List Place) → AreFound found places → IsFound texts_of result (unless_empty (map (λ (p : Place). meaning p.1) places)))
+    → ((places : List Place) → AreFound found places → IsFound texts_of result (if_any (map (λ (p : Place). meaning p.1) places)))
     → AreFound found (all_places key.name keeps (sections_named key.section key.subsection state)) → AreStrings key keeps state result
 texts_told key keeps state found result told are =
-    subst (IsFound texts_of result) (ap unless_empty (values_found key keeps state)) (told (all_places key.name keeps (sections_named key.section key.subsection state)) are)
+    subst (IsFound texts_of result) (ap if_any (values_found key keeps state)) (told (all_places key.name keeps (sections_named key.section key.subsection state)) are)
 
 -- each with its section
 pub texts_with_sections_told : {Z Y E F : Type 0} (key : Key) (keeps : Meta → Bool) (state : State) (found : Result (Vec Found Z) F) (result : Result (Option (Vec (BString × SectionRef) Y)) E)
-    → ((places : List Place) → AreFound found places → IsFound (λ (texts : Vec (BString × SectionRef) Y). map shown_with texts.items) result (unless_empty (map (λ (p : Place). (meaning p.1, p.0)) places)))
+    → ((places : List Place) → AreFound found places → IsFound (λ (texts : Vec (BString × SectionRef) Y). map shown_with texts.items) result (if_any (map (λ (p : Place). (meaning p.1, p.0)) places)))
     → AreFound found (all_places key.name keeps (sections_named key.section key.subsection state))
-    → IsFound (λ (texts : Vec (BString × SectionRef) Y). map shown_with texts.items) result (unless_empty (values_in key keeps state))
+    → IsFound (λ (texts : Vec (BString × SectionRef) Y). map shown_with texts.items) result (if_any (values_in key keeps state))
 texts_with_sections_told {Y = Y} key keeps state found result told are =
-    subst (IsFound (λ (texts : Vec (BString × SectionRef) Y). map shown_with texts.items) result) (ap unless_empty (values_in_found key keeps state))
+    subst (IsFound (λ (texts : Vec (BString × SectionRef) Y). map shown_with texts.items) result) (ap if_any (values_in_found key keeps state))
     (told (all_places key.name keeps (sections_named key.section key.subsection state)) are)
 
 -- what was found, as it is told by the lookups that refuse what is missing
@@ -249,14 +249,14 @@ existing_told shown (Ok None) value KeyMissing is = (sym is, refl)
 existing_told shown (Err refusal) value miss some = some
 
 -- a refusal, only if there are some
-pub refused_some : {T A B E : Type 0} (shown : T → List B) (result : Result (Option T) E) (tell : A → B) (xs : List A) → IsErr result → xs ≢ [] → IsFound shown result (unless_empty (map tell xs))
+pub refused_some : {T A B E : Type 0} (shown : T → List B) (result : Result (Option T) E) (tell : A → B) (xs : List A) → IsErr result → xs ≢ [] → IsFound shown result (if_any (map tell xs))
 refused_some shown (Ok found) tell xs fault some = absurd (cc)
 refused_some shown (Err refusal) tell [] fault some = absurd (some refl)
 refused_some shown (Err refusal) tell (x ∷ xs) fault some = λ none. absurd (cc)
 
 -- what is returned if there are some
 pub some_told : {A B P : Type 0} (place : A → P) (tell : P → B) (xs : List A) (texts : List B) (places : List P)
-    → (length xs == 0) ≡ false → texts ≡ map (λ x. tell (place x)) xs → map place xs ≡ places → Some texts ≡ unless_empty (map tell places)
+    → (length xs == 0) ≡ false → texts ≡ map (λ x. tell (place x)) xs → map place xs ≡ places → Some texts ≡ if_any (map tell places)
 some_told place tell [] texts places some told are = absurd (cc)
 some_told place tell (x ∷ xs) texts places some told are =
-    ap Some (told ∙ sym (map_map tell place (x ∷ xs))) ∙ ap (λ ps. unless_empty (map tell ps)) are
+    ap Some (told ∙ sym (map_map tell place (x ∷ xs))) ∙ ap (λ ps. if_any (map tell ps)) are

@@ -14,7 +14,7 @@ use Rattle.gitconf_finding.specs.declared.existing.Error.{Error}
 use Rattle.gitconf_views.specs.declared.section.SectionRef.{SectionRef}
 use Rattle.gitconf_finding.specs.Misses.{IsExisting}
 use Rattle.gitconf_views.specs.Views.{shown}
-pub use Rattle.gitconf_views.specs.Found.{IsFound, unless_empty}
+pub use Rattle.gitconf_views.specs.Found.{IsFound, if_any}
 
 -- the key of three names
 abbrev pub key_at : (section : List ℕ) → (subsection : Option (List ℕ)) → (name : List ℕ) → Key
@@ -67,7 +67,7 @@ IsString key keeps state result = IsFound bstring_bytes result (value_at key kee
 
 -- the results are all values of the key, if there are some
 abbrev pub AreStrings : {Z E : Type 0} → Key → (keeps : Meta → Bool) → State → Result (Option (Vec BString Z)) E → Type 0
-AreStrings key keeps state result = IsFound texts_of result (unless_empty (values_at key keeps state))
+AreStrings key keeps state result = IsFound texts_of result (if_any (values_at key keeps state))
 
 -- the result is what the key's last entry means, if there is one
 abbrev pub IsImplicit : {E : Type 0} → Key → (keeps : Meta → Bool) → State → Result (Option (Option BString)) E → Type 0
@@ -83,9 +83,9 @@ IsRawValueWithSection key keeps state result = IsExisting shown_with result (val
 
 -- the results are all values of the key, one or more, or what is missing
 abbrev pub AreRawValues : {Z : Type 0} → Key → (keeps : Meta → Bool) → State → Result (Vec BString Z) Error → Type 0
-AreRawValues key keeps state result = IsExisting texts_of result (unless_empty (values_at key keeps state)) (miss_at key state)
+AreRawValues key keeps state result = IsExisting texts_of result (if_any (values_at key keeps state)) (miss_at key state)
 
 -- the results are all values of the key, each with its section, one or more, or what is missing
 abbrev pub AreRawValuesWithSections : {Z : Type 0} → Key → (keeps : Meta → Bool) → State → Result (Vec (BString × SectionRef) Z) Error → Type 0
 AreRawValuesWithSections {Z = Z} key keeps state result =
-    IsExisting (λ (found : Vec (BString × SectionRef) Z). map shown_with found.items) result (unless_empty (values_in key keeps state)) (miss_at key state)
+    IsExisting (λ (found : Vec (BString × SectionRef) Z). map shown_with found.items) result (if_any (values_in key keeps state)) (miss_at key state)

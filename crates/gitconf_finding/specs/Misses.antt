@@ -1,5 +1,5 @@
 -- How lookups report what is missing.
-use Rattle.std.specs.Prelude.{◌≡◌, ◌≢◌, ℕ, Option, Some, None, Result, Ok, Err}
+use Rattle.std.specs.Prelude.{◌≡◌, ◌≢◌, ◌==◌, ℕ, if◌then◌else◌, Option, Some, None, Result, Ok, Err}
 use Rattle.gitconf_state.specs.Lookup as state
 use Rattle.gitconf_state.specs.Lookup.{Miss}
 use Rattle.gitconf_finding.specs.declared.existing.Error.{Error}
@@ -12,6 +12,10 @@ existing_number SubSectionMissing = 8
 existing_number KeyMissing = 9
 existing_number (ValueName number) = number
 existing_number Memory = 27
+
+-- the refusal that a refused name of a value becomes: out of memory has a case of its own
+abbrev pub of_name : (number : ℕ) → Error
+of_name number = if number == 27 then Memory else ValueName number
 
 -- the refusal for what a lookup misses
 abbrev pub missing : Miss → Error

@@ -12,7 +12,7 @@ use Rattle.gitconf_state.specs.State.{SectionState, State}
 use Rattle.gitconf_finding.specs.declared.existing.Error.{Error}
 use Rattle.gitconf_finding.specs.declared.existing.Error.TheVariants.{KeyMissing}
 use Rattle.gitconf_views.specs.declared.section.SectionRef.{SectionRef}
-use Rattle.gitconf_finding.specs.Lookups.{miss_at, shown_with, texts_of, unless_empty, value_at, value_in, values_at, values_in}
+use Rattle.gitconf_finding.specs.Lookups.{miss_at, shown_with, texts_of, if_any, value_at, value_in, values_at, values_in}
 use Rattle.gitconf_finding.specs.Misses.{IsExisting}
 use Rattle.gitconf_finding.specs.Picks.{HasSection, IsMissing, picked}
 use Rattle.gitconf_views.specs.Views.{shown}
@@ -41,12 +41,12 @@ IsSomeRawValueWithSection key state result = WithSome (λ s. IsExisting shown_wi
 
 -- all values of a key in some of the sections, one or more; what is missing is that of the whole state
 abbrev pub AreSomeRawValues : {Z : Type 0} → Key → State → Result (Vec BString Z) Error → Type 0
-AreSomeRawValues key state result = WithSome (λ s. IsExisting texts_of result (unless_empty (values_at key (λ _. true) s)) (miss_at key state)) state
+AreSomeRawValues key state result = WithSome (λ s. IsExisting texts_of result (if_any (values_at key (λ _. true) s)) (miss_at key state)) state
 
 -- the same, each with its section
 abbrev pub AreSomeRawValuesWithSections : {Z : Type 0} → Key → State → Result (Vec (BString × SectionRef) Z) Error → Type 0
 AreSomeRawValuesWithSections {Z = Z} key state result =
-    WithSome (λ s. IsExisting (λ (found : Vec (BString × SectionRef) Z). map shown_with found.items) result (unless_empty (values_in key (λ _. true) s)) (miss_at key state)) state
+    WithSome (λ s. IsExisting (λ (found : Vec (BString × SectionRef) Z). map shown_with found.items) result (if_any (values_in key (λ _. true) s)) (miss_at key state)) state
 
 -- a section of the name and subsection, or nothing; refused if the whole state has none
 abbrev pub IsSomeSection : (name : List ℕ) → (subsection : Option (List ℕ)) → State → Result (Option SectionRef) Error → Type 0

@@ -26,10 +26,9 @@ pub enum Error {
 }
 
 impl From<ValueNameError> for Error {
-    ghost use Rattle.std.specs.Prelude.{◌==◌, if◌then◌else◌};
-    ghost use Rattle.gitconf_finding.specs.declared.existing.Error.TheVariants.{Memory, ValueName};
+    ghost use Rattle.gitconf_finding.specs.Misses.{of_name};
 
-    ghost from_gives = { λ name e. e ≡ (if name == 27 then Memory else ValueName name) };
+    ghost from_gives = { λ name e. e ≡ of_name name };
 
     fn from(name: ValueNameError) -> Error {
         if name.number() == 27 {

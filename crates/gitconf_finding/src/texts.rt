@@ -5,7 +5,7 @@ ghost use Rattle.bstr.specs.Owned.{bstring_bytes};
 ghost use Rattle.gitconf_text.specs.Value.{plain};
 ghost use Rattle.gitconf_state.specs.Lookup.{meaning as meant};
 ghost use Rattle.gitconf_finding.specs.Finding.{AreFound, Place, place_of};
-ghost use Rattle.gitconf_finding.specs.Lookups.{IsFound, shown_with, texts_of, unless_empty};
+ghost use Rattle.gitconf_finding.specs.Lookups.{IsFound, shown_with, texts_of, if_any};
 
 use crate::found::Found;
 use bstr::BString;
@@ -71,7 +71,7 @@ pub fn texts(
     alloc: Global,
     found: Result<Vec<Found<'_>>, NoMemory>,
 ) -> Result<Option<Vec<BString>>, NoMemory>
-    ensures { (places : List Place) → AreFound found.entry places → IsFound texts_of result (unless_empty (map (λ (p : Place). meant p.1) places)) }
+    ensures { (places : List Place) → AreFound found.entry places → IsFound texts_of result (if_any (map (λ (p : Place). meant p.1) places)) }
 {
     let found = found?;
     if found.is_empty() {
@@ -101,7 +101,7 @@ pub fn texts_with_sections<'a>(
     found: Result<Vec<Found<'a>>, NoMemory>,
 ) -> Result<Option<Vec<(BString, SectionRef<'a>)>>, NoMemory>
     ensures { (places : List Place) → AreFound found.entry places → IsFound (λ texts. map shown_with texts.items) result
-        (unless_empty (map (λ (p : Place). (meant p.1, p.0)) places)) }
+        (if_any (map (λ (p : Place). (meant p.1, p.0)) places)) }
 {
     let found = found?;
     if found.is_empty() {

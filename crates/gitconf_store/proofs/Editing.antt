@@ -204,11 +204,11 @@ puts_at b front meta table id at s r count new once here number grows =
 -- nothing was put, since it was refused
 pub used_refused : {T : Type 0} (r : Result T ℕ) (count used : ℕ) → IsErrOf r 3 → 2 ^ 32 ≤ used + count → UsedGrows r count used used
 used_refused (Ok t) count used three due = absurd (cc)
-used_refused (Err e) count used three due = record { grown = omega arith; too_large = λ _. due; refused = λ _. three; known = inl (let h = three in cc) }
+used_refused (Err e) count used three due = record { put = tt; grown = omega arith; too_large = λ _. due; refused = λ _. three; known = inl (let h = three in cc) }
 
 pub used_memory : {T : Type 0} (r : Result T ℕ) (count used : ℕ) → IsErrOf r 27 → (2 ^ 32 ≤ used + count → ⊥) → UsedGrows r count used used
 used_memory (Ok t) count used memory fits = absurd (cc)
-used_memory (Err e) count used memory fits = record { grown = omega arith; too_large = λ three. absurd (let no : Err 27 ≡ Err 3 = sym memory ∙ three in cc); refused = λ due. absurd (fits due); known = inr (let h = memory in cc) }
+used_memory (Err e) count used memory fits = record { put = tt; grown = omega arith; too_large = λ three. absurd (let no : Err 27 ≡ Err 3 = sym memory ∙ three in cc); refused = λ due. absurd (fits due); known = inr (let h = memory in cc) }
 
 pub puts_same : {T : Type 0} (id : ℕ) (r : Result T ℕ) (count : ℕ) (state : State) → UsedGrows r count state.used state.used → PutsIn id r count state state
 puts_same id r count state grows = record { there = go (numbered id state); missing = λ _. refl }

@@ -12,7 +12,7 @@ use Rattle.gitconf_state.specs.Edits as state
 use Rattle.gitconf_state.specs.Lookup.{is_named, listing}
 use Rattle.gitconf_state.specs.State.{HasSectionItems, SectionState, State}
 use Rattle.gitconf_sections.specs.Section.{Section}
-use Rattle.gitconf_views.specs.Alone.{alone}
+use Rattle.gitconf_views.specs.Alone.{copied_alone}
 use Rattle.gitconf_finding.specs.Picks.{picked}
 use Rattle.gitconf_store.specs.Removals.{IsTakenOut, without_section}
 use Rattle.gitconf_views.specs.Store.{section_under, section_state, state_of, StoreFits, SectionFits}
@@ -196,7 +196,7 @@ numbered_has id state s is = go (last_has id None state.sections s (sym is))
 
 -- what was handed out
 pub taken_some : {E : Type 0} (section : Option SectionState) (s : SectionState) (d : Detached) (old new : State)
-    → Some s ≡ section → d.section ≡ alone s → new ≡ without_numbered s.number old → IsTakenOut {E = E} section (Ok (Some d)) old new
+    → Some s ≡ section → d ≡ copied_alone s → new ≡ without_numbered s.number old → IsTakenOut {E = E} section (Ok (Some d)) old new
 taken_some {E} section s d old new is same left = subst (λ o. IsTakenOut {E = E} o (Ok (Some d)) old new) is (record { ok = left; gone = ap Some same; refused = tt })
 
 pub taken_none : {E : Type 0} (section : Option SectionState) (old : State) → None ≡ section → IsTakenOut {E = E} section (Ok None) old old

@@ -1,9 +1,9 @@
 -- Several values of existing entries: set again, deleted, and what they mean.
-use Rattle.std.specs.Prelude.{◌≡◌, ◌≢◌, ◌⊎◌, ◌+◌, ◌-◌, ◌==◌, ◌&&◌, nat_lt, if◌then◌else◌, ◌≤◌, ◌<◌, ◌^◌, ℕ, true, false, List, [], ◌∷◌, length, map, take, Some, None, Result, Err, IfErr, OnErr, OnOk}
+use Rattle.std.specs.Prelude.{◌≡◌, ◌≢◌, ◌⊎◌, ◌↔◌, ◌+◌, ◌-◌, ◌==◌, ◌&&◌, nat_lt, if◌then◌else◌, ◌≤◌, ◌<◌, ◌^◌, ℕ, true, false, List, [], ◌∷◌, length, map, take, Some, None, Result, Err, IfErr, OnOk}
 use Rattle.gitconf_text.specs.Names.{is_value_name}
 use Rattle.gitconf_base.specs.Key.{Key}
 use Rattle.gitconf_state.specs.Edit.{with_used}
-use Rattle.gitconf_state.specs.Edits.{Edit, DeleteAt, WriteAt, apply, items_of_numbered, told_of}
+use Rattle.gitconf_state.specs.Edits.{Edit, DeleteAt, WriteAt, apply, numbered, told_of}
 use Rattle.gitconf_state.specs.State.{State}
 use Rattle.gitconf_body.specs.ValuesAt.{rewritten_put}
 use Rattle.gitconf_finding.specs.declared.existing.Error.{Error as ExistingError}
@@ -22,24 +22,33 @@ all_rewritten key [] values state = state
 all_rewritten key (place ∷ places) [] state = state
 all_rewritten key (place ∷ places) (value ∷ values) state = all_rewritten key places values (apply (one_rewriting key place value state) state)
 
--- how many bytes that adds to the buffer
+-- how many bytes the next of them adds to the buffer: none if no section has the number
+abbrev pub next_bytes : (key value : List ℕ) → (place : ℕ × ℕ) → State → ℕ
+next_bytes key value place state = elim (numbered place.0 state) [ None ↦ 0 | Some s ↦ rewritten_put key value s.items ]
+
+-- how many bytes all of them add to the buffer
 abbrev pub all_bytes : (key : List ℕ) → List (ℕ × ℕ) → List (List ℕ) → State → ℕ
 all_bytes key [] values state = 0
 all_bytes key (place ∷ places) [] state = 0
-all_bytes key (place ∷ places) (value ∷ values) state =
-    rewritten_put key value (items_of_numbered place.0 state) + all_bytes key places values (apply (one_rewriting key place value state) state)
+all_bytes key (place ∷ places) (value ∷ values) state = next_bytes key value place state + all_bytes key places values (apply (one_rewriting key place value state) state)
 
--- The first entries got their values, and the next one was refused.
-abbrev pub IsStopped : (key : List ℕ) → List (ℕ × ℕ) → List (List ℕ) → (old new : State) → Type 0
-IsStopped key places values old new =
-    (done : ℕ) × (done < length places) × (done < length values) × (new ≡ with_used new.used (all_rewritten key (take done places) values old))
+-- Some of the first entries got their values, and the next one was refused: by 3 if and only if the bytes up to it would pass the
+-- limit.
+pub record IsStopped (key : List ℕ) (places : List (ℕ × ℕ)) (values : List (List ℕ)) (refusal : ℕ) (old new : State) : Type 0 where
+  pub done : ℕ
+  pub places_left : done < length places
+  pub values_left : done < length values
+  pub is : new ≡ with_used new.used (all_rewritten key (take done places) values old)
+  pub grown : new.used ≤ old.used + all_bytes key (take (done + 1) places) values old
+  pub too_large : (refusal ≡ 3) ↔ (2 ^ 32 ≤ old.used + all_bytes key (take (done + 1) places) values old)
 
--- How it is done: all of it, or that of the first entries.
+-- How it is done: all of it, with all bytes that it puts, which stay below the limit; or that of the first entries.
 pub record AreRewritten {E : Type 0} (number : E → ℕ) (key : List ℕ) (places : List (ℕ × ℕ)) (values : List (List ℕ)) (result : Result (Unit {0}) E) (old new : State) : Type 0 where
   pub ok : OnOk result (new ≡ with_used new.used (all_rewritten key places values old))
-  pub err : OnErr result (IsStopped key places values old new)
+  pub put : OnOk result (new.used ≡ old.used + all_bytes key places values old)
+  pub fits : OnOk result (old.used + all_bytes key places values old < 2 ^ 32)
+  pub err : IfErr result (λ e. IsStopped key places values (number e) old new)
   pub grown : new.used ≤ old.used + all_bytes key places values old
-  pub too_large : IfErr result (λ e. number e ≡ 3 → 2 ^ 32 ≤ old.used + all_bytes key places values old)
   pub known : IfErr result (λ e. (number e ≡ 3) ⊎ (number e ≡ 27))
 
 -- The lookup of the entries was refused, and everything is as it was.

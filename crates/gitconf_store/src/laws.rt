@@ -1,6 +1,8 @@
 //! What holds of buffers, spans and edits, for all of them: each law is a function that does nothing.
-ghost use Rattle.std.specs.Prelude.{◌≡◌, ◌≢◌, ◌≤◌, ℕ, Bool, List, ◌++◌, Option, Some, length, true};
+ghost use Rattle.std.specs.Prelude.{◌≡◌, ◌≢◌, ◌+◌, ◌≤◌, ℕ, Bool, List, ◌++◌, Option, Some, flat_map, length, true};
+ghost use Rattle.gitconf_text.specs.Header.{spelled_header};
 ghost use Rattle.gitconf_text.specs.Part as parts;
+ghost use Rattle.gitconf_text.specs.Part.{spelled_item};
 ghost use Rattle.std.specs.List.{list_any};
 ghost use Rattle.gitconf_base.specs.Metadata.{Meta};
 ghost use Rattle.gitconf_items.specs.declared.event.Header.{Header};
@@ -12,8 +14,8 @@ ghost use Rattle.gitconf_state.specs.Editors.{written_at};
 ghost use Rattle.gitconf_state.specs.Edit.{header_bytes, is_target, set_raw_value_bytes};
 ghost use Rattle.gitconf_base.specs.declared.source.Trust.{Trust};
 ghost use Rattle.gitconf_state.specs.Edits.{Append, DeleteAt, Detached, Push, PushSection, Rename, RenameAll, SetRawValue, SetTrust, SetValue, WriteAt, apply, change_items, items_of_numbered, new_bytes, renamed, with_trust};
-ghost use Rattle.gitconf_state.specs.State.{AreNumbered, State};
-ghost use Rattle.gitconf_views.specs.Alone.{with_items};
+ghost use Rattle.gitconf_state.specs.State.{AreNumbered, SectionState, State};
+ghost use Rattle.gitconf_views.specs.Alone.{section_size, with_items};
 ghost use Rattle.gitconf_items.specs.Items.{items_of};
 ghost use Rattle.gitconf_lines.specs.declared.editor.Editor.{Editor};
 ghost use Rattle.gitconf_lines.specs.Editors.{line_put, set_put};
@@ -89,4 +91,9 @@ pub fn sections_are_edited_alone_as_in_a_file()
     ensures trusted { (trust : Trust) (detached : Detached) (state : State) → AreNumbered state.next state.sections
         → apply (SetTrust state.next trust) (apply (PushSection detached) state)
         ≡ apply (PushSection (record detached { section = with_trust trust detached.section })) state }
+{}
+
+/// The bytes that a section is handed out with are no more than those of the text of its header and its body.
+pub fn own_bytes_are_no_more_than_the_text()
+    ensures { (s : SectionState) → section_size s ≤ length (spelled_header s.header) + length (flat_map spelled_item s.items) }
 {}

@@ -55,17 +55,13 @@ impl From<header::Error> for Error {
 }
 
 impl From<ValueNameError> for Error {
-    ghost use Rattle.std.specs.Prelude.{◌==◌, if◌then◌else◌};
-    ghost use Rattle.gitconf_store.specs.declared.set_raw_value.Error.TheVariants.{Memory, ValueName};
+    ghost use Rattle.gitconf_finding.specs.Misses.{of_name};
+    ghost use Rattle.gitconf_store.specs.SetErrors.{of_existing};
 
-    ghost from_gives = { λ name e. e ≡ (if name == 27 then Memory else ValueName name) };
+    ghost from_gives = { λ name e. e ≡ of_existing (of_name name) };
 
     fn from(name: ValueNameError) -> Error {
-        if name.number() == 27 {
-            Error::Memory
-        } else {
-            Error::ValueName(name)
-        }
+        Error::from(existing::Error::from(name))
     }
 }
 

@@ -1,6 +1,6 @@
 -- A section that stands alone with other items, in a longer buffer.
 use Rattle.std.proofs.lemmas.Bool.{eqb-true}
-use Rattle.std.proofs.Common.{◌≡◌, ℕ, ◌<◌, ◌≤◌, ◌^◌, Bool, false, true, List, [], length, Option, Result, Ok, Err, arith, refl, ap, sym, subst, ◌∙◌, inl, inr}
+use Rattle.std.proofs.Common.{◌≡◌, ℕ, ◌+◌, ◌<◌, ◌≤◌, ◌^◌, Bool, false, true, List, [], length, Option, Some, None, Result, Ok, Err, arith, refl, ap, sym, subst, ◌∙◌, inl, inr}
 use Rattle.std.specs.Prelude.{◌⊎◌, ◌==◌, if◌then◌else◌, IfErr, IsErrAnd, IsErrOf, OnErr, OnOk}
 use Rattle.std.specs.List.{list_all, list_any}
 use Rattle.gitconf_text.specs.Names.{is_made_name, is_valid_or_none}
@@ -27,6 +27,7 @@ use Rattle.gitconf_lines.proofs.Buffers.{extended_fit, extended_items}
 use Rattle.gitconf_lines.proofs.Puts.{set_is}
 use Rattle.gitconf_views.specs.declared.section.Section.{Section as Own}
 use Rattle.gitconf_views.specs.Alone.{detached_of, made_alone, whole, with_items, IsEditedAlone, StandsAlone}
+use Rattle.gitconf_copying.specs.Copies.{header_size, items_size}
 use Rattle.gitconf_views.specs.Growth.{UsedGrows}
 use Rattle.gitconf_views.specs.Store.{section_under}
 use Rattle.gitconf_views.specs.ValueErrors.{edit_numbers, of_span, value_number}
@@ -126,11 +127,15 @@ made_stands b copies s name subsection room made shown empty named valid = recor
   items = ap (λ is. list_all is_item (items_of b is)) empty;
 }
 
+made_size : (name : List ℕ) (subsection : Option (List ℕ)) → header_bytes name subsection ≡ items_size [] + header_size (made_header name subsection)
+made_size name None = omega arith
+made_size name (Some subsection) = omega arith
+
 pub made_alone_is : (b : List ℕ) (s : Own) (name : List ℕ) (subsection : Option (List ℕ)) (meta : Meta) → header_of b s.header ≡ made_header name subsection → s.meta.value ≡ meta
     → s.items.items ≡ [] → length b ≡ header_bytes name subsection → detached_of b no_number s ≡ made_alone name subsection meta
 made_alone_is b s name subsection meta made from empty count = λ i. record {
   section = record { number = no_number; header = made i; meta = from i; items = items_of b (empty i); held = [] };
-  used = count i;
+  used = (count ∙ made_size name subsection) i;
 }
 
 -- a refusal of a place keeps its number
@@ -167,6 +172,7 @@ done_alone {T} r change count bytes old new ok err puts same =
     record {
       ok = ok;
       err = err;
+      put = used.put;
       grown = used.grown;
       invalid = (λ six. absurd (no_six r used.known six), λ none. absurd (let no : true ≡ false = none in cc));
       too_large = (λ three. (refl, used.too_large (is_three r three)), λ large. of_three r (used.refused large.1));
@@ -178,7 +184,7 @@ pub done_with : {T U E : Type 0} (t : T) (u : U) (number : E → ℕ) (change : 
     → IsEditedAlone change true bytes (λ e. e) (Ok t) old new → IsEditedAlone change is_named bytes number (Ok u) old new
 done_with {T} {U} {E} t u number change is_named bytes old new named done =
     subst (λ n. IsEditedAlone {T = U} {E = E} change n bytes number (Ok u) old new) (sym named)
-    (record { ok = done.ok; err = tt; grown = done.grown; invalid = done.invalid; too_large = done.too_large; known = tt })
+    (record { ok = done.ok; err = tt; put = done.put; grown = done.grown; invalid = done.invalid; too_large = done.too_large; known = tt })
 
 pub refused_with : {T U E : Type 0} (n : ℕ) (e : E) (number : E → ℕ) (change : List parts.Item → List parts.Item) (is_named : Bool) (bytes : ℕ) (old new : Detached) → is_named ≡ true → number e ≡ n
     → IsEditedAlone {T = T} change true bytes (λ e. e) (Err n) old new → IsEditedAlone {T = U} change is_named bytes number (Err e) old new
@@ -187,6 +193,7 @@ refused_with {T} {U} {E} n e number change is_named bytes old new named same is 
     (record {
       ok = tt;
       err = is.err;
+      put = tt;
       grown = is.grown;
       invalid = (λ six. is.invalid.0 (sym same ∙ six), λ none. same ∙ is.invalid.1 none);
       too_large = (λ three. is.too_large.0 (sym same ∙ three), λ large. same ∙ is.too_large.1 large);
@@ -201,6 +208,7 @@ unnamed {T} {E} e number change is_named bytes old none six =
     (record {
       ok = tt;
       err = refl;
+      put = tt;
       grown = omega arith;
       invalid = (λ is. refl, λ is. six);
       too_large = (λ three. absurd (let no = sym six ∙ three in omega (arith, no)), λ large. absurd (let no : false ≡ true = large.0 in cc));

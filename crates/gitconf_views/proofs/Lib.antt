@@ -12,3 +12,4 @@ pub mod AloneEdits
 pub mod AloneLaws
 pub mod LineBytes
 pub mod GivenEditors
+pub mod OwnBytes

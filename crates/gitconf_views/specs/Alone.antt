@@ -10,10 +10,11 @@ use Rattle.gitconf_items.specs.declared.event.Event.TheVariants as kinds
 use Rattle.gitconf_items.specs.Events.{header_of}
 use Rattle.gitconf_items.specs.ItemsFit.{AreItemsWithin}
 use Rattle.gitconf_items.specs.ShownEvents.{IsShown}
-use Rattle.gitconf_state.specs.Edit.{header_bytes, made_header}
+use Rattle.gitconf_state.specs.Edit.{made_header}
 use Rattle.gitconf_state.specs.Edits.{Detached}
 use Rattle.gitconf_state.specs.State.{SectionState, is_header, is_item}
 use Rattle.gitconf_items.specs.Items.{items_of}
+use Rattle.gitconf_copying.specs.Copies.{header_size, items_size}
 use Rattle.gitconf_sections.specs.Section.{Section}
 use Rattle.gitconf_views.specs.declared.section.Section.{Section as Own}
 use Rattle.gitconf_views.specs.ValueErrors.{edit_numbers}
@@ -23,16 +24,21 @@ use Rattle.gitconf_views.specs.Store.{section_under}
 abbrev pub alone : SectionState → SectionState
 alone s = record { number = s.number; header = s.header; meta = s.meta; items = s.items; held = [] }
 
+-- how many bytes a section has for itself: those of its header and of its items, as a copy of them puts them
+abbrev pub section_size : SectionState → ℕ
+section_size s = items_size s.items + header_size s.header
+
+-- a section without what is held behind it, with just these bytes
+abbrev pub copied_alone : SectionState → Detached
+copied_alone s = record { section = alone s; used = section_size s }
+
 -- a section with a change of its items
 abbrev pub with_items : (List parts.Item → List parts.Item) → SectionState → SectionState
 with_items change s = record { number = s.number; header = s.header; meta = s.meta; items = change s.items; held = s.held }
 
 -- a section that is made: its body is empty, and its number is the one that no file gives
 abbrev pub made_alone : (name : List ℕ) → (subsection : Option (List ℕ)) → Meta → Detached
-made_alone name subsection meta = record {
-  section = record { number = no_number; header = made_header name subsection; meta = meta; items = []; held = [] };
-  used = header_bytes name subsection;
-}
+made_alone name subsection meta = copied_alone (record { number = no_number; header = made_header name subsection; meta = meta; items = []; held = [] })
 
 -- the refusals that making a header can have
 abbrev pub is_refusal_of_header : Error → Bool
@@ -55,11 +61,13 @@ pub record StandsAlone (buffer copies : List ℕ) (s : Own) : Type 0 where
   pub spelled : is_header (header_of buffer s.header) ≡ true
   pub items : list_all is_item (items_of buffer s.items.items) ≡ true
 
--- An editor's edit was done, or it was refused and the section is as it was. At most that many bytes are added to its buffer. Refusal 6
--- comes if and only if the name is invalid, otherwise 3 if and only if these bytes would pass the limit; any other is out of memory.
+-- An editor's edit was done and added just the bytes that are counted, or it was refused and the section is as it was, but for such bytes
+-- in its buffer. Refusal 6 comes if and only if the name is invalid, otherwise 3 if and only if these bytes would pass the limit; any other
+-- is out of memory.
 pub record IsEditedAlone {T E : Type 0} (change : List parts.Item → List parts.Item) (is_named : Bool) (bytes : ℕ) (number : E → ℕ) (result : Result T E) (old new : Detached) : Type 0 where
   pub ok : OnOk result (new.section ≡ with_items change old.section)
   pub err : OnErr result (new.section ≡ old.section)
+  pub put : OnOk result (new.used ≡ old.used + bytes)
   pub grown : new.used ≤ old.used + bytes
   pub invalid : IsErrAnd result (λ e. number e ≡ 6) ↔ (is_named ≡ false)
   pub too_large : IsErrAnd result (λ e. number e ≡ 3) ↔ ((is_named ≡ true) × (2 ^ 32 ≤ old.used + bytes))

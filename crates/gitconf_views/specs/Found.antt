@@ -6,7 +6,7 @@ abbrev pub IsFound : {T A E : Type 0} → (shown : T → A) → Result (Option T
 IsFound shown (Ok found) value = option_map shown found ≡ value
 IsFound shown (Err refusal) value = value ≢ None
 
--- the list, unless it is empty
-abbrev pub unless_empty : {A : Type 0} → List A → Option (List A)
-unless_empty [] = None
-unless_empty (x ∷ xs) = Some (x ∷ xs)
+-- the list, if it has any element
+abbrev pub if_any : {A : Type 0} → List A → Option (List A)
+if_any [] = None
+if_any (x ∷ xs) = Some (x ∷ xs)

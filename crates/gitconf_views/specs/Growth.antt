@@ -1,9 +1,10 @@
 -- How many more bytes a buffer has after an edit.
-use Rattle.std.specs.Prelude.{◌≡◌, ◌⊎◌, ℕ, ◌+◌, ◌≤◌, ◌^◌, Result, IsErrOf, IfErr}
+use Rattle.std.specs.Prelude.{◌≡◌, ◌⊎◌, ℕ, ◌+◌, ◌≤◌, ◌^◌, Result, IsErrOf, IfErr, OnOk}
 
--- At most that many more bytes are used. A refusal says that they are too many, if and only if they would pass the limit, or that memory
--- ran out.
+-- That many more bytes are used, or, if they were refused, at most that many. A refusal says that they are too many, if and only if they
+-- would pass the limit, or that memory ran out.
 pub record UsedGrows {T : Type 0} (result : Result T ℕ) (count old new : ℕ) : Type 0 where
+  pub put : OnOk result (new ≡ old + count)
   pub grown : new ≤ old + count
   pub too_large : IsErrOf result 3 → 2 ^ 32 ≤ old + count
   pub refused : 2 ^ 32 ≤ old + count → IsErrOf result 3

@@ -1,5 +1,5 @@
 //! Sections that are in no file.
-ghost use Rattle.std.specs.Prelude.{◌≡◌, ◌<◌, ◌^◌, ℕ, true, length, IfOk, OnOk};
+ghost use Rattle.std.specs.Prelude.{◌≡◌, ◌+◌, ◌<◌, ◌^◌, ℕ, true, length, IfOk, OnOk};
 ghost use Rattle.std.specs.List.{list_all};
 ghost use Rattle.std.specs.Option.{option_copied, option_map};
 ghost use Rattle.bstr.specs.Owned.{bstring_bytes};
@@ -11,10 +11,10 @@ ghost use Rattle.gitconf_items.specs.ItemsFit.{AreItemsWithin};
 ghost use Rattle.gitconf_items.specs.ShownEvents.{IsShown};
 ghost use Rattle.gitconf_state.specs.State.{is_header, is_item};
 ghost use Rattle.gitconf_items.specs.Items.{items_of};
-ghost use Rattle.gitconf_copying.specs.Copies.{IsCopy, IsLonger};
+ghost use Rattle.gitconf_copying.specs.Copies.{header_size, items_size, IsCopy, IsLonger};
 ghost use Rattle.gitconf_views.specs.Store.{section_under};
-ghost use Rattle.gitconf_views.specs.Alone.{alone, whole, StandsAlone};
-ghost use Rattle.gitconf_views.specs.Views.{seen};
+ghost use Rattle.gitconf_views.specs.Alone.{alone, section_size, whole, StandsAlone};
+ghost use Rattle.gitconf_views.specs.Views.{seen, shown};
 
 mod editing;
 pub mod editor;
@@ -43,6 +43,7 @@ fn owned_items(from: &[u8], to: &mut Vec<u8>, items: &[Item]) -> Result<Vec<Item
     requires room { length to.old.items < 2 ^ 32 }
     ensures copies { IfOk result (λ is. IsCopy items_of AreItemsWithin from.now to.new.items items.now is.items) }
     ensures longer { OnOk result (IsLonger to.old.items to.new.items) }
+    ensures put { OnOk result (length to.new.items ≡ length to.old.items + items_size (items_of from.now items.now)) }
 {
     match copied_items(from, to, items) {
         Ok(items) => Ok(items),
@@ -62,6 +63,7 @@ fn owned_header(
     ensures same { IfOk result (λ h. header_of to.new.items h ≡ header_of from.now header) }
     ensures shown { IfOk result (λ h. IsShown to.new.items copies.new.items (kinds.SectionHeader h)) }
     ensures longer { OnOk result (IsLonger to.old.items to.new.items) }
+    ensures put { OnOk result (length to.new.items ≡ length to.old.items + header_size (header_of from.now header)) }
 {
     match copied_header(from, to, header) {
         Ok(header) => decoded_header(to, header, copies),
@@ -79,6 +81,7 @@ fn owned_section(
     ensures same { IfOk result (λ s. (number : ℕ) → section_under to.new.items number (whole s)
         ≡ alone (section_under source.now.buffer.now number (seen source.now))) }
     ensures stands { IfOk result (λ s. StandsAlone to.new.items copies.new.items s) }
+    ensures put { OnOk result (length to.new.items ≡ length to.old.items + section_size (shown source.now)) }
 {
     let meta = shared(source.meta)?;
     let items = owned_items(source.buffer, to, source.items)?;
@@ -116,7 +119,7 @@ impl Model for Section {
 
 impl SectionRef<'_> {
     ghost use Rattle.std.specs.Prelude.{◌≡◌, IfOk};
-    ghost use Rattle.gitconf_views.specs.Alone.{alone};
+    ghost use Rattle.gitconf_views.specs.Alone.{copied_alone};
     ghost use Rattle.gitconf_views.specs.Views.{shown};
 
     /// A copy of the section with the same number, in a buffer of its own: its header and its body are copied, and what is held after
@@ -126,7 +129,7 @@ impl SectionRef<'_> {
     ///
     /// Out of memory; also if it has more than 4294967295 bytes.
     pub fn to_owned(&self) -> Result<Section, NoMemory>
-        ensures { IfOk result (λ s. s.section ≡ alone (shown self.now)) }
+        ensures { IfOk result (λ s. s ≡ copied_alone (shown self.now)) }
     {
         let alloc = self.alloc;
         let mut buffer = Vec::new(alloc);

@@ -33,8 +33,8 @@ pub fn put<T: Drop>(list: &mut Vec<T>, item: T) -> Result<(), NoMemory>
 }
 
 /// Bytes, if there are any.
-pub fn unless_empty(bytes: &[u8]) -> Option<&[u8]>
-    ensures { option_copied result ≡ spec.unless_empty bytes.now }
+pub fn if_any(bytes: &[u8]) -> Option<&[u8]>
+    ensures { option_copied result ≡ spec.if_any bytes.now }
 {
     if bytes.is_empty() { None } else { Some(bytes) }
 }

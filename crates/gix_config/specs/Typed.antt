@@ -8,7 +8,7 @@ use Rattle.gitconf_values.specs.Integers.{integer_or_refusal}
 use Rattle.gitconf_base.specs.Key.{Key}
 use Rattle.gitconf_base.specs.Metadata.{Meta}
 use Rattle.gitconf_state.specs.State.{State}
-use Rattle.gitconf_finding.specs.Lookups.{IsFound, implicit_at, unless_empty, value_at, values_at}
+use Rattle.gitconf_finding.specs.Lookups.{IsFound, if_any, implicit_at, value_at, values_at}
 
 -- the boolean of an entry by what it means, or its refusal: true if the entry has no value
 abbrev pub boolean_or_refusal : Option (List ℕ) → Result Bool ValueError
@@ -42,4 +42,4 @@ IsInteger key keeps state result = IsTyped integer_or_refusal (λ n. n) (value_a
 
 -- the results are all values of the key as integers, if there are some
 abbrev pub AreIntegers : {Z : Type 0} → Key → (keeps : Meta → Bool) → State → Result (Option (Vec ℤ Z)) ValueError → Type 0
-AreIntegers {Z = Z} key keeps state result = IsTyped integers_or_refusal (λ (ns : Vec ℤ Z). ns.items) (unless_empty (values_at key keeps state)) result
+AreIntegers {Z = Z} key keeps state result = IsTyped integers_or_refusal (λ (ns : Vec ℤ Z). ns.items) (if_any (values_at key keeps state)) result

@@ -25,7 +25,8 @@ impl Store {
     ///
     /// # Errors
     ///
-    /// Those of [`Store::push_entry`]. The entries before the one that was refused then have their values, and no other is changed.
+    /// Those of [`Store::push_entry`]; number 3 at the first entry whose bytes, with those of the entries before it, would pass the limit.
+    /// The entries before the one that was refused then have their values, and no other is changed.
     pub fn rewrite_entries_at(
         &mut self,
         places: &[(SectionId, usize)],
@@ -35,6 +36,8 @@ impl Store {
         requires { is_value_name key.now ≡ true }
         ensures { AreRewritten (λ e. e) key.now places.now (map (λ v. v.now) values.now) result self.old self.new }
     {
+        // A file's buffer is below the limit.
+        let _ = &self.buffer;
         let mut left = places;
         for value in values {
             let Some((place, behind)) = left.split_first() else {
@@ -60,6 +63,8 @@ impl Store {
         requires { is_value_name key.now ≡ true }
         ensures { AreRewritten (λ e. e) key.now places.now (map (λ _. value.now) places.now) result self.old self.new }
     {
+        // A file's buffer is below the limit.
+        let _ = &self.buffer;
         let mut left = places;
         while let Some((place, behind)) = left.split_first() {
             self.rewrite_entry_at(place.0, place.1, InPlaceOf::Entry, key, value)?;

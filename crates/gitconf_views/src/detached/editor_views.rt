@@ -1,6 +1,6 @@
 //! What the editor of a section that is in no file shows of it, and of what it writes.
 use crate::detached::editor::DetachedSectionMut;
-use crate::lists::unless_empty;
+use crate::lists::if_any;
 use crate::section::SectionRef;
 use crate::views::{BodyRef, HeaderRef, ValueNames};
 use bstr::BString;
@@ -17,7 +17,7 @@ impl<'a> DetachedSectionMut<'a> {
     ghost use Rattle.gitconf_views.specs.AloneEditors.{edited, editor};
     ghost use Rattle.gitconf_views.specs.Bodies.{has_key, implicit_value_in, value_in, values_in, AreFound, IsFoundImplicit};
     ghost use Rattle.gitconf_views.specs.Counts.{is_empty_body};
-    ghost use Rattle.gitconf_views.specs.Found.{unless_empty, IsFound};
+    ghost use Rattle.gitconf_views.specs.Found.{if_any, IsFound};
     ghost use Rattle.gitconf_views.specs.Views.{names_left, shown, shown_body, shown_header};
 
     /// The section as it now is. Constant time, and no memory.
@@ -143,10 +143,10 @@ impl<'a> DetachedSectionMut<'a> {
 
     /// The blanks that it writes before and after `=`; `None` if it writes none there.
     pub fn separator_whitespace(&self) -> (Option<&[u8]>, Option<&[u8]>)
-        ensures before { option_copied result.0 ≡ unless_empty (editor self.now).spacing.before }
-        ensures behind { option_copied result.1 ≡ unless_empty (editor self.now).spacing.behind }
+        ensures before { option_copied result.0 ≡ if_any (editor self.now).spacing.before }
+        ensures behind { option_copied result.1 ≡ if_any (editor self.now).spacing.behind }
     {
         let (before, behind) = self.blanks.around();
-        (unless_empty(before), unless_empty(behind))
+        (if_any(before), if_any(behind))
     }
 }

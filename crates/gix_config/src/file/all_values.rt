@@ -4,7 +4,7 @@ ghost use Rattle.std.specs.Prelude.{◌≡◌, ℕ, List, IfOk, IfErr, IsSome, m
 ghost use Rattle.gitconf_base.specs.Key.{the_key};
 ghost use Rattle.gitconf_state.specs.Lookup.{Miss};
 ghost use Rattle.gitconf_state.specs.State.{SectionState};
-ghost use Rattle.gitconf_finding.specs.Lookups.{key_at, shown_with, texts_of, unless_empty};
+ghost use Rattle.gitconf_finding.specs.Lookups.{if_any, key_at, shown_with, texts_of};
 ghost use Rattle.gitconf_finding.specs.Misses.{IsExisting};
 ghost use Rattle.gix_config.specs.Converted.{AreConverted, AreConvertedWith, AreGiven, AreValues, AreValuesWithSections, IsListed, IsListedWith};
 
@@ -35,7 +35,7 @@ fn values_of<T: TryFrom<BString> + Drop>(
 fn converted<T: TryFrom<BString> + Drop>(
     found: Result<Vec<BString>, existing::Error>,
 ) -> Result<Vec<T>, lookup::Error<T::Error>>
-    ensures { (values : List (List ℕ)) (miss : Miss) → IsExisting texts_of found (unless_empty values) miss → AreConverted T.try_from_gives values miss result }
+    ensures { (values : List (List ℕ)) (miss : Miss) → IsExisting texts_of found (if_any values) miss → AreConverted T.try_from_gives values miss result }
 {
     match found {
         Ok(texts) => values_of(texts),
@@ -64,7 +64,7 @@ fn values_with_sections_of<'a, T: TryFrom<BString> + Drop>(
 fn converted_with_sections<'a, T: TryFrom<BString> + Drop>(
     found: Result<Vec<(BString, SectionRef<'a>)>, existing::Error>,
 ) -> Result<Vec<(T, SectionRef<'a>)>, lookup::Error<T::Error>>
-    ensures { (values : List (List ℕ × SectionState)) (miss : Miss) → IsExisting (λ texts. map shown_with texts.items) found.entry (unless_empty values) miss
+    ensures { (values : List (List ℕ × SectionState)) (miss : Miss) → IsExisting (λ texts. map shown_with texts.items) found.entry (if_any values) miss
         → AreConvertedWith T.try_from_gives values miss result }
 {
     match found {

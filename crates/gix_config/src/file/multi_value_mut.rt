@@ -112,7 +112,8 @@ impl<'a> MultiValueMut<'a> {
     ///
     /// # Errors
     ///
-    /// Those of [`MultiValueMut::set_at`]. The entries before the one that was refused then have their values; all else is as it was.
+    /// Those of [`MultiValueMut::set_at`]; number 3 at the first value whose bytes, with those of the values before it, would pass the
+    /// limit. The entries before the one that was refused then have their values; all else is as it was.
     pub fn set_values(&mut self, values: &[&[u8]]) -> Result<(), span::Error>
         ensures same_file { lent self.new ≡ lent self.old }
         ensures same_key { key_of self.new ≡ key_of self.old }

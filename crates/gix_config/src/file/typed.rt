@@ -9,7 +9,7 @@ ghost use Rattle.std.specs.Prelude.{◌⊎◌, ℕ, List, Option, Ok, Err, IfOk,
 ghost use Rattle.bstr.specs.Owned.{bstring_bytes};
 ghost use Rattle.gitconf_text.specs.ValueErrors.{wanting};
 ghost use Rattle.gitconf_values.specs.Integers.{integer_or_refusal};
-ghost use Rattle.gitconf_finding.specs.Lookups.{IsFound, key_at, texts_of, unless_empty};
+ghost use Rattle.gitconf_finding.specs.Lookups.{IsFound, if_any, key_at, texts_of};
 ghost use Rattle.gitconf_finding.specs.SomeSections.{WithSome};
 ghost use Rattle.gix_config.specs.Keys.{OfKey};
 ghost use Rattle.gix_config.specs.Typed.{AreIntegers, IsBoolean, IsInteger, IsPath, IsTyped, boolean_or_refusal, integers_or_refusal};
@@ -80,7 +80,7 @@ fn integers_of(values: Vec<BString>) -> Result<Vec<i64>, value::Error>
 fn found_integers(
     found: Result<Option<Vec<BString>>, NoMemory>,
 ) -> Result<Option<Vec<i64>>, value::Error>
-    ensures { (values : List (List ℕ)) → IsFound texts_of found (unless_empty values) → IsTyped integers_or_refusal (λ ns. ns.items) (unless_empty values) result }
+    ensures { (values : List (List ℕ)) → IsFound texts_of found (if_any values) → IsTyped integers_or_refusal (λ ns. ns.items) (if_any values) result }
 {
     match found? {
         Some(values) => Ok(Some(integers_of(values)?)),

@@ -1,7 +1,7 @@
-use Rattle.std.proofs.Common.{length}
-use Rattle.gitconf_items.specs.Items.{item_of}
+use Rattle.std.proofs.Common.{◌≡◌, ◌+◌, length}
+use Rattle.gitconf_items.specs.Items.{item_of, items_of}
 use Rattle.gitconf_items.specs.ItemsFit.{ItemFits}
-use Rattle.gitconf_copying.specs.Copies.{IsLonger}
+use Rattle.gitconf_copying.specs.Copies.{items_size, IsLonger}
 use Rattle.gitconf_copying.proofs.Copies.{AreCopying}
 use Rattle.gitconf_copying.proofs.copying.copied_items.Given as goal
 
@@ -9,6 +9,7 @@ use Rattle.gitconf_copying.proofs.copying.copied_items.Given as goal
 abbrev pub invariant-loop-item : goal.invariant-loop-item
 invariant-loop-item l = record {
   longer : IsLonger l.fn.to.items l.to.items;
+  put : length l.to.items + items_size (items_of l.from l.rest) ≡ length l.fn.to.items + items_size (items_of l.from l.fn.items);
   copying : AreCopying item_of ItemFits l.from l.to.items l.copies.items l.rest l.fn.items;
 }
 

@@ -1,7 +1,7 @@
-use Rattle.std.proofs.Common.{length}
+use Rattle.std.proofs.Common.{◌≡◌, ◌+◌, length, map}
 use Rattle.gitconf_items.specs.Items.{piece_of}
 use Rattle.gitconf_items.specs.ItemsFit.{PieceFits}
-use Rattle.gitconf_copying.specs.Copies.{IsLonger}
+use Rattle.gitconf_copying.specs.Copies.{pieces_size, IsLonger}
 use Rattle.gitconf_copying.proofs.Copies.{AreCopying}
 use Rattle.gitconf_copying.proofs.copying.copied_pieces.Given as goal
 
@@ -9,6 +9,7 @@ use Rattle.gitconf_copying.proofs.copying.copied_pieces.Given as goal
 abbrev pub invariant-loop-piece : goal.invariant-loop-piece
 invariant-loop-piece l = record {
   longer : IsLonger l.fn.to.items l.to.items;
+  put : length l.to.items + pieces_size (map (piece_of l.from) l.rest) ≡ length l.fn.to.items + pieces_size (map (piece_of l.from) l.fn.pieces);
   copying : AreCopying piece_of PieceFits l.from l.to.items l.copies.items l.rest l.fn.pieces;
 }
 

@@ -1,3 +1,4 @@
+use Rattle.std.proofs.Common.{arith}
 use Rattle.gitconf_views.specs.Views.{seen}
 use Rattle.gitconf_views.specs.declared.section.Section.{Section}
 use Rattle.gitconf_views.proofs.Detaching.{items_same, items_stand, section_same, section_stands}
@@ -19,3 +20,6 @@ returns-clause-stands c =
     c.in_ok-header.ensures.same c.args.source.now.viewed.spelled
     (items_same c.args.source.now.buffer.now c.owned_items.new.to.items c.owned_header.new.to.items c.args.source.now.items.now c.in_ok-items.items.items lent longer.extended)
     c.args.source.now.viewed.items
+
+pub returns-clause-put : goal.returns-clause-put
+returns-clause-put c = omega (arith, c.in_ok-items.ensures.put, c.in_ok-header.ensures.put)

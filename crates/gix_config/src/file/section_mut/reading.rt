@@ -4,7 +4,7 @@ use crate::file::section_mut::SectionMut;
 use crate::file::{Metadata, SectionId, SectionRef};
 use bstr::BString;
 use gitconf_text::NoMemory;
-use gitconf_views::lists::unless_empty;
+use gitconf_views::lists::if_any;
 
 impl<'a> SectionMut<'a> {
     ghost use Rattle.std.specs.List.{list_all};
@@ -16,7 +16,7 @@ impl<'a> SectionMut<'a> {
     ghost use Rattle.gitconf_state.specs.State.{entries_of};
     ghost use Rattle.gitconf_views.specs.Bodies.{has_key, implicit_value_in, value_in, values_in, AreFound, IsFoundImplicit};
     ghost use Rattle.gitconf_views.specs.Counts.{is_empty_body};
-    ghost use Rattle.gitconf_finding.specs.Lookups.{unless_empty, IsFound};
+    ghost use Rattle.gitconf_finding.specs.Lookups.{if_any, IsFound};
     ghost use Rattle.gitconf_views.specs.Views.{names_left, shown, shown_body, shown_header};
     ghost use Rattle.gix_config.specs.SectionEditors.{edited, editor, number_of};
 
@@ -144,10 +144,10 @@ impl<'a> SectionMut<'a> {
 
     /// The blanks that the editor writes before and after `=`; `None` if it writes none there.
     pub fn separator_whitespace(&self) -> (Option<&[u8]>, Option<&[u8]>)
-        ensures before { option_copied result.0 ≡ unless_empty (editor self.now).spacing.before }
-        ensures behind { option_copied result.1 ≡ unless_empty (editor self.now).spacing.behind }
+        ensures before { option_copied result.0 ≡ if_any (editor self.now).spacing.before }
+        ensures behind { option_copied result.1 ≡ if_any (editor self.now).spacing.behind }
     {
         let (before, behind) = self.blanks.around();
-        (unless_empty(before), unless_empty(behind))
+        (if_any(before), if_any(behind))
     }
 }

@@ -83,7 +83,7 @@ returns-clause-used c =
     let number = number_at-place c.args.id c.self.inside.sections c.in-Some.at place in
     rw (← c.self.view_is) (puts_at b c.self.inside.front.items c.self.inside.meta.value c.self.inside.sections c.args.id c.in-Some.at (with_items c.deref_mut.result.now.items l.kept) c.push-pushed.result
     (line_put c.args.editor.now c.args.key.now (option_copied c.args.value) (option_copied c.args.comment)) _ c.next_id.ensures.numbered.once here number
-    (record { grown = c.push-pushed.ensures.grows.grown; too_large = c.push-pushed.ensures.grows.too_large; refused = c.push-pushed.ensures.refused; known = c.push-pushed.ensures.grows.known }))
+    (record { put = c.push-pushed.ensures.grows.put; grown = c.push-pushed.ensures.grows.grown; too_large = c.push-pushed.ensures.grows.too_large; refused = c.push-pushed.ensures.refused; known = c.push-pushed.ensures.grows.known }))
 
 pub invariant_of-self-2 : goal.invariant_of-self-2
 invariant_of-self-2 c =

@@ -76,7 +76,7 @@ returns-clause-used c =
     let number = number_at-place c.args.id c.self.inside.sections c.in-Some.at place in
     rw (← c.self.view_is) (puts_at b c.self.inside.front.items c.self.inside.meta.value c.self.inside.sections c.args.id c.in-Some.at (with_items c.deref_mut.result.now.items l.kept) c.push_newline-pushed.result
     (length (bytes_of_line_end c.args.editor.now.line_end)) _ c.next_id.ensures.numbered.once here number
-    (record { grown = c.push_newline-pushed.ensures.grows.grown; too_large = c.push_newline-pushed.ensures.grows.too_large; refused = c.push_newline-pushed.ensures.refused; known = c.push_newline-pushed.ensures.grows.known }))
+    (record { put = c.push_newline-pushed.ensures.grows.put; grown = c.push_newline-pushed.ensures.grows.grown; too_large = c.push_newline-pushed.ensures.grows.too_large; refused = c.push_newline-pushed.ensures.refused; known = c.push_newline-pushed.ensures.grows.known }))
 
 pub invariant_of-self-2 : goal.invariant_of-self-2
 invariant_of-self-2 c =

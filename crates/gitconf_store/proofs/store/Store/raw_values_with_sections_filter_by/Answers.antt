@@ -1,7 +1,7 @@
 use Rattle.std.proofs.Common.{true, subst, sym}
 use Rattle.std.specs.Option.{option_copied}
 use Rattle.std.specs.Prelude.{map}
-use Rattle.gitconf_finding.specs.Lookups.{key_at, miss_at, shown_with, unless_empty, values_in}
+use Rattle.gitconf_finding.specs.Lookups.{key_at, miss_at, shown_with, if_any, values_in}
 use Rattle.gitconf_state.specs.Edits.{with_sections}
 use Rattle.gitconf_finding.specs.Misses.{IsExisting}
 use Rattle.gitconf_finding.proofs.Answering.{existing_told, texts_with_sections_told}
@@ -11,7 +11,7 @@ pub returns-clause-exact : goal.returns-clause-exact
 returns-clause-exact g c = λ keeps h.
     let key = key_at c.args.section_name.now (option_copied c.args.subsection_name) c.args.value_name.now in
     let state = c.args.self.now in
-    let value = unless_empty (values_in key keeps state) in
+    let value = if_any (values_in key keeps state) in
     subst (λ r. IsExisting (λ texts. map shown_with texts.items) r value (miss_at key state)) (sym c.existing.ensures)
     (existing_told (λ texts. map shown_with texts.items) c.texts_with_sections-found.result value (miss_at key state)
     (texts_with_sections_told key keeps state c.find_all-found.result c.texts_with_sections-found.result c.texts_with_sections-found.ensures (c.find_all-found.ensures.exact keeps h)))
@@ -21,7 +21,7 @@ returns-clause-some g c =
     let key = key_at c.args.section_name.now (option_copied c.args.subsection_name) c.args.value_name.now in
     let state = c.args.self.now in
     let found = c.find_all-found.ensures.some in
-    let value = unless_empty (values_in key (λ _. true) (with_sections found.0 state)) in (
+    let value = if_any (values_in key (λ _. true) (with_sections found.0 state)) in (
       found.0,
       found.1,
       subst (λ r. IsExisting (λ texts. map shown_with texts.items) r value (miss_at key state)) (sym c.existing.ensures)

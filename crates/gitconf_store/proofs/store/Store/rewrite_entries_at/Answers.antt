@@ -1,11 +1,11 @@
-use Rattle.std.proofs.Common.{rules, ◌≡◌, ◌<◌, ◌≤◌, ◌∷◌, length, map, inl, inr, ap, arith}
+use Rattle.std.proofs.Common.{rules, ◌≡◌, ◌<◌, ◌≤◌, [], ◌∷◌, get_or, length, map, inl, inr, ap, arith}
 use Rattle.std.proofs.lemmas.List.{drop_all, drop_more}
-use Rattle.gitconf_store.proofs.Several.{begun, ended, one_more, puts_refused, puts_within, refused}
+use Rattle.gitconf_store.proofs.Several.{begun, ended, one_more, puts_all, puts_refused, refused}
 use Rattle.gitconf_finding.proofs.ValuePlaces.{none_long}
 use Rattle.gitconf_store.proofs.store.Store.rewrite_entries_at.Goals as goal
 
 pub loop-value-init : goal.loop-value-init
-loop-value-init c = begun c.args.key.now c.args.places.now (map (λ v. v.now) c.args.values.now) c.args.self.now
+loop-value-init c = begun c.args.key.now c.args.places.now (map (λ v. v.now) c.args.values.now) c.args.self.now (rw (← c.self.view_is) c.self.invariant.room)
 
 pub returns-in_default : goal.returns-in_default
 returns-in_default c =
@@ -17,9 +17,10 @@ returns-in_err-rewrite_entry_at c =
     let values = c.args.values.now in
     let within : c.loop-value.value-index < length values = omega (arith, c.loop-value-test.true) in
     let left : c.loop-value.left.now ≡ c.in-Some.place.now ∷ c.in-Some.behind.now = search rules in
-    let given = ap (map (λ v. v.now)) (drop_more values c.loop-value.value-index _ within) in
+    let given = ap (map (λ v. v.now)) (drop_more values c.loop-value.value-index (record { ref_ptr = (0, 0); now = [] }) within) in
+    let value = (get_or values c.loop-value.value-index (record { ref_ptr = (0, 0); now = [] })).now in
     refused _ _ _ c.in-Some.place.now c.in-Some.behind.now c.loop-value.left.now _ _ _ c.args.self.now c.loop-value.self c.rewrite_entry_at.new.self c.rewrite_entry_at.result c.from_residual.result
-    (search rules) (search rules) left given c.rewrite_entry_at.ensures.err (puts_refused _ _ _ _ _ (search rules) c.rewrite_entry_at.ensures.missing c.rewrite_entry_at.ensures.used) c.loop-value.invariant
+    (search rules) (search rules) left given c.rewrite_entry_at.ensures.err (puts_refused c.args.key.now value c.in-Some.place.now _ _ _ (search rules) c.rewrite_entry_at.ensures.missing c.rewrite_entry_at.ensures.used) c.loop-value.invariant
 
 pub loop-value-preserved : goal.loop-value-preserved
 loop-value-preserved c =
@@ -28,7 +29,7 @@ loop-value-preserved c =
     let left : c.loop-value.left.now ≡ c.in-Some.place.now ∷ c.in-Some.behind.now = search rules in
     let given = ap (map (λ v. v.now)) (drop_more values c.loop-value.value-index _ within) in
     one_more _ _ _ c.in-Some.place.now c.in-Some.behind.now c.loop-value.left.now _ _ _ c.args.self.now c.loop-value.self c.rewrite_entry_at.new.self
-    left given c.in_ok-rewrite_entry_at.ensures.ok (puts_within _ _ _ _ _ c.in_ok-rewrite_entry_at.ensures.used) c.loop-value.invariant
+    left given c.in_ok-rewrite_entry_at.ensures.ok (puts_all c.args.key.now _ c.in-Some.place.now _ _ _ c.in_ok-rewrite_entry_at.ensures.used) c.loop-value.invariant
 
 pub returns : goal.returns
 returns c =

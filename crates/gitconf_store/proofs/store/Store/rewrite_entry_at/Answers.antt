@@ -91,7 +91,7 @@ returns-clause-used c =
     rw (← c.self.view_is) (puts_at b c.self.inside.front.items c.self.inside.meta.value c.self.inside.sections c.args.id c.in-Some.at (with_items c.deref_mut.result.now.items l.kept) c.rewrite_at-written.result _ _
     c.next_id.ensures.numbered.once here number
     (subst (λ items. UsedGrows c.rewrite_at-written.result (rewritten_put c.args.key.now c.args.value.now items) (length b) (length c.rewrite_at-written.new.buffer.items)) (sym same)
-    (record { grown = c.rewrite_at-written.ensures.grows.grown; too_large = c.rewrite_at-written.ensures.grows.too_large; refused = c.rewrite_at-written.ensures.refused; known = c.rewrite_at-written.ensures.grows.known })))
+    (record { put = c.rewrite_at-written.ensures.grows.put; grown = c.rewrite_at-written.ensures.grows.grown; too_large = c.rewrite_at-written.ensures.grows.too_large; refused = c.rewrite_at-written.ensures.refused; known = c.rewrite_at-written.ensures.grows.known })))
 
 pub returns-clause-missing : goal.returns-clause-missing
 returns-clause-missing c =

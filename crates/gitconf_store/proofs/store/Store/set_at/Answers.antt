@@ -80,7 +80,7 @@ returns-clause-used c =
     rw (← c.self.view_is) (asked_at (λ items. UsedGrows c.set_value-set.result (set_bytes (file_line_end state) c.args.key.now c.args.value.now items) (length b) (length new))
     b c.self.inside.front.items c.self.inside.meta.value c.self.inside.sections c.args.at s l.here
     (subst (λ l. UsedGrows c.set_value-set.result (set_bytes l c.args.key.now c.args.value.now (items_of b s.items.items)) (length b) (length new)) line_end
-    (record { grown = c.set_value-set.ensures.grows.grown; too_large = c.set_value-set.ensures.grows.too_large; refused = c.set_value-set.ensures.refused; known = c.set_value-set.ensures.grows.known })))
+    (record { put = c.set_value-set.ensures.grows.put; grown = c.set_value-set.ensures.grows.grown; too_large = c.set_value-set.ensures.grows.too_large; refused = c.set_value-set.ensures.refused; known = c.set_value-set.ensures.grows.known })))
 
 pub invariant_of-self : goal.invariant_of-self
 invariant_of-self c =

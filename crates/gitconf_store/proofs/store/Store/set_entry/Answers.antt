@@ -100,7 +100,7 @@ returns-clause-used c =
     rw (← c.self.view_is) (puts_at b c.self.inside.front.items c.self.inside.meta.value c.self.inside.sections c.args.id c.in-Some.at (with_items c.deref_mut.result.now.items l.kept) c.set-set.result _ _
     c.next_id.ensures.numbered.once here number
     (subst (λ items. UsedGrows c.set-set.result (set_put c.args.editor.now c.args.key.now c.args.value.now items) (length b) (length c.set-set.new.buffer.items)) (sym same)
-    (record { grown = c.set-set.ensures.grows.grown; too_large = c.set-set.ensures.grows.too_large; refused = c.set-set.ensures.refused; known = c.set-set.ensures.grows.known })))
+    (record { put = c.set-set.ensures.grows.put; grown = c.set-set.ensures.grows.grown; too_large = c.set-set.ensures.grows.too_large; refused = c.set-set.ensures.refused; known = c.set-set.ensures.grows.known })))
 
 pub invariant_of-self-2 : goal.invariant_of-self-2
 invariant_of-self-2 c =

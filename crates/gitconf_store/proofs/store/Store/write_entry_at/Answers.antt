@@ -82,7 +82,7 @@ returns-clause-used c =
     let number = number_at-place c.args.id c.self.inside.sections c.in-Some.at place in
     rw (← c.self.view_is) (puts_at b c.self.inside.front.items c.self.inside.meta.value c.self.inside.sections c.args.id c.in-Some.at (with_items c.deref_mut.result.now.items l.kept) c.write_at-written.result
     (written_put c.args.editor.now c.args.key.now c.args.value.now) _ c.next_id.ensures.numbered.once here number
-    (record { grown = c.write_at-written.ensures.grows.grown; too_large = c.write_at-written.ensures.grows.too_large; refused = c.write_at-written.ensures.refused; known = c.write_at-written.ensures.grows.known }))
+    (record { put = c.write_at-written.ensures.grows.put; grown = c.write_at-written.ensures.grows.grown; too_large = c.write_at-written.ensures.grows.too_large; refused = c.write_at-written.ensures.refused; known = c.write_at-written.ensures.grows.known }))
 
 pub invariant_of-self-2 : goal.invariant_of-self-2
 invariant_of-self-2 c =

@@ -36,7 +36,7 @@ returns-clause-err c =
 
 pub returns-clause-used : goal.returns-clause-used
 returns-clause-used c =
-    rw (← c.self.view_is) (record { grown = c.push.ensures.grows.grown; too_large = c.push.ensures.grows.too_large; refused = c.push.ensures.refused; known = c.push.ensures.grows.known })
+    rw (← c.self.view_is) (record { put = c.push.ensures.grows.put; grown = c.push.ensures.grows.grown; too_large = c.push.ensures.grows.too_large; refused = c.push.ensures.refused; known = c.push.ensures.grows.known })
 
 pub invariant_of-self : goal.invariant_of-self
 invariant_of-self c =

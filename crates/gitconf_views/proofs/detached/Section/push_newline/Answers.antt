@@ -29,7 +29,7 @@ returns-clause-err c =
 
 pub returns-clause-used : goal.returns-clause-used
 returns-clause-used c =
-    rw (← c.self.view_is) (record { grown = c.push_newline.ensures.grows.grown; too_large = c.push_newline.ensures.grows.too_large; refused = c.push_newline.ensures.refused; known = c.push_newline.ensures.grows.known })
+    rw (← c.self.view_is) (record { put = c.push_newline.ensures.grows.put; grown = c.push_newline.ensures.grows.grown; too_large = c.push_newline.ensures.grows.too_large; refused = c.push_newline.ensures.refused; known = c.push_newline.ensures.grows.known })
 
 pub invariant_of-self : goal.invariant_of-self
 invariant_of-self c =

@@ -39,7 +39,7 @@ returns-clause-err c =
 
 pub returns-clause-used : goal.returns-clause-used
 returns-clause-used c =
-    rw (← c.self.view_is) (record { grown = c.set.ensures.grows.grown; too_large = c.set.ensures.grows.too_large; refused = c.set.ensures.refused; known = c.set.ensures.grows.known })
+    rw (← c.self.view_is) (record { put = c.set.ensures.grows.put; grown = c.set.ensures.grows.grown; too_large = c.set.ensures.grows.too_large; refused = c.set.ensures.refused; known = c.set.ensures.grows.known })
 
 pub returns-clause-answer : goal.returns-clause-answer
 returns-clause-answer c = rw (← c.self.view_is) c.set.ensures.answer
