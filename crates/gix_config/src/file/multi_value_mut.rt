@@ -133,7 +133,8 @@ impl<'a> MultiValueMut<'a> {
         ensures same_file { lent self.new ≡ lent self.old }
         ensures same_key { key_of self.new ≡ key_of self.old }
         ensures same_places { places_of self.new ≡ places_of self.old }
-        ensures done { AreRewritten (λ e. e) (key_of self.old) (places_of self.old) (map (λ _. value.now) (places_of self.old)) result (edited self.old) (edited self.new) }
+        ensures done { AreRewritten (λ e. e) (key_of self.old) (places_of self.old) (map (λ _. value.now) (places_of self.old)) result
+            (edited self.old) (edited self.new) }
     {
         self.file
             .rewrite_all_entries_at(self.targets.places(), self.targets.key(), value)

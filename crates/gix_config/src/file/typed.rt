@@ -161,7 +161,8 @@ impl File {
     ) -> Result<Option<Path>, NoMemory>
         requires { F.IsAlwaysCallable filter }
         // For a filter whose result depends only on what it is shown.
-        ensures exact { (keeps : Meta → Bool) → ComputesKey F.FnMut keeps filter → IsPath (key_at section_name.now (option_copied subsection_name.entry) value_name.now) keeps self.now result }
+        ensures exact { (keeps : Meta → Bool) → ComputesKey F.FnMut keeps filter
+            → IsPath (key_at section_name.now (option_copied subsection_name.entry) value_name.now) keeps self.now result }
         // For any filter.
         ensures some { WithSome (λ s. IsPath (key_at section_name.now (option_copied subsection_name.entry) value_name.now) (λ _. true) s result) self.now }
     {
@@ -244,7 +245,8 @@ impl File {
     ) -> Result<Option<bool>, value::Error>
         requires { F.IsAlwaysCallable filter }
         // For a filter whose result depends only on what it is shown.
-        ensures exact { (keeps : Meta → Bool) → ComputesKey F.FnMut keeps filter → IsBoolean (key_at section_name.now (option_copied subsection_name.entry) value_name.now) keeps self.now result }
+        ensures exact { (keeps : Meta → Bool) → ComputesKey F.FnMut keeps filter
+            → IsBoolean (key_at section_name.now (option_copied subsection_name.entry) value_name.now) keeps self.now result }
         // For any filter.
         ensures some { WithSome (λ s. IsBoolean (key_at section_name.now (option_copied subsection_name.entry) value_name.now) (λ _. true) s result) self.now }
     {
@@ -327,7 +329,8 @@ impl File {
     ) -> Result<Option<i64>, value::Error>
         requires { F.IsAlwaysCallable filter }
         // For a filter whose result depends only on what it is shown.
-        ensures exact { (keeps : Meta → Bool) → ComputesKey F.FnMut keeps filter → IsInteger (key_at section_name.now (option_copied subsection_name.entry) value_name.now) keeps self.now result }
+        ensures exact { (keeps : Meta → Bool) → ComputesKey F.FnMut keeps filter
+            → IsInteger (key_at section_name.now (option_copied subsection_name.entry) value_name.now) keeps self.now result }
         // For any filter.
         ensures some { WithSome (λ s. IsInteger (key_at section_name.now (option_copied subsection_name.entry) value_name.now) (λ _. true) s result) self.now }
     {
@@ -411,9 +414,11 @@ impl File {
     ) -> Result<Option<Vec<i64>>, value::Error>
         requires { F.IsAlwaysCallable filter }
         // For a filter whose result depends only on what it is shown.
-        ensures exact { (keeps : Meta → Bool) → ComputesKey F.FnMut keeps filter → AreIntegers (key_at section_name.now (option_copied subsection_name.entry) value_name.now) keeps self.now result }
+        ensures exact { (keeps : Meta → Bool) → ComputesKey F.FnMut keeps filter
+            → AreIntegers (key_at section_name.now (option_copied subsection_name.entry) value_name.now) keeps self.now result }
         // For any filter.
-        ensures some { WithSome (λ s. AreIntegers (key_at section_name.now (option_copied subsection_name.entry) value_name.now) (λ _. true) s result) self.now }
+        ensures some { WithSome (λ s. AreIntegers (key_at section_name.now (option_copied subsection_name.entry) value_name.now) (λ _. true) s
+            result) self.now }
     {
         let found = self
             .store
