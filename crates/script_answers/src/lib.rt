@@ -10,3 +10,6 @@ pub mod refusal;
 pub mod rendering;
 pub mod session;
 pub mod writers;
+
+// The crates of commands reach the library through this one, so that crates.txt has one path to it.
+pub use gix_config;

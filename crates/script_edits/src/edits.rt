@@ -6,10 +6,10 @@ use gitconf_script::arguments::{
 };
 use gitconf_script::editor_arguments::{place, place_and_section_names};
 use gitconf_script::words::{Place, Word};
-use gix_config::file::Section;
-use gix_config::{File, KeyRef};
 use script_answers::answer::{Answer, Outcome};
 use script_answers::arguments::{bytes_of_all, id_of, owned};
+use script_answers::gix_config::file::Section;
+use script_answers::gix_config::{File, KeyRef};
 use script_answers::refusal::Refusal;
 use script_answers::session::Session;
 use std::alloc::Global;

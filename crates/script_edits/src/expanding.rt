@@ -5,10 +5,10 @@
 
 use gitconf_script::arguments::{bytes, no_words};
 use gitconf_script::words::Word;
-use gix_config::File;
-use gix_config::file::Metadata;
-use gix_config::host::Host;
 use script_answers::answer::{Answer, Outcome};
+use script_answers::gix_config::File;
+use script_answers::gix_config::file::Metadata;
+use script_answers::gix_config::host::Host;
 use script_answers::outside::{Outside, Parts};
 use script_answers::refusal::Refusal;
 use script_answers::session::Session;

@@ -6,9 +6,9 @@ ghost use Rattle.script_answers.specs.Session.{LoadsFile};
 
 use gitconf_script::arguments::{bytes, no_words, slot, switch};
 use gitconf_script::words::Word;
-use gix_config::File;
-use gix_config::file::{Metadata, init};
 use script_answers::answer::{Answer, Outcome};
+use script_answers::gix_config::File;
+use script_answers::gix_config::file::{Metadata, init};
 use script_answers::kinds::kept_events;
 use script_answers::refusal::Refusal;
 use script_answers::session::{Loaded, Session};

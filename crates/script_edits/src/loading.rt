@@ -6,10 +6,10 @@
 use gitconf_script::arguments::{no_words, text};
 use gitconf_script::loading::{name, path_and_name, paths_of};
 use gitconf_script::words::{NotUnderstood, Word, named_in};
-use gix_config::file::{Metadata, init};
-use gix_config::host::{Host, StorageLocation};
-use gix_config::{File, Source};
 use script_answers::answer::{Answer, Outcome};
+use script_answers::gix_config::file::{Metadata, init};
+use script_answers::gix_config::host::{Host, StorageLocation};
+use script_answers::gix_config::{File, Source};
 use script_answers::outside::{Outside, Parts, owned_text};
 use script_answers::refusal::Refusal;
 use script_answers::session::Session;

@@ -2,8 +2,8 @@
 
 use gitconf_script::layouts::{self, LineEnd, layout_of};
 use gitconf_script::words::Word;
-use gix_config::format::{Indent, Newline, Options, normalize};
 use script_answers::answer::{Answer, Outcome};
+use script_answers::gix_config::format::{Indent, Newline, Options, normalize};
 use std::alloc::Global;
 
 /// `fmt BYTES OPT BYTES B OPT B OPT OPT`: a text laid out.

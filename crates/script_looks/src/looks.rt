@@ -6,8 +6,8 @@ use gitconf_script::commands::{
     ValueCommand, ViewCommand,
 };
 use gitconf_script::words::Word;
-use gix_config::File;
 use script_answers::answer::Outcome;
+use script_answers::gix_config::File;
 use script_answers::session::Session;
 use script_answers::writers::Failure;
 use std::alloc::Global;

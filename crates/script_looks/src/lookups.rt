@@ -3,8 +3,8 @@
 use bstr::BString;
 use gitconf_script::arguments::{bytes, names};
 use gitconf_script::words::Word;
-use gix_config::File;
 use script_answers::answer::{Answer, Outcome};
+use script_answers::gix_config::File;
 
 /// Texts, or nothing.
 fn texts(found: Option<Vec<BString>>) -> Answer<'static> {

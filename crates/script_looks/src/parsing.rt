@@ -2,9 +2,9 @@
 
 use gitconf_script::arguments::bytes;
 use gitconf_script::words::Word;
-use gix_config::parse::Events;
-use gix_config::parse::section::{Name, ValueName};
 use script_answers::answer::{Answer, Outcome};
+use script_answers::gix_config::parse::Events;
+use script_answers::gix_config::parse::section::{Name, ValueName};
 use script_answers::kinds::kept_events;
 use script_answers::refusal::Refusal;
 use std::alloc::Global;

@@ -3,10 +3,10 @@
 use bstr::BString;
 use gitconf_script::arguments::{path_with_folders, pattern_match};
 use gitconf_script::words::Word;
-use gix_config::Path;
-use gix_config::glob::wildmatch;
-use gix_config::path::interpolate::Context;
 use script_answers::answer::{Answer, Outcome};
+use script_answers::gix_config::Path;
+use script_answers::gix_config::glob::wildmatch;
+use script_answers::gix_config::path::interpolate::Context;
 use std::alloc::Global;
 
 /// `match BYTES BYTES B`: whether a pattern matches a text, without case if the flag says so.

@@ -2,9 +2,9 @@
 
 use gitconf_script::arguments::{all_bytes, count_before, no_words};
 use gitconf_script::words::{Word, is_one_of};
-use gix_config::File;
-use gix_config::file::SectionId;
 use script_answers::answer::{Answer, Outcome};
+use script_answers::gix_config::File;
+use script_answers::gix_config::file::SectionId;
 use script_answers::refusal::Refusal;
 use script_answers::writers::{FailingOnce, Failure};
 use std::alloc::Global;

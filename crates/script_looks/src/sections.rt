@@ -2,9 +2,9 @@
 
 use gitconf_script::arguments::{no_words, number};
 use gitconf_script::words::Word;
-use gix_config::File;
-use gix_config::file::SectionRef;
 use script_answers::answer::{Answer, Outcome};
+use script_answers::gix_config::File;
+use script_answers::gix_config::file::SectionRef;
 use script_answers::refusal::Refusal;
 use std::borrow::CowSlice;
 

@@ -3,9 +3,9 @@
 use bstr::BString;
 use gitconf_script::arguments::names;
 use gitconf_script::words::Word;
-use gix_config::file::{SectionId, SectionRef};
-use gix_config::{Boolean, File};
 use script_answers::answer::{Answer, Outcome};
+use script_answers::gix_config::file::{SectionId, SectionRef};
+use script_answers::gix_config::{Boolean, File};
 use script_answers::refusal::Refusal;
 use std::alloc::Global;
 

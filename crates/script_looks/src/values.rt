@@ -3,9 +3,9 @@
 use bstr::BString;
 use gitconf_script::arguments::bytes;
 use gitconf_script::words::Word;
-use gix_config::value::normalize;
-use gix_config::{Boolean, File, Integer};
 use script_answers::answer::{Answer, Outcome};
+use script_answers::gix_config::value::normalize;
+use script_answers::gix_config::{Boolean, File, Integer};
 use script_answers::refusal::Refusal;
 use std::alloc::{AllocError, Global};
 use std::borrow::CowSlice;

@@ -7,9 +7,9 @@ use gitconf_script::arguments::{
     text, text_and_flag,
 };
 use gitconf_script::words::Word;
-use gix_config::File;
-use gix_config::file::{SectionId, SectionRef};
 use script_answers::answer::{Answer, Outcome};
+use script_answers::gix_config::File;
+use script_answers::gix_config::file::{SectionId, SectionRef};
 use script_answers::refusal::Refusal;
 use script_answers::session::Session;
 use std::alloc::Global;

@@ -2,11 +2,11 @@
 
 use bstr::BString;
 use gitconf_script::editor_arguments::PushedLine;
-use gix_config::NoMemory;
-use gix_config::file::section::value;
-use gix_config::file::{DetachedSectionMut, SectionMut};
-use gix_config::parse::section::header;
-use gix_config::parse::span;
+use script_answers::gix_config::NoMemory;
+use script_answers::gix_config::file::section::value;
+use script_answers::gix_config::file::{DetachedSectionMut, SectionMut};
+use script_answers::gix_config::parse::section::header;
+use script_answers::gix_config::parse::span;
 
 /// What the lines of a block ask of the editor of a section.
 pub trait SectionEditor {
@@ -14,7 +14,7 @@ pub trait SectionEditor {
     ghost use Rattle.std.specs.Borrow.{GName};
     ghost use Rattle.std.specs.List.{list_all};
     ghost use Rattle.std.specs.Prelude.{◌≡◌, true, IfSome};
-    ghost use Rattle.gix_config.specs.SectionEditors.{is_whitespace};
+    ghost use Rattle.script_answers.specs.SectionEditors.{is_whitespace};
 
     ghost held: { Self → GName };
 
@@ -59,7 +59,7 @@ pub trait SectionEditor {
 }
 
 impl SectionEditor for SectionMut<'_> {
-    ghost use Rattle.gix_config.specs.SectionEditors.{lent};
+    ghost use Rattle.script_answers.specs.SectionEditors.{lent};
 
     ghost held = { lent };
 
@@ -129,7 +129,7 @@ impl SectionEditor for SectionMut<'_> {
 }
 
 impl SectionEditor for DetachedSectionMut<'_> {
-    ghost use Rattle.gix_config.specs.AloneEditors.{lent};
+    ghost use Rattle.script_answers.specs.AloneEditors.{lent};
 
     ghost held = { lent };
 

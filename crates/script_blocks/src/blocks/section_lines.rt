@@ -16,9 +16,9 @@ use gitconf_script::editors::{
 };
 use gitconf_script::play::{Fault, Streams};
 use gitconf_script::words::{Word, words_of};
-use gix_config::file::is_whitespace;
 use script_answers::answer::{Answer, Outcome};
 use script_answers::arguments::owned;
+use script_answers::gix_config::file::is_whitespace;
 use script_answers::refusal::Refusal;
 use script_answers::rendering::line_of;
 use std::alloc::{AllocError, Global};

@@ -1,6 +1,6 @@
 //! The lines of the editor of one value.
 ghost use Rattle.std.specs.Prelude.{◌≡◌};
-ghost use Rattle.gix_config.specs.ValueEditors.{lent};
+ghost use Rattle.script_answers.specs.ValueEditors.{lent};
 
 use super::tell;
 use gitconf_script::arguments::{bytes, no_words};
@@ -9,8 +9,8 @@ use gitconf_script::bracket::Bracket;
 use gitconf_script::editors::{ValueLine, value_line_of};
 use gitconf_script::play::{Fault, Streams};
 use gitconf_script::words::{Word, words_of};
-use gix_config::file::ValueMut;
 use script_answers::answer::{Answer, Outcome};
+use script_answers::gix_config::file::ValueMut;
 use script_answers::refusal::Refusal;
 use script_answers::rendering::line_of;
 use std::alloc::{AllocError, Global};

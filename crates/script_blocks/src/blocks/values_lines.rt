@@ -1,6 +1,6 @@
 //! The lines of the editor of all values of a key.
 ghost use Rattle.std.specs.Prelude.{◌≡◌};
-ghost use Rattle.gix_config.specs.MultiValueEditors.{lent};
+ghost use Rattle.script_answers.specs.MultiValueEditors.{lent};
 
 use super::tell;
 use gitconf_script::arguments::{bytes, no_words, number};
@@ -10,9 +10,9 @@ use gitconf_script::editor_arguments::number_and_bytes;
 use gitconf_script::editors::{ValuesLine, values_line_of};
 use gitconf_script::play::{Fault, Streams};
 use gitconf_script::words::{Word, words_of};
-use gix_config::file::MultiValueMut;
 use script_answers::answer::{Answer, Outcome};
 use script_answers::arguments::bytes_of_all;
+use script_answers::gix_config::file::MultiValueMut;
 use script_answers::refusal::Refusal;
 use script_answers::rendering::line_of;
 use std::alloc::{AllocError, Global};

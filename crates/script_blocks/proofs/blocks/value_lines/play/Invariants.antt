@@ -1,5 +1,5 @@
 use Rattle.std.proofs.Common.{◌≡◌}
-use Rattle.gix_config.specs.ValueEditors.{lent}
+use Rattle.script_answers.specs.ValueEditors.{lent}
 use Rattle.script_blocks.proofs.blocks.value_lines.play.Given as goal
 
 -- the editor still holds the same file

@@ -1,5 +1,5 @@
 use Rattle.std.proofs.Common.{◌≡◌}
-use Rattle.gix_config.specs.MultiValueEditors.{lent}
+use Rattle.script_answers.specs.MultiValueEditors.{lent}
 use Rattle.script_blocks.proofs.blocks.values_lines.play.Given as goal
 
 -- the editor still holds the same file
