@@ -42,7 +42,6 @@ pub enum Fault<'a> {
 fn meaning_of(option: Opt) -> &'static str {
     match option {
         Opt::File => "a file",
-        Opt::Comment => "a comment",
         Opt::Default => "a value",
         Opt::Type => "bool, int, bool-or-int or path",
         Opt::Indent => "tabs:N or spaces:N",

@@ -45,15 +45,14 @@ Ends with 1 if the key isn't there.
 ";
 
 const SET: &str = "\
-usage: gixcfg set [-f FILE] [--all] [--append] [--type TYPE] [--comment COMMENT] KEY VALUE
+usage: gixcfg set [-f FILE] [--all] [--append] [--type TYPE] KEY VALUE
 
 Gives a key a value, in its place if it is there, else in the last section of its name, else in a new one.
 
-    -f, --file FILE    the file, which is changed in place, and made if it isn't there; - is standard input, as without it
-    --all              one entry in place of all entries of the key
-    --append           one more entry, behind all others of the key
-    --type TYPE        the value as bool, int, bool-or-int or path; refused if it is none
-    --comment COMMENT  a comment behind the value
+    -f, --file FILE   the file, which is changed in place, and made if it isn't there; - is standard input, as without it
+    --all             one entry in place of all entries of the key, where the first of them stands
+    --append          one more entry, at the end of the last section of the name
+    --type TYPE       the value as bool, int, bool-or-int or path; refused if it is none
 
 Ends with 5 if the key has several entries, and neither --all nor --append is given; with 4 if the file can't be
 written. The file is the old one or the new one at any time: it is written as FILE.lock, which is then renamed.
@@ -75,7 +74,7 @@ Ends with 5 if there is no entry, or several of them and --all isn't given.
 ";
 
 const LIST: &str = "\
-usage: gixcfg list [-f FILE] [-z] [--name-only] [--show-origin] [--type TYPE]
+usage: gixcfg list [-f FILE] [-z] [--name-only] [--show-origin]
 
 Prints all entries, a line each: the key, = and the value.
 
@@ -83,7 +82,6 @@ Prints all entries, a line each: the key, = and the value.
     -z, --null        a byte 0 in place of each line feed at the end, and a line feed behind each key
     --name-only       keys without values
     --show-origin     the file before each entry
-    --type TYPE       values as bool, int, bool-or-int or path; entries whose values are none are left out
 
     $ gixcfg list -f .git/config
     core.bare=false

@@ -9,5 +9,5 @@ pub mod help;
 pub mod nearest;
 pub mod options;
 
-/// The version that `--version` tells.
-pub const VERSION: &str = "gixcfg 0.1.0";
+/// What `--version` prints.
+pub const VERSION: &str = "gixcfg 0.1.0\n";

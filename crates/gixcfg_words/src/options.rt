@@ -13,8 +13,6 @@ pub enum Opt {
     All,
     /// One more entry of the key.
     Append,
-    /// The comment behind a value.
-    Comment,
     /// The value where there is none.
     Default,
     /// The type of a value.
@@ -38,14 +36,13 @@ pub enum Opt {
 }
 
 /// The words of the options.
-static OPTIONS: [(&str, Opt); 19] = [
+static OPTIONS: [(&str, Opt); 18] = [
     ("-f", Opt::File),
     ("--file", Opt::File),
     ("-h", Opt::Help),
     ("--help", Opt::Help),
     ("--all", Opt::All),
     ("--append", Opt::Append),
-    ("--comment", Opt::Comment),
     ("--default", Opt::Default),
     ("--type", Opt::Type),
     ("-z", Opt::Null),
@@ -71,24 +68,16 @@ static OF_GET: [Opt; 8] = [
     Opt::ShowNames,
 ];
 
-static OF_SET: [Opt; 6] = [
-    Opt::File,
-    Opt::Help,
-    Opt::All,
-    Opt::Append,
-    Opt::Comment,
-    Opt::Type,
-];
+static OF_SET: [Opt; 5] = [Opt::File, Opt::Help, Opt::All, Opt::Append, Opt::Type];
 
 static OF_UNSET: [Opt; 3] = [Opt::File, Opt::Help, Opt::All];
 
-static OF_LIST: [Opt; 6] = [
+static OF_LIST: [Opt; 5] = [
     Opt::File,
     Opt::Help,
     Opt::Null,
     Opt::NameOnly,
     Opt::ShowOrigin,
-    Opt::Type,
 ];
 
 static OF_SECTION: [Opt; 2] = [Opt::File, Opt::Help];
@@ -127,7 +116,7 @@ pub fn option_named(word: &str) -> Option<Opt> {
 pub fn takes_word(option: Opt) -> bool {
     matches!(
         option,
-        Opt::File | Opt::Comment | Opt::Default | Opt::Type | Opt::Indent | Opt::Newline
+        Opt::File | Opt::Default | Opt::Type | Opt::Indent | Opt::Newline
     )
 }
 
@@ -216,8 +205,6 @@ pub struct Options<'a> {
     pub all: bool,
     /// `--append`
     pub append: bool,
-    /// `--comment`
-    pub comment: Option<&'a str>,
     /// `--default`
     pub default: Option<&'a str>,
     /// `--type`
@@ -248,7 +235,6 @@ impl<'a> Options<'a> {
             help: false,
             all: false,
             append: false,
-            comment: None,
             default: None,
             kind: None,
             null: false,
@@ -294,7 +280,6 @@ impl<'a> Options<'a> {
     pub fn put_word(&mut self, option: Opt, word: &'a str) -> Result<(), Fault<'a>> {
         let taken = match option {
             Opt::File => return self.put_file(word),
-            Opt::Comment => put_in(&mut self.comment, Some(word)),
             Opt::Default => put_in(&mut self.default, Some(word)),
             Opt::Type => put_in(&mut self.kind, kind_named(word)),
             Opt::Indent => put_in(&mut self.indent, indent_named(word)),
