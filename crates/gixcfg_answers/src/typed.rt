@@ -72,13 +72,20 @@ fn copy_of(alloc: Global, bytes: &[u8]) -> Result<BString, Fault> {
     Ok(BString::new(bytes.to_vec(alloc)?))
 }
 
-/// The boolean of a value.
+/// The boolean of a value. An integer with a suffix is one too.
 fn boolean(alloc: Global, value: &[u8], kind: Kind) -> Result<BString, Fault> {
     match Boolean::try_from(copy_of(alloc, value)?) {
-        Ok(Boolean(true)) => copy_of(alloc, b"true"),
-        Ok(Boolean(false)) => copy_of(alloc, b"false"),
-        Err(_) => Err(Fault::Refused(kind)),
+        Ok(Boolean(is_true)) => copy_of(alloc, told(is_true)),
+        Err(_) => match decimal(copy_of(alloc, value)?) {
+            Ok(number) => copy_of(alloc, told(number != 0)),
+            Err(_) => Err(Fault::Refused(kind)),
+        },
     }
+}
+
+/// A boolean as it is told.
+fn told(is_true: bool) -> &'static [u8] {
+    if is_true { b"true" } else { b"false" }
 }
 
 /// The integer of a value, if it is one.
@@ -92,8 +99,11 @@ fn integer(alloc: Global, value: &[u8]) -> Result<Option<BString>, Fault> {
     }
 }
 
-/// The path of a value.
+/// The path of a value. An empty one stays empty.
 fn path(alloc: Global, value: &[u8], home: Option<&str>) -> Result<BString, Fault> {
+    if value.is_empty() {
+        return copy_of(alloc, b"");
+    }
     let context = Context {
         git_install_dir: None,
         home_dir: home,
