@@ -90,9 +90,16 @@ def files_in(folder):
     for inner, _, names in os.walk(top):
         for path in (os.path.join(inner, name) for name in names):
             if not os.path.islink(path) and os.path.isfile(path):
-                with open(path, "rb") as file:
-                    found[os.path.relpath(path, top)] = file.read(), os.stat(path).st_mode & 0o7777
+                found[os.path.relpath(path, top)] = _read(path)
     return found
+
+
+def _read(path):
+    """The text of a file and the bits of its mode, which it then has no more: one without rights is given some."""
+    mode = os.stat(path).st_mode & 0o7777
+    os.chmod(path, 0o600)
+    with open(path, "rb") as file:
+        return file.read(), mode
 
 
 def drop_rights():

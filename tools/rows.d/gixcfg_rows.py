@@ -30,7 +30,7 @@ class ProgramRow:
     @property
     def out_of_memory(self):
         """How it ends where memory is wanting: its files are then as they were."""
-        given = {entry.name: Left(entry.content) for entry in self.run.entries if entry.kind == "file"}
+        given = {entry.name: Left(entry.content) for entry in self.run.entries if entry.kind in ("file", "locked")}
         return Ending("5", b"", b"gixcfg: E27\n", given if self.sees_files else None)
 
 
