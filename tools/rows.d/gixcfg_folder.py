@@ -5,7 +5,7 @@ import ctypes
 import os
 import tempfile
 import threading
-from typing import NamedTuple, Union
+from typing import NamedTuple, Optional, Union
 
 # Linux's PR_CAPBSET_DROP, and the rights of root to read and write whatever the rights of a file are.
 DROP_RIGHT = 24
@@ -15,11 +15,12 @@ _LIBC = ctypes.CDLL(None, use_errno=True)
 
 
 class Entry(NamedTuple):
-    """What stands in the folder: its kind and its name, and its text, the place that it leads to, or its length."""
+    """What stands in the folder: its kind and its name, and its text, the place that it leads to, or its length; and the bits of its mode."""
 
     kind: str
     name: bytes
     content: Union[bytes, int] = b""
+    mode: Optional[int] = None
 
 
 @contextlib.contextmanager
@@ -32,6 +33,8 @@ def folder_of(entries):
                 pipes.enter_context(_fed(path, entry.content))
             else:
                 _MAKERS[entry.kind](path, entry.content)
+            if entry.mode is not None:
+                os.chmod(path, entry.mode)
         yield folder
 
 
@@ -79,6 +82,24 @@ def _fed(path, text):
 def _feed(path, text):
     with contextlib.suppress(BrokenPipeError), open(path, "wb", buffering=0) as pipe:
         pipe.write(text)
+
+
+def files_in(folder):
+    """The regular files that stand in the folder: of each its text and the bits of its mode. Links are left out."""
+    found, top = {}, os.fsencode(folder)
+    for inner, _, names in os.walk(top):
+        for path in (os.path.join(inner, name) for name in names):
+            if not os.path.islink(path) and os.path.isfile(path):
+                found[os.path.relpath(path, top)] = _read(path)
+    return found
+
+
+def _read(path):
+    """The text of a file and the bits of its mode, which it then has no more: one without rights is given some."""
+    mode = os.stat(path).st_mode & 0o7777
+    os.chmod(path, 0o600)
+    with open(path, "rb") as file:
+        return file.read(), mode
 
 
 def drop_rights():

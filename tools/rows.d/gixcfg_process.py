@@ -9,8 +9,8 @@ import socket
 import subprocess
 import tempfile
 
-from gixcfg_folder import drop_rights, folder_of
-from gixcfg_runs import Ending
+from gixcfg_folder import drop_rights, files_in, folder_of
+from gixcfg_runs import Ending, Left
 
 # Linux's F_SETPIPE_SZ, which Python has a name for from 3.10 on.
 SET_PIPE_SIZE = 1031
@@ -24,8 +24,8 @@ class Failed(Exception):
     """The run didn't end, or read what it was to leave unread."""
 
 
-def ending(program, run, limit, variables=None):
-    """How a run of this program ends. `limit` is the seconds that it has."""
+def ending(program, run, limit, variables=None, sees_files=False):
+    """How a run of this program ends, with what its folder has where that is asked for. `limit` is the seconds that it has."""
     with contextlib.ExitStack() as stack:
         folder = stack.enter_context(folder_of(run.entries))
         source = stack.enter_context(_source(run.input))
@@ -40,7 +40,8 @@ def ending(program, run, limit, variables=None):
         printed, told = _communicate(process, limit * HUGE if run.is_huge else limit)
         if run.input.stays_unread and source.tell() != 0:
             raise Failed(f"{source.tell()} bytes of its standard input were read")
-        return Ending(_status(process), _seen(run.out, out, printed), _seen(run.err, err, told))
+        files = {name: Left(*file) for name, file in files_in(folder).items()} if sees_files else None
+        return Ending(_status(process), _seen(run.out, out, printed), _seen(run.err, err, told), files)
 
 
 def _communicate(process, limit):

@@ -5,11 +5,10 @@ import os
 from concurrent.futures import ThreadPoolExecutor
 
 from gixcfg_process import Failed, ending
-from gixcfg_runs import Ending, ending_of, run_of
+from gixcfg_runs import Ending, Left, ending_of, run_of
 from transcripts import read
 from words import Malformed
 
-OUT_OF_MEMORY = Ending("5", b"", b"gixcfg: E27\n")
 
 
 class ProgramRow:
@@ -23,6 +22,17 @@ class ProgramRow:
             raise Malformed(f"{row.place}: {fault}") from fault
         self.row = row
 
+    @property
+    def sees_files(self):
+        """Whether it tells what its folder has in the end."""
+        return self.wanted.files is not None
+
+    @property
+    def out_of_memory(self):
+        """How it ends where memory is wanting: its files are then as they were."""
+        given = {entry.name: Left(entry.content) for entry in self.run.entries if entry.kind in ("file", "locked")}
+        return Ending("5", b"", b"gixcfg: E27\n", given if self.sees_files else None)
+
 
 def read_rows(path):
     """The rows of a file of runs."""
@@ -33,11 +43,11 @@ def run(rows, program, limit, report):
     """Makes each run."""
     for row in rows:
         try:
-            got = ending(program, row.run, limit)
+            got = ending(program, row.run, limit, sees_files=row.sees_files)
         except Failed as fault:
             report.row_failed(row.row, f"nothing: {fault}")
             continue
-        if got == row.wanted:
+        if got.is_as(row.wanted):
             report.row_passed()
         else:
             report.row_failed(row.row, got)
@@ -62,11 +72,11 @@ def _refuse_one(row, program, limit, shim):
     for number in itertools.count(1):
         variables = shim.whole_process(number)
         try:
-            got = ending(program, row.run, limit, variables)
+            got = ending(program, row.run, limit, variables, row.sees_files)
         except Failed as fault:
             return f"nothing: {fault}", number - 1
         was_refused = shim.was_refused(variables)
-        if got != row.wanted and not (was_refused and got == OUT_OF_MEMORY):
+        if not got.is_as(row.wanted) and not (was_refused and got.is_as(row.out_of_memory)):
             return f"{got}, with growth {number} refused" if was_refused else got, number - 1
         if not was_refused:
             return None, number - 1

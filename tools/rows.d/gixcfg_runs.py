@@ -1,7 +1,7 @@
 """Runs of the program `gixcfg`: its words and streams, and its status, output and error.
 
 A run is a line `gixcfg WORDS [in PARTS] [< INPUT] [> OUTPUT] [2> ERROR]`, and behind two blanks on the next line
-`STATUS OUTPUT ERROR`.
+`STATUS OUTPUT ERROR [leaves FILES]`.
 rows/README.md has the form of each of them.
 """
 
@@ -59,15 +59,40 @@ class Run(NamedTuple):
                 and not self.is_huge and not any(entry.kind == "pipe" for entry in self.entries))
 
 
+class Left(NamedTuple):
+    """A file that a run leaves: its text, and the bits of its mode."""
+
+    text: bytes
+    mode: Optional[int] = None
+
+
 class Ending(NamedTuple):
-    """How a run ends: its status, and what it wrote; None for what can't be seen."""
+    """How a run ends: its status, what it wrote, and what its folder has; None for what can't be seen or isn't told."""
 
     status: str
     out: Optional[bytes]
     err: Optional[bytes]
+    files: Optional[Dict[bytes, Left]] = None
 
     def __str__(self):
-        return " ".join([self.status, _shown(self.out), _shown(self.err)])
+        told = [self.status, _shown(self.out), _shown(self.err)]
+        if self.files is not None:
+            told += ["leaves", *(_shown_file(name, left) for name, left in sorted(self.files.items()))]
+        return " ".join(told)
+
+    def is_as(self, wanted):
+        """Whether it is a wanted one, of whose files only those are compared that are told."""
+        return self[:3] == wanted[:3] and (wanted.files is None or self.has(wanted.files))
+
+    def has(self, files):
+        """Whether its folder has these files, and no other. A missing mode stands for any."""
+        return self.files.keys() == files.keys() and all(
+            left.text == self.files[name].text and left.mode in (None, self.files[name].mode) for name, left in files.items())
+
+
+def _shown_file(name, left):
+    mode = "" if left.mode is None else f" mode {left.mode:o}"
+    return f"file {quote(name)} {quote(left.text)}{mode}"
 
 
 def _shown(text):
@@ -100,6 +125,9 @@ class _Tokens:
         if not word.isdigit():
             raise Malformed(f"no number: {word}")
         return int(word)
+
+    def octal(self):
+        return int(str(self.number()), 8)
 
     def ends_with_streams(self):
         """Whether only streams are left, or nothing."""
@@ -169,7 +197,8 @@ def _parts_of(tokens):
         elif kind == "folder":
             entries.append(Entry(kind, tokens.quoted()))
         elif kind in KINDS:
-            entries.append(Entry(kind, tokens.quoted(), tokens.text()))
+            entry = Entry(kind, tokens.quoted(), tokens.text())
+            entries.append(entry._replace(mode=tokens.octal()) if tokens.accept("mode") else entry)
         else:
             raise Malformed(f"nothing that a folder may have: {kind}")
     return entries, variables
@@ -199,5 +228,15 @@ def ending_of(line, folder):
     tokens = _Tokens(line, folder)
     status = str(tokens.number())
     out, err = (None if tokens.accept("-") else tokens.text() for _ in range(2))
+    files = _files_of(tokens) if tokens.accept("leaves") else None
     tokens.close()
-    return Ending(status, out, err)
+    return Ending(status, out, err, files)
+
+
+def _files_of(tokens):
+    """The files that a folder has in the end."""
+    files = {}
+    while tokens.accept("file"):
+        name = tokens.quoted()
+        files[name] = Left(tokens.text(), tokens.octal() if tokens.accept("mode") else None)
+    return files

@@ -159,6 +159,7 @@ LOADERS = ('# one\nload "v"\n  ok\npaths true\n  ok\nprint\n  ok "w"\nload "u"\n
 RUNS = 'gixcfg "get" < "v"\n  0 "v" ""\n\ngixcfg "other" < "v" unread\n  2 "" "usage"\n'
 AROUND = ('gixcfg "get" in file "m" "v" file "d/m" "w" times 2 pipe "p" "x" link "l" "m" locked "k" "y" sparse "s" 1 pipe "q" "z"'
           ' set "HOME" "h" unset "USER"\n  0 "v ww x v PermissionError \\x00 FileNotFoundError h None" ""\n')
+LEAVING = AROUND.replace("\\n\n", "").rstrip("\n") + ' leaves file "d/m" "ww" file "k" "y" mode 0 file "m" "v" file "s" "\\x00"\n'
 EDIT = '# one\nset "a" - "k" "v"\n  ok\n'
 REASON = "# A reason.\nin rows.txt: one\n"
 
@@ -234,6 +235,13 @@ CASES = [
     Case("gixcfg, what stands in its folder", LOOKER, "program.txt", AROUND, (), (), "1 passed, 0 failed"),
     Case("gixcfg, another file in its folder", LOOKER, "program.txt", AROUND.replace('"v" file', '"u" file'), (), ('got     0 "u ww x u',),
          "0 passed, 1 failed"),
+    Case("gixcfg, what its folder has in the end", LOOKER, "program.txt", LEAVING, (), (), "1 passed, 0 failed"),
+    Case("gixcfg, another text in its folder in the end", LOOKER, "program.txt", LEAVING.replace('"d/m" "ww"', '"d/m" "w"'), (),
+         ('file "d/m" "ww"',), "0 passed, 1 failed"),
+    Case("gixcfg, another mode in its folder in the end", LOOKER, "program.txt", LEAVING.replace("mode 0", "mode 600"), (),
+         ('file "k" "y" mode 0',), "0 passed, 1 failed"),
+    Case("gixcfg, a file more in its folder in the end", LOOKER, "program.txt", LEAVING.replace(' file "m" "v" file "s"', ' file "s"'), (),
+         ('file "m" "v"',), "0 passed, 1 failed"),
     Case("gixcfg, nothing that a folder has", LOOKER, "program.txt", 'gixcfg "get" in thing "m"\n  0 "" ""\n', (),
          ("nothing that a folder may have: thing",), "0 passed, 1 failed"),
     other("the same", "right", "", (), "4 passed, 0 failed"),

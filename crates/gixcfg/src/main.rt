@@ -1,17 +1,26 @@
 //! The program `gixcfg`: words and standard input in, an answer and an exit status out.
 #![tactic(auto)]
 
+mod calls;
+mod checks;
+mod edits;
+mod entries;
+mod loading;
 mod output;
 mod program;
+mod reads;
 
+use calls::run_call;
 use gitconf_disk::{Disk, Process};
 use gix_config::NoMemory;
-use gix_config::host::{Host, Places};
+use gix_config::host::{Env, EnvVar, Host, Places};
 use gix_config::refusals::Refusal;
-use program::{MEMORY, run};
+use gixcfg_words::call::has_options;
+use loading::Outside;
+use program::{MEMORY, home_of, run, understands};
 use std::alloc::Global;
 use std::env;
-use std::io::ErrorKind;
+use std::io::{ErrorKind, IsTerminal};
 use std::process::ExitCode;
 
 /// The words behind the program's name; none where one of them isn't UTF-8, which is a usage fault.
@@ -38,10 +47,35 @@ fn places(alloc: Global) -> Result<Places, NoMemory> {
     })
 }
 
+/// Whether standard error shows colors: it is a terminal, and `NO_COLOR` isn't set, or to nothing.
+fn is_colored(rt: &HostRuntime) -> Result<bool, NoMemory> {
+    if !rt.stderr().is_terminal() {
+        return Ok(false);
+    }
+    match Process::new(*rt).var("NO_COLOR")? {
+        EnvVar::Unset => Ok(true),
+        EnvVar::Text(text) => Ok(text.is_empty()),
+        EnvVar::IllFormed => Ok(false),
+    }
+}
+
+/// Runs a call with options.
+fn run_with_options(rt: &HostRuntime, args: &[&str]) -> Result<u8, NoMemory> {
+    let home = home_of(&mut Process::new(*rt))?;
+    let outside = Outside {
+        is_colored: is_colored(rt)?,
+        home: home.as_deref(),
+    };
+    Ok(run_call(rt, args, outside, rt.reader(), rt.stdout(), rt.stderr()))
+}
+
 /// Runs the program with the words of the process, its three streams, its variables, and the files of the disk.
 fn run_process(rt: &HostRuntime) -> Result<u8, NoMemory> {
     let words = words_of(rt)?;
     let args = borrowed(rt.alloc(), &words)?;
+    if has_options(&args) && !understands(&args) {
+        return run_with_options(rt, &args);
+    }
     let mut host = Host {
         files: Box::new(rt.alloc(), Disk::new(*rt))?,
         env: Box::new(rt.alloc(), Process::new(*rt))?,

@@ -12,6 +12,7 @@ use gix_config::lookup::existing;
 use gix_config::parse::{Error, SinkFault};
 use gix_config::refusals::Refusal;
 use gix_config::{File, KeyRef, NoMemory, value};
+use gixcfg_answers::names::add_names;
 use std::alloc::{AllocError, AllocFailed, Global};
 use std::io;
 use std::io::{ErrorKind, Read, Write};
@@ -60,7 +61,7 @@ enum Command<'a> {
 
 /// Why the program did not do it.
 #[derive(Drop)]
-enum Fault {
+pub enum Fault {
     /// It was called in a way that isn't understood.
     Usage,
     /// What was looked for is not there.
@@ -209,6 +210,11 @@ pub fn run<R: Read + Drop, W: Write + Drop, E: Write + Drop>(
     }
 }
 
+/// Whether these are words of a call without options.
+pub fn understands(args: &[&str]) -> bool {
+    task_of(args).is_ok()
+}
+
 /// Does what the words ask for.
 fn execute<R: Read, W: Write, F: Files, V: Env>(
     alloc: Global,
@@ -275,7 +281,7 @@ fn key_command<'a>(word: &str, key: &'a str) -> Result<Command<'a>, Fault> {
 }
 
 /// The key that a word is.
-fn key_of(word: &str) -> Result<KeyRef<'_>, Fault> {
+pub fn key_of(word: &str) -> Result<KeyRef<'_>, Fault> {
     match KeyRef::parse_unvalidated(word.as_bytes()) {
         Some(key) => Ok(key),
         None => Err(Fault::Usage),
@@ -283,7 +289,7 @@ fn key_of(word: &str) -> Result<KeyRef<'_>, Fault> {
 }
 
 /// All of standard input.
-fn read_all<R: Read>(alloc: Global, input: &mut R) -> Result<Vec<u8>, Fault> {
+pub fn read_all<R: Read>(alloc: Global, input: &mut R) -> Result<Vec<u8>, Fault> {
     let mut text = Vec::new(alloc);
     match input.read_to_end(&mut text) {
         Ok(_) => Ok(text),
@@ -303,7 +309,7 @@ fn load_entries(alloc: Global, text: Vec<u8>) -> Result<File, Fault> {
 }
 
 /// The home folder that the variables tell, if there is one.
-fn home_of<V: Env>(env: &mut V) -> Result<Option<String>, NoMemory> {
+pub fn home_of<V: Env>(env: &mut V) -> Result<Option<String>, NoMemory> {
     match env.var("HOME")? {
         EnvVar::Text(home) => Ok(Some(home)),
         EnvVar::Unset | EnvVar::IllFormed => Ok(None),
@@ -399,31 +405,6 @@ fn add_entries(lines: &mut Vec<u8>, section: &SectionRef<'_>) -> Result<(), NoMe
     Ok(())
 }
 
-/// Adds an entry's names, with dots between them: that of its section, the subsection if there is one, and its own. The first and the
-/// last are told in lower case.
-fn add_names(
-    lines: &mut Vec<u8>,
-    section_name: &[u8],
-    subsection_name: Option<&[u8]>,
-    value_name: &str,
-) -> Result<(), NoMemory> {
-    add_in_lower_case(lines, section_name)?;
-    lines.push(b'.')?;
-    if let Some(subsection_name) = subsection_name {
-        lines.extend_from_slice(subsection_name)?;
-        lines.push(b'.')?;
-    }
-    add_in_lower_case(lines, value_name.as_bytes())
-}
-
-/// Adds bytes, ASCII letters of them in lower case.
-fn add_in_lower_case(lines: &mut Vec<u8>, bytes: &[u8]) -> Result<(), NoMemory> {
-    for byte in bytes {
-        lines.push(byte.to_ascii_lowercase())?;
-    }
-    Ok(())
-}
-
 /// Gives a key a value.
 fn set(file: &mut File, key: KeyRef<'_>, value: &str) -> Result<(), Fault> {
     let _ = file.set_raw_value(key, value.as_bytes())?;
@@ -431,7 +412,7 @@ fn set(file: &mut File, key: KeyRef<'_>, value: &str) -> Result<(), Fault> {
 }
 
 /// The number of the last section that has an entry of a key.
-fn last_with(file: &File, key: KeyRef<'_>) -> Result<SectionId, Fault> {
+pub fn last_with(file: &File, key: KeyRef<'_>) -> Result<SectionId, Fault> {
     match file.raw_values_with_sections(key) {
         Ok(found) => match found.last() {
             Some(found) => Ok(found.1.id()),
@@ -443,7 +424,7 @@ fn last_with(file: &File, key: KeyRef<'_>) -> Result<SectionId, Fault> {
 }
 
 /// Takes the last entry of a key out of the section of a number.
-fn remove(file: &mut File, id: SectionId, key: KeyRef<'_>) -> Result<(), Fault> {
+pub fn remove(file: &mut File, id: SectionId, key: KeyRef<'_>) -> Result<(), Fault> {
     match file.section_mut_by_id(id) {
         Ok(mut section) => {
             let _ = section.remove(key.value_name)?;
@@ -527,7 +508,7 @@ fn put_list<W: Write>(alloc: Global, file: &File, out: &mut W) -> Result<(), Fau
 }
 
 /// Writes an answer that stands in memory.
-fn put<W: Write>(answer: &[u8], out: &mut W) -> Result<(), Fault> {
+pub fn put<W: Write>(answer: &[u8], out: &mut W) -> Result<(), Fault> {
     match out.write_all(answer) {
         Ok(()) => Ok(()),
         Err(_) => Err(Fault::Output),

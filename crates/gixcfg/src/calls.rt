@@ -1,0 +1,94 @@
+//! Calls with options.
+ghost use Rattle.std.specs.Prelude.{◌≤◌};
+
+use crate::checks::check;
+use crate::edits::edit;
+use crate::loading::{Outside, name_of};
+use crate::program::MEMORY;
+use crate::reads::{get, list};
+use gixcfg_answers::trouble::{Trouble, tell};
+use gixcfg_words::VERSION;
+use gixcfg_words::call::{Asked, Call, read};
+use gixcfg_words::commands::Command;
+use gixcfg_words::fault::{self, Fault};
+use gixcfg_words::help::help_on;
+use std::alloc::{AllocGlobal, Global};
+use std::io::{Read, Write};
+use std::rt::Files;
+
+/// Runs the program with words of which one is an option, or which are a command that has no other form, and answers its exit
+/// status: 0 done, 1 missing, 2 usage, 3 refused, 4 input, output or a file, 5 several entries or none, and want of memory.
+pub fn run_call<R: Files + AllocGlobal, I: Read + Drop, W: Write + Drop, E: Write + Drop>(
+    rt: &R,
+    words: &[&str],
+    outside: Outside<'_>,
+    mut input: I,
+    mut out: W,
+    mut err: E,
+) -> u8
+    ensures { result ≤ 5 }
+{
+    match read(rt.alloc(), words) {
+        Ok(Asked::Do(call)) => do_call(rt, &call, outside, &mut input, &mut out, &mut err),
+        Ok(Asked::Help(command)) => print(help_on(command), &mut out, &mut err),
+        Ok(Asked::Version) => print(VERSION, &mut out, &mut err),
+        Err(fault) => tell_fault(rt.alloc(), fault, &mut err),
+    }
+}
+
+/// Prints a text that ends with a line feed or not.
+fn print<W: Write, E: Write>(text: &str, out: &mut W, err: &mut E) -> u8
+    ensures { result ≤ 5 }
+{
+    match out.write_all(text.as_bytes()) {
+        Ok(()) => 0,
+        Err(_) => {
+            tell(&Trouble::Output, "", err);
+            4
+        }
+    }
+}
+
+/// Tells what is wrong with the words.
+fn tell_fault<E: Write>(alloc: Global, fault: Fault<'_>, err: &mut E) -> u8
+    ensures { result ≤ 5 }
+{
+    let status = if matches!(fault, Fault::Memory) {
+        MEMORY
+    } else {
+        2
+    };
+    match fault::tell(alloc, fault, err) {
+        Ok(()) => status,
+        Err(_) => {
+            tell(&Trouble::Memory, "", err);
+            MEMORY
+        }
+    }
+}
+
+/// Does a call, and tells why where it isn't done.
+fn do_call<R: Files + AllocGlobal, I: Read, W: Write, E: Write>(
+    rt: &R,
+    call: &Call<'_>,
+    outside: Outside<'_>,
+    input: &mut I,
+    out: &mut W,
+    err: &mut E,
+) -> u8
+    ensures { result ≤ 5 }
+{
+    let done = match call.command {
+        Command::Check => return check(rt, call, outside, input, err),
+        Command::Get => get(rt, call, outside, input, out),
+        Command::List => list(rt, call, outside, input, out),
+        _ => edit(rt, call, outside, input, out),
+    };
+    match done {
+        Ok(()) => 0,
+        Err(trouble) => {
+            tell(&trouble, name_of(call), err);
+            trouble.status()
+        }
+    }
+}

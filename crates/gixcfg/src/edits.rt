@@ -1,0 +1,311 @@
+//! `set`, `unset`, `rename-section`, `remove-section` and `fmt` with options.
+
+use crate::loading::{Outside, loaded, name_of, refused, text_of};
+use crate::program::{key_of, last_with, put, remove};
+use bstr::BString;
+use gix_config::file::rename_section;
+use gix_config::format::{self, normalize};
+use gix_config::lookup::existing;
+use gix_config::refusals::Refusal;
+use gix_config::{File, KeyRef, NoMemory};
+use gixcfg_answers::trouble::{Trouble, of_number};
+use gixcfg_answers::typed::typed;
+use gixcfg_files::Lock;
+use gixcfg_words::call::Call;
+use gixcfg_words::commands::Command;
+use gixcfg_words::options::{Indent, Kind, Newline, Options};
+use std::alloc::{AllocGlobal, Global};
+use std::io::{Read, Write};
+use std::rt::Files;
+
+/// Does an edit: of a file in place, of standard input to standard output.
+pub fn edit<R: Files + AllocGlobal, I: Read, W: Write>(
+    rt: &R,
+    call: &Call<'_>,
+    outside: Outside<'_>,
+    input: &mut I,
+    out: &mut W,
+) -> Result<(), Trouble> {
+    match call.options.path() {
+        Some(path) if !call.options.check => edit_in_place(rt, path, call, outside),
+        path => {
+            let Some(text) = text_of(rt, path, input)? else {
+                return Err(Trouble::NoFile);
+            };
+            put_edited(rt.alloc(), call, &text, outside, out)
+        }
+    }
+}
+
+/// Writes what an edit makes of a text, or tells whether it changes it.
+fn put_edited<W: Write>(
+    alloc: Global,
+    call: &Call<'_>,
+    text: &[u8],
+    outside: Outside<'_>,
+    out: &mut W,
+) -> Result<(), Trouble> {
+    let edited = edited(alloc, call, text, outside)?;
+    if !call.options.check {
+        Ok(put(&edited, out)?)
+    } else if edited.as_bytes() == text {
+        Ok(())
+    } else {
+        Err(Trouble::Different)
+    }
+}
+
+/// Does an edit of the file at a path, under its lock. A text that it doesn't change isn't written.
+fn edit_in_place<R: Files + AllocGlobal>(
+    rt: &R,
+    path: &str,
+    call: &Call<'_>,
+    outside: Outside<'_>,
+) -> Result<(), Trouble> {
+    let lock = Lock::take(rt, path)?;
+    match new_text(rt.alloc(), &lock, call, outside)? {
+        Some(text) => Ok(lock.replace(&text)?),
+        None => Ok(()),
+    }
+}
+
+/// What an edit makes of the file that a lock is of; none where that is what it has.
+fn new_text<R: Files + AllocGlobal>(
+    alloc: Global,
+    lock: &Lock<'_, R>,
+    call: &Call<'_>,
+    outside: Outside<'_>,
+) -> Result<Option<BString>, Trouble> {
+    match lock.read()? {
+        Some(text) => changed(alloc, call, &text, outside),
+        None => match call.command {
+            Command::Set => changed(alloc, call, b"", outside),
+            Command::Unset => Err(Trouble::NoEntry),
+            _ => Err(Trouble::NoFile),
+        },
+    }
+}
+
+/// What an edit makes of a text; none where that is the text.
+fn changed(
+    alloc: Global,
+    call: &Call<'_>,
+    text: &[u8],
+    outside: Outside<'_>,
+) -> Result<Option<BString>, Trouble> {
+    let edited = edited(alloc, call, text, outside)?;
+    if edited.as_bytes() == text {
+        Ok(None)
+    } else {
+        Ok(Some(edited))
+    }
+}
+
+/// What an edit makes of a text.
+fn edited(
+    alloc: Global,
+    call: &Call<'_>,
+    text: &[u8],
+    outside: Outside<'_>,
+) -> Result<BString, Trouble> {
+    if let Command::Fmt = call.command {
+        return match normalize(alloc, text, layout_of(&call.options)) {
+            Ok(text) => Ok(text),
+            Err(refusal) => Err(refused(alloc, name_of(call), text, &refusal, outside)),
+        };
+    }
+    let mut file = loaded(alloc, name_of(call), text, outside)?;
+    apply(alloc, &mut file, call, outside)?;
+    Ok(file.to_bstring()?)
+}
+
+/// The layout that the options ask for.
+fn layout_of(options: &Options<'_>) -> format::Options {
+    let mut layout = format::Options::default();
+    match options.indent {
+        Some(Indent::Tabs(count)) => layout.key_value_indent = format::Indent::Tabs(count as usize),
+        Some(Indent::Spaces(count)) => {
+            layout.key_value_indent = format::Indent::Spaces(count as usize)
+        }
+        None => {}
+    }
+    match options.newline {
+        Some(Newline::Lf) => layout.newline = format::Newline::Lf,
+        Some(Newline::CrLf) => layout.newline = format::Newline::CrLf,
+        Some(Newline::Detect) | None => {}
+    }
+    layout
+}
+
+/// Edits a file.
+fn apply(
+    alloc: Global,
+    file: &mut File,
+    call: &Call<'_>,
+    outside: Outside<'_>,
+) -> Result<(), Trouble> {
+    match (call.command, call.words.as_slice()) {
+        (Command::Set, [key, value]) => set(alloc, file, key, value, &call.options, outside),
+        (Command::Unset, [key]) => unset(file, key_of(key)?, call.options.all),
+        (Command::RenameSection, [old, new]) => rename(alloc, file, old, new),
+        (Command::RemoveSection, [name]) => remove_sections(file, name),
+        _ => Err(Trouble::NoKey),
+    }
+}
+
+/// Gives a key a value, in the type that is asked for.
+fn set(
+    alloc: Global,
+    file: &mut File,
+    key: &str,
+    value: &str,
+    options: &Options<'_>,
+    outside: Outside<'_>,
+) -> Result<(), Trouble> {
+    let key = key_of(key)?;
+    match options.kind {
+        None | Some(Kind::Path) => put_value(file, key, value.as_bytes(), options),
+        Some(kind) => {
+            let value = typed(alloc, Some(value.as_bytes()), kind, outside.home)?;
+            put_value(file, key, value.as_bytes(), options)
+        }
+    }
+}
+
+/// Gives a key a value: the only one, one in place of all, or one more.
+fn put_value(
+    file: &mut File,
+    key: KeyRef<'_>,
+    value: &[u8],
+    options: &Options<'_>,
+) -> Result<(), Trouble> {
+    if options.append {
+        return append(file, key, value);
+    }
+    match count_of(file, key)? {
+        0 => put_new(file, key, value),
+        1 => rewrite(file, key, value),
+        count if options.all => {
+            remove_last(file, key, count.saturating_sub(1))?;
+            rewrite(file, key, value)
+        }
+        _ => Err(Trouble::Several),
+    }
+}
+
+/// Gives a key that has no entry a value.
+fn put_new(file: &mut File, key: KeyRef<'_>, value: &[u8]) -> Result<(), Trouble> {
+    match file.set_raw_value(key, value) {
+        Ok(old) => {
+            drop(old);
+            Ok(())
+        }
+        Err(refusal) => Err(of_number(refusal.number())),
+    }
+}
+
+/// How many entries a key has.
+fn count_of(file: &File, key: KeyRef<'_>) -> Result<usize, NoMemory> {
+    match file.strings(key)? {
+        Some(values) => Ok(values.len()),
+        None => Ok(0),
+    }
+}
+
+/// Adds an entry of a key, in the last section of its name.
+fn append(file: &mut File, key: KeyRef<'_>, value: &[u8]) -> Result<(), Trouble> {
+    match file.section_mut_or_create_new(key.section_name, key.subsection_name) {
+        Ok(mut section) => match section.push(key.value_name, Some(value)) {
+            Ok(()) => Ok(()),
+            Err(refusal) => Err(of_number(refusal.number())),
+        },
+        Err(refusal) => Err(of_number(refusal.number())),
+    }
+}
+
+/// Gives the first entry of a key another value.
+fn rewrite(file: &mut File, key: KeyRef<'_>, value: &[u8]) -> Result<(), Trouble> {
+    match file.raw_values_mut(key) {
+        Ok(mut editor) => {
+            if editor.is_empty() {
+                return Ok(());
+            }
+            match editor.set_at(0, value) {
+                Ok(()) => Ok(()),
+                Err(refusal) => Err(of_number(refusal.number())),
+            }
+        }
+        Err(existing::Error::Memory) => Err(Trouble::Memory),
+        Err(_) => Err(Trouble::Missing),
+    }
+}
+
+/// Takes out the last entries of a key, so many of them.
+fn remove_last(file: &mut File, key: KeyRef<'_>, count: usize) -> Result<(), Trouble> {
+    for _ in 0..count {
+        remove_one(file, key)?;
+    }
+    Ok(())
+}
+
+/// Takes out the last entry of a key.
+fn remove_one(file: &mut File, key: KeyRef<'_>) -> Result<(), Trouble> {
+    let id = last_with(file, key)?;
+    Ok(remove(file, id, key)?)
+}
+
+/// Takes out the only entry of a key, or all of them.
+fn unset(file: &mut File, key: KeyRef<'_>, is_all: bool) -> Result<(), Trouble> {
+    match count_of(file, key)? {
+        0 => Err(Trouble::NoEntry),
+        1 => remove_one(file, key),
+        count if is_all => remove_last(file, key, count),
+        _ => Err(Trouble::Several),
+    }
+}
+
+/// The name of a section and its subsection, which a word has with a dot between them.
+fn parts_of(word: &str) -> (&str, Option<&[u8]>) {
+    match word.split_once('.') {
+        Some((name, subsection_name)) => (name, Some(subsection_name.as_bytes())),
+        None => (word, None),
+    }
+}
+
+/// Gives the sections of a name another one.
+fn rename(alloc: Global, file: &mut File, old: &str, new: &str) -> Result<(), Trouble> {
+    let (name, subsection_name) = parts_of(old);
+    let (new_name, new_subsection_name) = parts_of(new);
+    let new_subsection_name = match new_subsection_name {
+        Some(bytes) => Some(BString::new(bytes.to_vec(alloc)?)),
+        None => None,
+    };
+    match file.rename_section(name, subsection_name, new_name, new_subsection_name) {
+        Ok(()) => Ok(()),
+        Err(rename_section::Error::Lookup(_)) => Err(Trouble::NoSection),
+        Err(refusal) => Err(of_number(refusal.number())),
+    }
+}
+
+/// Takes out all sections of a name.
+fn remove_sections(file: &mut File, word: &str) -> Result<(), Trouble> {
+    let (name, subsection_name) = parts_of(word);
+    if !remove_section(file, name, subsection_name)? {
+        return Err(Trouble::NoSection);
+    }
+    for _ in 0..file.sections().count() {
+        if !remove_section(file, name, subsection_name)? {
+            break;
+        }
+    }
+    Ok(())
+}
+
+/// Takes out the last section of a name; whether there was one.
+fn remove_section(
+    file: &mut File,
+    name: &str,
+    subsection_name: Option<&[u8]>,
+) -> Result<bool, NoMemory> {
+    Ok(file.remove_section(name, subsection_name)?.is_some())
+}

@@ -1,0 +1,86 @@
+//! The entries of a section, with those that have no value.
+
+use crate::names::add_names;
+use bstr::BString;
+use gitconf_base::key::KeyRef;
+use gitconf_items::event_ref::EventRef;
+use gitconf_items::events::ItemEvents;
+use gitconf_text::NoMemory;
+use gitconf_views::section::SectionRef;
+use std::alloc::Global;
+
+/// An entry: its names with dots between them, and its value. An entry without `=` has none.
+#[derive(Drop)]
+pub struct Found {
+    /// Its names.
+    pub names: Vec<u8>,
+    /// Its value.
+    pub value: Option<BString>,
+}
+
+impl Found {
+    /// The bytes of its value.
+    pub fn value(&self) -> Option<&[u8]> {
+        match &self.value {
+            Some(value) => Some(value.as_bytes()),
+            None => None,
+        }
+    }
+}
+
+/// Which entries have a value, in order.
+fn marks_of(alloc: Global, events: ItemEvents<'_>) -> Result<Vec<bool>, NoMemory> {
+    let mut marks = Vec::new(alloc);
+    for event in events {
+        match event {
+            EventRef::SectionValueName(_) => marks.push(false)?,
+            EventRef::KeyValueSeparator => mark_last(&mut marks),
+            _ => {}
+        }
+    }
+    Ok(marks)
+}
+
+/// Marks the last entry.
+fn mark_last(marks: &mut Vec<bool>) {
+    if let Some(last) = marks.last_mut() {
+        *last = true;
+    }
+}
+
+/// Adds the entries of a section that have this name, or all of them.
+///
+/// # Errors
+///
+/// Want of memory.
+pub fn add_found(
+    alloc: Global,
+    found: &mut Vec<Found>,
+    section: &SectionRef<'_>,
+    value_name: Option<&str>,
+) -> Result<(), NoMemory> {
+    let header = section.header();
+    let marks = marks_of(alloc, section.events())?;
+    let mut at = 0usize;
+    for entry in section.body() {
+        let (name, value) = entry?;
+        let has_value = marks.get(at).copied().unwrap_or(true);
+        at = at.saturating_add(1);
+        if value_name.is_none_or(|wanted| name.eq_ignore_ascii_case(wanted)) {
+            let mut names = Vec::new(alloc);
+            add_names(&mut names, header.name(), header.subsection_name(), name)?;
+            let value = if has_value { Some(value) } else { None };
+            found.push(Found { names, value })?;
+        }
+    }
+    Ok(())
+}
+
+/// Whether a section has the names of a key.
+pub fn is_named(section: &SectionRef<'_>, key: KeyRef<'_>) -> bool {
+    let header = section.header();
+    header
+        .name()
+        .eq_ignore_ascii_case(key.section_name.as_bytes())
+        && header.subsection_name() == key.subsection_name
+}

@@ -1,0 +1,32 @@
+//! The names of an entry, as they are told.
+
+use std::alloc::AllocError;
+
+/// Adds an entry's names, with dots between them: that of its section, the subsection if there is one, and its own. The first and the
+/// last are told in lower case.
+///
+/// # Errors
+///
+/// Want of memory.
+pub fn add_names(
+    text: &mut Vec<u8>,
+    section_name: &[u8],
+    subsection_name: Option<&[u8]>,
+    value_name: &str,
+) -> Result<(), AllocError> {
+    add_in_lower_case(text, section_name)?;
+    text.push(b'.')?;
+    if let Some(subsection_name) = subsection_name {
+        text.extend_from_slice(subsection_name)?;
+        text.push(b'.')?;
+    }
+    add_in_lower_case(text, value_name.as_bytes())
+}
+
+/// Adds bytes, ASCII letters of them in lower case.
+fn add_in_lower_case(text: &mut Vec<u8>, bytes: &[u8]) -> Result<(), AllocError> {
+    for byte in bytes {
+        text.push(byte.to_ascii_lowercase())?;
+    }
+    Ok(())
+}

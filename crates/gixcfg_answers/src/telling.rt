@@ -1,0 +1,129 @@
+//! The entries that a call asks for, as lines.
+
+use crate::entries::Found;
+use crate::lines::{Form, add_entry};
+use crate::trouble::Trouble;
+use crate::typed::typed;
+use gixcfg_words::options::Options;
+use std::alloc::Global;
+
+/// What the file is called before an entry, where that is asked for.
+fn origin_of(alloc: Global, options: &Options<'_>) -> Result<Option<String>, Trouble> {
+    if !options.show_origin {
+        return Ok(None);
+    }
+    match options.path() {
+        Some(path) => Ok(Some(format!(in alloc; "file:{path}")?)),
+        None => Ok(Some(String::from_str(alloc, "standard input:")?)),
+    }
+}
+
+/// The lines of the entries of a key: of all of them, or of the last one; or the value that is given where there is none.
+///
+/// # Errors
+///
+/// There is none, and no value is given; a value is none of the type; want of memory.
+pub fn lines_of_key(
+    alloc: Global,
+    found: &[Found],
+    options: &Options<'_>,
+    home: Option<&str>,
+) -> Result<Vec<u8>, Trouble> {
+    let origin = origin_of(alloc, options)?;
+    let form = Form {
+        has_names: options.show_names,
+        ..Form::of_values(origin.as_deref(), options.null)
+    };
+    let chosen = if options.all { found } else { last_of(found) };
+    if chosen.is_empty() {
+        default_line(alloc, options, home)
+    } else {
+        lines_of(alloc, &form, chosen, options, home)
+    }
+}
+
+/// The lines of all entries.
+///
+/// # Errors
+///
+/// Want of memory.
+pub fn lines_of_all(
+    alloc: Global,
+    found: &[Found],
+    options: &Options<'_>,
+) -> Result<Vec<u8>, Trouble> {
+    let origin = origin_of(alloc, options)?;
+    let form = Form {
+        has_value: !options.name_only,
+        ..Form::of_entries(origin.as_deref(), options.null)
+    };
+    let mut lines = Vec::new(alloc);
+    for entry in found {
+        add_entry(&mut lines, &form, &entry.names, entry.value())?;
+    }
+    Ok(lines)
+}
+
+/// The last of them, or none.
+fn last_of(found: &[Found]) -> &[Found] {
+    found.split_at(found.len().saturating_sub(1)).1
+}
+
+/// The value that is given for a key that is missing, on a line.
+fn default_line(
+    alloc: Global,
+    options: &Options<'_>,
+    home: Option<&str>,
+) -> Result<Vec<u8>, Trouble> {
+    let Some(value) = options.default else {
+        return Err(Trouble::Missing);
+    };
+    let form = Form::of_values(None, options.null);
+    let mut lines = Vec::new(alloc);
+    add_typed(
+        alloc,
+        &mut lines,
+        &form,
+        b"",
+        Some(value.as_bytes()),
+        options,
+        home,
+    )?;
+    Ok(lines)
+}
+
+/// Entries, a line each, their values in the type that is asked for.
+fn lines_of(
+    alloc: Global,
+    form: &Form<'_>,
+    found: &[Found],
+    options: &Options<'_>,
+    home: Option<&str>,
+) -> Result<Vec<u8>, Trouble> {
+    let mut lines = Vec::new(alloc);
+    for entry in found {
+        let value = entry.value();
+        add_typed(alloc, &mut lines, form, &entry.names, value, options, home)?;
+    }
+    Ok(lines)
+}
+
+/// Adds an entry, its value in the type that is asked for.
+fn add_typed(
+    alloc: Global,
+    lines: &mut Vec<u8>,
+    form: &Form<'_>,
+    names: &[u8],
+    value: Option<&[u8]>,
+    options: &Options<'_>,
+    home: Option<&str>,
+) -> Result<(), Trouble> {
+    match options.kind {
+        None => add_entry(lines, form, names, value)?,
+        Some(kind) => {
+            let value = typed(alloc, value, kind, home)?;
+            add_entry(lines, form, names, Some(value.as_bytes()))?;
+        }
+    }
+    Ok(())
+}

@@ -1,0 +1,143 @@
+//! Why a call with options wasn't done, and how that is told.
+
+use crate::typed;
+use crate::typed::refusal_of;
+use gitconf_text::NoMemory;
+use gixcfg_files as files;
+use gixcfg_words::options::Kind;
+use std::alloc::AllocError;
+use std::io;
+use std::io::Write;
+
+/// Why a call with options wasn't done.
+#[derive(Drop)]
+pub enum Trouble {
+    /// What was looked for is not there.
+    Missing,
+    /// The file isn't laid out.
+    Different,
+    /// A file was told to have a fault.
+    Faulty,
+    /// A word is no key.
+    NoKey,
+    /// There is no such section.
+    NoSection,
+    /// A name can't be had: the number of the refusal, 4 to 6.
+    BadName(u8),
+    /// The text is refused, with the message.
+    Text(String),
+    /// The text or the edit is refused: the number of the refusal.
+    Refused(u8),
+    /// A value is none of the type.
+    Untyped(Kind),
+    /// The file can't be read or edited.
+    File(files::Fault),
+    /// There is no such file.
+    NoFile,
+    /// Standard input can't be read.
+    Input,
+    /// Standard output failed.
+    Output,
+    /// The key has several entries.
+    Several,
+    /// The key has no entry that could be taken out.
+    NoEntry,
+    /// Memory was wanting.
+    Memory,
+}
+
+impl Trouble {
+    ghost use Rattle.std.specs.Prelude.{◌≤◌};
+
+    /// The exit status: as git has it for a key that is missing, 1, for one that has several entries or none to take out, 5, and for a
+    /// file that can't be written, 4; else as without options.
+    pub fn status(&self) -> u8
+        ensures { result ≤ 5 }
+    {
+        match self {
+            Trouble::Missing
+            | Trouble::Different
+            | Trouble::Faulty
+            | Trouble::NoSection
+            | Trouble::BadName(_) => 1,
+            Trouble::NoKey => 2,
+            Trouble::Text(_) | Trouble::Refused(_) | Trouble::Untyped(_) => 3,
+            Trouble::File(_) | Trouble::NoFile | Trouble::Input | Trouble::Output => 4,
+            Trouble::Several | Trouble::NoEntry | Trouble::Memory => 5,
+        }
+    }
+}
+
+impl From<NoMemory> for Trouble {
+    fn from(_: NoMemory) -> Trouble {
+        Trouble::Memory
+    }
+}
+
+impl From<AllocError> for Trouble {
+    fn from(_: AllocError) -> Trouble {
+        Trouble::Memory
+    }
+}
+
+impl From<typed::Fault> for Trouble {
+    fn from(fault: typed::Fault) -> Trouble {
+        match fault {
+            typed::Fault::Refused(kind) => Trouble::Untyped(kind),
+            typed::Fault::Memory => Trouble::Memory,
+        }
+    }
+}
+
+impl From<files::Fault> for Trouble {
+    fn from(fault: files::Fault) -> Trouble {
+        match fault {
+            files::Fault::Memory => Trouble::Memory,
+            fault => Trouble::File(fault),
+        }
+    }
+}
+
+/// The trouble that a refusal of an edit is, by its number.
+pub fn of_number(number: u8) -> Trouble {
+    match number {
+        27 => Trouble::Memory,
+        4..=6 => Trouble::BadName(number),
+        number => Trouble::Refused(number),
+    }
+}
+
+/// Tells a trouble with the file of this name. Nothing is told of a key that isn't there. A failed write changes no status, and no memory
+/// is taken.
+pub fn tell<E: Write>(trouble: &Trouble, name: &str, err: &mut E) {
+    let _ = match trouble {
+        Trouble::Missing | Trouble::Faulty | Trouble::NoEntry => Ok(()),
+        Trouble::Text(message) => err.write_all(message.as_bytes()),
+        Trouble::File(fault) => writeln!(err, "gixcfg: {name}: {fault}"),
+        Trouble::Memory => err.write_all(b"gixcfg: E27\n"),
+        Trouble::Input => err.write_all(b"gixcfg: standard input: not read\n"),
+        Trouble::Output => err.write_all(b"gixcfg: standard output: not written [E28]\n"),
+        Trouble::NoKey => err.write_all(b"gixcfg: not a key, it has no dot\n"),
+        _ => tell_of_file(trouble, name, err),
+    };
+}
+
+/// Tells a trouble with what a file has.
+fn tell_of_file<E: Write>(trouble: &Trouble, name: &str, err: &mut E) -> io::Result<()> {
+    match trouble {
+        Trouble::Different => writeln!(err, "gixcfg: {name}: not laid out"),
+        Trouble::NoSection => writeln!(err, "gixcfg: {name}: no such section"),
+        Trouble::NoFile => writeln!(err, "gixcfg: {name}: no such file"),
+        Trouble::Several => writeln!(
+            err,
+            "gixcfg: {name}: the key has several entries; see --all"
+        ),
+        Trouble::BadName(number) => writeln!(err, "gixcfg: a name that can't be had [E{number}]"),
+        Trouble::Refused(number) => writeln!(err, "gixcfg: {name}: refused [E{number}]"),
+        Trouble::Untyped(kind) => {
+            let refusal = refusal_of(*kind);
+            writeln!(err, "gixcfg: {name}: {refusal} [E11]")
+        }
+        _ => Ok(()),
+    }
+}

@@ -1,0 +1,59 @@
+//! Why a file can't be read or edited.
+
+use std::alloc::AllocError;
+use std::io::ErrorKind;
+use std::{fmt, io};
+
+/// Why a file can't be read or edited.
+#[derive(Drop)]
+pub enum Fault {
+    /// Its lock stands already, under this path: another process works on the file, or one ended while it did.
+    Locked(String),
+    /// What stands at its path is no regular file.
+    NoFile,
+    /// Its path leads through too many symbolic links.
+    Links,
+    /// It can't be opened or read.
+    Unread(io::Error),
+    /// It can't be locked or written.
+    Unwritten(io::Error),
+    /// Memory was wanting.
+    Memory,
+}
+
+impl Fault {
+    /// The fault of an error that was met while the file was read.
+    pub fn unread(error: io::Error) -> Fault {
+        match error.kind() {
+            ErrorKind::OutOfMemory => Fault::Memory,
+            _ => Fault::Unread(error),
+        }
+    }
+
+    /// The fault of an error that was met while the file was locked or written.
+    pub fn unwritten(error: io::Error) -> Fault {
+        match error.kind() {
+            ErrorKind::OutOfMemory => Fault::Memory,
+            _ => Fault::Unwritten(error),
+        }
+    }
+}
+
+impl From<AllocError> for Fault {
+    fn from(_: AllocError) -> Fault {
+        Fault::Memory
+    }
+}
+
+impl fmt::Display for Fault {
+    fn fmt<W: fmt::Write>(&self, f: &mut fmt::Formatter<W>) -> fmt::Result {
+        match self {
+            Fault::Locked(path) => write!(f, "{path} stands: another process edits the file"),
+            Fault::NoFile => f.write_str("not a regular file"),
+            Fault::Links => f.write_str("too many symbolic links"),
+            Fault::Unread(error) => write!(f, "not read: {error}"),
+            Fault::Unwritten(error) => write!(f, "not written: {error}"),
+            Fault::Memory => f.write_str("out of memory"),
+        }
+    }
+}

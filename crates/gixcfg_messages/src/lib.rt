@@ -1,0 +1,8 @@
+//! How a refused text is told to people: its place, what is wrong with it, and its line with a mark under the place.
+#![tactic(auto)]
+
+mod place;
+mod reason;
+mod telling;
+
+pub use telling::{Refused, message};

@@ -1,0 +1,161 @@
+//! What the program tells about its commands.
+
+use crate::commands::Command;
+
+/// What `gixcfg help` prints.
+pub const OVERVIEW: &str = "\
+usage: gixcfg COMMAND [OPTIONS] [WORDS]
+
+    get             prints the value of a key, or all of them
+    set             gives a key a value
+    unset           takes a key's entry out
+    list            prints all entries
+    rename-section  gives a section another name
+    remove-section  takes a section out
+    fmt             lays a file out
+    check           tells the first fault of each file
+    help            tells how a command is called
+
+With -f FILE a command works on that file, and an edit changes it in place. Without it the file is standard input, and
+what an edit makes of it is standard output.
+
+Without options there are also: get KEY, all KEY, bool KEY, int KEY, set KEY VALUE, unset KEY, list, print, fmt, and
+load FILE get KEY.
+
+gixcfg help COMMAND tells more of a command.
+";
+
+const GET: &str = "\
+usage: gixcfg get [-f FILE] [--all] [--default VALUE] [--type TYPE] [-z] [--show-origin] [--show-names] KEY
+
+Prints the last value of a key, or with --all each of its values, a line each.
+
+    -f, --file FILE   the file; - is standard input, as without it
+    --all             all values, in the order of the file
+    --default VALUE   this value if the key isn't there
+    --type TYPE       the value as bool, int, bool-or-int or path; refused if it is none
+    -z, --null        a byte 0 in place of each line feed, and a line feed behind each key
+    --show-origin     the file before each value
+    --show-names      the key before each value
+
+Ends with 1 if the key isn't there.
+
+    $ gixcfg get -f .git/config --type bool core.bare
+    false
+";
+
+const SET: &str = "\
+usage: gixcfg set [-f FILE] [--all] [--append] [--type TYPE] KEY VALUE
+
+Gives a key a value, in its place if it is there, else in the last section of its name, else in a new one.
+
+    -f, --file FILE   the file, which is changed in place, and made if it isn't there; - is standard input, as without it
+    --all             one entry in place of all entries of the key, where the first of them stands
+    --append          one more entry, at the end of the last section of the name
+    --type TYPE       the value as bool, int, bool-or-int or path; refused if it is none
+
+Ends with 5 if the key has several entries, and neither --all nor --append is given; with 4 if the file can't be
+written. The file is the old one or the new one at any time: it is written as FILE.lock, which is then renamed.
+
+    $ gixcfg set -f .git/config user.name Ada
+";
+
+const UNSET: &str = "\
+usage: gixcfg unset [-f FILE] [--all] KEY
+
+Takes a key's entry out.
+
+    -f, --file FILE   the file, which is changed in place; - is standard input, as without it
+    --all             all entries of the key
+
+Ends with 5 if there is no entry, or several of them and --all isn't given.
+
+    $ gixcfg unset -f .git/config user.name
+";
+
+const LIST: &str = "\
+usage: gixcfg list [-f FILE] [-z] [--name-only] [--show-origin]
+
+Prints all entries, a line each: the key, = and the value.
+
+    -f, --file FILE   the file; - is standard input, as without it
+    -z, --null        a byte 0 in place of each line feed at the end, and a line feed behind each key
+    --name-only       keys without values
+    --show-origin     the file before each entry
+
+    $ gixcfg list -f .git/config
+    core.bare=false
+";
+
+const RENAME: &str = "\
+usage: gixcfg rename-section [-f FILE] OLD NEW
+
+Gives all sections of a name another one: a name such as core, or a name and a subsection such as remote.origin.
+
+    -f, --file FILE   the file, which is changed in place; - is standard input, as without it
+
+Ends with 1 if there is no such section.
+
+    $ gixcfg rename-section -f .git/config remote.origin remote.upstream
+";
+
+const REMOVE: &str = "\
+usage: gixcfg remove-section [-f FILE] NAME
+
+Takes all sections of a name out, with their entries and comments.
+
+    -f, --file FILE   the file, which is changed in place; - is standard input, as without it
+
+Ends with 1 if there is no such section.
+
+    $ gixcfg remove-section -f .git/config remote.origin
+";
+
+const FMT: &str = "\
+usage: gixcfg fmt [-f FILE] [--check] [--indent tabs:N|spaces:N] [--newline lf|crlf|detect]
+
+Lays a file out: entries behind an indent, one blank on each side of =, one line ending at the end.
+
+    -f, --file FILE   the file, which is changed in place; - is standard input, as without it
+    --check           nothing is written; ends with 1 if the file isn't laid out
+    --indent INDENT   what stands before an entry: tabs:1 if it isn't given
+    --newline ENDING  what lines end with: that of the file if it isn't given
+
+    $ gixcfg fmt -f .git/config --indent spaces:4
+";
+
+const CHECK: &str = "\
+usage: gixcfg check [-q] FILE...
+
+Reads each file, and tells its first fault: the place, what is wrong, and the line. - is standard input.
+
+    -q, --quiet       nothing is told
+
+Ends with 1 if a file has a fault, and with 4 if one can't be read.
+
+    $ gixcfg check .git/config
+";
+
+const HELP: &str = "\
+usage: gixcfg help [COMMAND]
+
+Tells how a command is called, with an example; without a word, which commands there are.
+
+    $ gixcfg help set
+";
+
+/// The help on a command, or without one on all.
+pub fn help_on(command: Option<Command>) -> &'static str {
+    match command {
+        None => OVERVIEW,
+        Some(Command::Get) => GET,
+        Some(Command::Set) => SET,
+        Some(Command::Unset) => UNSET,
+        Some(Command::List) => LIST,
+        Some(Command::RenameSection) => RENAME,
+        Some(Command::RemoveSection) => REMOVE,
+        Some(Command::Fmt) => FMT,
+        Some(Command::Check) => CHECK,
+        Some(Command::Help) => HELP,
+    }
+}

@@ -1,0 +1,13 @@
+//! The words of a call of `gixcfg` with options: which command they are, which options it is given, and what is wrong with
+//! words that aren't understood. It knows nothing of files.
+#![tactic(auto)]
+
+pub mod call;
+pub mod commands;
+pub mod fault;
+pub mod help;
+pub mod nearest;
+pub mod options;
+
+/// What `--version` prints.
+pub const VERSION: &str = "gixcfg 0.1.0\n";

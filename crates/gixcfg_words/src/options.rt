@@ -1,0 +1,314 @@
+//! The options.
+use crate::commands::Command;
+use crate::fault::Fault;
+
+/// An option.
+#[derive(Clone, Copy, PartialEq, Eq)]
+pub enum Opt {
+    /// The file that is worked on.
+    File,
+    /// Help on the command.
+    Help,
+    /// All entries of the key.
+    All,
+    /// One more entry of the key.
+    Append,
+    /// The value where there is none.
+    Default,
+    /// The type of a value.
+    Type,
+    /// A byte 0 behind each value.
+    Null,
+    /// The file of each value.
+    ShowOrigin,
+    /// The names of each value.
+    ShowNames,
+    /// The names without values.
+    NameOnly,
+    /// Whether the file is laid out, and nothing written.
+    Check,
+    /// What stands before a name.
+    Indent,
+    /// What lines end with.
+    Newline,
+    /// Nothing is told.
+    Quiet,
+}
+
+/// The words of the options.
+static OPTIONS: [(&str, Opt); 18] = [
+    ("-f", Opt::File),
+    ("--file", Opt::File),
+    ("-h", Opt::Help),
+    ("--help", Opt::Help),
+    ("--all", Opt::All),
+    ("--append", Opt::Append),
+    ("--default", Opt::Default),
+    ("--type", Opt::Type),
+    ("-z", Opt::Null),
+    ("--null", Opt::Null),
+    ("--show-origin", Opt::ShowOrigin),
+    ("--show-names", Opt::ShowNames),
+    ("--name-only", Opt::NameOnly),
+    ("--check", Opt::Check),
+    ("--indent", Opt::Indent),
+    ("--newline", Opt::Newline),
+    ("-q", Opt::Quiet),
+    ("--quiet", Opt::Quiet),
+];
+
+static OF_GET: [Opt; 8] = [
+    Opt::File,
+    Opt::Help,
+    Opt::All,
+    Opt::Default,
+    Opt::Type,
+    Opt::Null,
+    Opt::ShowOrigin,
+    Opt::ShowNames,
+];
+
+static OF_SET: [Opt; 5] = [Opt::File, Opt::Help, Opt::All, Opt::Append, Opt::Type];
+
+static OF_UNSET: [Opt; 3] = [Opt::File, Opt::Help, Opt::All];
+
+static OF_LIST: [Opt; 5] = [
+    Opt::File,
+    Opt::Help,
+    Opt::Null,
+    Opt::NameOnly,
+    Opt::ShowOrigin,
+];
+
+static OF_SECTION: [Opt; 2] = [Opt::File, Opt::Help];
+
+static OF_FMT: [Opt; 5] = [Opt::File, Opt::Help, Opt::Check, Opt::Indent, Opt::Newline];
+
+static OF_CHECK: [Opt; 2] = [Opt::Help, Opt::Quiet];
+
+static OF_HELP: [Opt; 1] = [Opt::Help];
+
+/// The options that a command takes.
+pub fn options_of(command: Command) -> &'static [Opt] {
+    match command {
+        Command::Get => &OF_GET,
+        Command::Set => &OF_SET,
+        Command::Unset => &OF_UNSET,
+        Command::List => &OF_LIST,
+        Command::RenameSection | Command::RemoveSection => &OF_SECTION,
+        Command::Fmt => &OF_FMT,
+        Command::Check => &OF_CHECK,
+        Command::Help => &OF_HELP,
+    }
+}
+
+/// The option of a word.
+pub fn option_named(word: &str) -> Option<Opt> {
+    for (name, option) in &OPTIONS {
+        if *name == word {
+            return Some(*option);
+        }
+    }
+    None
+}
+
+/// Whether the option is followed by a word of its own.
+pub fn takes_word(option: Opt) -> bool {
+    matches!(
+        option,
+        Opt::File | Opt::Default | Opt::Type | Opt::Indent | Opt::Newline
+    )
+}
+
+/// The type that a value is to have.
+#[derive(Clone, Copy)]
+pub enum Kind {
+    /// A boolean.
+    Bool,
+    /// An integer.
+    Int,
+    /// An integer, else a boolean.
+    BoolOrInt,
+    /// A path.
+    Path,
+}
+
+static KINDS: [(&str, Kind); 4] = [
+    ("bool", Kind::Bool),
+    ("int", Kind::Int),
+    ("bool-or-int", Kind::BoolOrInt),
+    ("path", Kind::Path),
+];
+
+/// The type of a word.
+fn kind_named(word: &str) -> Option<Kind> {
+    for (name, kind) in &KINDS {
+        if *name == word {
+            return Some(*kind);
+        }
+    }
+    None
+}
+
+/// What stands before a name that begins a line.
+#[derive(Clone, Copy)]
+pub enum Indent {
+    /// So many tabs.
+    Tabs(u8),
+    /// So many spaces.
+    Spaces(u8),
+}
+
+/// The indent of a word, as `tabs:1` or `spaces:4`.
+fn indent_named(word: &str) -> Option<Indent> {
+    let (what, count) = word.split_once(':')?;
+    let count = match count.parse::<u8>() {
+        Ok(count) => count,
+        Err(_) => return None,
+    };
+    match what {
+        "tabs" => Some(Indent::Tabs(count)),
+        "spaces" => Some(Indent::Spaces(count)),
+        _ => None,
+    }
+}
+
+/// What lines end with.
+#[derive(Clone, Copy)]
+pub enum Newline {
+    /// A line feed.
+    Lf,
+    /// A carriage return and a line feed.
+    CrLf,
+    /// What the file has.
+    Detect,
+}
+
+/// The line ending of a word.
+fn newline_named(word: &str) -> Option<Newline> {
+    match word {
+        "lf" => Some(Newline::Lf),
+        "crlf" => Some(Newline::CrLf),
+        "detect" => Some(Newline::Detect),
+        _ => None,
+    }
+}
+
+/// The options of a call. What isn't given is `false` or `None`.
+#[derive(Clone, Copy)]
+pub struct Options<'a> {
+    /// `-f`: the file that is worked on; standard input where it is `-` or isn't given.
+    pub file: Option<&'a str>,
+    /// `--help`
+    pub help: bool,
+    /// `--all`
+    pub all: bool,
+    /// `--append`
+    pub append: bool,
+    /// `--default`
+    pub default: Option<&'a str>,
+    /// `--type`
+    pub kind: Option<Kind>,
+    /// `-z`
+    pub null: bool,
+    /// `--show-origin`
+    pub show_origin: bool,
+    /// `--show-names`
+    pub show_names: bool,
+    /// `--name-only`
+    pub name_only: bool,
+    /// `--check`
+    pub check: bool,
+    /// `--indent`
+    pub indent: Option<Indent>,
+    /// `--newline`
+    pub newline: Option<Newline>,
+    /// `--quiet`
+    pub quiet: bool,
+}
+
+impl<'a> Options<'a> {
+    /// None is given.
+    pub fn none() -> Options<'a> {
+        Options {
+            file: None,
+            help: false,
+            all: false,
+            append: false,
+            default: None,
+            kind: None,
+            null: false,
+            show_origin: false,
+            show_names: false,
+            name_only: false,
+            check: false,
+            indent: None,
+            newline: None,
+            quiet: false,
+        }
+    }
+
+    /// The file that is named; none where standard input is worked on.
+    pub fn path(&self) -> Option<&'a str> {
+        match self.file {
+            Some("-") | None => None,
+            Some(path) => Some(path),
+        }
+    }
+
+    /// Puts in an option without a word of its own.
+    pub fn put(&mut self, option: Opt) {
+        match option {
+            Opt::Help => self.help = true,
+            Opt::All => self.all = true,
+            Opt::Append => self.append = true,
+            Opt::Null => self.null = true,
+            Opt::ShowOrigin => self.show_origin = true,
+            Opt::ShowNames => self.show_names = true,
+            Opt::NameOnly => self.name_only = true,
+            Opt::Check => self.check = true,
+            Opt::Quiet => self.quiet = true,
+            _ => {}
+        }
+    }
+
+    /// Puts in an option with its word.
+    ///
+    /// # Errors
+    ///
+    /// The word is none that the option may have, or another file is named already.
+    pub fn put_word(&mut self, option: Opt, word: &'a str) -> Result<(), Fault<'a>> {
+        let taken = match option {
+            Opt::File => return self.put_file(word),
+            Opt::Default => put_in(&mut self.default, Some(word)),
+            Opt::Type => put_in(&mut self.kind, kind_named(word)),
+            Opt::Indent => put_in(&mut self.indent, indent_named(word)),
+            Opt::Newline => put_in(&mut self.newline, newline_named(word)),
+            _ => true,
+        };
+        if taken {
+            Ok(())
+        } else {
+            Err(Fault::BadWord(option, word))
+        }
+    }
+
+    /// Puts in the file that is worked on.
+    fn put_file(&mut self, word: &'a str) -> Result<(), Fault<'a>> {
+        if self.file.is_some() {
+            return Err(Fault::TwoFiles(word));
+        }
+        self.file = Some(word);
+        Ok(())
+    }
+}
+
+/// Puts in what a word means, in place of what was there; whether it means anything.
+fn put_in<T: Copy>(place: &mut Option<T>, meaning: Option<T>) -> bool {
+    if meaning.is_some() {
+        *place = meaning;
+        true
+    } else {
+        false
+    }
+}

@@ -1,0 +1,37 @@
+# Completion of gixcfg in bash: source this file.
+
+_gixcfg() {
+    local word=${COMP_WORDS[COMP_CWORD]} before=${COMP_WORDS[COMP_CWORD-1]} command=${COMP_WORDS[1]} words
+    COMPREPLY=()
+    if [ "$COMP_CWORD" = 1 ]; then
+        mapfile -t COMPREPLY < <(compgen -W "get set unset list rename-section remove-section fmt check help all bool int print load --version --help" -- "$word")
+        return
+    fi
+    case $before in
+    -f | --file)
+        mapfile -t COMPREPLY < <(compgen -f -- "$word")
+        return
+        ;;
+    --type) words="bool int bool-or-int path" ;;
+    --newline) words="lf crlf detect" ;;
+    --indent) words="tabs:1 spaces:2 spaces:4 spaces:8" ;;
+    *)
+        case $command in
+        get) words="-f --file --all --default --type -z --null --show-origin --show-names --help" ;;
+        set) words="-f --file --all --append --type --help" ;;
+        unset) words="-f --file --all --help" ;;
+        list) words="-f --file -z --null --name-only --show-origin --help" ;;
+        rename-section | remove-section) words="-f --file --help" ;;
+        fmt) words="-f --file --check --indent --newline --help" ;;
+        check)
+            words="-q --quiet --help"
+            [ "${word#-}" != "$word" ] || words=$(compgen -f -- "$word")
+            ;;
+        help) words="get set unset list rename-section remove-section fmt check help" ;;
+        *) words="" ;;
+        esac
+        ;;
+    esac
+    mapfile -t COMPREPLY < <(compgen -W "$words" -- "$word")
+}
+complete -F _gixcfg gixcfg
