@@ -132,7 +132,7 @@ fn tell_of_file<E: Write>(trouble: &Trouble, name: &str, err: &mut E) -> io::Res
             err,
             "gixcfg: {name}: the key has several entries; see --all"
         ),
-        Trouble::BadName(number) => writeln!(err, "gixcfg: a name that can't be had [E{number}]"),
+        Trouble::BadName(number) => writeln!(err, "gixcfg: a name that isn't allowed [E{number}]"),
         Trouble::Refused(number) => writeln!(err, "gixcfg: {name}: refused [E{number}]"),
         Trouble::Untyped(kind) => {
             let refusal = refusal_of(*kind);

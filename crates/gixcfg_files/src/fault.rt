@@ -48,7 +48,10 @@ impl From<AllocError> for Fault {
 impl fmt::Display for Fault {
     fn fmt<W: fmt::Write>(&self, f: &mut fmt::Formatter<W>) -> fmt::Result {
         match self {
-            Fault::Locked(path) => write!(f, "{path} stands: another process edits the file"),
+            Fault::Locked(path) => write!(
+                f,
+                "{path} exists: another process may be editing the file"
+            ),
             Fault::NoFile => f.write_str("not a regular file"),
             Fault::Links => f.write_str("too many symbolic links"),
             Fault::Unread(error) => write!(f, "not read: {error}"),

@@ -93,7 +93,7 @@ enum State {
 
 const UNCLOSED: &str = "the quote is never closed";
 
-const NO_ESCAPE: &str = "a backslash stands only before n, t, b, \\, \" and the end of a line";
+const NO_ESCAPE: &str = "a backslash may only come before n, t, b, \\, \" and the end of a line";
 
 /// What is wrong with a value.
 fn reason_of_value(rest: &[u8]) -> Option<&'static str> {

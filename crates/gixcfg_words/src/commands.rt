@@ -7,7 +7,7 @@ pub enum Command {
     Get,
     /// Gives a key a value.
     Set,
-    /// Takes a key's entry out.
+    /// Removes a key's entry.
     Unset,
     /// Prints all entries.
     List,

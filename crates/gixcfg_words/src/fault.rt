@@ -54,7 +54,7 @@ fn meaning_of(option: Opt) -> &'static str {
 ///
 /// # Errors
 ///
-/// Want of memory, and then nothing is told.
+/// Want of memory, and then nothing is printed.
 pub fn tell<W: Write>(alloc: Global, fault: Fault<'_>, err: &mut W) -> Result<(), AllocError> {
     if let Fault::UnknownCommand(word) = fault {
         let meant = nearest(alloc, word)?;
@@ -74,7 +74,7 @@ fn tell_known<W: Write>(fault: Fault<'_>, err: &mut W) -> io::Result<()> {
         Fault::TwoFiles(word) => writeln!(err, "gixcfg: a second file: {word}"),
         Fault::Both(one, other) => writeln!(err, "gixcfg: {one} and {other} exclude each other"),
         Fault::TooFew(command) => tell_command("words are missing", "", command, err),
-        Fault::TooMany(command, word) => tell_command("a word too much: ", word, command, err),
+        Fault::TooMany(command, word) => tell_command("one word too many: ", word, command, err),
         Fault::NotItsOption(command, word) => {
             tell_command("not an option here: ", word, command, err)
         }
@@ -104,12 +104,12 @@ fn tell_option<W: Write>(fault: Fault<'_>, err: &mut W) -> io::Result<()> {
     match fault {
         Fault::UnknownOption(word) => writeln!(
             err,
-            "gixcfg: not an option: {word}; -- stands before words that begin with a dash"
+            "gixcfg: not an option: {word}; put -- before words that begin with a dash"
         ),
-        Fault::UnaskedWord(word) => writeln!(err, "gixcfg: {word} has no word behind it"),
+        Fault::UnaskedWord(word) => writeln!(err, "gixcfg: {word} takes no value"),
         Fault::MissingWord(option) => {
             let meaning = meaning_of(option);
-            writeln!(err, "gixcfg: the last option needs {meaning} behind it")
+            writeln!(err, "gixcfg: the last option needs {meaning} after it")
         }
         Fault::BadWord(option, word) => {
             let meaning = meaning_of(option);

@@ -8,13 +8,13 @@ usage: gixcfg COMMAND [OPTIONS] [WORDS]
 
     get             prints the value of a key, or all of them
     set             gives a key a value
-    unset           takes a key's entry out
+    unset           removes a key's entry
     list            prints all entries
     rename-section  gives a section another name
-    remove-section  takes a section out
+    remove-section  removes a section
     fmt             lays a file out
-    check           tells the first fault of each file
-    help            tells how a command is called
+    check           reports the first fault of each file
+    help            shows how a command is used
 
 With -f FILE a command works on that file, and an edit changes it in place. Without it the file is standard input, and
 what an edit makes of it is standard output.
@@ -22,7 +22,7 @@ what an edit makes of it is standard output.
 Without options there are also: get KEY, all KEY, bool KEY, int KEY, set KEY VALUE, unset KEY, list, print, fmt, and
 load FILE get KEY.
 
-gixcfg help COMMAND tells more of a command.
+gixcfg help COMMAND says more about a command.
 ";
 
 const GET: &str = "\
@@ -34,7 +34,7 @@ Prints the last value of a key, or with --all each of its values, a line each.
     --all             all values, in the order of the file
     --default VALUE   this value if the key isn't there
     --type TYPE       the value as bool, int, bool-or-int or path; refused if it is none
-    -z, --null        a byte 0 in place of each line feed, and a line feed behind each key
+    -z, --null        a byte 0 in place of each line feed, and a line feed after each key
     --show-origin     the file before each value
     --show-names      the key before each value
 
@@ -50,7 +50,7 @@ usage: gixcfg set [-f FILE] [--all] [--append] [--type TYPE] KEY VALUE
 Gives a key a value, in its place if it is there, else in the last section of its name, else in a new one.
 
     -f, --file FILE   the file, which is changed in place, and made if it isn't there; - is standard input, as without it
-    --all             one entry in place of all entries of the key, where the first of them stands
+    --all             one entry in place of all entries of the key, where the first of them is
     --append          one more entry, at the end of the last section of the name
     --type TYPE       the value as bool, int, bool-or-int or path; refused if it is none
 
@@ -63,7 +63,7 @@ written. The file is the old one or the new one at any time: it is written as FI
 const UNSET: &str = "\
 usage: gixcfg unset [-f FILE] [--all] KEY
 
-Takes a key's entry out.
+Removes a key's entry.
 
     -f, --file FILE   the file, which is changed in place; - is standard input, as without it
     --all             all entries of the key
@@ -79,7 +79,7 @@ usage: gixcfg list [-f FILE] [-z] [--name-only] [--show-origin]
 Prints all entries, a line each: the key, = and the value.
 
     -f, --file FILE   the file; - is standard input, as without it
-    -z, --null        a byte 0 in place of each line feed at the end, and a line feed behind each key
+    -z, --null        a byte 0 in place of each line feed at the end, and a line feed after each key
     --name-only       keys without values
     --show-origin     the file before each entry
 
@@ -102,7 +102,7 @@ Ends with 1 if there is no such section.
 const REMOVE: &str = "\
 usage: gixcfg remove-section [-f FILE] NAME
 
-Takes all sections of a name out, with their entries and comments.
+Removes all sections of a name, with their entries and comments.
 
     -f, --file FILE   the file, which is changed in place; - is standard input, as without it
 
@@ -114,11 +114,11 @@ Ends with 1 if there is no such section.
 const FMT: &str = "\
 usage: gixcfg fmt [-f FILE] [--check] [--indent tabs:N|spaces:N] [--newline lf|crlf|detect]
 
-Lays a file out: entries behind an indent, one blank on each side of =, one line ending at the end.
+Lays a file out: an indent before each entry, one blank on each side of =, one line ending at the end.
 
     -f, --file FILE   the file, which is changed in place; - is standard input, as without it
     --check           nothing is written; ends with 1 if the file isn't laid out
-    --indent INDENT   what stands before an entry: tabs:1 if it isn't given
+    --indent INDENT   what comes before an entry: tabs:1 if it isn't given
     --newline ENDING  what lines end with: that of the file if it isn't given
 
     $ gixcfg fmt -f .git/config --indent spaces:4
@@ -127,9 +127,9 @@ Lays a file out: entries behind an indent, one blank on each side of =, one line
 const CHECK: &str = "\
 usage: gixcfg check [-q] FILE...
 
-Reads each file, and tells its first fault: the place, what is wrong, and the line. - is standard input.
+Reads each file, and reports its first fault: the place, what is wrong, and the line. - is standard input.
 
-    -q, --quiet       nothing is told
+    -q, --quiet       nothing is printed
 
 Ends with 1 if a file has a fault, and with 4 if one can't be read.
 
@@ -139,7 +139,7 @@ Ends with 1 if a file has a fault, and with 4 if one can't be read.
 const HELP: &str = "\
 usage: gixcfg help [COMMAND]
 
-Tells how a command is called, with an example; without a word, which commands there are.
+Shows how a command is used, with an example; without a word, lists the commands.
 
     $ gixcfg help set
 ";
