@@ -1,7 +1,7 @@
 //! `get` and `list` with options.
 
 use crate::entries::{all_entries, entries_of};
-use crate::loading::{Outside, loaded, name_of, text_of};
+use crate::loading::{Outside, loaded, text_of};
 use crate::program::{key_of, put};
 use gixcfg_answers::entries::Found;
 use gixcfg_answers::telling::{lines_of_all, lines_of_key};
@@ -62,7 +62,7 @@ fn found_in(
         return Err(Trouble::NoKey);
     };
     let key = key_of(word)?;
-    let file = loaded(alloc, name_of(call), text, outside)?;
+    let file = loaded(alloc, call.options.file_name(), text, outside)?;
     entries_of(alloc, &file, key)
 }
 
@@ -73,7 +73,7 @@ fn entries_in(
     text: &[u8],
     outside: Outside<'_>,
 ) -> Result<Vec<u8>, Trouble> {
-    let found = all_found(alloc, name_of(call), text, outside)?;
+    let found = all_found(alloc, call.options.file_name(), text, outside)?;
     lines_of_all(alloc, &found, &call.options)
 }
 

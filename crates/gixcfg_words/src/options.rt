@@ -7,6 +7,12 @@ use crate::fault::Fault;
 pub enum Opt {
     /// The file that is worked on.
     File,
+    /// The user's file.
+    Global,
+    /// The system's file.
+    System,
+    /// The repository's file.
+    Local,
     /// Help on the command.
     Help,
     /// All entries of the key.
@@ -36,9 +42,12 @@ pub enum Opt {
 }
 
 /// The words of the options.
-static OPTIONS: [(&str, Opt); 18] = [
+static OPTIONS: [(&str, Opt); 21] = [
     ("-f", Opt::File),
     ("--file", Opt::File),
+    ("--global", Opt::Global),
+    ("--system", Opt::System),
+    ("--local", Opt::Local),
     ("-h", Opt::Help),
     ("--help", Opt::Help),
     ("--all", Opt::All),
@@ -57,8 +66,11 @@ static OPTIONS: [(&str, Opt); 18] = [
     ("--quiet", Opt::Quiet),
 ];
 
-static OF_GET: [Opt; 8] = [
+static OF_GET: [Opt; 11] = [
     Opt::File,
+    Opt::Global,
+    Opt::System,
+    Opt::Local,
     Opt::Help,
     Opt::All,
     Opt::Default,
@@ -68,21 +80,49 @@ static OF_GET: [Opt; 8] = [
     Opt::ShowNames,
 ];
 
-static OF_SET: [Opt; 5] = [Opt::File, Opt::Help, Opt::All, Opt::Append, Opt::Type];
-
-static OF_UNSET: [Opt; 3] = [Opt::File, Opt::Help, Opt::All];
-
-static OF_LIST: [Opt; 5] = [
+static OF_SET: [Opt; 8] = [
     Opt::File,
+    Opt::Global,
+    Opt::System,
+    Opt::Local,
+    Opt::Help,
+    Opt::All,
+    Opt::Append,
+    Opt::Type,
+];
+
+static OF_UNSET: [Opt; 6] = [
+    Opt::File,
+    Opt::Global,
+    Opt::System,
+    Opt::Local,
+    Opt::Help,
+    Opt::All,
+];
+
+static OF_LIST: [Opt; 8] = [
+    Opt::File,
+    Opt::Global,
+    Opt::System,
+    Opt::Local,
     Opt::Help,
     Opt::Null,
     Opt::NameOnly,
     Opt::ShowOrigin,
 ];
 
-static OF_SECTION: [Opt; 2] = [Opt::File, Opt::Help];
+static OF_SECTION: [Opt; 5] = [Opt::File, Opt::Global, Opt::System, Opt::Local, Opt::Help];
 
-static OF_FMT: [Opt; 5] = [Opt::File, Opt::Help, Opt::Check, Opt::Indent, Opt::Newline];
+static OF_FMT: [Opt; 8] = [
+    Opt::File,
+    Opt::Global,
+    Opt::System,
+    Opt::Local,
+    Opt::Help,
+    Opt::Check,
+    Opt::Indent,
+    Opt::Newline,
+];
 
 static OF_CHECK: [Opt; 2] = [Opt::Help, Opt::Quiet];
 
@@ -118,6 +158,38 @@ pub fn takes_word(option: Opt) -> bool {
         option,
         Opt::File | Opt::Default | Opt::Type | Opt::Indent | Opt::Newline
     )
+}
+
+/// One of git's files, in place of a path.
+#[derive(Clone, Copy)]
+pub enum Place {
+    /// The user's file.
+    Global,
+    /// The system's file.
+    System,
+    /// The repository's file.
+    Local,
+}
+
+impl Place {
+    /// The option that names it.
+    pub fn word(self) -> &'static str {
+        match self {
+            Place::Global => "--global",
+            Place::System => "--system",
+            Place::Local => "--local",
+        }
+    }
+}
+
+/// The place that an option names.
+fn place_named(option: Opt) -> Option<Place> {
+    match option {
+        Opt::Global => Some(Place::Global),
+        Opt::System => Some(Place::System),
+        Opt::Local => Some(Place::Local),
+        _ => None,
+    }
 }
 
 /// The type that a value is to have.
@@ -199,6 +271,8 @@ fn newline_named(word: &str) -> Option<Newline> {
 pub struct Options<'a> {
     /// `-f`: the file that is worked on; standard input where it is `-` or isn't given.
     pub file: Option<&'a str>,
+    /// `--global`, `--system` or `--local`: the file that is worked on.
+    pub place: Option<Place>,
     /// `--help`
     pub help: bool,
     /// `--all`
@@ -232,6 +306,7 @@ impl<'a> Options<'a> {
     pub fn none() -> Options<'a> {
         Options {
             file: None,
+            place: None,
             help: false,
             all: false,
             append: false,
@@ -248,16 +323,52 @@ impl<'a> Options<'a> {
         }
     }
 
-    /// The file that is named; none where standard input is worked on.
+    /// The file that is named, or found for one of git's; none where standard input is worked on.
     pub fn path(&self) -> Option<&'a str> {
         match self.file {
-            Some("-") | None => None,
-            Some(path) => Some(path),
+            Some("-") if self.place.is_none() => None,
+            file => file,
         }
     }
 
-    /// Puts in an option without a word of its own.
-    pub fn put(&mut self, option: Opt) {
+    /// The options with the file that was found for the place that they name, if one was.
+    pub fn on(self, path: Option<&'a str>) -> Options<'a> {
+        match path {
+            Some(_) => Options { file: path, ..self },
+            None => self,
+        }
+    }
+
+    /// What the file is called: by its path, else by the option that names it.
+    pub fn file_name(&self) -> &'a str {
+        match (self.path(), self.place) {
+            (Some(path), _) => path,
+            (None, Some(place)) => place.word(),
+            (None, None) => "standard input",
+        }
+    }
+
+    /// Puts in an option without a word of its own, which is called by this name.
+    ///
+    /// # Errors
+    ///
+    /// It names a file, and another one is named already.
+    pub fn put(&mut self, option: Opt, name: &'a str) -> Result<(), Fault<'a>> {
+        match place_named(option) {
+            Some(_) if self.has_file() => Err(Fault::TwoFiles(name)),
+            Some(place) => {
+                self.place = Some(place);
+                Ok(())
+            }
+            None => {
+                self.put_mark(option);
+                Ok(())
+            }
+        }
+    }
+
+    /// Puts in an option that is only given or not.
+    fn put_mark(&mut self, option: Opt) {
         match option {
             Opt::Help => self.help = true,
             Opt::All => self.all = true,
@@ -293,9 +404,14 @@ impl<'a> Options<'a> {
         }
     }
 
+    /// Whether a file is named.
+    fn has_file(&self) -> bool {
+        self.file.is_some() || self.place.is_some()
+    }
+
     /// Puts in the file that is worked on.
     fn put_file(&mut self, word: &'a str) -> Result<(), Fault<'a>> {
-        if self.file.is_some() {
+        if self.has_file() {
             return Err(Fault::TwoFiles(word));
         }
         self.file = Some(word);
