@@ -17,10 +17,10 @@ _gixcfg() {
     --indent) words="tabs:1 spaces:2 spaces:4 spaces:8" ;;
     *)
         case $command in
-        get) words="-f --file --global --system --local --all --default --type -z --null --show-origin --show-names --help" ;;
+        get) words="-f --file --global --system --local --effective --includes --no-includes --all --default --type -z --null --show-origin --show-scope --show-names --help" ;;
         set) words="-f --file --global --system --local --all --append --type --help" ;;
         unset) words="-f --file --global --system --local --all --help" ;;
-        list) words="-f --file --global --system --local -z --null --name-only --show-origin --help" ;;
+        list) words="-f --file --global --system --local --effective --includes --no-includes -z --null --name-only --show-origin --show-scope --help" ;;
         rename-section | remove-section) words="-f --file --global --system --local --help" ;;
         fmt) words="-f --file --global --system --local --check --indent --newline --help" ;;
         check)

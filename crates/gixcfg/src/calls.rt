@@ -13,14 +13,13 @@ use gixcfg_words::commands::Command;
 use gixcfg_words::fault::{self, Fault};
 use gixcfg_words::help::help_on;
 use gixcfg_words::options::Options;
-use std::alloc::{AllocGlobal, Global};
+use std::alloc::Global;
 use std::io::{Read, Write};
-use std::rt::{Env, Files};
 
 /// Runs the program with words of which one is an option, or which are a command that has no other form, and answers its exit
 /// status: 0 done, 1 missing, 2 usage, 3 refused, 4 input, output or a file, 5 several entries or none, and want of memory.
-pub fn run_call<R: Files + Env + AllocGlobal, I: Read + Drop, W: Write + Drop, E: Write + Drop>(
-    rt: &R,
+pub fn run_call<I: Read + Drop, W: Write + Drop, E: Write + Drop>(
+    rt: &HostRuntime,
     words: &[&str],
     outside: Outside<'_>,
     mut input: I,
@@ -69,8 +68,8 @@ fn tell_fault<E: Write>(alloc: Global, fault: Fault<'_>, err: &mut E) -> u8
 }
 
 /// Does a call, on a file of git's if it names one, and tells why where it isn't done.
-fn do_call<R: Files + Env + AllocGlobal, I: Read, W: Write, E: Write>(
-    rt: &R,
+fn do_call<I: Read, W: Write, E: Write>(
+    rt: &HostRuntime,
     call: Call<'_>,
     outside: Outside<'_>,
     input: &mut I,
@@ -86,8 +85,8 @@ fn do_call<R: Files + Env + AllocGlobal, I: Read, W: Write, E: Write>(
 }
 
 /// Does a command, and tells why where it isn't done.
-fn do_command<R: Files + AllocGlobal, I: Read, W: Write, E: Write>(
-    rt: &R,
+fn do_command<I: Read, W: Write, E: Write>(
+    rt: &HostRuntime,
     call: &Call<'_>,
     outside: Outside<'_>,
     input: &mut I,

@@ -1,8 +1,9 @@
 //! What a call with options works on.
 
 use crate::program::{Fault, read_all};
-use gix_config::File;
+use gix_config::host::Places;
 use gix_config::parse::Error;
+use gix_config::{File, NoMemory};
 use gixcfg_answers::trouble::Trouble;
 use gixcfg_files::{read, repository_file, system_file, user_file};
 use gixcfg_messages::{Refused, message};
@@ -41,8 +42,22 @@ pub fn path_of<R: Files + Env + AllocGlobal>(
         Some(Place::Global) => Ok(Some(user_file(rt)?)),
         Some(Place::System) => Ok(Some(system_file(rt)?)),
         Some(Place::Local) => Ok(Some(repository_file(rt)?)),
-        None => Ok(None),
+        Some(Place::Effective) | None => Ok(None),
     }
+}
+
+/// The places of configuration on this system, with this home folder.
+pub fn places_of(alloc: Global, home: Option<&str>) -> Result<Places, NoMemory> {
+    let home = match home {
+        Some(home) => Some(String::from_str(alloc, home)?),
+        None => None,
+    };
+    Ok(Places {
+        installation_config: None,
+        system_prefix: String::from_str(alloc, "/")?,
+        home,
+        homes: None,
+    })
 }
 
 /// The text of a file, or without a path of standard input; none where there is no such file.

@@ -15,4 +15,4 @@ pub use links::end_of_links;
 pub use lock::Lock;
 pub use places::{system_file, user_file};
 pub use reading::read;
-pub use repository::repository_file;
+pub use repository::{Repository, find_repository, repository_file};

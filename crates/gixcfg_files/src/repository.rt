@@ -3,7 +3,7 @@
 use crate::fault::Fault;
 use crate::reading::read;
 use crate::variables::variable;
-use std::alloc::{AllocGlobal, Global};
+use std::alloc::{AllocError, AllocGlobal, Global};
 use std::fs;
 use std::io::ErrorKind;
 use std::rt::{Env, Files};
@@ -11,29 +11,95 @@ use std::rt::{Env, Files};
 /// How many bytes the path of a folder has at most.
 const LONGEST: usize = 4096;
 
-/// The path of the repository's file: of that which `GIT_DIR` names; else of the first one that is found in the working folder,
-/// the folder that holds it, and so on.
+/// A repository: its folders, each with a slash at its end, or empty for the working folder.
+#[derive(Drop)]
+pub struct Repository {
+    /// The folder that is its own.
+    pub folder: String,
+    /// The folder that it has in common with its further working trees.
+    pub common: String,
+}
+
+impl Repository {
+    /// The path of its file.
+    ///
+    /// # Errors
+    ///
+    /// Want of memory.
+    pub fn file(&self, alloc: Global) -> Result<String, AllocError> {
+        format!(in alloc; "{}config", self.common)
+    }
+
+    /// The path of its working tree's file.
+    ///
+    /// # Errors
+    ///
+    /// Want of memory.
+    pub fn worktree_file(&self, alloc: Global) -> Result<String, AllocError> {
+        format!(in alloc; "{}config.worktree", self.folder)
+    }
+
+    /// The path of its folder from the root, without symbolic links.
+    ///
+    /// # Errors
+    ///
+    /// The path can't be found out; want of memory.
+    pub fn real_folder<R: Files + AllocGlobal>(&self, files: &R) -> Result<String, Fault> {
+        let path = format!(in files.alloc(); "{}.", self.folder)?;
+        match fs::canonicalize(files, path.as_str()) {
+            Ok(path) => Ok(path.into_string()),
+            Err(error) => Err(Fault::unread(error)),
+        }
+    }
+
+    /// The full name of the branch that it is on, if it is on one.
+    ///
+    /// # Errors
+    ///
+    /// Its `HEAD` can't be read; want of memory.
+    pub fn branch<R: Files + AllocGlobal>(&self, files: &R) -> Result<Option<String>, Fault> {
+        let path = format!(in files.alloc(); "{}HEAD", self.folder)?;
+        let Some(text) = read(files, path.as_str())? else {
+            return Ok(None);
+        };
+        match line_of(&text, "ref: ") {
+            Some(name) => Ok(Some(String::from_str(files.alloc(), name)?)),
+            None => Ok(None),
+        }
+    }
+}
+
+/// The repository that `GIT_DIR` names; else the first one that is found in the working folder, the folder that holds it, and so
+/// on.
 ///
 /// # Errors
 ///
-/// There is no repository; a file that leads to it can't be read; want of memory.
+/// A file that leads to it can't be read, or leads to none; want of memory.
+pub fn find_repository<R: Env + Files + AllocGlobal>(rt: &R) -> Result<Option<Repository>, Fault> {
+    match variable(rt, "GIT_DIR")? {
+        Some(path) => repository_at(rt, path.as_str()),
+        None => repository_above(rt),
+    }
+}
+
+/// The path of the repository's file.
+///
+/// # Errors
+///
+/// There is no repository; those of [`find_repository`].
 pub fn repository_file<R: Env + Files + AllocGlobal>(rt: &R) -> Result<String, Fault> {
-    let found = match variable(rt, "GIT_DIR")? {
-        Some(path) => file_at(rt, path.as_str())?,
-        None => file_above(rt)?,
-    };
-    match found {
-        Some(path) => Ok(path),
+    match find_repository(rt)? {
+        Some(found) => Ok(found.file(rt.alloc())?),
         None => Err(Fault::NoRepository),
     }
 }
 
-/// The file of the first repository from the working folder upwards.
-fn file_above<R: Env + Files + AllocGlobal>(rt: &R) -> Result<Option<String>, Fault> {
+/// The first repository from the working folder upwards.
+fn repository_above<R: Env + Files + AllocGlobal>(rt: &R) -> Result<Option<Repository>, Fault> {
     let mut folder = String::new(rt.alloc());
     for _ in 0..depth(rt).saturating_add(1) {
-        if let Some(path) = file_of_folder(rt, folder.as_str())? {
-            return Ok(Some(path));
+        if let Some(found) = repository_of(rt, folder.as_str())? {
+            return Ok(Some(found));
         }
         folder.push_str("../")?;
     }
@@ -49,37 +115,44 @@ fn depth<R: Env>(rt: &R) -> usize {
     }
 }
 
-/// The file of the repository that a folder has as `.git`, or that it is itself. The path of a folder ends with a slash here, or is
-/// empty.
-fn file_of_folder<R: Files + AllocGlobal>(rt: &R, folder: &str) -> Result<Option<String>, Fault> {
+/// The repository that a folder has as `.git`, or that it is itself.
+fn repository_of<R: Files + AllocGlobal>(
+    rt: &R,
+    folder: &str,
+) -> Result<Option<Repository>, Fault> {
     let path = format!(in rt.alloc(); "{folder}.git")?;
-    match file_at(rt, path.as_str())? {
-        Some(path) => Ok(Some(path)),
-        None => file_in(rt, folder),
+    match repository_at(rt, path.as_str())? {
+        Some(found) => Ok(Some(found)),
+        None => repository_in(rt, String::from_str(rt.alloc(), folder)?),
     }
 }
 
-/// The file of the repository at a path: of a folder, or of one that a file there leads to.
-fn file_at<R: Files + AllocGlobal>(rt: &R, path: &str) -> Result<Option<String>, Fault> {
+/// The repository at a path: a folder, or one that a file there leads to.
+fn repository_at<R: Files + AllocGlobal>(rt: &R, path: &str) -> Result<Option<Repository>, Fault> {
     if is_file(rt, path)? {
-        return match folder_behind(rt, path, "gitdir: ")? {
-            Some(folder) => file_in(rt, folder.as_str()),
+        let Some(folder) = folder_behind(rt, path, "gitdir: ")? else {
+            return Err(Fault::NoRepository);
+        };
+        return match repository_in(rt, folder)? {
+            Some(found) => Ok(Some(found)),
             None => Err(Fault::NoRepository),
         };
     }
-    let folder = format!(in rt.alloc(); "{path}/")?;
-    file_in(rt, folder.as_str())
+    repository_in(rt, format!(in rt.alloc(); "{path}/")?)
 }
 
-/// The file of the repository that a folder is. A repository has `HEAD`, and `objects` and `refs` beside its file; these are in
-/// another folder if `commondir` says so, as for a further working tree.
-fn file_in<R: Files + AllocGlobal>(rt: &R, folder: &str) -> Result<Option<String>, Fault> {
-    if !has(rt, folder, "HEAD")? {
+/// The repository that a folder is. It has `HEAD`, and `objects` and `refs` beside its file; these are in another folder if
+/// `commondir` says so, as for a further working tree.
+fn repository_in<R: Files + AllocGlobal>(
+    rt: &R,
+    folder: String,
+) -> Result<Option<Repository>, Fault> {
+    if !has(rt, folder.as_str(), "HEAD")? {
         return Ok(None);
     }
-    let common = common_folder(rt, folder)?;
+    let common = common_folder(rt, folder.as_str())?;
     if has(rt, common.as_str(), "objects")? && has(rt, common.as_str(), "refs")? {
-        Ok(Some(format!(in rt.alloc(); "{common}config")?))
+        Ok(Some(Repository { folder, common }))
     } else {
         Ok(None)
     }

@@ -27,7 +27,7 @@ gixcfg help COMMAND says more about a command.
 ";
 
 const GET: &str = "\
-usage: gixcfg get [-f FILE] [--all] [--default VALUE] [--type TYPE] [-z] [--show-origin] [--show-names] KEY
+usage: gixcfg get [-f FILE] [--all] [--default VALUE] [--type TYPE] [-z] [--show-origin] [--show-scope] [--show-names] KEY
 
 Prints the last value of a key, or with --all each of its values, a line each.
 
@@ -35,11 +35,14 @@ Prints the last value of a key, or with --all each of its values, a line each.
     --global          the user's file, in place of -f: ~/.gitconfig
     --system          the system's file: /etc/gitconfig
     --local           the repository's file: .git/config
+    --effective       all that git reads here, with includes: these three, and GIT_CONFIG_COUNT
     --all             all values, in the order of the file
     --default VALUE   this value if the key isn't there
     --type TYPE       the value as bool, int, bool-or-int or path; refused if it is none
     -z, --null        a byte 0 in place of each line feed, and a line feed after each key
     --show-origin     the file before each value
+    --show-scope      system, global, local, worktree or command before each value
+    --includes        what is included too, as with --effective; or not, by --no-includes
     --show-names      the key before each value
 
 Ends with 1 if the key isn't there.
@@ -84,7 +87,7 @@ Ends with 5 if there is no entry, or several of them and --all isn't given.
 ";
 
 const LIST: &str = "\
-usage: gixcfg list [-f FILE] [-z] [--name-only] [--show-origin]
+usage: gixcfg list [-f FILE] [-z] [--name-only] [--show-origin] [--show-scope]
 
 Prints all entries, a line each: the key, = and the value.
 
@@ -92,9 +95,12 @@ Prints all entries, a line each: the key, = and the value.
     --global          the user's file, in place of -f: ~/.gitconfig
     --system          the system's file: /etc/gitconfig
     --local           the repository's file: .git/config
+    --effective       all that git reads here, with includes: these three, and GIT_CONFIG_COUNT
     -z, --null        a byte 0 in place of each line feed at the end, and a line feed after each key
     --name-only       keys without values
     --show-origin     the file before each entry
+    --show-scope      system, global, local, worktree or command before each entry
+    --includes        what is included too, as with --effective; or not, by --no-includes
 
     $ gixcfg list -f .git/config
     core.bare=false

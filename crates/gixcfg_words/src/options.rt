@@ -13,6 +13,8 @@ pub enum Opt {
     System,
     /// The repository's file.
     Local,
+    /// All that git sees.
+    Effective,
     /// Help on the command.
     Help,
     /// All entries of the key.
@@ -27,6 +29,12 @@ pub enum Opt {
     Null,
     /// The file of each value.
     ShowOrigin,
+    /// The scope of each value.
+    ShowScope,
+    /// What is included is read too.
+    Includes,
+    /// What is included isn't read.
+    NoIncludes,
     /// The names of each value.
     ShowNames,
     /// The names without values.
@@ -42,12 +50,13 @@ pub enum Opt {
 }
 
 /// The words of the options.
-static OPTIONS: [(&str, Opt); 21] = [
+static OPTIONS: [(&str, Opt); 25] = [
     ("-f", Opt::File),
     ("--file", Opt::File),
     ("--global", Opt::Global),
     ("--system", Opt::System),
     ("--local", Opt::Local),
+    ("--effective", Opt::Effective),
     ("-h", Opt::Help),
     ("--help", Opt::Help),
     ("--all", Opt::All),
@@ -57,6 +66,9 @@ static OPTIONS: [(&str, Opt); 21] = [
     ("-z", Opt::Null),
     ("--null", Opt::Null),
     ("--show-origin", Opt::ShowOrigin),
+    ("--show-scope", Opt::ShowScope),
+    ("--includes", Opt::Includes),
+    ("--no-includes", Opt::NoIncludes),
     ("--show-names", Opt::ShowNames),
     ("--name-only", Opt::NameOnly),
     ("--check", Opt::Check),
@@ -66,17 +78,21 @@ static OPTIONS: [(&str, Opt); 21] = [
     ("--quiet", Opt::Quiet),
 ];
 
-static OF_GET: [Opt; 11] = [
+static OF_GET: [Opt; 15] = [
     Opt::File,
     Opt::Global,
     Opt::System,
     Opt::Local,
+    Opt::Effective,
     Opt::Help,
     Opt::All,
     Opt::Default,
     Opt::Type,
     Opt::Null,
     Opt::ShowOrigin,
+    Opt::ShowScope,
+    Opt::Includes,
+    Opt::NoIncludes,
     Opt::ShowNames,
 ];
 
@@ -100,15 +116,19 @@ static OF_UNSET: [Opt; 6] = [
     Opt::All,
 ];
 
-static OF_LIST: [Opt; 8] = [
+static OF_LIST: [Opt; 12] = [
     Opt::File,
     Opt::Global,
     Opt::System,
     Opt::Local,
+    Opt::Effective,
     Opt::Help,
     Opt::Null,
     Opt::NameOnly,
     Opt::ShowOrigin,
+    Opt::ShowScope,
+    Opt::Includes,
+    Opt::NoIncludes,
 ];
 
 static OF_SECTION: [Opt; 5] = [Opt::File, Opt::Global, Opt::System, Opt::Local, Opt::Help];
@@ -169,6 +189,8 @@ pub enum Place {
     System,
     /// The repository's file.
     Local,
+    /// All of them that git reads, in its order, and its variables.
+    Effective,
 }
 
 impl Place {
@@ -178,6 +200,7 @@ impl Place {
             Place::Global => "--global",
             Place::System => "--system",
             Place::Local => "--local",
+            Place::Effective => "--effective",
         }
     }
 }
@@ -188,6 +211,7 @@ fn place_named(option: Opt) -> Option<Place> {
         Opt::Global => Some(Place::Global),
         Opt::System => Some(Place::System),
         Opt::Local => Some(Place::Local),
+        Opt::Effective => Some(Place::Effective),
         _ => None,
     }
 }
@@ -271,7 +295,7 @@ fn newline_named(word: &str) -> Option<Newline> {
 pub struct Options<'a> {
     /// `-f`: the file that is worked on; standard input where it is `-` or isn't given.
     pub file: Option<&'a str>,
-    /// `--global`, `--system` or `--local`: the file that is worked on.
+    /// `--global`, `--system`, `--local` or `--effective`: what is worked on.
     pub place: Option<Place>,
     /// `--help`
     pub help: bool,
@@ -287,6 +311,10 @@ pub struct Options<'a> {
     pub null: bool,
     /// `--show-origin`
     pub show_origin: bool,
+    /// `--show-scope`
+    pub show_scope: bool,
+    /// `--includes`, or against it `--no-includes`
+    pub includes: Option<bool>,
     /// `--show-names`
     pub show_names: bool,
     /// `--name-only`
@@ -314,6 +342,8 @@ impl<'a> Options<'a> {
             kind: None,
             null: false,
             show_origin: false,
+            show_scope: false,
+            includes: None,
             show_names: false,
             name_only: false,
             check: false,
@@ -336,6 +366,14 @@ impl<'a> Options<'a> {
         match path {
             Some(_) => Options { file: path, ..self },
             None => self,
+        }
+    }
+
+    /// Whether what is included is read too: as asked for, else with all that git reads.
+    pub fn follows(&self) -> bool {
+        match self.includes {
+            Some(follows) => follows,
+            None => matches!(self.place, Some(Place::Effective)),
         }
     }
 
@@ -375,6 +413,9 @@ impl<'a> Options<'a> {
             Opt::Append => self.append = true,
             Opt::Null => self.null = true,
             Opt::ShowOrigin => self.show_origin = true,
+            Opt::ShowScope => self.show_scope = true,
+            Opt::Includes => self.includes = Some(true),
+            Opt::NoIncludes => self.includes = Some(false),
             Opt::ShowNames => self.show_names = true,
             Opt::NameOnly => self.name_only = true,
             Opt::Check => self.check = true,
