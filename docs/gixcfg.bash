@@ -17,12 +17,12 @@ _gixcfg() {
     --indent) words="tabs:1 spaces:2 spaces:4 spaces:8" ;;
     *)
         case $command in
-        get) words="-f --file --all --default --type -z --null --show-origin --show-names --help" ;;
-        set) words="-f --file --all --append --type --help" ;;
-        unset) words="-f --file --all --help" ;;
-        list) words="-f --file -z --null --name-only --show-origin --help" ;;
-        rename-section | remove-section) words="-f --file --help" ;;
-        fmt) words="-f --file --check --indent --newline --help" ;;
+        get) words="-f --file --global --system --local --effective --includes --no-includes --all --default --type -z --null --show-origin --show-scope --show-names --help" ;;
+        set) words="-f --file --global --system --local --all --append --type --help" ;;
+        unset) words="-f --file --global --system --local --all --help" ;;
+        list) words="-f --file --global --system --local --effective --includes --no-includes -z --null --name-only --show-origin --show-scope --help" ;;
+        rename-section | remove-section) words="-f --file --global --system --local --help" ;;
+        fmt) words="-f --file --global --system --local --check --indent --newline --help" ;;
         check)
             words="-q --quiet --help"
             [ "${word#-}" != "$word" ] || words=$(compgen -f -- "$word")

@@ -3,7 +3,7 @@ ghost use Rattle.std.specs.Prelude.{◌≤◌};
 
 use crate::checks::check;
 use crate::edits::edit;
-use crate::loading::{Outside, name_of};
+use crate::loading::{Outside, path_of};
 use crate::program::MEMORY;
 use crate::reads::{get, list};
 use gixcfg_answers::trouble::{Trouble, tell};
@@ -12,14 +12,14 @@ use gixcfg_words::call::{Asked, Call, read};
 use gixcfg_words::commands::Command;
 use gixcfg_words::fault::{self, Fault};
 use gixcfg_words::help::help_on;
-use std::alloc::{AllocGlobal, Global};
+use gixcfg_words::options::Options;
+use std::alloc::Global;
 use std::io::{Read, Write};
-use std::rt::Files;
 
 /// Runs the program with words of which one is an option, or which are a command that has no other form, and answers its exit
 /// status: 0 done, 1 missing, 2 usage, 3 refused, 4 input, output or a file, 5 several entries or none, and want of memory.
-pub fn run_call<R: Files + AllocGlobal, I: Read + Drop, W: Write + Drop, E: Write + Drop>(
-    rt: &R,
+pub fn run_call<I: Read + Drop, W: Write + Drop, E: Write + Drop>(
+    rt: &HostRuntime,
     words: &[&str],
     outside: Outside<'_>,
     mut input: I,
@@ -29,7 +29,7 @@ pub fn run_call<R: Files + AllocGlobal, I: Read + Drop, W: Write + Drop, E: Writ
     ensures { result ≤ 5 }
 {
     match read(rt.alloc(), words) {
-        Ok(Asked::Do(call)) => do_call(rt, &call, outside, &mut input, &mut out, &mut err),
+        Ok(Asked::Do(call)) => do_call(rt, call, outside, &mut input, &mut out, &mut err),
         Ok(Asked::Help(command)) => print(help_on(command), &mut out, &mut err),
         Ok(Asked::Version) => print(VERSION, &mut out, &mut err),
         Err(fault) => tell_fault(rt.alloc(), fault, &mut err),
@@ -67,9 +67,26 @@ fn tell_fault<E: Write>(alloc: Global, fault: Fault<'_>, err: &mut E) -> u8
     }
 }
 
-/// Does a call, and tells why where it isn't done.
-fn do_call<R: Files + AllocGlobal, I: Read, W: Write, E: Write>(
-    rt: &R,
+/// Does a call, on a file of git's if it names one, and tells why where it isn't done.
+fn do_call<I: Read, W: Write, E: Write>(
+    rt: &HostRuntime,
+    call: Call<'_>,
+    outside: Outside<'_>,
+    input: &mut I,
+    out: &mut W,
+    err: &mut E,
+) -> u8
+    ensures { result ≤ 5 }
+{
+    match path_of(rt, &call.options) {
+        Ok(path) => do_command(rt, &call.on(path.as_deref()), outside, input, out, err),
+        Err(trouble) => tell_trouble(&trouble, &call.options, err),
+    }
+}
+
+/// Does a command, and tells why where it isn't done.
+fn do_command<I: Read, W: Write, E: Write>(
+    rt: &HostRuntime,
     call: &Call<'_>,
     outside: Outside<'_>,
     input: &mut I,
@@ -86,9 +103,14 @@ fn do_call<R: Files + AllocGlobal, I: Read, W: Write, E: Write>(
     };
     match done {
         Ok(()) => 0,
-        Err(trouble) => {
-            tell(&trouble, name_of(call), err);
-            trouble.status()
-        }
+        Err(trouble) => tell_trouble(&trouble, &call.options, err),
     }
+}
+
+/// Tells why a call isn't done, and answers its status.
+fn tell_trouble<E: Write>(trouble: &Trouble, options: &Options<'_>, err: &mut E) -> u8
+    ensures { result ≤ 5 }
+{
+    tell(trouble, options.file_name(), err);
+    trouble.status()
 }

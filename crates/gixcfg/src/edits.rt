@@ -1,6 +1,6 @@
 //! `set`, `unset`, `rename-section`, `remove-section` and `fmt` with options.
 
-use crate::loading::{Outside, loaded, name_of, refused, text_of};
+use crate::loading::{Outside, loaded, refused, text_of};
 use crate::program::{key_of, last_with, put, remove};
 use bstr::BString;
 use gix_config::file::rename_section;
@@ -111,10 +111,10 @@ fn edited(
     if let Command::Fmt = call.command {
         return match normalize(alloc, text, layout_of(&call.options)) {
             Ok(text) => Ok(text),
-            Err(refusal) => Err(refused(alloc, name_of(call), text, &refusal, outside)),
+            Err(refusal) => Err(refused(alloc, call.options.file_name(), text, &refusal, outside)),
         };
     }
-    let mut file = loaded(alloc, name_of(call), text, outside)?;
+    let mut file = loaded(alloc, call.options.file_name(), text, outside)?;
     apply(alloc, &mut file, call, outside)?;
     Ok(file.to_bstring()?)
 }

@@ -1,15 +1,16 @@
 //! What a call with options works on.
 
 use crate::program::{Fault, read_all};
-use gix_config::File;
+use gix_config::host::Places;
 use gix_config::parse::Error;
+use gix_config::{File, NoMemory};
 use gixcfg_answers::trouble::Trouble;
-use gixcfg_files::read;
+use gixcfg_files::{read, repository_file, system_file, user_file};
 use gixcfg_messages::{Refused, message};
-use gixcfg_words::call::Call;
+use gixcfg_words::options::{Options, Place};
 use std::alloc::{AllocGlobal, Global};
 use std::io::Read;
-use std::rt::Files;
+use std::rt::{Env, Files};
 
 /// What lies outside of the words.
 #[derive(Clone, Copy)]
@@ -32,12 +33,31 @@ impl From<Fault> for Trouble {
     }
 }
 
-/// What the file of a call is called.
-pub fn name_of<'a>(call: &Call<'a>) -> &'a str {
-    match call.options.path() {
-        Some(path) => path,
-        None => "standard input",
+/// The path of the file of git's that the options name, if they do.
+pub fn path_of<R: Files + Env + AllocGlobal>(
+    rt: &R,
+    options: &Options<'_>,
+) -> Result<Option<String>, Trouble> {
+    match options.place {
+        Some(Place::Global) => Ok(Some(user_file(rt)?)),
+        Some(Place::System) => Ok(Some(system_file(rt)?)),
+        Some(Place::Local) => Ok(Some(repository_file(rt)?)),
+        Some(Place::Effective) | None => Ok(None),
     }
+}
+
+/// The places of configuration on this system, with this home folder.
+pub fn places_of(alloc: Global, home: Option<&str>) -> Result<Places, NoMemory> {
+    let home = match home {
+        Some(home) => Some(String::from_str(alloc, home)?),
+        None => None,
+    };
+    Ok(Places {
+        installation_config: None,
+        system_prefix: String::from_str(alloc, "/")?,
+        home,
+        homes: None,
+    })
 }
 
 /// The text of a file, or without a path of standard input; none where there is no such file.

@@ -4,7 +4,9 @@
 mod calls;
 mod checks;
 mod edits;
+mod effective;
 mod entries;
+mod including;
 mod loading;
 mod output;
 mod program;
@@ -13,10 +15,10 @@ mod reads;
 use calls::run_call;
 use gitconf_disk::{Disk, Process};
 use gix_config::NoMemory;
-use gix_config::host::{Env, EnvVar, Host, Places};
+use gix_config::host::{Env, EnvVar, Host};
 use gix_config::refusals::Refusal;
 use gixcfg_words::call::has_options;
-use loading::Outside;
+use loading::{Outside, places_of};
 use program::{MEMORY, home_of, run, understands};
 use std::alloc::Global;
 use std::env;
@@ -35,16 +37,6 @@ fn words_of(rt: &HostRuntime) -> Result<Vec<String>, NoMemory> {
 /// Borrows each of the words.
 fn borrowed(alloc: Global, words: &[String]) -> Result<Vec<&str>, NoMemory> {
     Ok(words.iter().map(|word| word.as_str()).collect(alloc)?)
-}
-
-/// The places of configuration. The program loads none of them, so it knows no more than where the machine's would stand.
-fn places(alloc: Global) -> Result<Places, NoMemory> {
-    Ok(Places {
-        installation_config: None,
-        system_prefix: String::from_str(alloc, "/")?,
-        home: None,
-        homes: None,
-    })
 }
 
 /// Whether standard error shows colors: it is a terminal, and `NO_COLOR` isn't set, or to nothing.
@@ -79,7 +71,7 @@ fn run_process(rt: &HostRuntime) -> Result<u8, NoMemory> {
     let mut host = Host {
         files: Box::new(rt.alloc(), Disk::new(*rt))?,
         env: Box::new(rt.alloc(), Process::new(*rt))?,
-        places: places(rt.alloc())?,
+        places: places_of(rt.alloc(), None)?,
     };
     Ok(run(
         rt.alloc(),

@@ -1,89 +1,92 @@
 //! `get` and `list` with options.
 
+use crate::effective::effective;
 use crate::entries::{all_entries, entries_of};
-use crate::loading::{Outside, loaded, name_of, text_of};
+use crate::including::included;
+use crate::loading::{Outside, loaded, text_of};
 use crate::program::{key_of, put};
+use gix_config::File;
 use gixcfg_answers::entries::Found;
 use gixcfg_answers::telling::{lines_of_all, lines_of_key};
 use gixcfg_answers::trouble::Trouble;
 use gixcfg_words::call::Call;
-use std::alloc::{AllocGlobal, Global};
+use gixcfg_words::options::Place;
 use std::io::{Read, Write};
-use std::rt::Files;
 
 /// Prints the entries of a key, in a file that may be missing.
-pub fn get<R: Files + AllocGlobal, I: Read, W: Write>(
-    rt: &R,
+pub fn get<I: Read, W: Write>(
+    rt: &HostRuntime,
     call: &Call<'_>,
     outside: Outside<'_>,
     input: &mut I,
     out: &mut W,
 ) -> Result<(), Trouble> {
-    let text = text_of(rt, call.options.path(), input)?;
-    let text = text.unwrap_or(Vec::new(rt.alloc()));
-    let lines = values_in(rt.alloc(), call, &text, outside)?;
+    let found = values_found(rt, call, outside, input)?;
+    let lines = lines_of_key(rt.alloc(), &found, &call.options, outside.home)?;
     Ok(put(&lines, out)?)
 }
 
 /// Prints all entries.
-pub fn list<R: Files + AllocGlobal, I: Read, W: Write>(
-    rt: &R,
+pub fn list<I: Read, W: Write>(
+    rt: &HostRuntime,
     call: &Call<'_>,
     outside: Outside<'_>,
     input: &mut I,
     out: &mut W,
 ) -> Result<(), Trouble> {
-    let Some(text) = text_of(rt, call.options.path(), input)? else {
-        return Err(Trouble::NoFile);
-    };
-    let lines = entries_in(rt.alloc(), call, &text, outside)?;
+    let found = all_found(rt, call, outside, input)?;
+    let lines = lines_of_all(rt.alloc(), &found, &call.options)?;
     Ok(put(&lines, out)?)
 }
 
-/// The lines of the entries of the key that a call names.
-fn values_in(
-    alloc: Global,
-    call: &Call<'_>,
-    text: &[u8],
-    outside: Outside<'_>,
-) -> Result<Vec<u8>, Trouble> {
-    let found = found_in(alloc, call, text, outside)?;
-    lines_of_key(alloc, &found, &call.options, outside.home)
-}
-
 /// The entries of the key that a call names.
-fn found_in(
-    alloc: Global,
+fn values_found<I: Read>(
+    rt: &HostRuntime,
     call: &Call<'_>,
-    text: &[u8],
     outside: Outside<'_>,
+    input: &mut I,
 ) -> Result<Vec<Found>, Trouble> {
     let Some(word) = call.words.first() else {
         return Err(Trouble::NoKey);
     };
     let key = key_of(word)?;
-    let file = loaded(alloc, name_of(call), text, outside)?;
-    entries_of(alloc, &file, key)
+    match file_of(rt, call, outside, input)? {
+        Some(file) => entries_of(rt.alloc(), &file, key, &call.options),
+        None => Ok(Vec::new(rt.alloc())),
+    }
 }
 
-/// The lines of all entries.
-fn entries_in(
-    alloc: Global,
+/// All entries.
+fn all_found<I: Read>(
+    rt: &HostRuntime,
     call: &Call<'_>,
-    text: &[u8],
     outside: Outside<'_>,
-) -> Result<Vec<u8>, Trouble> {
-    let found = all_found(alloc, name_of(call), text, outside)?;
-    lines_of_all(alloc, &found, &call.options)
+    input: &mut I,
+) -> Result<Vec<Found>, Trouble> {
+    match file_of(rt, call, outside, input)? {
+        Some(file) => all_entries(rt.alloc(), &file, &call.options),
+        None => Err(Trouble::NoFile),
+    }
 }
 
-/// All entries of a text.
-fn all_found(
-    alloc: Global,
-    name: &str,
-    text: &[u8],
+/// What a call reads; none where there is no such file.
+fn file_of<I: Read>(
+    rt: &HostRuntime,
+    call: &Call<'_>,
     outside: Outside<'_>,
-) -> Result<Vec<Found>, Trouble> {
-    let file = loaded(alloc, name, text, outside)?;
-    all_entries(alloc, &file)
+    input: &mut I,
+) -> Result<Option<File>, Trouble> {
+    let (path, follows) = (call.options.path(), call.options.follows());
+    if let Some(Place::Effective) = call.options.place {
+        return Ok(Some(effective(rt, outside.home, follows)?));
+    }
+    let Some(text) = text_of(rt, path, input)? else {
+        return Ok(None);
+    };
+    if follows {
+        Ok(Some(included(rt, path, text, outside.home)?))
+    } else {
+        let name = call.options.file_name();
+        Ok(Some(loaded(rt.alloc(), name, &text, outside)?))
+    }
 }

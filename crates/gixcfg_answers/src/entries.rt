@@ -1,17 +1,21 @@
 //! The entries of a section, with those that have no value.
 
 use crate::names::add_names;
+use crate::origins::before_of;
 use bstr::BString;
 use gitconf_base::key::KeyRef;
 use gitconf_items::event_ref::EventRef;
 use gitconf_items::events::ItemEvents;
 use gitconf_text::NoMemory;
 use gitconf_views::section::SectionRef;
+use gixcfg_words::options::Options;
 use std::alloc::Global;
 
 /// An entry: its names with dots between them, and its value. An entry without `=` has none.
 #[derive(Drop)]
 pub struct Found {
+    /// What is told before it.
+    pub before: Vec<u8>,
     /// Its names.
     pub names: Vec<u8>,
     /// Its value.
@@ -58,8 +62,10 @@ pub fn add_found(
     found: &mut Vec<Found>,
     section: &SectionRef<'_>,
     value_name: Option<&str>,
+    options: &Options<'_>,
 ) -> Result<(), NoMemory> {
     let header = section.header();
+    let told = before_of(alloc, section.meta(), options)?;
     let marks = marks_of(alloc, section.events())?;
     let mut at = 0usize;
     for entry in section.body() {
@@ -70,7 +76,12 @@ pub fn add_found(
             let mut names = Vec::new(alloc);
             add_names(&mut names, header.name(), header.subsection_name(), name)?;
             let value = if has_value { Some(value) } else { None };
-            found.push(Found { names, value })?;
+            let before = told.to_vec(alloc)?;
+            found.push(Found {
+                before,
+                names,
+                value,
+            })?;
         }
     }
     Ok(())

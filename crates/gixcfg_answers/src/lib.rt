@@ -4,6 +4,7 @@
 pub mod entries;
 pub mod lines;
 pub mod names;
+pub mod origins;
 pub mod telling;
 pub mod trouble;
 pub mod typed;

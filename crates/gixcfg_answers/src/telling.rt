@@ -7,17 +7,6 @@ use crate::typed::typed;
 use gixcfg_words::options::Options;
 use std::alloc::Global;
 
-/// What the file is called before an entry, where that is asked for.
-fn origin_of(alloc: Global, options: &Options<'_>) -> Result<Option<String>, Trouble> {
-    if !options.show_origin {
-        return Ok(None);
-    }
-    match options.path() {
-        Some(path) => Ok(Some(format!(in alloc; "file:{path}")?)),
-        None => Ok(Some(String::from_str(alloc, "standard input:")?)),
-    }
-}
-
 /// The lines of the entries of a key: of all of them, or of the last one; or the value that is given where there is none.
 ///
 /// # Errors
@@ -29,10 +18,9 @@ pub fn lines_of_key(
     options: &Options<'_>,
     home: Option<&str>,
 ) -> Result<Vec<u8>, Trouble> {
-    let origin = origin_of(alloc, options)?;
     let form = Form {
         has_names: options.show_names,
-        ..Form::of_values(origin.as_deref(), options.null)
+        ..Form::of_values(options.null)
     };
     let chosen = if options.all { found } else { last_of(found) };
     if chosen.is_empty() {
@@ -52,14 +40,19 @@ pub fn lines_of_all(
     found: &[Found],
     options: &Options<'_>,
 ) -> Result<Vec<u8>, Trouble> {
-    let origin = origin_of(alloc, options)?;
     let form = Form {
         has_value: !options.name_only,
-        ..Form::of_entries(origin.as_deref(), options.null)
+        ..Form::of_entries(options.null)
     };
     let mut lines = Vec::new(alloc);
     for entry in found {
-        add_entry(&mut lines, &form, &entry.names, entry.value())?;
+        add_entry(
+            &mut lines,
+            &form,
+            &entry.before,
+            &entry.names,
+            entry.value(),
+        )?;
     }
     Ok(lines)
 }
@@ -78,32 +71,29 @@ fn default_line(
     let Some(value) = options.default else {
         return Err(Trouble::Missing);
     };
-    let form = Form::of_values(None, options.null);
+    let form = Form::of_values(options.null);
     let mut lines = Vec::new(alloc);
-    add_typed(
-        alloc,
-        &mut lines,
-        &form,
-        b"",
-        Some(value.as_bytes()),
-        options,
-        home,
-    )?;
+    match options.kind {
+        None => add_entry(&mut lines, &form, b"", b"", Some(value.as_bytes()))?,
+        Some(kind) => {
+            let value = typed(alloc, Some(value.as_bytes()), kind, home)?;
+            add_entry(&mut lines, &form, b"", b"", Some(value.as_bytes()))?;
+        }
+    }
     Ok(lines)
 }
 
 /// Entries, a line each, their values in the type that is asked for.
 fn lines_of(
     alloc: Global,
-    form: &Form<'_>,
+    form: &Form,
     found: &[Found],
     options: &Options<'_>,
     home: Option<&str>,
 ) -> Result<Vec<u8>, Trouble> {
     let mut lines = Vec::new(alloc);
     for entry in found {
-        let value = entry.value();
-        add_typed(alloc, &mut lines, form, &entry.names, value, options, home)?;
+        add_typed(alloc, &mut lines, form, entry, options, home)?;
     }
     Ok(lines)
 }
@@ -112,17 +102,22 @@ fn lines_of(
 fn add_typed(
     alloc: Global,
     lines: &mut Vec<u8>,
-    form: &Form<'_>,
-    names: &[u8],
-    value: Option<&[u8]>,
+    form: &Form,
+    entry: &Found,
     options: &Options<'_>,
     home: Option<&str>,
 ) -> Result<(), Trouble> {
     match options.kind {
-        None => add_entry(lines, form, names, value)?,
+        None => add_entry(lines, form, &entry.before, &entry.names, entry.value())?,
         Some(kind) => {
-            let value = typed(alloc, value, kind, home)?;
-            add_entry(lines, form, names, Some(value.as_bytes()))?;
+            let value = typed(alloc, entry.value(), kind, home)?;
+            add_entry(
+                lines,
+                form,
+                &entry.before,
+                &entry.names,
+                Some(value.as_bytes()),
+            )?;
         }
     }
     Ok(())

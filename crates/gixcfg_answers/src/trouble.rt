@@ -26,6 +26,8 @@ pub enum Trouble {
     BadName(u8),
     /// The text is refused, with the message.
     Text(String),
+    /// A file that is read with others can't be read, with the message.
+    Unread(String),
     /// The text or the edit is refused: the number of the refusal.
     Refused(u8),
     /// A value is none of the type.
@@ -62,7 +64,11 @@ impl Trouble {
             | Trouble::BadName(_) => 1,
             Trouble::NoKey => 2,
             Trouble::Text(_) | Trouble::Refused(_) | Trouble::Untyped(_) => 3,
-            Trouble::File(_) | Trouble::NoFile | Trouble::Input | Trouble::Output => 4,
+            Trouble::File(_)
+            | Trouble::Unread(_)
+            | Trouble::NoFile
+            | Trouble::Input
+            | Trouble::Output => 4,
             Trouble::Several | Trouble::NoEntry | Trouble::Memory => 5,
         }
     }
@@ -112,7 +118,7 @@ pub fn of_number(number: u8) -> Trouble {
 pub fn tell<E: Write>(trouble: &Trouble, name: &str, err: &mut E) {
     let _ = match trouble {
         Trouble::Missing | Trouble::Faulty | Trouble::NoEntry => Ok(()),
-        Trouble::Text(message) => err.write_all(message.as_bytes()),
+        Trouble::Text(message) | Trouble::Unread(message) => err.write_all(message.as_bytes()),
         Trouble::File(fault) => writeln!(err, "gixcfg: {name}: {fault}"),
         Trouble::Memory => err.write_all(b"gixcfg: E27\n"),
         Trouble::Input => err.write_all(b"gixcfg: standard input: not read\n"),

@@ -13,6 +13,10 @@ pub enum Fault {
     NoFile,
     /// Its path leads through too many symbolic links.
     Links,
+    /// The working folder is in no repository.
+    NoRepository,
+    /// The user's home folder isn't known.
+    NoHome,
     /// It can't be opened or read.
     Unread(io::Error),
     /// It can't be locked or written.
@@ -54,6 +58,8 @@ impl fmt::Display for Fault {
             ),
             Fault::NoFile => f.write_str("not a regular file"),
             Fault::Links => f.write_str("too many symbolic links"),
+            Fault::NoRepository => f.write_str("not in a repository"),
+            Fault::NoHome => f.write_str("HOME isn't set"),
             Fault::Unread(error) => write!(f, "not read: {error}"),
             Fault::Unwritten(error) => write!(f, "not written: {error}"),
             Fault::Memory => f.write_str("out of memory"),

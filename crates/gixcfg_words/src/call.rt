@@ -27,6 +27,22 @@ pub struct Call<'a> {
     pub words: Vec<&'a str>,
 }
 
+impl<'a> Call<'a> {
+    /// The call with the file that was found for the place that it names.
+    pub fn on(self, path: Option<&'a str>) -> Call<'a> {
+        let Call {
+            command,
+            options,
+            words,
+        } = self;
+        Call {
+            command,
+            options: options.on(path),
+            words,
+        }
+    }
+}
+
 /// What the next word of a call may be.
 #[derive(Clone, Copy)]
 enum Next {
@@ -172,7 +188,7 @@ fn read_option<'a>(call: &mut Call<'a>, word: &'a str) -> Result<Next, Fault<'a>
         Some(_) => Err(Fault::UnaskedWord(name)),
         None if takes_word(option) => Ok(Next::WordOf(option)),
         None => {
-            call.options.put(option);
+            call.options.put(option, name)?;
             Ok(Next::Any)
         }
     }

@@ -16,8 +16,9 @@ usage: gixcfg COMMAND [OPTIONS] [WORDS]
     check           reports the first fault of each file
     help            shows how a command is used
 
-With -f FILE a command works on that file, and an edit changes it in place. Without it the file is standard input, and
-what an edit makes of it is standard output.
+With -f FILE a command works on that file, with --global, --system or --local on the file of the user, the system or the
+repository, and an edit changes it in place. Without them the file is standard input, and what an edit makes of it is
+standard output.
 
 Without options there are also: get KEY, all KEY, bool KEY, int KEY, set KEY VALUE, unset KEY, list, print, fmt, and
 load FILE get KEY.
@@ -26,16 +27,22 @@ gixcfg help COMMAND says more about a command.
 ";
 
 const GET: &str = "\
-usage: gixcfg get [-f FILE] [--all] [--default VALUE] [--type TYPE] [-z] [--show-origin] [--show-names] KEY
+usage: gixcfg get [-f FILE] [--all] [--default VALUE] [--type TYPE] [-z] [--show-origin] [--show-scope] [--show-names] KEY
 
 Prints the last value of a key, or with --all each of its values, a line each.
 
     -f, --file FILE   the file; - is standard input, as without it
+    --global          the user's file, in place of -f: ~/.gitconfig
+    --system          the system's file: /etc/gitconfig
+    --local           the repository's file: .git/config
+    --effective       all that git reads here, with includes: these three, and GIT_CONFIG_COUNT
     --all             all values, in the order of the file
     --default VALUE   this value if the key isn't there
     --type TYPE       the value as bool, int, bool-or-int or path; refused if it is none
     -z, --null        a byte 0 in place of each line feed, and a line feed after each key
     --show-origin     the file before each value
+    --show-scope      system, global, local, worktree or command before each value
+    --includes        what is included too, as with --effective; or not, by --no-includes
     --show-names      the key before each value
 
 Ends with 1 if the key isn't there.
@@ -50,6 +57,9 @@ usage: gixcfg set [-f FILE] [--all] [--append] [--type TYPE] KEY VALUE
 Gives a key a value, in its place if it is there, else in the last section of its name, else in a new one.
 
     -f, --file FILE   the file, which is changed in place, and made if it isn't there; - is standard input, as without it
+    --global          the user's file, in place of -f: ~/.gitconfig
+    --system          the system's file: /etc/gitconfig
+    --local           the repository's file: .git/config
     --all             one entry in place of all entries of the key, where the first of them is
     --append          one more entry, at the end of the last section of the name
     --type TYPE       the value as bool, int, bool-or-int or path; refused if it is none
@@ -66,6 +76,9 @@ usage: gixcfg unset [-f FILE] [--all] KEY
 Removes a key's entry.
 
     -f, --file FILE   the file, which is changed in place; - is standard input, as without it
+    --global          the user's file, in place of -f: ~/.gitconfig
+    --system          the system's file: /etc/gitconfig
+    --local           the repository's file: .git/config
     --all             all entries of the key
 
 Ends with 5 if there is no entry, or several of them and --all isn't given.
@@ -74,14 +87,20 @@ Ends with 5 if there is no entry, or several of them and --all isn't given.
 ";
 
 const LIST: &str = "\
-usage: gixcfg list [-f FILE] [-z] [--name-only] [--show-origin]
+usage: gixcfg list [-f FILE] [-z] [--name-only] [--show-origin] [--show-scope]
 
 Prints all entries, a line each: the key, = and the value.
 
     -f, --file FILE   the file; - is standard input, as without it
+    --global          the user's file, in place of -f: ~/.gitconfig
+    --system          the system's file: /etc/gitconfig
+    --local           the repository's file: .git/config
+    --effective       all that git reads here, with includes: these three, and GIT_CONFIG_COUNT
     -z, --null        a byte 0 in place of each line feed at the end, and a line feed after each key
     --name-only       keys without values
     --show-origin     the file before each entry
+    --show-scope      system, global, local, worktree or command before each entry
+    --includes        what is included too, as with --effective; or not, by --no-includes
 
     $ gixcfg list -f .git/config
     core.bare=false
@@ -93,6 +112,9 @@ usage: gixcfg rename-section [-f FILE] OLD NEW
 Gives all sections of a name another one: a name such as core, or a name and a subsection such as remote.origin.
 
     -f, --file FILE   the file, which is changed in place; - is standard input, as without it
+    --global          the user's file, in place of -f: ~/.gitconfig
+    --system          the system's file: /etc/gitconfig
+    --local           the repository's file: .git/config
 
 Ends with 1 if there is no such section.
 
@@ -105,6 +127,9 @@ usage: gixcfg remove-section [-f FILE] NAME
 Removes all sections of a name, with their entries and comments.
 
     -f, --file FILE   the file, which is changed in place; - is standard input, as without it
+    --global          the user's file, in place of -f: ~/.gitconfig
+    --system          the system's file: /etc/gitconfig
+    --local           the repository's file: .git/config
 
 Ends with 1 if there is no such section.
 
@@ -117,6 +142,9 @@ usage: gixcfg fmt [-f FILE] [--check] [--indent tabs:N|spaces:N] [--newline lf|c
 Lays a file out: an indent before each entry, one blank on each side of =, one line ending at the end.
 
     -f, --file FILE   the file, which is changed in place; - is standard input, as without it
+    --global          the user's file, in place of -f: ~/.gitconfig
+    --system          the system's file: /etc/gitconfig
+    --local           the repository's file: .git/config
     --check           nothing is written; ends with 1 if the file isn't laid out
     --indent INDENT   what comes before an entry: tabs:1 if it isn't given
     --newline ENDING  what lines end with: that of the file if it isn't given

@@ -7,6 +7,14 @@ use crate::fault::Fault;
 pub enum Opt {
     /// The file that is worked on.
     File,
+    /// The user's file.
+    Global,
+    /// The system's file.
+    System,
+    /// The repository's file.
+    Local,
+    /// All that git sees.
+    Effective,
     /// Help on the command.
     Help,
     /// All entries of the key.
@@ -21,6 +29,12 @@ pub enum Opt {
     Null,
     /// The file of each value.
     ShowOrigin,
+    /// The scope of each value.
+    ShowScope,
+    /// What is included is read too.
+    Includes,
+    /// What is included isn't read.
+    NoIncludes,
     /// The names of each value.
     ShowNames,
     /// The names without values.
@@ -36,9 +50,13 @@ pub enum Opt {
 }
 
 /// The words of the options.
-static OPTIONS: [(&str, Opt); 18] = [
+static OPTIONS: [(&str, Opt); 25] = [
     ("-f", Opt::File),
     ("--file", Opt::File),
+    ("--global", Opt::Global),
+    ("--system", Opt::System),
+    ("--local", Opt::Local),
+    ("--effective", Opt::Effective),
     ("-h", Opt::Help),
     ("--help", Opt::Help),
     ("--all", Opt::All),
@@ -48,6 +66,9 @@ static OPTIONS: [(&str, Opt); 18] = [
     ("-z", Opt::Null),
     ("--null", Opt::Null),
     ("--show-origin", Opt::ShowOrigin),
+    ("--show-scope", Opt::ShowScope),
+    ("--includes", Opt::Includes),
+    ("--no-includes", Opt::NoIncludes),
     ("--show-names", Opt::ShowNames),
     ("--name-only", Opt::NameOnly),
     ("--check", Opt::Check),
@@ -57,32 +78,71 @@ static OPTIONS: [(&str, Opt); 18] = [
     ("--quiet", Opt::Quiet),
 ];
 
-static OF_GET: [Opt; 8] = [
+static OF_GET: [Opt; 15] = [
     Opt::File,
+    Opt::Global,
+    Opt::System,
+    Opt::Local,
+    Opt::Effective,
     Opt::Help,
     Opt::All,
     Opt::Default,
     Opt::Type,
     Opt::Null,
     Opt::ShowOrigin,
+    Opt::ShowScope,
+    Opt::Includes,
+    Opt::NoIncludes,
     Opt::ShowNames,
 ];
 
-static OF_SET: [Opt; 5] = [Opt::File, Opt::Help, Opt::All, Opt::Append, Opt::Type];
-
-static OF_UNSET: [Opt; 3] = [Opt::File, Opt::Help, Opt::All];
-
-static OF_LIST: [Opt; 5] = [
+static OF_SET: [Opt; 8] = [
     Opt::File,
+    Opt::Global,
+    Opt::System,
+    Opt::Local,
+    Opt::Help,
+    Opt::All,
+    Opt::Append,
+    Opt::Type,
+];
+
+static OF_UNSET: [Opt; 6] = [
+    Opt::File,
+    Opt::Global,
+    Opt::System,
+    Opt::Local,
+    Opt::Help,
+    Opt::All,
+];
+
+static OF_LIST: [Opt; 12] = [
+    Opt::File,
+    Opt::Global,
+    Opt::System,
+    Opt::Local,
+    Opt::Effective,
     Opt::Help,
     Opt::Null,
     Opt::NameOnly,
     Opt::ShowOrigin,
+    Opt::ShowScope,
+    Opt::Includes,
+    Opt::NoIncludes,
 ];
 
-static OF_SECTION: [Opt; 2] = [Opt::File, Opt::Help];
+static OF_SECTION: [Opt; 5] = [Opt::File, Opt::Global, Opt::System, Opt::Local, Opt::Help];
 
-static OF_FMT: [Opt; 5] = [Opt::File, Opt::Help, Opt::Check, Opt::Indent, Opt::Newline];
+static OF_FMT: [Opt; 8] = [
+    Opt::File,
+    Opt::Global,
+    Opt::System,
+    Opt::Local,
+    Opt::Help,
+    Opt::Check,
+    Opt::Indent,
+    Opt::Newline,
+];
 
 static OF_CHECK: [Opt; 2] = [Opt::Help, Opt::Quiet];
 
@@ -118,6 +178,42 @@ pub fn takes_word(option: Opt) -> bool {
         option,
         Opt::File | Opt::Default | Opt::Type | Opt::Indent | Opt::Newline
     )
+}
+
+/// One of git's files, in place of a path.
+#[derive(Clone, Copy)]
+pub enum Place {
+    /// The user's file.
+    Global,
+    /// The system's file.
+    System,
+    /// The repository's file.
+    Local,
+    /// All of them that git reads, in its order, and its variables.
+    Effective,
+}
+
+impl Place {
+    /// The option that names it.
+    pub fn word(self) -> &'static str {
+        match self {
+            Place::Global => "--global",
+            Place::System => "--system",
+            Place::Local => "--local",
+            Place::Effective => "--effective",
+        }
+    }
+}
+
+/// The place that an option names.
+fn place_named(option: Opt) -> Option<Place> {
+    match option {
+        Opt::Global => Some(Place::Global),
+        Opt::System => Some(Place::System),
+        Opt::Local => Some(Place::Local),
+        Opt::Effective => Some(Place::Effective),
+        _ => None,
+    }
 }
 
 /// The type that a value is to have.
@@ -199,6 +295,8 @@ fn newline_named(word: &str) -> Option<Newline> {
 pub struct Options<'a> {
     /// `-f`: the file that is worked on; standard input where it is `-` or isn't given.
     pub file: Option<&'a str>,
+    /// `--global`, `--system`, `--local` or `--effective`: what is worked on.
+    pub place: Option<Place>,
     /// `--help`
     pub help: bool,
     /// `--all`
@@ -213,6 +311,10 @@ pub struct Options<'a> {
     pub null: bool,
     /// `--show-origin`
     pub show_origin: bool,
+    /// `--show-scope`
+    pub show_scope: bool,
+    /// `--includes`, or against it `--no-includes`
+    pub includes: Option<bool>,
     /// `--show-names`
     pub show_names: bool,
     /// `--name-only`
@@ -232,6 +334,7 @@ impl<'a> Options<'a> {
     pub fn none() -> Options<'a> {
         Options {
             file: None,
+            place: None,
             help: false,
             all: false,
             append: false,
@@ -239,6 +342,8 @@ impl<'a> Options<'a> {
             kind: None,
             null: false,
             show_origin: false,
+            show_scope: false,
+            includes: None,
             show_names: false,
             name_only: false,
             check: false,
@@ -248,22 +353,69 @@ impl<'a> Options<'a> {
         }
     }
 
-    /// The file that is named; none where standard input is worked on.
+    /// The file that is named, or found for one of git's; none where standard input is worked on.
     pub fn path(&self) -> Option<&'a str> {
         match self.file {
-            Some("-") | None => None,
-            Some(path) => Some(path),
+            Some("-") if self.place.is_none() => None,
+            file => file,
         }
     }
 
-    /// Puts in an option without a word of its own.
-    pub fn put(&mut self, option: Opt) {
+    /// The options with the file that was found for the place that they name, if one was.
+    pub fn on(self, path: Option<&'a str>) -> Options<'a> {
+        match path {
+            Some(_) => Options { file: path, ..self },
+            None => self,
+        }
+    }
+
+    /// Whether what is included is read too: as asked for, else with all that git reads.
+    pub fn follows(&self) -> bool {
+        match self.includes {
+            Some(follows) => follows,
+            None => matches!(self.place, Some(Place::Effective)),
+        }
+    }
+
+    /// What the file is called: by its path, else by the option that names it.
+    pub fn file_name(&self) -> &'a str {
+        match (self.path(), self.place) {
+            (Some(path), _) => path,
+            (None, Some(place)) => place.word(),
+            (None, None) => "standard input",
+        }
+    }
+
+    /// Puts in an option without a word of its own, which is called by this name.
+    ///
+    /// # Errors
+    ///
+    /// It names a file, and another one is named already.
+    pub fn put(&mut self, option: Opt, name: &'a str) -> Result<(), Fault<'a>> {
+        match place_named(option) {
+            Some(_) if self.has_file() => Err(Fault::TwoFiles(name)),
+            Some(place) => {
+                self.place = Some(place);
+                Ok(())
+            }
+            None => {
+                self.put_mark(option);
+                Ok(())
+            }
+        }
+    }
+
+    /// Puts in an option that is only given or not.
+    fn put_mark(&mut self, option: Opt) {
         match option {
             Opt::Help => self.help = true,
             Opt::All => self.all = true,
             Opt::Append => self.append = true,
             Opt::Null => self.null = true,
             Opt::ShowOrigin => self.show_origin = true,
+            Opt::ShowScope => self.show_scope = true,
+            Opt::Includes => self.includes = Some(true),
+            Opt::NoIncludes => self.includes = Some(false),
             Opt::ShowNames => self.show_names = true,
             Opt::NameOnly => self.name_only = true,
             Opt::Check => self.check = true,
@@ -293,9 +445,14 @@ impl<'a> Options<'a> {
         }
     }
 
+    /// Whether a file is named.
+    fn has_file(&self) -> bool {
+        self.file.is_some() || self.place.is_some()
+    }
+
     /// Puts in the file that is worked on.
     fn put_file(&mut self, word: &'a str) -> Result<(), Fault<'a>> {
-        if self.file.is_some() {
+        if self.has_file() {
             return Err(Fault::TwoFiles(word));
         }
         self.file = Some(word);

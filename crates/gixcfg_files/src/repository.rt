@@ -1,0 +1,222 @@
+//! The file of the repository that the working folder is in, as git finds it.
+
+use crate::fault::Fault;
+use crate::reading::read;
+use crate::variables::variable;
+use std::alloc::{AllocError, AllocGlobal, Global};
+use std::fs;
+use std::io::ErrorKind;
+use std::rt::{Env, Files};
+
+/// How many bytes the path of a folder has at most.
+const LONGEST: usize = 4096;
+
+/// A repository: its folders, each with a slash at its end, or empty for the working folder.
+#[derive(Drop)]
+pub struct Repository {
+    /// The folder that is its own.
+    pub folder: String,
+    /// The folder that it has in common with its further working trees.
+    pub common: String,
+}
+
+impl Repository {
+    /// The path of its file.
+    ///
+    /// # Errors
+    ///
+    /// Want of memory.
+    pub fn file(&self, alloc: Global) -> Result<String, AllocError> {
+        format!(in alloc; "{}config", self.common)
+    }
+
+    /// The path of its working tree's file.
+    ///
+    /// # Errors
+    ///
+    /// Want of memory.
+    pub fn worktree_file(&self, alloc: Global) -> Result<String, AllocError> {
+        format!(in alloc; "{}config.worktree", self.folder)
+    }
+
+    /// The path of its folder from the root, without symbolic links.
+    ///
+    /// # Errors
+    ///
+    /// The path can't be found out; want of memory.
+    pub fn real_folder<R: Files + AllocGlobal>(&self, files: &R) -> Result<String, Fault> {
+        let path = format!(in files.alloc(); "{}.", self.folder)?;
+        match fs::canonicalize(files, path.as_str()) {
+            Ok(path) => Ok(path.into_string()),
+            Err(error) => Err(Fault::unread(error)),
+        }
+    }
+
+    /// The full name of the branch that it is on, if it is on one.
+    ///
+    /// # Errors
+    ///
+    /// Its `HEAD` can't be read; want of memory.
+    pub fn branch<R: Files + AllocGlobal>(&self, files: &R) -> Result<Option<String>, Fault> {
+        let path = format!(in files.alloc(); "{}HEAD", self.folder)?;
+        let Some(text) = read(files, path.as_str())? else {
+            return Ok(None);
+        };
+        match line_of(&text, "ref: ") {
+            Some(name) => Ok(Some(String::from_str(files.alloc(), name)?)),
+            None => Ok(None),
+        }
+    }
+}
+
+/// The repository that `GIT_DIR` names; else the first one that is found in the working folder, the folder that holds it, and so
+/// on.
+///
+/// # Errors
+///
+/// A file that leads to it can't be read, or leads to none; want of memory.
+pub fn find_repository<R: Env + Files + AllocGlobal>(rt: &R) -> Result<Option<Repository>, Fault> {
+    match variable(rt, "GIT_DIR")? {
+        Some(path) => repository_at(rt, path.as_str()),
+        None => repository_above(rt),
+    }
+}
+
+/// The path of the repository's file.
+///
+/// # Errors
+///
+/// There is no repository; those of [`find_repository`].
+pub fn repository_file<R: Env + Files + AllocGlobal>(rt: &R) -> Result<String, Fault> {
+    match find_repository(rt)? {
+        Some(found) => Ok(found.file(rt.alloc())?),
+        None => Err(Fault::NoRepository),
+    }
+}
+
+/// The first repository from the working folder upwards.
+fn repository_above<R: Env + Files + AllocGlobal>(rt: &R) -> Result<Option<Repository>, Fault> {
+    let mut folder = String::new(rt.alloc());
+    for _ in 0..depth(rt).saturating_add(1) {
+        if let Some(found) = repository_of(rt, folder.as_str())? {
+            return Ok(Some(found));
+        }
+        folder.push_str("../")?;
+    }
+    Ok(None)
+}
+
+/// How many folders hold the working folder; none where that isn't known.
+fn depth<R: Env>(rt: &R) -> usize {
+    let mut path = [0u8; LONGEST];
+    match rt.current_dir(&mut path) {
+        Ok(_) => path.iter().filter(|byte| **byte == b'/').count(),
+        Err(_) => 0,
+    }
+}
+
+/// The repository that a folder has as `.git`, or that it is itself.
+fn repository_of<R: Files + AllocGlobal>(
+    rt: &R,
+    folder: &str,
+) -> Result<Option<Repository>, Fault> {
+    let path = format!(in rt.alloc(); "{folder}.git")?;
+    match repository_at(rt, path.as_str())? {
+        Some(found) => Ok(Some(found)),
+        None => repository_in(rt, String::from_str(rt.alloc(), folder)?),
+    }
+}
+
+/// The repository at a path: a folder, or one that a file there leads to.
+fn repository_at<R: Files + AllocGlobal>(rt: &R, path: &str) -> Result<Option<Repository>, Fault> {
+    if is_file(rt, path)? {
+        let Some(folder) = folder_behind(rt, path, "gitdir: ")? else {
+            return Err(Fault::NoRepository);
+        };
+        return match repository_in(rt, folder)? {
+            Some(found) => Ok(Some(found)),
+            None => Err(Fault::NoRepository),
+        };
+    }
+    repository_in(rt, format!(in rt.alloc(); "{path}/")?)
+}
+
+/// The repository that a folder is. It has `HEAD`, and `objects` and `refs` beside its file; these are in another folder if
+/// `commondir` says so, as for a further working tree.
+fn repository_in<R: Files + AllocGlobal>(
+    rt: &R,
+    folder: String,
+) -> Result<Option<Repository>, Fault> {
+    if !has(rt, folder.as_str(), "HEAD")? {
+        return Ok(None);
+    }
+    let common = common_folder(rt, folder.as_str())?;
+    if has(rt, common.as_str(), "objects")? && has(rt, common.as_str(), "refs")? {
+        Ok(Some(Repository { folder, common }))
+    } else {
+        Ok(None)
+    }
+}
+
+/// The folder that working trees of a repository have in common.
+fn common_folder<R: Files + AllocGlobal>(rt: &R, folder: &str) -> Result<String, Fault> {
+    let path = format!(in rt.alloc(); "{folder}commondir")?;
+    match folder_behind(rt, path.as_str(), "")? {
+        Some(common) => Ok(common),
+        None => Ok(String::from_str(rt.alloc(), folder)?),
+    }
+}
+
+/// The folder that the file at a path leads to, behind the text that it begins with; a relative one begins where the file is. None
+/// where there is no such file, or it doesn't begin so.
+fn folder_behind<R: Files + AllocGlobal>(
+    rt: &R,
+    path: &str,
+    before: &str,
+) -> Result<Option<String>, Fault> {
+    let Some(text) = read(rt, path)? else {
+        return Ok(None);
+    };
+    match line_of(&text, before) {
+        Some(folder) => Ok(Some(joined(rt.alloc(), path, folder)?)),
+        None => Ok(None),
+    }
+}
+
+/// What a text of one line has behind its beginning.
+fn line_of<'a>(text: &'a [u8], before: &str) -> Option<&'a str> {
+    match str::from_utf8(text) {
+        Ok(text) => {
+            let line = text.strip_prefix(before)?;
+            Some(line.trim_end_matches('\n').trim_end_matches('\r'))
+        }
+        Err(_) => None,
+    }
+}
+
+/// A folder that a file names, which begins in the file's folder if it is relative.
+fn joined(alloc: Global, path: &str, folder: &str) -> Result<String, Fault> {
+    match path.rsplit_once('/') {
+        Some((start, _)) if !folder.starts_with('/') => Ok(format!(in alloc; "{start}/{folder}/")?),
+        _ => Ok(format!(in alloc; "{folder}/")?),
+    }
+}
+
+/// Whether a folder has something of this name.
+fn has<R: Files + AllocGlobal>(rt: &R, folder: &str, name: &str) -> Result<bool, Fault> {
+    let path = format!(in rt.alloc(); "{folder}{name}")?;
+    match fs::symlink_metadata(rt, path.as_str()) {
+        Ok(_) => Ok(true),
+        Err(error) if error.kind() == ErrorKind::OutOfMemory => Err(Fault::Memory),
+        Err(_) => Ok(false),
+    }
+}
+
+/// Whether a regular file is at a path.
+fn is_file<R: Files>(rt: &R, path: &str) -> Result<bool, Fault> {
+    match fs::metadata(rt, path) {
+        Ok(metadata) => Ok(metadata.is_file()),
+        Err(error) if error.kind() == ErrorKind::OutOfMemory => Err(Fault::Memory),
+        Err(_) => Ok(false),
+    }
+}
