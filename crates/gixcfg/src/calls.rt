@@ -17,7 +17,7 @@ use std::alloc::Global;
 use std::io::{Read, Write};
 
 /// Runs the program with words of which one is an option, or which are a command that has no other form, and answers its exit
-/// status: 0 done, 1 missing, 2 usage, 3 refused, 4 input, output or a file, 5 several entries or none, and want of memory.
+/// status: 0 done, 1 missing, 2 usage, 3 refused, 4 input, output or a file, 5 several entries or none, or out of memory.
 pub fn run_call<I: Read + Drop, W: Write + Drop, E: Write + Drop>(
     rt: &HostRuntime,
     words: &[&str],
@@ -67,7 +67,7 @@ fn tell_fault<E: Write>(alloc: Global, fault: Fault<'_>, err: &mut E) -> u8
     }
 }
 
-/// Does a call, on a file of git's if it names one, and tells why where it isn't done.
+/// Does a call, on a file of git's if it names one, and reports why if it isn't done.
 fn do_call<I: Read, W: Write, E: Write>(
     rt: &HostRuntime,
     call: Call<'_>,
@@ -84,7 +84,7 @@ fn do_call<I: Read, W: Write, E: Write>(
     }
 }
 
-/// Does a command, and tells why where it isn't done.
+/// Does a command, and reports why if it isn't done.
 fn do_command<I: Read, W: Write, E: Write>(
     rt: &HostRuntime,
     call: &Call<'_>,

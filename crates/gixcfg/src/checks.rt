@@ -18,11 +18,11 @@ enum Finding {
     Faulty,
     /// It can't be read.
     Unread,
-    /// Memory was wanting.
+    /// Out of memory.
     Memory,
 }
 
-/// Tells the first fault of each file, and answers the exit status: 1 where a file has one, 4 where one can't be read.
+/// Reports the first fault of each file, and returns the exit status: 1 if a file has one, 4 if one can't be read.
 pub fn check<R: Files + AllocGlobal, I: Read, E: Write>(
     rt: &R,
     call: &Call<'_>,
@@ -57,7 +57,7 @@ fn status_of(has_faulty: bool, has_unread: bool) -> u8
     }
 }
 
-/// Reads a file, and tells its fault.
+/// Reads a file, and reports its fault.
 fn found<R: Files + AllocGlobal, I: Read, E: Write>(
     rt: &R,
     word: &str,

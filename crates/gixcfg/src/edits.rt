@@ -37,7 +37,7 @@ pub fn edit<R: Files + AllocGlobal, I: Read, W: Write>(
     }
 }
 
-/// Writes what an edit makes of a text, or tells whether it changes it.
+/// Writes what an edit makes of a text, or reports whether it changes it.
 fn put_edited<W: Write>(
     alloc: Global,
     call: &Call<'_>,

@@ -60,7 +60,7 @@ pub fn places_of(alloc: Global, home: Option<&str>) -> Result<Places, NoMemory> 
     })
 }
 
-/// The text of a file, or without a path of standard input; none where there is no such file.
+/// The text of a file, or without a path of standard input; none if there is no such file.
 pub fn text_of<R: Files + AllocGlobal, I: Read>(
     rt: &R,
     path: Option<&str>,

@@ -25,7 +25,7 @@ use std::env;
 use std::io::{ErrorKind, IsTerminal};
 use std::process::ExitCode;
 
-/// The words behind the program's name; none where one of them isn't UTF-8, which is a usage fault.
+/// The words after the program's name; none if one of them isn't UTF-8, which is a usage fault.
 fn words_of(rt: &HostRuntime) -> Result<Vec<String>, NoMemory> {
     match env::args(rt) {
         Ok(words) => Ok(words.skip(1).collect(rt.alloc())?),

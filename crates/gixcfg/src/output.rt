@@ -7,7 +7,7 @@ use std::io::{BufWriter, Write};
 /// How many bytes are gathered before the stream is asked to take them.
 const GATHERED: usize = 32768;
 
-/// A stream, and the bytes that are gathered for it. It tells neither what it took nor how often it failed.
+/// A stream, and the bytes that are gathered for it. It reports neither what it took nor how often it failed.
 #[derive(Drop)]
 pub struct Output<W: Write + Drop> {
     stream: BufWriter<W>,

@@ -17,7 +17,7 @@ use std::alloc::{AllocError, AllocFailed, Global};
 use std::io;
 use std::io::{ErrorKind, Read, Write};
 
-/// The status where memory was wanting.
+/// The status if out of memory.
 pub const MEMORY: u8 = 5;
 
 /// What the program is asked to do.
@@ -80,7 +80,7 @@ pub enum Fault {
     Input,
     /// Standard output failed.
     Output,
-    /// Memory was wanting.
+    /// Out of memory.
     Memory,
 }
 
@@ -178,7 +178,7 @@ fn of_number(number: u8, refusal: from_paths::Error) -> Fault
     }
 }
 
-/// Runs the program with the words behind its name, standard input, standard output, standard error, and the files and
+/// Runs the program with the words after its name, standard input, standard output, standard error, and the files and
 /// variables that it may ask for, and answers its exit status: 0 done, 1 missing, 2 usage, 3 refused, 4 input or output,
 /// 5 memory.
 ///
@@ -383,7 +383,7 @@ fn integer(alloc: Global, file: &File, key: KeyRef<'_>) -> Result<Vec<u8>, Fault
     }
 }
 
-/// The entries of all sections in file order, each on a line. Nothing is told of those before the first section.
+/// The entries of all sections in file order, each on a line. Those before the first section are left out.
 fn list(alloc: Global, file: &File) -> Result<Vec<u8>, Fault> {
     let mut lines = Vec::new(alloc);
     for section in file.sections() {
@@ -507,7 +507,7 @@ fn put_list<W: Write>(alloc: Global, file: &File, out: &mut W) -> Result<(), Fau
     put(&lines, out)
 }
 
-/// Writes an answer that stands in memory.
+/// Writes an answer that is in memory.
 pub fn put<W: Write>(answer: &[u8], out: &mut W) -> Result<(), Fault> {
     match out.write_all(answer) {
         Ok(()) => Ok(()),
@@ -570,7 +570,7 @@ fn put_all<W: Write + Drop>(file: &File, output: &mut Output<W>) -> Result<(), F
     Ok(())
 }
 
-/// Tells a fault on standard error: how the program is called, or which refusal it was. Nothing is told of what is
+/// Reports a fault on standard error: how the program is called, or which refusal it was. Nothing is said of what is
 /// missing. A failed write changes no status, and no memory is taken.
 fn tell<E: Write>(fault: &Fault, err: &mut E) {
     let _ = match fault {
@@ -596,7 +596,7 @@ fn tell<E: Write>(fault: &Fault, err: &mut E) {
     };
 }
 
-/// Tells why a file is refused, with the parser's text where it was the parser.
+/// Reports why a file is refused, with the parser's text if it was the parser.
 fn tell_file<E: Write>(refusal: &from_paths::Error, err: &mut E) -> io::Result<()> {
     match refusal.number() {
         number @ 1..=2 => writeln!(err, "gixcfg: E{number}: {refusal}"),

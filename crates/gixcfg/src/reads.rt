@@ -69,7 +69,7 @@ fn all_found<I: Read>(
     }
 }
 
-/// What a call reads; none where there is no such file.
+/// What a call reads; none if there is no such file.
 fn file_of<I: Read>(
     rt: &HostRuntime,
     call: &Call<'_>,

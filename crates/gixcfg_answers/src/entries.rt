@@ -14,7 +14,7 @@ use std::alloc::Global;
 /// An entry: its names with dots between them, and its value. An entry without `=` has none.
 #[derive(Drop)]
 pub struct Found {
-    /// What is told before it.
+    /// What is printed before it.
     pub before: Vec<u8>,
     /// Its names.
     pub names: Vec<u8>,

@@ -2,16 +2,16 @@
 
 use std::alloc::AllocError;
 
-/// What a line tells of an entry, and what stands between and behind that.
+/// What a line has of an entry, and what comes between and after that.
 #[derive(Clone, Copy)]
 pub struct Form {
-    /// Whether the names are told.
+    /// Whether the names are printed.
     pub has_names: bool,
-    /// Whether the value is told.
+    /// Whether the value is printed.
     pub has_value: bool,
-    /// What stands between names and value.
+    /// What comes between names and value.
     pub between: u8,
-    /// What stands behind an entry.
+    /// What comes after an entry.
     pub end: u8,
 }
 
@@ -36,7 +36,7 @@ impl Form {
     }
 }
 
-/// Adds an entry of these names: what is told before it, its names, and its value, if it has one.
+/// Adds an entry of these names: what is printed before it, its names, and its value, if it has one.
 ///
 /// # Errors
 ///
@@ -57,7 +57,7 @@ pub fn add_entry(
     Ok(())
 }
 
-/// Adds a value behind the names.
+/// Adds a value after the names.
 fn add_value(lines: &mut Vec<u8>, form: &Form, value: Option<&[u8]>) -> Result<(), AllocError> {
     let Some(value) = value else {
         return Ok(());

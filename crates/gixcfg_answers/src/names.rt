@@ -1,9 +1,9 @@
-//! The names of an entry, as they are told.
+//! The names of an entry, as they are printed.
 
 use std::alloc::AllocError;
 
 /// Adds an entry's names, with dots between them: that of its section, the subsection if there is one, and its own. The first and the
-/// last are told in lower case.
+/// last are printed in lower case.
 ///
 /// # Errors
 ///

@@ -6,7 +6,7 @@ use gitconf_text::NoMemory;
 use gixcfg_words::options::{Options, Place};
 use std::alloc::Global;
 
-/// What is told before the entries of a section with this metadata: their scope and their file, as far as that is asked for.
+/// What is printed before the entries of a section with this metadata: their scope and their file, as far as that is asked for.
 ///
 /// # Errors
 ///

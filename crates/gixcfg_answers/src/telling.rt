@@ -7,11 +7,11 @@ use crate::typed::typed;
 use gixcfg_words::options::Options;
 use std::alloc::Global;
 
-/// The lines of the entries of a key: of all of them, or of the last one; or the value that is given where there is none.
+/// The lines of the entries of a key: of all of them, or of the last one; or the value that is given if there is none.
 ///
 /// # Errors
 ///
-/// There is none, and no value is given; a value is none of the type; want of memory.
+/// There is none, and no value is given; a value isn't of the type; out of memory.
 pub fn lines_of_key(
     alloc: Global,
     found: &[Found],

@@ -1,4 +1,4 @@
-//! Why a call with options wasn't done, and how that is told.
+//! Why a call with options wasn't done, and how that is reported.
 
 use crate::typed;
 use crate::typed::refusal_of;
@@ -16,7 +16,7 @@ pub enum Trouble {
     Missing,
     /// The file isn't laid out.
     Different,
-    /// A file was told to have a fault.
+    /// A file was reported to have a fault.
     Faulty,
     /// A word is no key.
     NoKey,
@@ -42,9 +42,9 @@ pub enum Trouble {
     Output,
     /// The key has several entries.
     Several,
-    /// The key has no entry that could be taken out.
+    /// The key has no entry that could be removed.
     NoEntry,
-    /// Memory was wanting.
+    /// Out of memory.
     Memory,
 }
 
@@ -113,7 +113,7 @@ pub fn of_number(number: u8) -> Trouble {
     }
 }
 
-/// Tells a trouble with the file of this name. Nothing is told of a key that isn't there. A failed write changes no status, and no memory
+/// Reports a trouble with the file of this name. Nothing is said of a key that isn't there. A failed write changes no status, and no memory
 /// is taken.
 pub fn tell<E: Write>(trouble: &Trouble, name: &str, err: &mut E) {
     let _ = match trouble {

@@ -13,7 +13,7 @@ use std::alloc::{AllocError, Global};
 pub enum Fault {
     /// It is none of the type.
     Refused(Kind),
-    /// Memory was wanting.
+    /// Out of memory.
     Memory,
 }
 
@@ -39,12 +39,12 @@ pub fn refusal_of(kind: Kind) -> &'static str {
     }
 }
 
-/// A value in a type, as it is told: a boolean as `true` or `false`, an integer with its suffix worked out, a path with the home
+/// A value in a type, as it is printed: a boolean as `true` or `false`, an integer with its suffix worked out, a path with the home
 /// folder in place of `~`. Where there is no value, as in an entry without `=`, it is true as a boolean, and refused in any other type.
 ///
 /// # Errors
 ///
-/// It is none of the type; want of memory.
+/// It isn't of the type; out of memory.
 pub fn typed(
     alloc: Global,
     value: Option<&[u8]>,
@@ -83,7 +83,7 @@ fn boolean(alloc: Global, value: &[u8], kind: Kind) -> Result<BString, Fault> {
     }
 }
 
-/// A boolean as it is told.
+/// A boolean as it is printed.
 fn told(is_true: bool) -> &'static [u8] {
     if is_true { b"true" } else { b"false" }
 }

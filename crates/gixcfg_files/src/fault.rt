@@ -7,9 +7,9 @@ use std::{fmt, io};
 /// Why a file can't be read or edited.
 #[derive(Drop)]
 pub enum Fault {
-    /// Its lock stands already, under this path: another process works on the file, or one ended while it did.
+    /// Its lock exists already, at this path: another process works on the file, or one ended while it did.
     Locked(String),
-    /// What stands at its path is no regular file.
+    /// What is at its path is no regular file.
     NoFile,
     /// Its path leads through too many symbolic links.
     Links,
@@ -21,7 +21,7 @@ pub enum Fault {
     Unread(io::Error),
     /// It can't be locked or written.
     Unwritten(io::Error),
-    /// Memory was wanting.
+    /// Out of memory.
     Memory,
 }
 

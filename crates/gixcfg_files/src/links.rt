@@ -13,7 +13,7 @@ const MOST: usize = 40;
 ///
 /// # Errors
 ///
-/// Too many links in a row, a link that can't be read, and want of memory.
+/// Too many links in a row, a link that can't be read; out of memory.
 pub fn end_of_links<R: Files + AllocGlobal>(files: &R, path: &str) -> Result<String, Fault> {
     let mut at = PathBuf::from_str(files.alloc(), path)?;
     for _ in 0..MOST {

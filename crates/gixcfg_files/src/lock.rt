@@ -9,7 +9,7 @@ use std::io::{ErrorKind, Write};
 use std::rt::Files;
 use std::{fs, io};
 
-/// The lock of a file: `FILE.lock` beside it, as git has it, made by nobody else. Where it is let go without a new text it is
+/// The lock of a file: `FILE.lock` beside it, as git has it, made by nobody else. If it is dropped without a new text it is
 /// removed, and the file is as it was.
 pub struct Lock<'a, R: Files + AllocGlobal> {
     files: &'a R,
@@ -23,8 +23,8 @@ impl<'a, R: Files + AllocGlobal> Lock<'a, R> {
     ///
     /// # Errors
     ///
-    /// The lock stands already; what is at the path is no regular file; the lock can't be made, or not with the rights of the
-    /// file; want of memory. No lock is left behind.
+    /// The lock exists already; what is at the path is no regular file; the lock can't be made, or not with the permissions of the
+    /// file; out of memory. No lock is left.
     pub fn take(files: &'a R, path: &str) -> Result<Lock<'a, R>, Fault> {
         let target = end_of_links(files, path)?;
         let path = format!(in files.alloc(); "{target}.lock")?;
@@ -59,11 +59,11 @@ impl<'a, R: Files + AllocGlobal> Lock<'a, R> {
         }
     }
 
-    /// The text of the file; none where there is no such file.
+    /// The text of the file; none if there is no such file.
     ///
     /// # Errors
     ///
-    /// The file can't be opened or read; want of memory.
+    /// The file can't be opened or read; out of memory.
     pub fn read(&self) -> Result<Option<Vec<u8>>, Fault> {
         read(self.files, self.target.as_str())
     }
@@ -72,7 +72,7 @@ impl<'a, R: Files + AllocGlobal> Lock<'a, R> {
     ///
     /// # Errors
     ///
-    /// The text can't be written, or the lock not renamed; want of memory. The file is as it was, and the lock removed.
+    /// The text can't be written, or the lock not renamed; out of memory. The file is as it was, and the lock removed.
     pub fn replace(mut self, text: &[u8]) -> Result<(), Fault> {
         let written = put_down(&mut self.file, text);
         match written.and_then(|()| self.files.rename(self.path.as_str(), self.target.as_str())) {
@@ -96,7 +96,7 @@ impl<'a, R: Files + AllocGlobal> Lock<'a, R> {
 }
 
 impl<R: Files + AllocGlobal> Drop for Lock<'_, R> {
-    /// Removes the lock. That it can't be removed is told to nobody.
+    /// Removes the lock. That it can't be removed is reported to nobody.
     fn drop(self) {
         let Lock {
             files,

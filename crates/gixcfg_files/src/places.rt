@@ -24,7 +24,7 @@ pub fn system_file<R: Env + AllocGlobal>(rt: &R) -> Result<String, Fault> {
 ///
 /// # Errors
 ///
-/// There is no home folder; want of memory.
+/// There is no home folder; out of memory.
 pub fn user_file<R: Env + Files + AllocGlobal>(rt: &R) -> Result<String, Fault> {
     if let Some(path) = variable(rt, "GIT_CONFIG_GLOBAL")? {
         return Ok(path);

@@ -10,11 +10,11 @@ use std::rt::Files;
 /// long, and what has no end is met in the same way.
 const MOST: u64 = 4294967296;
 
-/// The text of the file at a path; none where there is no such file.
+/// The text of the file at a path; none if there is no such file.
 ///
 /// # Errors
 ///
-/// The file can't be opened or read; want of memory.
+/// The file can't be opened or read; out of memory.
 pub fn read<R: Files + AllocGlobal>(files: &R, path: &str) -> Result<Option<Vec<u8>>, Fault> {
     match fs::open(files, path) {
         Ok(file) => Ok(Some(read_all(file, Vec::new(files.alloc()))?)),
@@ -23,7 +23,7 @@ pub fn read<R: Files + AllocGlobal>(files: &R, path: &str) -> Result<Option<Vec<
     }
 }
 
-/// What a file has, behind what is there.
+/// What a file has, after what is there.
 fn read_all<F: Read + Drop>(file: F, mut text: Vec<u8>) -> Result<Vec<u8>, Fault> {
     match file.take(MOST).read_to_end(&mut text) {
         Ok(_) => Ok(text),

@@ -43,7 +43,7 @@ impl Repository {
     ///
     /// # Errors
     ///
-    /// The path can't be found out; want of memory.
+    /// The path can't be found out; out of memory.
     pub fn real_folder<R: Files + AllocGlobal>(&self, files: &R) -> Result<String, Fault> {
         let path = format!(in files.alloc(); "{}.", self.folder)?;
         match fs::canonicalize(files, path.as_str()) {
@@ -56,7 +56,7 @@ impl Repository {
     ///
     /// # Errors
     ///
-    /// Its `HEAD` can't be read; want of memory.
+    /// Its `HEAD` can't be read; out of memory.
     pub fn branch<R: Files + AllocGlobal>(&self, files: &R) -> Result<Option<String>, Fault> {
         let path = format!(in files.alloc(); "{}HEAD", self.folder)?;
         let Some(text) = read(files, path.as_str())? else {
@@ -74,7 +74,7 @@ impl Repository {
 ///
 /// # Errors
 ///
-/// A file that leads to it can't be read, or leads to none; want of memory.
+/// A file that leads to it can't be read, or leads to none; out of memory.
 pub fn find_repository<R: Env + Files + AllocGlobal>(rt: &R) -> Result<Option<Repository>, Fault> {
     match variable(rt, "GIT_DIR")? {
         Some(path) => repository_at(rt, path.as_str()),
@@ -167,8 +167,8 @@ fn common_folder<R: Files + AllocGlobal>(rt: &R, folder: &str) -> Result<String,
     }
 }
 
-/// The folder that the file at a path leads to, behind the text that it begins with; a relative one begins where the file is. None
-/// where there is no such file, or it doesn't begin so.
+/// The folder that the file at a path leads to, after the text that it begins with; a relative one begins where the file is. None
+/// if there is no such file, or it doesn't begin so.
 fn folder_behind<R: Files + AllocGlobal>(
     rt: &R,
     path: &str,
@@ -183,7 +183,7 @@ fn folder_behind<R: Files + AllocGlobal>(
     }
 }
 
-/// What a text of one line has behind its beginning.
+/// What a text of one line has after its beginning.
 fn line_of<'a>(text: &'a [u8], before: &str) -> Option<&'a str> {
     match str::from_utf8(text) {
         Ok(text) => {

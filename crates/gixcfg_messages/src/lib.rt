@@ -1,4 +1,4 @@
-//! How a refused text is told to people: its place, what is wrong with it, and its line with a mark under the place.
+//! How a refused text is reported to people: its place, what is wrong with it, and its line with a mark under the place.
 #![tactic(auto)]
 
 mod place;

@@ -8,7 +8,7 @@ use unicode_width::UnicodeWidthChar;
 /// The mark of UTF-8, which is no part of a text.
 const MARK: &[u8] = b"\xef\xbb\xbf";
 
-/// The line in which reading stopped, in two parts, and what stands under the first of them.
+/// The line in which reading stopped, in two parts, and what comes under the first of them.
 #[derive(Drop)]
 pub struct Place {
     /// How many characters of the line stand before the place, and one more.
@@ -21,7 +21,7 @@ pub struct Place {
     pub under: String,
 }
 
-/// The place in a text behind which so many bytes are left.
+/// The place in a text after which so many bytes are left.
 ///
 /// # Errors
 ///

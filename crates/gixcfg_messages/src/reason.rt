@@ -11,7 +11,7 @@ pub enum Wanted {
     Value,
 }
 
-/// What was looked for: what the parser tells, but a header where a bracket stands.
+/// What was looked for: what the parser says, but a header if a bracket is there.
 pub fn wanted_of(kind: &str, rest: &[u8]) -> Wanted {
     match kind {
         "value" => Wanted::Value,
@@ -29,7 +29,7 @@ pub fn name_of(wanted: Wanted) -> &'static str {
     }
 }
 
-/// What is wrong with it, where that can be told.
+/// What is wrong with it, if that can be said.
 pub fn reason_of(wanted: Wanted, rest: &[u8]) -> Option<&'static str> {
     match wanted {
         Wanted::Header => reason_of_header(rest),
@@ -85,7 +85,7 @@ enum State {
     Quoted,
     /// Behind a backslash, in quotes or not.
     Escape(bool),
-    /// Behind a carriage return that is behind a backslash.
+    /// After a carriage return that follows a backslash.
     Return(bool),
     /// At the end, for this reason.
     Stopped(&'static str),
@@ -108,7 +108,7 @@ fn reason_of_value(rest: &[u8]) -> Option<&'static str> {
     }
 }
 
-/// Where a value is read behind one more byte.
+/// Where reading of a value is after one more byte.
 fn next_of(state: State, byte: u8) -> State {
     match state {
         State::Plain => next_of_plain(byte),
@@ -120,7 +120,7 @@ fn next_of(state: State, byte: u8) -> State {
     }
 }
 
-/// Where a value is read behind a byte outside of quotes.
+/// Where reading of a value is after a byte outside of quotes.
 fn next_of_plain(byte: u8) -> State {
     match byte {
         b'"' => State::Quoted,
@@ -129,7 +129,7 @@ fn next_of_plain(byte: u8) -> State {
     }
 }
 
-/// Where a value is read behind a byte between quotes.
+/// Where reading of a value is after a byte between quotes.
 fn next_of_quoted(byte: u8) -> State {
     match byte {
         b'"' => State::Plain,
@@ -139,7 +139,7 @@ fn next_of_quoted(byte: u8) -> State {
     }
 }
 
-/// Where a value is read behind a backslash and a byte.
+/// Where reading of a value is after a backslash and a byte.
 fn next_of_escape(quoted: bool, byte: u8) -> State {
     match byte {
         b'n' | b't' | b'b' | b'\\' | b'"' | b'\n' => ended(quoted),
@@ -148,7 +148,7 @@ fn next_of_escape(quoted: bool, byte: u8) -> State {
     }
 }
 
-/// Where a value is read behind an escape.
+/// Where reading of a value is after an escape.
 fn ended(quoted: bool) -> State {
     if quoted { State::Quoted } else { State::Plain }
 }

@@ -19,7 +19,7 @@ pub struct Refused<'a> {
     pub rest: &'a [u8],
 }
 
-/// What stands before and behind what is to be seen first, where a terminal shows colors.
+/// What comes before and after what is to be seen first, on a terminal that shows colors.
 const BOLD: &str = "\x1b[1m";
 
 const RED: &str = "\x1b[1;31m";
@@ -55,7 +55,7 @@ pub fn message(
     )
 }
 
-/// A reason behind a colon, or nothing.
+/// A reason after a colon, or nothing.
 fn because(alloc: Global, reason: Option<&str>) -> Result<String, AllocError> {
     match reason {
         Some(reason) => format!(in alloc; ": {reason}"),

@@ -106,7 +106,7 @@ fn read_help<'a>(words: &[&'a str]) -> Result<Asked<'a>, Fault<'a>> {
     }
 }
 
-/// What the words behind a command ask for.
+/// What the words after a command ask for.
 fn read_command<'a>(
     alloc: Global,
     command: Command,
@@ -126,7 +126,7 @@ fn read_command<'a>(
     Ok(Asked::Do(call))
 }
 
-/// Reads the words behind a command.
+/// Reads the words after a command.
 fn read_words<'a>(call: &mut Call<'a>, words: &[&'a str]) -> Result<(), Fault<'a>> {
     let mut next = Next::Any;
     for word in words {
@@ -138,7 +138,7 @@ fn read_words<'a>(call: &mut Call<'a>, words: &[&'a str]) -> Result<(), Fault<'a
     }
 }
 
-/// Reads a word, and tells what the next one may be.
+/// Reads a word, and returns what the next one may be.
 fn read_word<'a>(call: &mut Call<'a>, next: Next, word: &'a str) -> Result<Next, Fault<'a>> {
     match next {
         Next::WordOf(option) => {
@@ -160,7 +160,7 @@ fn put_plain<'a>(call: &mut Call<'a>, next: Next, word: &'a str) -> Result<Next,
     }
 }
 
-/// An option and the word that stands in one with it, as in `--file=x` or `-fx`.
+/// An option and the word that is in one with it, as in `--file=x` or `-fx`.
 fn parts_of(word: &str) -> (&str, Option<&str>) {
     if let Some(file) = word.strip_prefix("-f") {
         return ("-f", if file.is_empty() { None } else { Some(file) });

@@ -23,7 +23,7 @@ pub enum Command {
     Help,
 }
 
-/// The words of the commands, in the order in which help tells them.
+/// The words of the commands, in the order in which help has them.
 pub static COMMANDS: [(&str, Command); 9] = [
     ("get", Command::Get),
     ("set", Command::Set),

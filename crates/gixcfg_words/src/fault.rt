@@ -18,9 +18,9 @@ pub enum Fault<'a> {
     UnknownOption(&'a str),
     /// The command doesn't take this option.
     NotItsOption(Command, &'a str),
-    /// The option has a word behind it, which is missing.
+    /// The option takes a value, which is missing.
     MissingWord(Opt),
-    /// The option has no word behind it, and was given one.
+    /// The option takes no value, and was given one.
     UnaskedWord(&'a str),
     /// The word of the option is none that it may have.
     BadWord(Opt, &'a str),
@@ -34,11 +34,11 @@ pub enum Fault<'a> {
     NoKey(&'a str),
     /// Two options exclude each other.
     Both(&'static str, &'static str),
-    /// Memory was wanting.
+    /// Out of memory.
     Memory,
 }
 
-/// The word that stands for what an option has behind it in help texts.
+/// The word for an option's value in help texts.
 fn meaning_of(option: Opt) -> &'static str {
     match option {
         Opt::File => "a file",
@@ -50,7 +50,7 @@ fn meaning_of(option: Opt) -> &'static str {
     }
 }
 
-/// Tells a fault in a line: what is wrong, what may have been meant, and where help is. A failed write isn't told.
+/// Reports a fault in a line: what is wrong, what may have been meant, and where help is. A failed write isn't reported.
 ///
 /// # Errors
 ///
@@ -65,7 +65,7 @@ pub fn tell<W: Write>(alloc: Global, fault: Fault<'_>, err: &mut W) -> Result<()
     Ok(())
 }
 
-/// Tells a fault of words behind a command, or of none.
+/// Reports a fault of words after a command, or of none.
 fn tell_known<W: Write>(fault: Fault<'_>, err: &mut W) -> io::Result<()> {
     match fault {
         Fault::NoCommand => err.write_all(b"gixcfg: no command; see gixcfg help\n"),

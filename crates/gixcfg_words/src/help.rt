@@ -1,4 +1,4 @@
-//! What the program tells about its commands.
+//! What the program says about its commands.
 
 use crate::commands::Command;
 

@@ -21,11 +21,11 @@ pub enum Opt {
     All,
     /// One more entry of the key.
     Append,
-    /// The value where there is none.
+    /// The value if there is none.
     Default,
     /// The type of a value.
     Type,
-    /// A byte 0 behind each value.
+    /// A byte 0 after each value.
     Null,
     /// The file of each value.
     ShowOrigin,
@@ -41,11 +41,11 @@ pub enum Opt {
     NameOnly,
     /// Whether the file is laid out, and nothing written.
     Check,
-    /// What stands before a name.
+    /// What comes before a name.
     Indent,
     /// What lines end with.
     Newline,
-    /// Nothing is told.
+    /// Nothing is printed.
     Quiet,
 }
 
@@ -246,7 +246,7 @@ fn kind_named(word: &str) -> Option<Kind> {
     None
 }
 
-/// What stands before a name that begins a line.
+/// What comes before a name that begins a line.
 #[derive(Clone, Copy)]
 pub enum Indent {
     /// So many tabs.
@@ -293,7 +293,7 @@ fn newline_named(word: &str) -> Option<Newline> {
 /// The options of a call. What isn't given is `false` or `None`.
 #[derive(Clone, Copy)]
 pub struct Options<'a> {
-    /// `-f`: the file that is worked on; standard input where it is `-` or isn't given.
+    /// `-f`: the file that is worked on; standard input if it is `-` or isn't given.
     pub file: Option<&'a str>,
     /// `--global`, `--system`, `--local` or `--effective`: what is worked on.
     pub place: Option<Place>,
