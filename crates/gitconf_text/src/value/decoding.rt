@@ -58,14 +58,14 @@ fn past_quotes(text: &[u8]) -> &[u8]
     ensures few { length result.now ≤ length text.now }
 {
     let mut left = text;
-    loop {
-        left = match left {
-            // Four at a time, which takes a third of the time in a long run.
-            [b'"', b'"', b'"', b'"', behind @ ..] => behind,
-            [b'"', behind @ ..] => behind,
-            _ => return left,
-        };
+    // Four at a time, which takes two thirds of the time in a long run.
+    while let [b'"', b'"', b'"', b'"', behind @ ..] = left {
+        left = behind;
     }
+    while let [b'"', behind @ ..] = left {
+        left = behind;
+    }
+    left
 }
 
 /// The meaning, in memory of its own.

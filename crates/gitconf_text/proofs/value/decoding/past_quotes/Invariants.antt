@@ -10,3 +10,12 @@ invariant-loop-left l = record {
 
 abbrev pub decreases-loop-left : goal.decreases-loop-left
 decreases-loop-left l = length l.left
+
+abbrev pub invariant-loop-left-2 : goal.invariant-loop-left-2
+invariant-loop-left-2 l = record {
+  meant : plain l.left ≡ plain l.text;
+  few : length l.left ≤ length l.text;
+}
+
+abbrev pub decreases-loop-left-2 : goal.decreases-loop-left-2
+decreases-loop-left-2 l = length l.left
