@@ -21,7 +21,6 @@ impl Store {
     /// is given, `=` with the blanks around it that its section uses when it is written, and the value as a file spells it; nothing
     /// stays of its old value. All else stays as it is, and so do the places of entries. If no section has the number, everything does.
     /// Each section is found in constant time, and walked over once for each entry. Takes memory for what is added to the buffer.
-    /// Each section is found in constant time, and walked over once an entry. Takes memory for what is added to the buffer.
     ///
     /// # Errors
     ///
