@@ -17,7 +17,7 @@ pub record IsCopy {A B : Type 0} (says : List ℕ → A → B) (ends : ℕ → A
   pub same : says to copy ≡ says from old
 
 -- How many bytes a copy puts into its buffer: those of a header and of items, but for brackets and quotes, `=`, the tag of a comment, and the
--- backslash behind a piece, which stand in no buffer.
+-- backslash after a piece, which are in no buffer.
 abbrev pub piece_size : Piece → ℕ
 piece_size p = length p.text + length p.line_end
 

@@ -93,7 +93,7 @@ pub fn sections_are_edited_alone_as_in_a_file()
         ≡ apply (PushSection (record detached { section = with_trust trust detached.section })) state }
 {}
 
-/// The bytes that a section is handed out with are no more than those of the text of its header and its body.
+/// The bytes that a section is returned with are no more than those of the text of its header and its body.
 pub fn own_bytes_are_no_more_than_the_text()
     ensures { (s : SectionState) → section_size s ≤ length (spelled_header s.header) + length (flat_map spelled_item s.items) }
 {}

@@ -28,7 +28,7 @@ alone s = record { number = s.number; header = s.header; meta = s.meta; items = 
 abbrev pub section_size : SectionState → ℕ
 section_size s = items_size s.items + header_size s.header
 
--- a section without what is held behind it, with just these bytes
+-- a section without what is held after it, with just these bytes
 abbrev pub copied_alone : SectionState → Detached
 copied_alone s = record { section = alone s; used = section_size s }
 

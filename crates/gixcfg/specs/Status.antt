@@ -16,6 +16,6 @@ status_of kinds.Input = 4
 status_of kinds.Output = 4
 status_of kinds.Memory = 5
 
--- the status of a refused load, by its number: 5 for want of memory, 4 where a file can't be opened or read, else 3
+-- the status of a refused load, by its number: 5 for out of memory, 4 if a file can't be opened or read, else 3
 abbrev pub load_status : (number : ℕ) → ℕ
 load_status number = if number == 27 then 5 else (if ltb 18 number && ltb number 22 then 4 else 3)
