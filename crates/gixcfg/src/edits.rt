@@ -69,7 +69,7 @@ fn edit_in_place<R: Files + AllocGlobal>(
     }
 }
 
-/// What an edit makes of the file that a lock is of; none where that is what it has.
+/// What an edit makes of the file that a lock is of; none if that is what it has.
 fn new_text<R: Files + AllocGlobal>(
     alloc: Global,
     lock: &Lock<'_, R>,
@@ -86,7 +86,7 @@ fn new_text<R: Files + AllocGlobal>(
     }
 }
 
-/// What an edit makes of a text; none where that is the text.
+/// What an edit makes of a text; none if that is the text.
 fn changed(
     alloc: Global,
     call: &Call<'_>,
@@ -240,7 +240,7 @@ fn rewrite(file: &mut File, key: KeyRef<'_>, value: &[u8]) -> Result<(), Trouble
     }
 }
 
-/// Takes out the last entries of a key, so many of them.
+/// Removes the last `count` entries of a key, with a walk over the sections for each.
 fn remove_last(file: &mut File, key: KeyRef<'_>, count: usize) -> Result<(), Trouble> {
     for _ in 0..count {
         remove_one(file, key)?;
@@ -248,13 +248,13 @@ fn remove_last(file: &mut File, key: KeyRef<'_>, count: usize) -> Result<(), Tro
     Ok(())
 }
 
-/// Takes out the last entry of a key.
+/// Removes the last entry of a key.
 fn remove_one(file: &mut File, key: KeyRef<'_>) -> Result<(), Trouble> {
     let id = last_with(file, key)?;
     Ok(remove(file, id, key)?)
 }
 
-/// Takes out the only entry of a key, or all of them.
+/// Removes the only entry of a key, or all of them.
 fn unset(file: &mut File, key: KeyRef<'_>, is_all: bool) -> Result<(), Trouble> {
     match count_of(file, key)? {
         0 => Err(Trouble::NoEntry),
@@ -287,7 +287,7 @@ fn rename(alloc: Global, file: &mut File, old: &str, new: &str) -> Result<(), Tr
     }
 }
 
-/// Takes out all sections of a name.
+/// Removes all sections of a name, with a walk over all sections for each.
 fn remove_sections(file: &mut File, word: &str) -> Result<(), Trouble> {
     let (name, subsection_name) = parts_of(word);
     if !remove_section(file, name, subsection_name)? {
@@ -301,7 +301,7 @@ fn remove_sections(file: &mut File, word: &str) -> Result<(), Trouble> {
     Ok(())
 }
 
-/// Takes out the last section of a name; whether there was one.
+/// Removes the last section of a name; whether there was one.
 fn remove_section(
     file: &mut File,
     name: &str,
