@@ -240,7 +240,7 @@ fn rewrite(file: &mut File, key: KeyRef<'_>, value: &[u8]) -> Result<(), Trouble
     }
 }
 
-/// Removes the last `count` entries of a key, with a walk over the sections for each.
+/// Removes the last `count` entries of a key, with a lookup of all its entries for each.
 fn remove_last(file: &mut File, key: KeyRef<'_>, count: usize) -> Result<(), Trouble> {
     for _ in 0..count {
         remove_one(file, key)?;
