@@ -10,7 +10,7 @@ use Rattle.gitconf_items.specs.Items.{item_of, items_of}
 use Rattle.gitconf_items.specs.ItemsFit.{AreItemsWithin, ItemFits}
 use Rattle.gitconf_state.specs.State.{cut_last, is_entry}
 use Rattle.gitconf_state.specs.Edit.{is_entry_of, old_value}
-use Rattle.gitconf_state.specs.Editors.{entry_told, removed, popped, popped_entry, without_last_blanks, without_first_line_ends}
+use Rattle.gitconf_state.specs.Editors.{key_and_meaning, removed, popped, popped_entry, without_last_blanks, without_first_line_ends}
 use Rattle.gitconf_state.proofs.EditPlaces.{old_value_at}
 use Rattle.gitconf_lines.specs.Places.{IsLastAt, IsLastPlace}
 use Rattle.gitconf_lines.specs.Spacings.{is_stored_entry}
@@ -221,7 +221,7 @@ popped_at buffer is js ks at l cut left =
     nothing_behind [] = refl
     nothing_behind (i ∷ is) = nothing_behind is
 
-pub popped_entry_at : (buffer : List ℕ) (is : List Item) (at : ℕ) (l : IsLastAt is_stored_entry is at) → popped_entry (items_of buffer is) ≡ entry_told (item_of buffer l.found)
+pub popped_entry_at : (buffer : List ℕ) (is : List Item) (at : ℕ) (l : IsLastAt is_stored_entry is at) → popped_entry (items_of buffer is) ≡ key_and_meaning (item_of buffer l.found)
 popped_entry_at buffer is at l = rw (last_entry_cut buffer is at l, popped_entry) refl
 
 -- where there is none
@@ -232,7 +232,7 @@ pub popped_entry_none : (buffer : List ℕ) (is : List Item) → list_any is_sto
 popped_entry_none buffer is none = rw (cut_none is_entry (items_of buffer is) (any_entry_shown buffer is ∙ none), popped_entry) refl
 
 -- something is told of an entry
-entry_is_told : (buffer : List ℕ) (i : Item) → is_stored_entry i ≡ true → entry_told (item_of buffer i) ≡ None → ⊥
+entry_is_told : (buffer : List ℕ) (i : Item) → is_stored_entry i ≡ true → key_and_meaning (item_of buffer i) ≡ None → ⊥
 entry_is_told buffer (items.Blanks run) passes none = cc
 entry_is_told buffer (items.LineEnds run) passes none = cc
 entry_is_told buffer (items.Comment tag text) passes none = cc

@@ -4,7 +4,7 @@ ghost use Rattle.gitconf_text.specs.Part as parts;
 ghost use Rattle.gitconf_text.specs.Value.{plain};
 ghost use Rattle.gitconf_items.specs.Items.{entry_of, item_of, items_of};
 ghost use Rattle.gitconf_state.specs.Edit.{is_entry_of, old_value};
-ghost use Rattle.gitconf_state.specs.Editors.{entry_told, popped, popped_entry, removed};
+ghost use Rattle.gitconf_state.specs.Editors.{key_and_meaning, popped, popped_entry, removed};
 ghost use Rattle.gitconf_lines.specs.Places.{IsLastAt, IsLastPlace};
 ghost use Rattle.gitconf_lines.specs.Spacings.{is_stored_entry};
 ghost use Rattle.gitconf_body.specs.Taken as spec;
@@ -133,7 +133,7 @@ fn meaning(alloc: Global, raw: &[u8]) -> Result<Vec<u8>, NoMemory>
 
 /// The key of the entry at a place, and what its value means.
 fn told(alloc: Global, buffer: &[u8], entry: &Entry) -> Result<(Vec<u8>, Vec<u8>), NoMemory>
-    ensures { IfOk result (λ t. Some (t.0.items, t.1.items) ≡ entry_told (parts.EntryItem (entry_of buffer.now entry.now))) }
+    ensures { IfOk result (λ t. Some (t.0.items, t.1.items) ≡ key_and_meaning (parts.EntryItem (entry_of buffer.now entry.now))) }
 {
     let mut name = Vec::new(alloc);
     name.extend_from_slice(entry.name().bytes_in(buffer))?;

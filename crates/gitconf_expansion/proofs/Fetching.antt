@@ -4,7 +4,7 @@ use Rattle.std.specs.Prelude.{IfErr, IfSome, IsErrAnd}
 use Rattle.std.proofs.lemmas.Bool.{eqb-true}
 use Rattle.std.specs.declared.vec.Vec.{Vec}
 use Rattle.gitconf_base.specs.Metadata.{Meta}
-use Rattle.gitconf_host.specs.Told.{FileTold, IsReadOf, read_of}
+use Rattle.gitconf_host.specs.Reports.{FileReport, IsReadOf, read_of}
 use Rattle.gitconf_host.specs.declared.fault.FileFault.{FileFault}
 use Rattle.gitconf_includes.specs.declared.includes.Error.{Error}
 use Rattle.gitconf_includes.specs.declared.includes.Error.TheVariants as refusals
@@ -25,13 +25,13 @@ pub faulted : (Z : Type 0) (asks : Asks) (from : Meta) (path : List ℕ) (fault 
     → IfSome asks.table (λ files. IsReadOf {Z = Z} (Err fault) (files path)) → number ≡ fault_number fault.stage → Fetches asks from path (Err number)
 faulted Z asks from path fault number told is = go asks.table refl told
   where
-    go : (table : Option (List ℕ → FileTold)) → asks.table ≡ table → IfSome table (λ files. IsReadOf {Z = Z} (Err fault) (files path)) → Fetches asks from path (Err number)
+    go : (table : Option (List ℕ → FileReport)) → asks.table ≡ table → IfSome table (λ files. IsReadOf {Z = Z} (Err fault) (files path)) → Fetches asks from path (Err number)
     go None e answered = inr (Err fault, rw e tt, ap Err is)
     go (Some files) e (inl wanting) = inl (ap Err (is ∙ ap fault_number wanting))
     go (Some files) e (inr read) = inr (Err fault, rw e (sym read), ap Err is)
 
 -- a text that is read is returned by the table
-pub answered : {Z : Type 0} (table : Option (List ℕ → FileTold)) (path : List ℕ) (text : Vec ℕ Z)
+pub answered : {Z : Type 0} (table : Option (List ℕ → FileReport)) (path : List ℕ) (text : Vec ℕ Z)
     → IfSome table (λ files. IsReadOf (Ok text) (files path)) → May table (λ files. ◌≡◌ {A = Result (List ℕ) FileFault} (Ok text.items) (read_of (files path)))
 answered None path text told = tt
 answered (Some files) path text told = sym told
@@ -72,12 +72,12 @@ refused asks from path text e f (Ok made) read within is err = absurd err
 refused asks from path text e f (Err r) read within is err = loads asks from path text (Err (includes_number r)) read within (e, is, ap includes_number err ∙ parse_number e)
 
 -- and their causes
-pub parse_cause : {T Z : Type 0} (options : Options) (table : Option (List ℕ → FileTold)) (path : List ℕ) (text : Vec ℕ Z) (e : Refusal) (result : Result T Error)
+pub parse_cause : {T Z : Type 0} (options : Options) (table : Option (List ℕ → FileReport)) (path : List ℕ) (text : Vec ℕ Z) (e : Refusal) (result : Result T Error)
     → IfSome table (λ files. IsReadOf (Ok text) (files path)) → IsRefused text.items e → IsErrAnd result (λ r. r ≡ include_of_parse e) → IfErr result (IsCause options table)
 parse_cause options table path text e (Ok made) read refused err = tt
 parse_cause options table path text e (Err r) read refused err = subst (IsCause options table) (sym err) (go (e.number == 27))
   where
-    told : (t : Option (List ℕ → FileTold)) → IfSome t (λ files. IsReadOf (Ok text) (files path)) → IsTextOf t path text.items
+    told : (t : Option (List ℕ → FileReport)) → IfSome t (λ files. IsReadOf (Ok text) (files path)) → IsTextOf t path text.items
     told None is = tt
     told (Some files) is = is
 

@@ -2,7 +2,7 @@
 use Rattle.std.proofs.Common.{◌≡◌, ◌⊎◌, ℕ, zero, suc, if◌then◌else◌, Bool, true, false, List, [], ◌∷◌, Option, Some, None, Result, Ok, Err, inl, inr, refl, sym, subst}
 use Rattle.std.specs.Option.{unwrap_or}
 use Rattle.gitconf_base.specs.Metadata.{Meta}
-use Rattle.gitconf_host.specs.Told.{is_there}
+use Rattle.gitconf_host.specs.Reports.{is_there}
 use Rattle.gitconf_includes.specs.Paths.{file_named}
 use Rattle.gitconf_state.specs.Including.{has_room, spliced, visited, whole, with_sections}
 use Rattle.gitconf_state.specs.State.{SectionState, State}

@@ -10,7 +10,7 @@ use Rattle.gitconf_base.specs.Metadata.{Meta}
 use Rattle.gitconf_glob.specs.Pattern.{matches}
 use Rattle.gitconf_items.specs.TokenDocument.{keeps_meaning}
 use Rattle.gitconf_parse.proofs.OneDocument.{one_document}
-use Rattle.gitconf_host.specs.Told.{FileTold, is_there}
+use Rattle.gitconf_host.specs.Reports.{FileReport, is_there}
 use Rattle.gitconf_host.specs.declared.fault.FileFault.{FileFault}
 use Rattle.gitconf_includes.specs.Conditions.{holds}
 use Rattle.gitconf_includes.specs.Paths.{file_named}
@@ -150,7 +150,7 @@ loaded_alike text place full lossy is too =
       next = is.2.next ∙ lengths ∙ sym too.2.next;
     }
 
-module _ (rules : Rules) (files : List ℕ → FileTold) where
+module _ (rules : Rules) (files : List ℕ → FileReport) where
   -- what a path that goes on puts in
   record IsPut (lossy : Bool) (deeper : Deeper) (from : Meta) (file : List ℕ) (rest : List SectionState) (done now : State) : Type 0 where
     other : State
@@ -318,7 +318,7 @@ limit_alike false old other full lossy same is too =
     subst (λ n. SayTheSame n lossy) (sym here) (subst (SayTheSame old) (sym there) same)
 
 -- A lossy expansion says what one does that keeps all.
-pub say_the_same : (rules : Rules) (files : List ℕ → FileTold) (left : ℕ) (parent above : Option State) (old other full lossy : State) → ParentsSayTheSame parent above → SayTheSame old other
+pub say_the_same : (rules : Rules) (files : List ℕ → FileReport) (left : ℕ) (parent above : Option State) (old other full lossy : State) → ParentsSayTheSame parent above → SayTheSame old other
     → Expands left (asks_with false rules files) parent old (On full) → Expands left (asks_with true rules files) above other (On lossy) → SayTheSame full lossy
 unfolding Expands
 say_the_same rules files zero parent above old other full lossy parents same is too = limit_alike rules.refuses_depth old other full lossy same is too
@@ -330,7 +330,7 @@ itself : (parent : Option State) → ParentsSayTheSame parent parent
 itself None = tt
 itself (Some one) = record { front = refl; sections = refl; next = refl }
 
-pub one_document_said : (rules : Rules) (files : List ℕ → FileTold) (left : ℕ) (parent : Option State) (old full lossy : State)
+pub one_document_said : (rules : Rules) (files : List ℕ → FileReport) (left : ℕ) (parent : Option State) (old full lossy : State)
     → Expands left (asks_with false rules files) parent old (On full) → Expands left (asks_with true rules files) parent old (On lossy) → document_of full ≡ document_of lossy
 one_document_said rules files left parent old full lossy is too =
     documents_alike full lossy (say_the_same rules files left parent parent old old full lossy (itself parent) (record { front = refl; sections = refl; next = refl }) is too)

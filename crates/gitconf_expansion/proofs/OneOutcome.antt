@@ -2,7 +2,7 @@
 use Rattle.std.proofs.Common.{◌≡◌, ◌≢◌, ◌⊎◌, ℕ, zero, suc, ◌==◌, Bool, true, false, List, [], ◌∷◌, Option, Some, None, Result, Ok, Err, IfErr, inl, inr, refl, sym, ap, subst, ◌∙◌}
 use Rattle.std.specs.Option.{unwrap_or}
 use Rattle.gitconf_base.specs.Metadata.{Meta}
-use Rattle.gitconf_host.specs.Told.{FileTold, is_there}
+use Rattle.gitconf_host.specs.Reports.{FileReport, is_there}
 use Rattle.gitconf_host.specs.declared.fault.FileFault.{FileFault}
 use Rattle.gitconf_includes.specs.declared.includes.Error.{Error}
 use Rattle.gitconf_includes.specs.Errors.{includes_number}
@@ -17,7 +17,7 @@ use Rattle.gitconf_expansion.specs.Laws.{EndAlike, IsAnswered}
 use Rattle.gitconf_expansion.proofs.OneLoad.{one_load}
 
 -- rules, over a table
-abbrev over : Rules → (List ℕ → FileTold) → Asks
+abbrev over : Rules → (List ℕ → FileReport) → Asks
 over rules files = record { rules = rules; table = Some files }
 
 -- an outcome is another one, or is that memory ran out
@@ -61,7 +61,7 @@ one_put_in rest done (On other) r s is too = go (has_room other rest done) is to
     go true is too = is ∙ sym too
     go false is too = is ∙ sym too
 
-module _ (rules : Rules) (files : List ℕ → FileTold) where
+module _ (rules : Rules) (files : List ℕ → FileReport) where
   -- what is fetched, where a text is read: at the last level, or before it
   abbrev Read : (from : Meta) (path text : List ℕ) → (end : Bool) → Result State ℕ → Type 0
   Read from path text end fetched = elim end as (λ _. Type 0) [ true ↦ fetched ≡ Err 15 | false ↦ IsLoadOf rules.lossy text (included_meta from path) fetched ]
@@ -171,7 +171,7 @@ module _ (rules : Rules) (files : List ℕ → FileTold) where
       one_level (Expands left (over rules files)) (λ above other. one_expansion left (Some above) other) parent old r s known known_too is too
 
 -- Over one table that is told two outcomes of one expansion, neither for running out of memory, are equal.
-pub one_outcome : (asks : Asks) (files : List ℕ → FileTold) (left : ℕ) (parent : Option State) (old : State) (r s : Reached) → asks.table ≡ Some files → IsAnswered r → IsAnswered s
+pub one_outcome : (asks : Asks) (files : List ℕ → FileReport) (left : ℕ) (parent : Option State) (old : State) (r s : Reached) → asks.table ≡ Some files → IsAnswered r → IsAnswered s
     → Expands left asks parent old r → Expands left asks parent old s → r ≡ s
 one_outcome asks files left parent old r s tells known known_too is too =
     let told : asks ≡ over asks.rules files = (λ i. record { rules = asks.rules; table = tells i }) in
@@ -192,7 +192,7 @@ left_alike (Err e) (Err f) new left (On done) is too = absurd is
 left_alike (Err e) (Err f) new left (Ended n file) is too = (sym is.0 ∙ too.0, is.1 ∙ sym (ap (with_used new.used) too.1))
 
 -- So two calls on one file, neither refused when out of memory, end alike.
-pub one_resolution : (asks : Asks) (files : List ℕ → FileTold) (old new left : State) (one other : Result Unit Error) → asks.table ≡ Some files
+pub one_resolution : (asks : Asks) (files : List ℕ → FileReport) (old new left : State) (one other : Result Unit Error) → asks.table ≡ Some files
     → IfErr one (λ e. includes_number e ≢ 27) → IfErr other (λ e. includes_number e ≢ 27) → Resolves includes_number asks old one new → Resolves includes_number asks old other left → EndAlike one other new left
 one_resolution asks files old new left one other tells known known_too (r, is, leaves) (s, too, leaves_too) =
     let same : r ≡ s = go (asks.rules.max_depth == 0) is too in

@@ -7,7 +7,7 @@ use Rattle.gitconf_text.specs.Token.{tokens_of}
 use Rattle.gitconf_base.specs.Metadata.{Meta}
 use Rattle.gitconf_items.specs.TokenDocument.{keeps_meaning}
 use Rattle.gitconf_items.proofs.TextLaws.{lossy_keeps_entries}
-use Rattle.gitconf_host.specs.Told.{FileTold, read_of}
+use Rattle.gitconf_host.specs.Reports.{FileReport, read_of}
 use Rattle.gitconf_host.specs.declared.fault.FileFault.{FileFault}
 use Rattle.gitconf_state.specs.Clean.{has_blanks, IsClean, IsCleanSection}
 use Rattle.gitconf_state.specs.Edits.{held_behind_last, numbered_from}
@@ -112,21 +112,21 @@ items_stay left asks parent old r has expands =
     (fetched_items asks) left parent old r has expands
 
 -- what is fetched is clean and has no entry before its first section, if no text that may be included has one
-fetched_headed : (files : List ℕ → FileTold) (asks : Asks) → asks.table ≡ Some files → AreHeaded files → (from : Meta) (path : List ℕ) (other : State) → IsFetched asks from path (Ok other) → IsHeaded other
+fetched_headed : (files : List ℕ → FileReport) (asks : Asks) → asks.table ≡ Some files → AreHeaded files → (from : Meta) (path : List ℕ) (other : State) → IsFetched asks from path (Ok other) → IsHeaded other
 fetched_headed files asks tells headed from path other fetched =
     let load = fetched_load asks from path other fetched in
-    let told = subst (λ (t : Option (List ℕ → FileTold)). May t (λ (files : List ℕ → FileTold). ◌≡◌ {A = Result (List ℕ) FileFault} (Ok load.0) (read_of (files path)))) tells load.1 in
+    let told = subst (λ (t : Option (List ℕ → FileReport)). May t (λ (files : List ℕ → FileReport). ◌≡◌ {A = Result (List ℕ) FileFault} (Ok load.0) (read_of (files path)))) tells load.1 in
     loaded_headed asks.rules.lossy load.0 (included_meta from path) other (λ parts is. headed path load.0 parts (sym told) is) load.2
 
 -- So is a file that has none before its first section itself.
-pub headed_stays : (files : List ℕ → FileTold) (left : ℕ) (asks : Asks) (parent : Option State) (old : State) (r : Reached) → asks.table ≡ Some files → AreHeaded files → IsHeaded old
+pub headed_stays : (files : List ℕ → FileReport) (left : ℕ) (asks : Asks) (parent : Option State) (old : State) (r : Reached) → asks.table ≡ Some files → AreHeaded files → IsHeaded old
     → Expands left asks parent old r → IsHeaded (file_of r)
 headed_stays files left asks parent old r tells headed is expands =
     whole_expansion IsHeaded asks (λ another rest done room here more. record { clean = clean_put_in another rest done here.clean more; front = here.front })
     (fetched_headed files asks tells headed) left parent old r is expands
 
 -- A clean file stays clean, if no text that may be included has an entry before its first section.
-pub clean_stays : (files : List ℕ → FileTold) (left : ℕ) (asks : Asks) (parent : Option State) (old : State) (r : Reached) → asks.table ≡ Some files → AreHeaded files → IsClean old
+pub clean_stays : (files : List ℕ → FileReport) (left : ℕ) (asks : Asks) (parent : Option State) (old : State) (r : Reached) → asks.table ≡ Some files → AreHeaded files → IsClean old
     → Expands left asks parent old r → IsClean (file_of r)
 clean_stays files left asks parent old r tells headed clean expands =
     expansion IsClean IsHeaded asks (λ other rest done room here more. clean_put_in other rest done here more)

@@ -10,8 +10,8 @@ use Rattle.gitconf_items.specs.EventList.{keeps_token}
 use Rattle.gitconf_items.specs.TokenDocument.{keeps_meaning}
 use Rattle.gitconf_parse.specs.EventResult.{IsRefused}
 use Rattle.gitconf_parse.specs.ParseError.{Refusal}
-use Rattle.gitconf_host.specs.Told.{FileTold, is_there, read_of}
-pub use Rattle.gitconf_host.specs.Told.{May}
+use Rattle.gitconf_host.specs.Reports.{FileReport, is_there, read_of}
+pub use Rattle.gitconf_host.specs.Reports.{May}
 use Rattle.gitconf_host.specs.declared.fault.FileFault.{FileFault}
 use Rattle.gitconf_host.specs.declared.fault.Stage.{Stage}
 use Rattle.gitconf_host.specs.declared.fault.Stage.TheVariants.{Open, Read, Memory}
@@ -26,7 +26,7 @@ use Rattle.gitconf_expansion.specs.Inclusion.{followed, inclusion, Inclusion}
 -- what an expansion depends on: its rules, and what is at each path, unless the host doesn't say it
 pub record Asks : Type 0 where
   pub rules : Rules
-  pub table : Option (List ℕ → FileTold)
+  pub table : Option (List ℕ → FileReport)
 
 -- an expansion continues with what is done, or was refused with a number, which leaves this file
 pub data Reached : Type 0 where

@@ -4,7 +4,7 @@ use Rattle.std.specs.List.{AllByRecursion}
 use Rattle.gitconf_text.specs.Document.{IsText, gathered}
 use Rattle.gitconf_text.specs.Part.{Part}
 use Rattle.gitconf_base.specs.Metadata.{Meta}
-use Rattle.gitconf_host.specs.Told.{FileTold, read_of}
+use Rattle.gitconf_host.specs.Reports.{FileReport, read_of}
 use Rattle.gitconf_host.specs.declared.fault.FileFault.{FileFault}
 use Rattle.gitconf_includes.specs.declared.includes.Error.{Error}
 use Rattle.gitconf_includes.specs.Errors.{includes_number}
@@ -65,7 +65,7 @@ IsAsItWas (Ok done) old new = new ≡ old
 IsAsItWas (Err e) old new = (includes_number e ≡ 27) × (new ≡ with_used new.used old)
 
 -- none of the texts at the paths has an entry before its first section
-abbrev pub AreHeaded : (files : List ℕ → FileTold) → Type 0
+abbrev pub AreHeaded : (files : List ℕ → FileReport) → Type 0
 AreHeaded files = (path text : List ℕ) (parts : List Part) → ◌≡◌ {A = Result (List ℕ) FileFault} (read_of (files path)) (Ok text) → IsText text parts → (gathered parts).front ≡ []
 
 -- Files say the same: their fronts have the same entries, and their sections the same numbers, the same documents, and come from the same
@@ -83,7 +83,7 @@ ParentsSayTheSame (Some one) None = ⊥
 ParentsSayTheSame (Some one) (Some other) = SayTheSame one other
 
 -- an expansion by these rules and files, which keeps everything of each included file, or only what has a meaning
-abbrev pub asks_with : (lossy : Bool) → Rules → (files : List ℕ → FileTold) → Asks
+abbrev pub asks_with : (lossy : Bool) → Rules → (files : List ℕ → FileReport) → Asks
 asks_with lossy rules files = record { rules = record rules { lossy = lossy }; table = Some files }
 
 -- an outcome other than running out of memory

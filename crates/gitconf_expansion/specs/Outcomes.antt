@@ -2,7 +2,7 @@
 use Rattle.std.specs.Prelude.{◌≡◌, ◌⊎◌, ℕ, Bool, true, false, ◌==◌, ◌||◌, List, Option, None, Result, Ok, Err, string_bytes}
 use Rattle.std.specs.declared.alloc.Global.{Global}
 use Rattle.std.specs.declared.string.String.{String}
-use Rattle.gitconf_host.specs.Told.{CountsOne, FileTold, read_of}
+use Rattle.gitconf_host.specs.Reports.{CountsOne, FileReport, read_of}
 use Rattle.gitconf_host.specs.declared.fault.FileFault.{FileFault}
 use Rattle.gitconf_host.specs.declared.fault.Stage.TheVariants.{Open, Read, Memory}
 use Rattle.gitconf_includes.specs.Conditions.{IsUnresolved}
@@ -17,7 +17,7 @@ use Rattle.gitconf_state.specs.State.{SectionState, State}
 use Rattle.gitconf_expansion.specs.Expansion.{Asks, Leaves, May, On, Reached}
 
 -- the rules of these options, and the table that a host reports
-abbrev pub asks_of : Options → Option (List ℕ → FileTold) → Asks
+abbrev pub asks_of : Options → Option (List ℕ → FileReport) → Asks
 asks_of options table = record { rules = rules_of options; table = table }
 
 -- what was made, or the number of the refusal
@@ -40,11 +40,11 @@ CountsFaults (Ok made) old new = new ≡ old
 CountsFaults (Err e) old new = CountsFault (includes_number e) old new
 
 -- a host that reports what is at each path has this fault at the path
-abbrev pub IsFaultOf : Option (List ℕ → FileTold) → (path : List ℕ) → FileFault → Type 0
+abbrev pub IsFaultOf : Option (List ℕ → FileReport) → (path : List ℕ) → FileFault → Type 0
 IsFaultOf table path fault = May table (λ told. ◌≡◌ {A = Result (List ℕ) FileFault} (read_of (told path)) (Err fault))
 
 -- a host that reports what is at each path has this text at the path
-abbrev pub IsTextOf : Option (List ℕ → FileTold) → (path text : List ℕ) → Type 0
+abbrev pub IsTextOf : Option (List ℕ → FileReport) → (path text : List ℕ) → Type 0
 IsTextOf table path text = May table (λ told. ◌≡◌ {A = Result (List ℕ) FileFault} (read_of (told path)) (Ok text))
 
 -- how a call is refused for a fault of the file at a path
@@ -53,7 +53,7 @@ fault_refusal fault path = elim fault.stage [ Open ↦ refusals.Io path fault | 
 
 -- What a refusal says besides its number: the fault of a file that was opened or read, with the path of one that couldn't be opened; how the
 -- parser refuses the text of a file; the depth that the options allow; and what the git folder lacks.
-abbrev pub IsCause : Options → Option (List ℕ → FileTold) → Error → Type 0
+abbrev pub IsCause : Options → Option (List ℕ → FileReport) → Error → Type 0
 IsCause options table (refusals.Io path fault) = (fault.stage ≡ Open) × IsFaultOf table (string_bytes path) fault
 IsCause options table (refusals.CopyBuffer fault) = (path : List ℕ) × (fault.stage ≡ Read) × IsFaultOf table path fault
 IsCause options table (refusals.Parse e) = (path text : List ℕ) × IsTextOf table path text × IsRefused text e

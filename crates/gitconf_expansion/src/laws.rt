@@ -1,7 +1,7 @@
 //! What holds of expansions, for all files and sources of files: each law is a function that does nothing.
 ghost use Rattle.std.specs.Prelude.{◌≡◌, ◌≢◌, ◌⊎◌, ℕ, suc, true, false, Bool, IfErr, List, None, Option, Result, Some};
 ghost use Rattle.gitconf_base.specs.Metadata.{Meta};
-ghost use Rattle.gitconf_host.specs.Told.{FileTold};
+ghost use Rattle.gitconf_host.specs.Reports.{FileReport};
 ghost use Rattle.gitconf_includes.specs.declared.includes.Error.{Error};
 ghost use Rattle.gitconf_includes.specs.Errors.{includes_number};
 ghost use Rattle.gitconf_includes.specs.Rules.{Rules};
@@ -45,7 +45,7 @@ pub fn expansions_keep_states()
 /// A clean file stays clean, whatever the outcome, if no text that may be included has an entry before its first section: so what is
 /// written of it reads back.
 pub fn expansions_stay_clean()
-    ensures { (files : List ℕ → FileTold) (left : ℕ) (asks : Asks) (parent : Option State) (old : State) (r : Reached) → asks.table ≡ Some files
+    ensures { (files : List ℕ → FileReport) (left : ℕ) (asks : Asks) (parent : Option State) (old : State) (r : Reached) → asks.table ≡ Some files
         → AreHeaded files → IsClean old
         → Expands left asks parent old r → IsClean (file_of r) }
 {}
@@ -62,11 +62,11 @@ pub fn nothing_is_included()
 /// A lossy expansion gives what one gives that keeps everything, if neither is refused: for files that say the same, and so for one file.
 /// If one is refused nothing is said, since what is left out takes no room.
 pub fn lossy_expansions_say_the_same()
-    ensures same { (rules : Rules) (files : List ℕ → FileTold) (left : ℕ) (parent other_parent : Option State) (old other full lossy : State)
+    ensures same { (rules : Rules) (files : List ℕ → FileReport) (left : ℕ) (parent other_parent : Option State) (old other full lossy : State)
         → ParentsSayTheSame parent other_parent → SayTheSame old other
         → Expands left (asks_with false rules files) parent old (On full) → Expands left (asks_with true rules files) other_parent other (On lossy)
         → SayTheSame full lossy }
-    ensures document { (rules : Rules) (files : List ℕ → FileTold) (left : ℕ) (parent : Option State) (old full lossy : State)
+    ensures document { (rules : Rules) (files : List ℕ → FileReport) (left : ℕ) (parent : Option State) (old full lossy : State)
         → Expands left (asks_with false rules files) parent old (On full) → Expands left (asks_with true rules files) parent old (On lossy)
         → document_of full ≡ document_of lossy }
 {}
@@ -75,10 +75,10 @@ pub fn lossy_expansions_say_the_same()
 /// made on one file leave the same file, or are refused with one number and leave files that differ only in their buffers. A text has one
 /// load.
 pub fn expansions_have_one_outcome()
-    ensures expanded { (asks : Asks) (files : List ℕ → FileTold) (left : ℕ) (parent : Option State) (old : State) (r s : Reached)
+    ensures expanded { (asks : Asks) (files : List ℕ → FileReport) (left : ℕ) (parent : Option State) (old : State) (r s : Reached)
         → asks.table ≡ Some files → IsAnswered r → IsAnswered s
         → Expands left asks parent old r → Expands left asks parent old s → r ≡ s }
-    ensures resolved { (asks : Asks) (files : List ℕ → FileTold) (old new left : State) (one other : Result Unit Error) → asks.table ≡ Some files
+    ensures resolved { (asks : Asks) (files : List ℕ → FileReport) (old new left : State) (one other : Result Unit Error) → asks.table ≡ Some files
         → IfErr one (λ e. includes_number e ≢ 27) → IfErr other (λ e. includes_number e ≢ 27)
         → Resolves includes_number asks old one new → Resolves includes_number asks old other left → EndAlike one other new left }
     ensures loaded { (lossy : Bool) (text : List ℕ) (place : Meta) (one other : Result State ℕ) → IfErr one (λ n. n ≢ 27) → IfErr other (λ n. n ≢ 27)

@@ -204,10 +204,10 @@ values_found key keeps state =
     ∙ sym (said_all key.name keeps (named key.section key.subsection (listed state))))
 
 -- the last value of a key, told as it was found
-pub text_told : {E : Type 0} (key : Key) (keeps : Meta → Bool) (state : State) (found : Option Place) (result : Result (Option BString) E)
+pub reported_text : {E : Type 0} (key : Key) (keeps : Meta → Bool) (state : State) (found : Option Place) (result : Result (Option BString) E)
     → IsFound bstring_bytes result (option_map (λ (p : Place). meaning p.1) found)
     → found ≡ last_place what.Value key.name keeps (sections_named key.section key.subsection state) → IsString key keeps state result
-text_told key keeps state found result told is =
+reported_text key keeps state found result told is =
     subst (IsFound bstring_bytes result) (ap (option_map (λ (p : Place). meaning p.1)) is ∙ value_found key keeps state) told
 
 -- with its section

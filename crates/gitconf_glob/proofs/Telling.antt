@@ -10,7 +10,7 @@ use Rattle.gitconf_glob.specs.Pattern.{Front, Nothing, One, OneOf, one_of, front
 use Rattle.gitconf_glob.specs.Shapes.{FitsIn}
 use Rattle.gitconf_glob.specs.Cells.{one_cells, taken_cells, cells_at}
 use Rattle.gitconf_glob.specs.Rows.{tails}
-use Rattle.gitconf_glob.specs.Places.{told, all_told, told_behind, with_member, joined, lent}
+use Rattle.gitconf_glob.specs.Places.{told, all_known, told_behind, with_member, joined, lent}
 use Rattle.gitconf_glob.proofs.RowLemmas.{tails_count}
 use Rattle.gitconf_glob.proofs.Members.{member_passed, no_member, members_within, behind_member, count_of}
 
@@ -60,8 +60,8 @@ nothing_told ignore_case text p is = ap (option_map (λ (r : List Member × ℕ)
     never_closes false = refl
 
 -- as many places are told of as there are, and the end
-pub told_count : (ignore_case : Bool) (text p : List ℕ) → length (all_told ignore_case text p) ≡ length p + 1
-told_count ignore_case text p = length-map (tails p) (told ignore_case text) ∙ tails_count p
+pub reported_count : (ignore_case : Bool) (text p : List ℕ) → length (all_known ignore_case text p) ≡ length p + 1
+reported_count ignore_case text p = length-map (tails p) (told ignore_case text) ∙ tails_count p
 
 -- what is known of the place k
 pub nth_told : {X : Type 0} (f : List ℕ → X) (p : List ℕ) (k : ℕ) (d : X) → k ≤ length p → get_or (map f (tails p)) k d ≡ f (drop k p)
@@ -73,9 +73,9 @@ nth_told f (b ∷ p) (suc k) d within = nth_told f p k d (omega arith)
 
 -- all that is known of the places from one on: of itself, and of those after it
 pub told_step : (ignore_case : Bool) (text p : List ℕ) (i : ℕ) → i < length p
-    → all_told ignore_case text (drop i p) ≡ told ignore_case text (drop i p) ∷ all_told ignore_case text (drop (i + 1) p)
+    → all_known ignore_case text (drop i p) ≡ told ignore_case text (drop i p) ∷ all_known ignore_case text (drop (i + 1) p)
 unfolding tails
-told_step ignore_case text p i within = ap (all_told ignore_case text) same ∙ ap (λ q. told ignore_case text q ∷ all_told ignore_case text (drop (i + 1) p)) (sym same)
+told_step ignore_case text p i within = ap (all_known ignore_case text) same ∙ ap (λ q. told ignore_case text q ∷ all_known ignore_case text (drop (i + 1) p)) (sym same)
   where
     same : drop i p ≡ get_or p i 0 ∷ drop (i + 1) p
     same = drop_more p i 0 within
@@ -99,15 +99,15 @@ behind_within ignore_case text (c ∷ q) t is = go (c == 93) refl
 
 -- what is known after a member is known of a place below
 pub place_behind : {X : Type 0} (shown : X → Option (List Bool × ℕ)) (below : List X) (ignore_case : Bool) (text p : List ℕ) (more : ℕ)
-    → map shown below ≡ all_told ignore_case text (drop 1 p) → more < length p → get_or (map shown below) more None ≡ told ignore_case text (drop (more + 1) p)
+    → map shown below ≡ all_known ignore_case text (drop 1 p) → more < length p → get_or (map shown below) more None ≡ told ignore_case text (drop (more + 1) p)
 place_behind shown below ignore_case text p more is fits =
     ap (λ places. get_or places more None) is
     ∙ nth_told (told ignore_case text) (drop 1 p) more None (let h = length-drop 1 p in omega (arith, h, fits))
     ∙ ap (told ignore_case text) (drop-drop more 1 p ∙ ap (λ n. drop n p) (omega arith))
 
 -- as many places are below as are told of
-pub places_below : {X : Type 0} (shown : X → Option (List Bool × ℕ)) (below : List X) (ignore_case : Bool) (text p : List ℕ) → map shown below ≡ all_told ignore_case text p → length below ≡ length p + 1
-places_below shown below ignore_case text p is = sym (length-map below shown) ∙ ap (λ places. length places) is ∙ told_count ignore_case text p
+pub places_below : {X : Type 0} (shown : X → Option (List Bool × ℕ)) (below : List X) (ignore_case : Bool) (text p : List ℕ) → map shown below ≡ all_known ignore_case text p → length below ≡ length p + 1
+places_below shown below ignore_case text p is = sym (length-map below shown) ∙ ap (λ places. length places) is ∙ reported_count ignore_case text p
 
 -- the count of bytes stays within the pattern
 pub told_fits : (ignore_case : Bool) (text p : List ℕ) (more : ℕ) (behind : Option (List Bool × ℕ)) (t : List Bool × ℕ) → more < length p
@@ -117,7 +117,7 @@ told_fits ignore_case text p more behind t fits is some =
 
 -- of the end of a pattern nothing is told
 pub last_told : {X : Type 0} (shown : Option X → Option (List Bool × ℕ)) (ignore_case : Bool) (text p : List ℕ) → shown None ≡ None
-    → map shown (drop (length p) (replicate (length p + 1) None)) ≡ all_told ignore_case text (drop (length p) p)
+    → map shown (drop (length p) (replicate (length p + 1) None)) ≡ all_known ignore_case text (drop (length p) p)
 unfolding members tails
 last_told shown ignore_case text [] is = ap (λ c. c ∷ []) is
 last_told shown ignore_case text (b ∷ p) is = rw (long_more (length p)) (last_told shown ignore_case text p is)
@@ -127,11 +127,11 @@ last_told shown ignore_case text (b ∷ p) is = rw (long_more (length p)) (last_
 
 -- a place is known, from those after it
 pub told_filled : {X : Type 0} (shown : X → Option (List Bool × ℕ)) (places : List X) (place : X) (ignore_case : Bool) (text p : List ℕ) (k j : ℕ) → j ≡ k + 1 → k < length p
-    → length places ≡ length p + 1 → map shown (drop j places) ≡ all_told ignore_case text (drop j p) → shown place ≡ told ignore_case text (drop k p)
-    → map shown (drop k (set places k place)) ≡ all_told ignore_case text (drop k p)
+    → length places ≡ length p + 1 → map shown (drop j places) ≡ all_known ignore_case text (drop j p) → shown place ≡ told ignore_case text (drop k p)
+    → map shown (drop k (set places k place)) ≡ all_known ignore_case text (drop k p)
 told_filled shown places place ignore_case text p k j next within count same is =
     ap (map shown) (drop-set places k place (omega (arith, count, within)))
-    ∙ (λ i. is i ∷ (ap (λ n. map shown (drop n places)) (sym next) ∙ same ∙ ap (λ n. all_told ignore_case text (drop n p)) next) i)
+    ∙ (λ i. is i ∷ (ap (λ n. map shown (drop n places)) (sym next) ∙ same ∙ ap (λ n. all_known ignore_case text (drop n p)) next) i)
     ∙ sym (told_step ignore_case text p k within)
 
 -- the same of what was lent
@@ -196,7 +196,7 @@ no_bracket_cells ignore_case text p below is = go (members true 0 (drop (members
 
 -- what is known of the places from one on
 pub places_from : {X : Type 0} (shown : X → Option (List Bool × ℕ)) (places : List X) (ignore_case : Bool) (text p : List ℕ) (k : ℕ) → k ≤ length p
-    → map shown places ≡ all_told ignore_case text p → map shown (drop k places) ≡ all_told ignore_case text (drop k p)
+    → map shown places ≡ all_known ignore_case text p → map shown (drop k places) ≡ all_known ignore_case text (drop k p)
 unfolding tails
 places_from shown places ignore_case text p zero within is = is
 places_from shown places ignore_case text [] (suc k) within is = absurd (let h = within in omega arith)
@@ -231,6 +231,6 @@ bracket_fits p = go (members true 0 (drop (members_begin p) p)) refl
         subst (FitsIn (length p + 1)) (sym (one_of_is p (Some r) e)) within
 
 -- what is known of a place
-pub told_at : {X : Type 0} (shown : X → Option (List Bool × ℕ)) (places : List X) (ignore_case : Bool) (text p : List ℕ) (k : ℕ) → map shown places ≡ all_told ignore_case text p → k ≤ length p
+pub told_at : {X : Type 0} (shown : X → Option (List Bool × ℕ)) (places : List X) (ignore_case : Bool) (text p : List ℕ) (k : ℕ) → map shown places ≡ all_known ignore_case text p → k ≤ length p
     → get_or (map shown places) k None ≡ told ignore_case text (drop k p)
 told_at shown places ignore_case text p k is within = ap (λ ts. get_or ts k None) is ∙ nth_told (told ignore_case text) p k None within

@@ -13,8 +13,8 @@ abbrev pub told : (ignore_case : Bool) (text pattern : List ℕ) → Option (Lis
 told ignore_case text pattern = option_map (λ (r : List Member × ℕ). (map (is_of_any ignore_case r.0) text, r.1)) (members true 0 pattern)
 
 -- the same for each suffix of a pattern, the whole pattern first
-abbrev pub all_told : (ignore_case : Bool) (text pattern : List ℕ) → List (Option (List Bool × ℕ))
-all_told ignore_case text pattern = map (told ignore_case text) (tails pattern)
+abbrev pub all_known : (ignore_case : Bool) (text pattern : List ℕ) → List (Option (List Bool × ℕ))
+all_known ignore_case text pattern = map (told ignore_case text) (tails pattern)
 
 -- which bytes of the text a member takes, or those after it, which take `behind`
 unfoldable pub joined : (ignore_case : Bool) (m : Member) (text : List ℕ) (behind : List Bool) → List Bool

@@ -1,7 +1,7 @@
 //! What brackets take of a text, for each place of a pattern, from the last place to the first.
 ghost use Rattle.std.specs.Prelude.{◌≡◌, ◌+◌, ◌<◌, ◌^◌, ℕ, Bool, List, false, None, length, drop, get_or, map, replicate, IfOk, IfSome};
 ghost use Rattle.gitconf_glob.specs.Bracket as spec;
-ghost use Rattle.gitconf_glob.specs.Places.{told, all_told, told_behind, with_member, joined, shown, lent};
+ghost use Rattle.gitconf_glob.specs.Places.{told, all_known, told_behind, with_member, joined, shown, lent};
 
 use crate::bracket::{Member, begins_close, close_with, either, read_member};
 use gitconf_text::NoMemory;
@@ -101,7 +101,7 @@ fn tell_place(
     below: &[Option<Place>],
 ) -> Result<Option<Place>, NoMemory>
     requires close { close ≡ spec.close_from 0 pattern.now }
-    requires below { map shown below.now ≡ all_told ignore_case text.now (drop 1 pattern.now) }
+    requires below { map shown below.now ≡ all_known ignore_case text.now (drop 1 pattern.now) }
     ensures { IfOk result (λ place. shown place ≡ told ignore_case text.now pattern.now) }
 {
     match read_member(pattern, close) {
@@ -132,7 +132,7 @@ pub fn tell_places(
     text: &[u8],
     pattern: &[u8],
 ) -> Result<Vec<Option<Place>>, NoMemory>
-    ensures { IfOk result (λ places. map shown places.items ≡ all_told ignore_case text.now pattern.now) }
+    ensures { IfOk result (λ places. map shown places.items ≡ all_known ignore_case text.now pattern.now) }
 {
     let mut places = untold(alloc, pattern.len() + 1)?;
     let mut close = None;

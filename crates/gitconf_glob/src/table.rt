@@ -3,7 +3,7 @@ ghost use Rattle.std.specs.Prelude.{◌≡◌, ◌+◌, ◌≤◌, ◌<◌, ◌=
 ghost use Rattle.gitconf_glob.specs.Pattern as spec;
 ghost use Rattle.gitconf_glob.specs.Rows.{cells, rows_of, is_fresh_at, IsTable};
 ghost use Rattle.gitconf_glob.specs.Bracket.{lets_in};
-ghost use Rattle.gitconf_glob.specs.Places.{all_told, shown};
+ghost use Rattle.gitconf_glob.specs.Places.{all_known, shown};
 ghost use Rattle.gitconf_glob.specs.Cells.{one_cells, taken_cells, run_cells, folder_cells, cells_at, last_cells, AreLong};
 ghost use Rattle.gitconf_glob.specs.Shapes.{element_of, front_of, FitsIn};
 
@@ -190,7 +190,7 @@ fn bracket_row(
     places: &[Option<Place>],
     below: &[Vec<bool>],
 ) -> Result<Vec<bool>, NoMemory>
-    requires places { map shown places.now ≡ all_told ignore_case text.now rest.now }
+    requires places { map shown places.now ≡ all_known ignore_case text.now rest.now }
     requires count { length below.now ≡ length rest.now + 1 }
     requires long { AreLong text.now (map vec_items below.now) }
     ensures { IfOk result (λ row. row.items ≡ cells_at ignore_case (spec.one_of rest.now) text.now (map vec_items below.now)) }
@@ -216,7 +216,7 @@ fn pattern_row(
     places: &[Option<Place>],
     below: &[Vec<bool>],
 ) -> Result<Vec<bool>, NoMemory>
-    requires places { map shown places.now ≡ all_told ignore_case text.now rest.now }
+    requires places { map shown places.now ≡ all_known ignore_case text.now rest.now }
     requires below { map vec_items below.now ≡ rows_of ignore_case (first == 47) rest.now text.now }
     ensures { IfOk result (λ row. row.items ≡ cells ignore_case fresh (first ∷ rest.now) text.now) }
 {
@@ -260,7 +260,7 @@ fn fill_rows(
     ignore_case: bool,
     places: &[Option<Place>],
 ) -> Result<Vec<Vec<bool>>, NoMemory>
-    requires places { map shown places.now ≡ all_told ignore_case text.now pattern.now }
+    requires places { map shown places.now ≡ all_known ignore_case text.now pattern.now }
     requires count { length places.now ≡ length pattern.now + 1 }
     ensures { IfOk result (λ rows. map vec_items rows.items ≡ rows_of ignore_case fresh pattern.now text.now) }
 {

@@ -13,8 +13,8 @@ use Rattle.std.specs.declared.cmp.Ordering.TheVariants.{Less, Equal, Greater}
 use Rattle.std.specs.declared.string.String.{String}
 use Rattle.std.specs.declared.alloc.Global.{Global}
 use Rattle.std.proofs.lemmas.Map.Text.{is_eq-slice_cmp, btree_map_updates_text}
-use Rattle.gitconf_host.specs.Told.{NoFile, is_there}
-use Rattle.gitconf_host.specs.InMemory.{told_entries, with_entry, entry_at, file_told}
+use Rattle.gitconf_host.specs.Reports.{NoFile, is_there}
+use Rattle.gitconf_host.specs.InMemory.{reported_entries, with_entry, entry_at, file_report}
 use Rattle.gitconf_host.specs.declared.mem_files.MemFile.{MemFile}
 use Rattle.gitconf_host.specs.declared.mem_files.MemFile.TheVariants.{Bytes, OpenFault, ReadFault}
 
@@ -30,7 +30,7 @@ unwrapped false x d o = refl
 
 -- the tree's entry of a key is that of the table
 pub found_entry : {V W : Type 0} (told : V → W) (key : List ℕ) (entries : List (String Global × V))
-    → option_map told (lookup (is_at (λ k. slice_cmp nat_cmp key (string_bytes k))) entries) ≡ lookup (bytes_eq key) (told_entries told entries)
+    → option_map told (lookup (is_at (λ k. slice_cmp nat_cmp key (string_bytes k))) entries) ≡ lookup (bytes_eq key) (reported_entries told entries)
 found_entry told key [] = refl
 found_entry told key (e ∷ entries) =
     mapped told (is_eq (slice_cmp nat_cmp key (string_bytes e.0))) _ _
@@ -39,20 +39,20 @@ found_entry told key (e ∷ entries) =
 -- what was found in the tree, or a default, is what the table says
 pub told_at : {V W : Type 0} (told : V → W) (absent : W) (key : List ℕ) (entries : List (String Global × V)) (found : Option V)
     → found ≡ lookup (is_at (λ k. slice_cmp nat_cmp key (string_bytes k))) entries
-    → unwrap_or (option_map told found) absent ≡ entry_at absent (told_entries told entries) key
+    → unwrap_or (option_map told found) absent ≡ entry_at absent (reported_entries told entries) key
 told_at told absent key entries found is =
     ap (λ o. unwrap_or (option_map told o) absent) is ∙ ap (λ o. unwrap_or o absent) (found_entry told key entries)
 
 -- what is put into the tree is put into the table
 pub put_entry : {V W : Type 0} (told : V → W) (key : String Global) (value : V) (entries : List (String Global × V))
-    → told_entries told (insert_entry string_cmp entries key value) ≡ with_entry (string_bytes key) (told value) (told_entries told entries)
+    → reported_entries told (insert_entry string_cmp entries key value) ≡ with_entry (string_bytes key) (told value) (reported_entries told entries)
 put_entry told key value [] = refl
 put_entry told key value (e ∷ entries) = go (string_cmp key e.0) (put_entry told key value entries)
   where
-    go : (o : Ordering) → told_entries told (insert_entry string_cmp entries key value) ≡ with_entry (string_bytes key) (told value) (told_entries told entries)
-        → told_entries told (match_ordering o ((key, value) ∷ e ∷ entries) ((e.0, value) ∷ entries) (e ∷ insert_entry string_cmp entries key value))
-        ≡ match_ordering o ((string_bytes key, told value) ∷ told_entries told (e ∷ entries)) ((string_bytes e.0, told value) ∷ told_entries told entries)
-        ((string_bytes e.0, told e.1) ∷ with_entry (string_bytes key) (told value) (told_entries told entries))
+    go : (o : Ordering) → reported_entries told (insert_entry string_cmp entries key value) ≡ with_entry (string_bytes key) (told value) (reported_entries told entries)
+        → reported_entries told (match_ordering o ((key, value) ∷ e ∷ entries) ((e.0, value) ∷ entries) (e ∷ insert_entry string_cmp entries key value))
+        ≡ match_ordering o ((string_bytes key, told value) ∷ reported_entries told (e ∷ entries)) ((string_bytes e.0, told value) ∷ reported_entries told entries)
+        ((string_bytes e.0, told e.1) ∷ with_entry (string_bytes key) (told value) (reported_entries told entries))
     go Less later = refl
     go Equal later = refl
     go Greater later = ap (λ es. (string_bytes e.0, told e.1) ∷ es) later
@@ -60,23 +60,23 @@ put_entry told key value (e ∷ entries) = go (string_cmp key e.0) (put_entry to
 -- after a change at one key each other has the entry that it had
 pub last_entry : {V W : Type 0} (told : V → W) (absent : W) (key : List ℕ) (old new : BTreeMap (String Global) V) (value : V)
     → UpdatesBy string_cmp (λ k. slice_cmp nat_cmp key (string_bytes k)) old new (Some value)
-    → (asked : List ℕ) → entry_at absent (told_entries told new.entries) asked
-    ≡ cond (bytes_eq key asked) (told value) (entry_at absent (told_entries told old.entries) asked)
+    → (asked : List ℕ) → entry_at absent (reported_entries told new.entries) asked
+    ≡ cond (bytes_eq key asked) (told value) (entry_at absent (reported_entries told old.entries) asked)
 last_entry told absent key old new value changes asked =
     ap (λ o. unwrap_or o absent)
     (sym (found_entry told asked new.entries) ∙ ap (option_map told) (btree_map_updates_text key old new (Some value) changes asked)
     ∙ mapped told (bytes_eq key asked) _ _ ∙ ap (λ o. cond (bytes_eq key asked) (Some (told value)) o) (found_entry told asked old.entries))
-    ∙ unwrapped (bytes_eq key asked) (told value) absent (lookup (bytes_eq asked) (told_entries told old.entries))
+    ∙ unwrapped (bytes_eq key asked) (told value) absent (lookup (bytes_eq asked) (reported_entries told old.entries))
 
 -- a file was found where one is told
-is_found : (found : Option MemFile) → is_some found ≡ is_there (unwrap_or (option_map file_told found) NoFile)
+is_found : (found : Option MemFile) → is_some found ≡ is_there (unwrap_or (option_map file_report found) NoFile)
 is_found None = refl
 is_found (Some (Bytes bytes trust)) = refl
 is_found (Some (OpenFault not_found)) = refl
 is_found (Some ReadFault) = refl
 
 pub is_entry_at : (path : List ℕ) (entries : List (String Global × MemFile))
-    → is_some (lookup (is_at (λ k. slice_cmp nat_cmp path (string_bytes k))) entries) ≡ is_there (entry_at NoFile (told_entries file_told entries) path)
+    → is_some (lookup (is_at (λ k. slice_cmp nat_cmp path (string_bytes k))) entries) ≡ is_there (entry_at NoFile (reported_entries file_report entries) path)
 is_entry_at path entries =
     is_found (lookup (is_at (λ k. slice_cmp nat_cmp path (string_bytes k))) entries)
-    ∙ ap is_there (told_at file_told NoFile path entries (lookup (is_at (λ k. slice_cmp nat_cmp path (string_bytes k))) entries) refl)
+    ∙ ap is_there (told_at file_report NoFile path entries (lookup (is_at (λ k. slice_cmp nat_cmp path (string_bytes k))) entries) refl)

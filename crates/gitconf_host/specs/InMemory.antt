@@ -8,7 +8,7 @@ use Rattle.std.specs.BTreeMap.{insert_entry}
 use Rattle.std.specs.declared.string.String.{String}
 use Rattle.std.specs.declared.vec.Vec.{Vec}
 use Rattle.std.specs.declared.alloc.Global.{Global}
-use Rattle.gitconf_host.specs.Told.{FileTold, NoFile, IsFile, Unopened, Unread, VariableTold, NotSet, variable_told}
+use Rattle.gitconf_host.specs.Reports.{FileReport, NoFile, IsFile, Unopened, Unread, VariableReport, NotSet, variable_report}
 use Rattle.gitconf_host.specs.declared.fault.FileFault.{FileFault}
 use Rattle.gitconf_host.specs.declared.fault.Stage.TheVariants.{Memory}
 use Rattle.gitconf_host.specs.declared.env.EnvVar.{EnvVar}
@@ -16,8 +16,8 @@ use Rattle.gitconf_host.specs.declared.mem_files.MemFile.{MemFile}
 use Rattle.gitconf_host.specs.declared.mem_files.MemFile.TheVariants.{Bytes, OpenFault, ReadFault}
 
 -- the entries as a list, each under the bytes of its text
-abbrev pub told_entries : {V W : Type 0} → (V → W) → List (String Global × V) → List (List ℕ × W)
-told_entries told entries = map (λ e. (string_bytes e.0, told e.1)) entries
+abbrev pub reported_entries : {V W : Type 0} → (V → W) → List (String Global × V) → List (List ℕ × W)
+reported_entries told entries = map (λ e. (string_bytes e.0, told e.1)) entries
 
 -- the table with this entry in place of one with the same key, otherwise at its place in the order
 abbrev pub with_entry : {W : Type 0} → (key : List ℕ) → W → List (List ℕ × W) → List (List ℕ × W)
@@ -28,26 +28,26 @@ abbrev pub entry_at : {W : Type 0} → W → List (List ℕ × W) → (key : Lis
 entry_at absent entries key = unwrap_or (lookup (bytes_eq key) entries) absent
 
 -- what is known of a file in memory
-abbrev pub file_told : MemFile → FileTold
-file_told (Bytes bytes trust) = IsFile bytes.items trust
-file_told (OpenFault not_found) = Unopened not_found
-file_told ReadFault = Unread
+abbrev pub file_report : MemFile → FileReport
+file_report (Bytes bytes trust) = IsFile bytes.items trust
+file_report (OpenFault not_found) = Unopened not_found
+file_report ReadFault = Unread
 
 -- the files of a tree as a list, each under the bytes of its path
-abbrev pub file_entries : List (String Global × MemFile) → List (List ℕ × FileTold)
-file_entries entries = told_entries file_told entries
+abbrev pub file_entries : List (String Global × MemFile) → List (List ℕ × FileReport)
+file_entries entries = reported_entries file_report entries
 
 -- what is at a path
-abbrev pub file_at : List (List ℕ × FileTold) → (path : List ℕ) → FileTold
+abbrev pub file_at : List (List ℕ × FileReport) → (path : List ℕ) → FileReport
 file_at files path = entry_at NoFile files path
 
 -- files by their paths, and how many faults were returned
 pub record FileTable : Type 0 where
-  pub files : List (List ℕ × FileTold)
+  pub files : List (List ℕ × FileReport)
   pub failures : ℕ
 
 -- these files, and this many faults returned so far
-abbrev pub file_table : List (List ℕ × FileTold) → ℕ → FileTable
+abbrev pub file_table : List (List ℕ × FileReport) → ℕ → FileTable
 file_table files failures = record { files = files; failures = failures }
 
 -- no files, and no fault so far
@@ -60,9 +60,9 @@ IsCopyOf (Ok copy) bytes = copy.items ≡ bytes
 IsCopyOf (Err fault) bytes = fault.stage ≡ Memory
 
 -- the variables of a tree as a list, each under the bytes of its name
-abbrev pub variable_entries : List (String Global × EnvVar) → List (List ℕ × VariableTold)
-variable_entries entries = told_entries variable_told entries
+abbrev pub variable_entries : List (String Global × EnvVar) → List (List ℕ × VariableReport)
+variable_entries entries = reported_entries variable_report entries
 
 -- what a name is set to
-abbrev pub variable_at : List (List ℕ × VariableTold) → (name : List ℕ) → VariableTold
+abbrev pub variable_at : List (List ℕ × VariableReport) → (name : List ℕ) → VariableReport
 variable_at variables name = entry_at NotSet variables name

@@ -19,9 +19,9 @@ pub enum EnvVar {
 /// and no call changes them, whatever its outcome.
 pub trait Env: Drop {
     ghost use Rattle.std.specs.Prelude.{◌≡◌, ℕ, List, Option, IfOk, IfSome};
-    ghost use Rattle.gitconf_host.specs.Told.{VariableTold, variable_told};
+    ghost use Rattle.gitconf_host.specs.Reports.{VariableReport, variable_report};
 
-    ghost variables: { Self → Option (List ℕ → VariableTold) };
+    ghost variables: { Self → Option (List ℕ → VariableReport) };
 
     /// The variable of this name.
     ///
@@ -29,7 +29,7 @@ pub trait Env: Drop {
     ///
     /// Only when out of memory.
     fn var(&mut self, name: &str) -> Result<EnvVar, NoMemory>
-        ensures told { IfSome (variables self.old) (λ told. IfOk result (λ variable. variable_told variable ≡ told name.now)) }
+        ensures told { IfSome (variables self.old) (λ told. IfOk result (λ variable. variable_report variable ≡ told name.now)) }
         ensures stays { variables self.new ≡ variables self.old };
 }
 
@@ -44,11 +44,11 @@ impl Env for Box<dyn Env> {
 
 impl EnvVar {
     ghost use Rattle.std.specs.Prelude.{◌≡◌, IfOk};
-    ghost use Rattle.gitconf_host.specs.Told.{variable_told};
+    ghost use Rattle.gitconf_host.specs.Reports.{variable_report};
 
     /// A copy, or [`NoMemory`] if there is none for its text.
     pub(crate) fn try_clone(&self) -> Result<EnvVar, NoMemory>
-        ensures { IfOk result (λ copy. variable_told copy ≡ variable_told self.now) }
+        ensures { IfOk result (λ copy. variable_report copy ≡ variable_report self.now) }
     {
         match self {
             EnvVar::Unset => Ok(EnvVar::Unset),

@@ -11,9 +11,9 @@ use gitconf_base::source::Trust;
 /// any other call none. So a fault of a source that counts comes from that source alone.
 pub trait Files: Drop {
     ghost use Rattle.std.specs.Prelude.{◌≡◌, ℕ, List, Option, IfSome};
-    ghost use Rattle.gitconf_host.specs.Told.{FileTold, is_there, IsReadOf, IsTrustOf, IsCounted};
+    ghost use Rattle.gitconf_host.specs.Reports.{FileReport, is_there, IsReadOf, IsTrustOf, IsCounted};
 
-    ghost table: { Self → Option (List ℕ → FileTold) };
+    ghost table: { Self → Option (List ℕ → FileReport) };
 
     ghost failures: { Self → Option ℕ };
 

@@ -2,7 +2,7 @@
 ghost use Rattle.std.specs.Prelude.{◌≡◌, ℕ, List, IfOk, OnOk, OnErr, None, cond, string_bytes};
 ghost use Rattle.std.specs.Map.{lookup};
 ghost use Rattle.std.specs.Str.{bytes_eq};
-ghost use Rattle.gitconf_host.specs.Told.{variable_told};
+ghost use Rattle.gitconf_host.specs.Reports.{variable_report};
 ghost use Rattle.gitconf_host.specs.InMemory.{with_entry, variable_entries, variable_at};
 
 use crate::env::{Env, EnvVar};
@@ -19,10 +19,10 @@ pub struct MemEnv {
 
 impl Model for MemEnv {
     ghost use Rattle.std.specs.Prelude.{ℕ, List};
-    ghost use Rattle.gitconf_host.specs.Told.{VariableTold};
+    ghost use Rattle.gitconf_host.specs.Reports.{VariableReport};
     ghost use Rattle.gitconf_host.specs.InMemory.{variable_entries};
 
-    ghost Value = { List (List ℕ × VariableTold) };
+    ghost Value = { List (List ℕ × VariableReport) };
 
     ghost view = { λ e. variable_entries e.variables.entries };
 }
@@ -31,7 +31,7 @@ impl MemEnv {
     ghost use Rattle.std.specs.Prelude.{◌≡◌, [], ℕ, List, OnOk, OnErr, None, cond, string_bytes};
     ghost use Rattle.std.specs.Map.{lookup};
     ghost use Rattle.std.specs.Str.{bytes_eq};
-    ghost use Rattle.gitconf_host.specs.Told.{variable_told};
+    ghost use Rattle.gitconf_host.specs.Reports.{variable_report};
     ghost use Rattle.gitconf_host.specs.InMemory.{with_entry, variable_at};
 
     /// No name is set. Takes no memory.
@@ -49,12 +49,12 @@ impl MemEnv {
     ///
     /// Out of memory, only for a new name. The variables are then as they were.
     pub fn insert(&mut self, name: String, variable: EnvVar) -> Result<(), NoMemory>
-        ensures ok { OnOk result (self.new ≡ with_entry (string_bytes name) (variable_told variable) self.old) }
+        ensures ok { OnOk result (self.new ≡ with_entry (string_bytes name) (variable_report variable) self.old) }
         ensures err { OnErr result (self.new ≡ self.old) }
         ensures absent { OnErr result (lookup (bytes_eq (string_bytes name)) self.old ≡ None) }
         // The name has the variable, and each other name what it had.
         ensures last { OnOk result ((asked : List ℕ) → variable_at self.new asked
-            ≡ cond (bytes_eq (string_bytes name) asked) (variable_told variable) (variable_at self.old asked)) }
+            ≡ cond (bytes_eq (string_bytes name) asked) (variable_report variable) (variable_at self.old asked)) }
     {
         put_variable(&mut self.variables, name, variable)
     }
@@ -78,12 +78,12 @@ fn put_variable(
     name: String,
     variable: EnvVar,
 ) -> Result<(), NoMemory>
-    ensures ok { OnOk result (variable_entries variables.new.entries ≡ with_entry (string_bytes name) (variable_told variable)
+    ensures ok { OnOk result (variable_entries variables.new.entries ≡ with_entry (string_bytes name) (variable_report variable)
         (variable_entries variables.old.entries)) }
     ensures err { OnErr result (variable_entries variables.new.entries ≡ variable_entries variables.old.entries) }
     ensures absent { OnErr result (lookup (bytes_eq (string_bytes name)) (variable_entries variables.old.entries) ≡ None) }
     ensures last { OnOk result ((asked : List ℕ) → variable_at (variable_entries variables.new.entries) asked
-        ≡ cond (bytes_eq (string_bytes name) asked) (variable_told variable) (variable_at (variable_entries variables.old.entries) asked)) }
+        ≡ cond (bytes_eq (string_bytes name) asked) (variable_report variable) (variable_at (variable_entries variables.old.entries) asked)) }
 {
     variables.insert(name, variable)?;
     Ok(())
@@ -91,7 +91,7 @@ fn put_variable(
 
 /// A copy of the variable of a name in a tree of the names.
 fn variable_of(variables: &BTreeMap<String, EnvVar>, name: &str) -> Result<EnvVar, NoMemory>
-    ensures { IfOk result (λ copy. variable_told copy ≡ variable_at (variable_entries variables.now.entries) name.now) }
+    ensures { IfOk result (λ copy. variable_report copy ≡ variable_at (variable_entries variables.now.entries) name.now) }
 {
     match variables.get(name) {
         Some(variable) => variable.try_clone(),

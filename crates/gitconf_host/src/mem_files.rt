@@ -2,8 +2,8 @@
 ghost use Rattle.std.specs.Prelude.{◌≡◌, ℕ, List, OnOk, OnErr, None, cond, string_bytes};
 ghost use Rattle.std.specs.Map.{lookup};
 ghost use Rattle.std.specs.Str.{bytes_eq};
-ghost use Rattle.gitconf_host.specs.Told.{is_there, trust_of, IsReadOf};
-ghost use Rattle.gitconf_host.specs.InMemory.{with_entry, file_told, file_entries, file_at, IsCopyOf};
+ghost use Rattle.gitconf_host.specs.Reports.{is_there, trust_of, IsReadOf};
+ghost use Rattle.gitconf_host.specs.InMemory.{with_entry, file_report, file_entries, file_at, IsCopyOf};
 
 use crate::fault::{FileFault, Stage};
 use crate::files::Files;
@@ -26,12 +26,12 @@ pub enum MemFile {
 
 impl MemFile {
     ghost use Rattle.std.specs.Prelude.{◌≡◌};
-    ghost use Rattle.gitconf_host.specs.Told.{trust_of, IsReadOf};
-    ghost use Rattle.gitconf_host.specs.InMemory.{file_told};
+    ghost use Rattle.gitconf_host.specs.Reports.{trust_of, IsReadOf};
+    ghost use Rattle.gitconf_host.specs.InMemory.{file_report};
 
     /// A copy of its bytes.
     fn read(&self) -> Result<Vec<u8>, FileFault>
-        ensures { IsReadOf result (file_told self.now) }
+        ensures { IsReadOf result (file_report self.now) }
     {
         match self {
             MemFile::Bytes(bytes, _trust) => copied(*bytes.allocator(), bytes.as_slice()),
@@ -48,7 +48,7 @@ impl MemFile {
 
     /// How far it is trusted.
     fn trust(&self) -> Result<Trust, FileFault>
-        ensures { result ≡ trust_of (file_told self.now) }
+        ensures { result ≡ trust_of (file_report self.now) }
     {
         match self {
             MemFile::Bytes(_bytes, trust) => Ok(*trust),
@@ -97,7 +97,7 @@ impl MemFiles {
     ghost use Rattle.std.specs.Prelude.{◌≡◌, ℕ, List, OnOk, OnErr, None, cond, string_bytes};
     ghost use Rattle.std.specs.Map.{lookup};
     ghost use Rattle.std.specs.Str.{bytes_eq};
-    ghost use Rattle.gitconf_host.specs.InMemory.{with_entry, file_told, file_at, no_files};
+    ghost use Rattle.gitconf_host.specs.InMemory.{with_entry, file_report, file_at, no_files};
 
     /// No files, and no fault so far. Takes no memory.
     pub fn new(alloc: Global) -> MemFiles
@@ -115,12 +115,12 @@ impl MemFiles {
     ///
     /// Out of memory, only for a new path. The files are then as they were. It doesn't count as a fault.
     pub fn insert(&mut self, path: String, file: MemFile) -> Result<(), NoMemory>
-        ensures ok { OnOk result (self.new ≡ record self.old { files = with_entry (string_bytes path) (file_told file) self.old.files }) }
+        ensures ok { OnOk result (self.new ≡ record self.old { files = with_entry (string_bytes path) (file_report file) self.old.files }) }
         ensures err { OnErr result (self.new ≡ self.old) }
         ensures absent { OnErr result (lookup (bytes_eq (string_bytes path)) self.old.files ≡ None) }
         // The file is at the path, and at each other path what was there.
         ensures last { OnOk result ((asked : List ℕ) → file_at self.new.files asked
-            ≡ cond (bytes_eq (string_bytes path) asked) (file_told file) (file_at self.old.files asked)) }
+            ≡ cond (bytes_eq (string_bytes path) asked) (file_report file) (file_at self.old.files asked)) }
     {
         put_file(&mut self.files, path, file)
     }
@@ -128,12 +128,12 @@ impl MemFiles {
 
 impl Files for MemFiles {
     ghost use Rattle.std.specs.Prelude.{◌≡◌, Some};
-    ghost use Rattle.gitconf_host.specs.Told.{told_count, trust_of, IsTrustOf, IsCounted};
+    ghost use Rattle.gitconf_host.specs.Reports.{reported_count, trust_of, IsTrustOf, IsCounted};
     ghost use Rattle.gitconf_host.specs.InMemory.{file_at};
 
     ghost table = { λ m. Some (file_at m.files) };
 
-    ghost failures = { λ m. told_count m.failures };
+    ghost failures = { λ m. reported_count m.failures };
 
     /// Whether the path has an entry. Takes a walk down a tree of the paths.
     fn is_file(&mut self, path: &str) -> bool {
@@ -156,7 +156,7 @@ impl Files for MemFiles {
         ensures exact { result ≡ trust_of (file_at self.old.files path.now) }
         ensures told { IsTrustOf result (file_at self.old.files path.now) }
         ensures stays { self.new.files ≡ self.old.files }
-        ensures counted { IsCounted result (told_count self.old.failures) (told_count self.new.failures) }
+        ensures counted { IsCounted result (reported_count self.old.failures) (reported_count self.new.failures) }
     {
         match trust_at(&self.files, path) {
             Ok(trust) => Ok(trust),
@@ -174,11 +174,11 @@ fn put_file(
     path: String,
     file: MemFile,
 ) -> Result<(), NoMemory>
-    ensures ok { OnOk result (file_entries files.new.entries ≡ with_entry (string_bytes path) (file_told file) (file_entries files.old.entries)) }
+    ensures ok { OnOk result (file_entries files.new.entries ≡ with_entry (string_bytes path) (file_report file) (file_entries files.old.entries)) }
     ensures err { OnErr result (file_entries files.new.entries ≡ file_entries files.old.entries) }
     ensures absent { OnErr result (lookup (bytes_eq (string_bytes path)) (file_entries files.old.entries) ≡ None) }
     ensures last { OnOk result ((asked : List ℕ) → file_at (file_entries files.new.entries) asked
-        ≡ cond (bytes_eq (string_bytes path) asked) (file_told file) (file_at (file_entries files.old.entries) asked)) }
+        ≡ cond (bytes_eq (string_bytes path) asked) (file_report file) (file_at (file_entries files.old.entries) asked)) }
 {
     files.insert(path, file)?;
     Ok(())

@@ -128,5 +128,5 @@ entry_meant e = go e.assigned
         ap (λ t. NameToken e.name ∷ t) (sym (no_blanks e.blanks (SeparatorToken ∷ behind)
         ∙ ap (λ t. SeparatorToken ∷ t) (no_blanks a.blanks (value_tokens a.value.pieces a.value.last) ∙ value_meant a.value.pieces a.value.last)))
 
-pub entry_told : (buffer : List ℕ) (e new : EntryParts) → IsStripped entry_of stripped_entry EntryFits e new → item_tokens (parts.EntryItem (entry_of buffer new)) ≡ meant (item_tokens (parts.EntryItem (entry_of buffer e)))
-entry_told buffer e new m = ap (λ e. item_tokens (parts.EntryItem e)) (m.same buffer) ∙ entry_meant (entry_of buffer e)
+pub key_and_meaning : (buffer : List ℕ) (e new : EntryParts) → IsStripped entry_of stripped_entry EntryFits e new → item_tokens (parts.EntryItem (entry_of buffer new)) ≡ meant (item_tokens (parts.EntryItem (entry_of buffer e)))
+key_and_meaning buffer e new m = ap (λ e. item_tokens (parts.EntryItem e)) (m.same buffer) ∙ entry_meant (entry_of buffer e)

@@ -31,5 +31,5 @@ Counts (Ok done) old new = new ≡ old
 Counts (Err fault) old new = CountsOne old new
 
 -- a count that is kept in 64 bits, which reports nothing once it is at its greatest value
-abbrev pub told_count : (count : ℕ) → Option ℕ
-told_count count = if count == 18446744073709551615 then None else Some count
+abbrev pub reported_count : (count : ℕ) → Option ℕ
+reported_count count = if count == 18446744073709551615 then None else Some count

@@ -3,20 +3,20 @@ use Rattle.std.proofs.Common.{◌≡◌, ◌<◌, ◌^◌, ℕ, List, Option, So
 use Rattle.std.specs.Prelude.{IfSome}
 use Rattle.std.specs.Result.{OkIff}
 use Rattle.std.specs.Str.Parse.{digits_value, IsNumeral, ParsesUnsigned, without_leading_plus}
-use Rattle.gitconf_host.specs.Told.{HasText, May, VariableTold}
+use Rattle.gitconf_host.specs.Reports.{HasText, May, VariableReport}
 use Rattle.gitconf_loaders.specs.Variables.{IsAnswer, IsCountOf}
 
 -- the variable was asked once
-pub answered : {T : Type 0} (variables : Option (List ℕ → VariableTold)) (name : List ℕ) (gives : VariableTold → Result T ℕ → Type 0) (told : VariableTold) (r : Result T ℕ)
+pub answered : {T : Type 0} (variables : Option (List ℕ → VariableReport)) (name : List ℕ) (gives : VariableReport → Result T ℕ → Type 0) (told : VariableReport) (r : Result T ℕ)
     → IfSome variables (λ var. told ≡ var name) → gives told r → IsAnswer variables name gives r
 answered variables name gives told r is given = inr (told, may variables is, given)
   where
-    may : (variables : Option (List ℕ → VariableTold)) → IfSome variables (λ var. told ≡ var name) → May variables (λ var. told ≡ var name)
+    may : (variables : Option (List ℕ → VariableReport)) → IfSome variables (λ var. told ≡ var name) → May variables (λ var. told ≡ var name)
     may None is = tt
     may (Some var) is = is
 
 -- memory ran out
-pub wanting : {T : Type 0} (variables : Option (List ℕ → VariableTold)) (name : List ℕ) (gives : VariableTold → Result T ℕ → Type 0) (n : ℕ) → n ≡ 27 → IsAnswer variables name gives (Err n)
+pub wanting : {T : Type 0} (variables : Option (List ℕ → VariableReport)) (name : List ℕ) (gives : VariableReport → Result T ℕ → Type 0) (n : ℕ) → n ≡ 27 → IsAnswer variables name gives (Err n)
 wanting variables name gives n is = inl (ap Err is)
 
 -- a count that is a number, or none

@@ -5,7 +5,7 @@ use Rattle.gitconf_text.specs.Document.{IsText, gathered}
 use Rattle.gitconf_text.specs.Part.{BlanksItem, CommentItem, EntryItem, Item, LineEndsItem, Part}
 use Rattle.gitconf_base.specs.Metadata.{api_meta, Meta, meta_of_file}
 use Rattle.gitconf_base.specs.declared.source.Source.{Source}
-use Rattle.gitconf_host.specs.Told.{FileTold, May, read_of, VariableTold}
+use Rattle.gitconf_host.specs.Reports.{FileReport, May, read_of, VariableReport}
 use Rattle.gitconf_host.specs.declared.host.Places.{Places}
 use Rattle.gitconf_host.specs.declared.fault.FileFault.{FileFault}
 use Rattle.gitconf_host.specs.declared.fault.Stage.{Stage}
@@ -32,14 +32,14 @@ full_clean text meta state is =
     full_is_clean is.0 state is.1.fits load
 
 -- a file by its path, with no include
-pub from_path : (table : Option (List ℕ → FileTold)) (path : List ℕ) (source : Source) (file : State) → IsLoadedFrom table path source (Ok file) → IsClean file
+pub from_path : (table : Option (List ℕ → FileReport)) (path : List ℕ) (source : Source) (file : State) → IsLoadedFrom table path source (Ok file) → IsClean file
 from_path table path source file (inl wanting) = absurd (cc)
 from_path table path source file (inr (Err fault, told, is)) = absurd (cc)
 from_path table path source file (inr (Ok trust, told, (Err fault, read, is))) = absurd (cc)
 from_path table path source file (inr (Ok trust, told, (Ok text, read, load))) = full_clean text (meta_of_file path source trust) file load
 
 -- where the text has no entry before its first section, the front has none
-pub path_headed : (files : List ℕ → FileTold) (path : List ℕ) (source : Source) (file : State) → AreHeaded files → IsLoadedFrom (Some files) path source (Ok file) → IsHeaded file
+pub path_headed : (files : List ℕ → FileReport) (path : List ℕ) (source : Source) (file : State) → AreHeaded files → IsLoadedFrom (Some files) path source (Ok file) → IsHeaded file
 path_headed files path source file headed (inl wanting) = absurd (cc)
 path_headed files path source file headed (inr (Err fault, told, is)) = absurd (cc)
 path_headed files path source file headed (inr (Ok trust, told, (Err fault, read, is))) = absurd (cc)
@@ -73,7 +73,7 @@ behind_headed target other now is more behind = subst IsHeaded (sym behind.0) (r
 empty_headed : (parts : List Part) → IsText [] parts → (gathered parts).front ≡ []
 empty_headed parts is = ap (λ d. d.front) (one_document [] parts [] is.spelled_is is.fits refl tt)
 
-module _ (files : List ℕ → FileTold) (asks : Asks) (tells : asks.table ≡ Some files) (headed : AreHeaded files) where
+module _ (files : List ℕ → FileReport) (asks : Asks) (tells : asks.table ≡ Some files) (headed : AreHeaded files) where
   -- what is made of a text
   pub made : (text : List ℕ) (meta : Meta) (file : State) → ((parts : List Part) → IsText text parts → (gathered parts).front ≡ []) → IsMadeOf (λ n. n) asks text meta (Ok file) → IsHeaded file
   made text meta file none (Ok state, load, (On done, expands, is)) =
@@ -84,8 +84,8 @@ module _ (files : List ℕ → FileTold) (asks : Asks) (tells : asks.table ≡ S
   -- what is taken
   text_headed : (must_exist ignores : Bool) (path text : List ℕ) → IsTextTaken asks.table must_exist ignores path (Ok (Some text)) → (parts : List Part) → IsText text parts → (gathered parts).front ≡ []
   text_headed must_exist ignores path text (Ok read, told, is) parts of_text =
-      headed path text parts (sym (subst (λ (t : Option (List ℕ → FileTold)). May t (λ (files : List ℕ → FileTold). ◌≡◌ {A = Result (List ℕ) FileFault} (Ok text) (read_of (files path)))) tells
-      (subst (λ r. May asks.table (λ (files : List ℕ → FileTold). ◌≡◌ {A = Result (List ℕ) FileFault} (Ok r) (read_of (files path)))) (sym (text_is is)) told))) of_text
+      headed path text parts (sym (subst (λ (t : Option (List ℕ → FileReport)). May t (λ (files : List ℕ → FileReport). ◌≡◌ {A = Result (List ℕ) FileFault} (Ok text) (read_of (files path)))) tells
+      (subst (λ r. May asks.table (λ (files : List ℕ → FileReport). ◌≡◌ {A = Result (List ℕ) FileFault} (Ok r) (read_of (files path)))) (sym (text_is is)) told))) of_text
     where
       text_in : Result (Option (List ℕ)) ℕ → List ℕ
       text_in (Ok (Some t)) = t
@@ -170,7 +170,7 @@ module _ (files : List ℕ → FileTold) (asks : Asks) (tells : asks.table ≡ S
   all must_exist ignores (meta ∷ metas) target now stands (Ok mid, first, later) = all must_exist ignores metas mid now (one must_exist ignores meta target mid stands first) later
 
 -- the whole call
-pub paths_clean : (files : List ℕ → FileTold) (must_exist ignores : Bool) (asks : Asks) (metas : List Meta) (file : State) → asks.table ≡ Some files → AreHeaded files
+pub paths_clean : (files : List ℕ → FileReport) (must_exist ignores : Bool) (asks : Asks) (metas : List Meta) (file : State) → asks.table ≡ Some files → AreHeaded files
     → IsLoadOfPaths must_exist ignores asks metas (Ok (Some file)) → IsClean file × (entries_of file.front ≡ [])
 paths_clean files must_exist ignores asks metas file tells headed (inl wanting) = absurd (cc)
 paths_clean files must_exist ignores asks metas file tells headed (inr loaded) =
@@ -180,7 +180,7 @@ paths_clean files must_exist ignores asks metas file tells headed (inr loaded) =
 empty_clean : (meta : Meta) → IsClean (empty_file meta)
 empty_clean meta = record { sections = tt; blanks = refl; names = refl }
 
-pub global_clean : (variables : Option (List ℕ → VariableTold)) (places : Places) (files : List ℕ → FileTold) (file : State) → AreHeaded files
+pub global_clean : (variables : Option (List ℕ → VariableReport)) (places : Places) (files : List ℕ → FileReport) (file : State) → AreHeaded files
     → IsGlobal variables places (Some files) (Ok file) → IsClean file × (entries_of file.front ≡ [])
 global_clean variables places files file headed (inl wanting) = absurd (cc)
 global_clean variables places files file headed (inr (found, are_found, (Err n, loaded, is))) = absurd (cc)

@@ -4,13 +4,13 @@ use Rattle.std.specs.Prelude.{IfSome}
 use Rattle.gitconf_base.specs.Metadata.{Meta, meta_of_file}
 use Rattle.gitconf_base.specs.declared.source.Source.{Source}
 use Rattle.gitconf_base.specs.declared.source.Trust.TheVariants.{Full}
-use Rattle.gitconf_host.specs.Told.{FileTold, is_there, VariableTold}
+use Rattle.gitconf_host.specs.Reports.{FileReport, is_there, VariableReport}
 use Rattle.gitconf_host.specs.declared.host.Places.{Places}
 use Rattle.gitconf_places.specs.Places.{IsPlaced, place_of}
 use Rattle.gitconf_loaders.specs.Globals.{AreFound, IsFound}
 use Rattle.gitconf_loaders.proofs.OneFile.{may}
 
-module _ (variables : Option (List ℕ → VariableTold)) (places : Places) (table : Option (List ℕ → FileTold)) where
+module _ (variables : Option (List ℕ → VariableReport)) (places : Places) (table : Option (List ℕ → FileReport)) where
   -- a source without a place
   pub no_place : (source : Source) → IsPlaced variables (λ var. place_of var places source) None → IsFound variables places table source []
   no_place source placed = (None, placed, refl)

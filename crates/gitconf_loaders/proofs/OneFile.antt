@@ -8,7 +8,7 @@ use Rattle.std.specs.declared.vec.Vec.{Vec}
 use Rattle.gitconf_base.specs.Metadata.{meta_of_file}
 use Rattle.gitconf_base.specs.declared.source.Source.{Source}
 use Rattle.gitconf_base.specs.declared.source.Trust.{Trust}
-use Rattle.gitconf_host.specs.Told.{FileTold, IsReadOf, IsTrustOf, May, read_of, trust_of}
+use Rattle.gitconf_host.specs.Reports.{FileReport, IsReadOf, IsTrustOf, May, read_of, trust_of}
 use Rattle.gitconf_host.specs.declared.fault.FileFault.{FileFault}
 use Rattle.gitconf_host.specs.declared.fault.Stage.{Stage}
 use Rattle.gitconf_host.specs.declared.fault.Stage.TheVariants.{Open, Read, Memory}
@@ -28,23 +28,23 @@ may P None told = tt
 may P (Some t) told = told
 
 -- a text that is read is returned by the table
-pub answered : {Z : Type 0} (table : Option (List ℕ → FileTold)) (path : List ℕ) (text : Vec ℕ Z)
+pub answered : {Z : Type 0} (table : Option (List ℕ → FileReport)) (path : List ℕ) (text : Vec ℕ Z)
     → IfSome table (λ files. IsReadOf (Ok text) (files path)) → May table (λ files. ◌≡◌ {A = Result (List ℕ) FileFault} (Ok text.items) (read_of (files path)))
 answered None path text told = tt
 answered (Some files) path text told = sym told
 
 -- and so is a trust
-pub trusted : (table : Option (List ℕ → FileTold)) (path : List ℕ) (trust : Trust) → IfSome table (λ files. IsTrustOf (Ok trust) (files path))
+pub trusted : (table : Option (List ℕ → FileReport)) (path : List ℕ) (trust : Trust) → IfSome table (λ files. IsTrustOf (Ok trust) (files path))
     → May table (λ files. ◌≡◌ {A = Result Trust FileFault} (Ok trust) (trust_of (files path)))
 trusted None path trust told = tt
 trusted (Some files) path trust told = sym told
 
-module _ (table : Option (List ℕ → FileTold)) (path : List ℕ) (source : Source) where
+module _ (table : Option (List ℕ → FileReport)) (path : List ℕ) (source : Source) where
   -- the trust can't be told
   pub not_trusted : (fault : FileFault) (number : ℕ) → IfSome table (λ files. IsTrustOf (Err fault) (files path)) → number ≡ load_fault fault.stage → IsLoadedFrom table path source (Err number)
   not_trusted fault number told is = go table told
     where
-      go : (table : Option (List ℕ → FileTold)) → IfSome table (λ files. IsTrustOf (Err fault) (files path)) → IsLoadedFrom table path source (Err number)
+      go : (table : Option (List ℕ → FileReport)) → IfSome table (λ files. IsTrustOf (Err fault) (files path)) → IsLoadedFrom table path source (Err number)
       go None told = inr (Err fault, tt, ap Err is)
       go (Some files) (inl wanting) = inl (ap Err (is ∙ ap load_fault wanting))
       go (Some files) (inr told) = inr (Err fault, sym told, ap Err is)
@@ -58,7 +58,7 @@ module _ (table : Option (List ℕ → FileTold)) (path : List ℕ) (source : So
       → IfSome table (λ files. IsReadOf {Z = Z} (Err fault) (files path)) → number ≡ load_fault fault.stage → IsLoadedFrom table path source (Err number)
   not_read Z trust fault number told read is = go table told read
     where
-      go : (table : Option (List ℕ → FileTold)) → IfSome table (λ files. IsTrustOf (Ok trust) (files path)) → IfSome table (λ files. IsReadOf {Z = Z} (Err fault) (files path))
+      go : (table : Option (List ℕ → FileReport)) → IfSome table (λ files. IsTrustOf (Ok trust) (files path)) → IfSome table (λ files. IsReadOf {Z = Z} (Err fault) (files path))
           → IsLoadedFrom table path source (Err number)
       go None told read = inr (Ok trust, tt, (Err fault, tt, ap Err is))
       go (Some files) told (inl wanting) = inl (ap Err (is ∙ ap load_fault wanting))
@@ -78,7 +78,7 @@ parse_number e = go (e.number == 27) refl
     go false is = rw is refl
 
 -- the parser refuses
-pub not_parsed : {Z : Type 0} (table : Option (List ℕ → FileTold)) (path : List ℕ) (source : Source) (trust : Trust) (text : Vec ℕ Z) (e : Refusal) (result : Result State Error)
+pub not_parsed : {Z : Type 0} (table : Option (List ℕ → FileReport)) (path : List ℕ) (source : Source) (trust : Trust) (text : Vec ℕ Z) (e : Refusal) (result : Result State Error)
     → IfSome table (λ files. IsTrustOf (Ok trust) (files path)) → IfSome table (λ files. IsReadOf (Ok text) (files path)) → IsRefused text.items e
     → IsErrAnd result (λ r. r ≡ paths_of_parse e) → IsLoadedFrom table path source (numbered paths_number result)
 not_parsed table path source trust text e (Ok made) told read refused err = absurd err
@@ -86,12 +86,12 @@ not_parsed table path source trust text e (Err r) told read refused err =
     loads table path source trust text (Err (paths_number r)) told read (e, refused, ap paths_number err ∙ parse_number e)
 
 -- and its causes
-pub parse_cause : {T Z : Type 0} (table : Option (List ℕ → FileTold)) (path : List ℕ) (text : Vec ℕ Z) (e : Refusal) (result : Result T Error)
+pub parse_cause : {T Z : Type 0} (table : Option (List ℕ → FileReport)) (path : List ℕ) (text : Vec ℕ Z) (e : Refusal) (result : Result T Error)
     → IfSome table (λ files. IsReadOf (Ok text) (files path)) → IsRefused text.items e → IsErrAnd result (λ r. r ≡ paths_of_parse e) → IfErr result (IsFileCause table path)
 parse_cause table path text e (Ok made) read refused err = tt
 parse_cause table path text e (Err r) read refused err = subst (IsFileCause table path) (sym err) (go (e.number == 27) refl)
   where
-    told : (t : Option (List ℕ → FileTold)) → IfSome t (λ files. IsReadOf (Ok text) (files path)) → May t (λ files. ◌≡◌ {A = Result (List ℕ) FileFault} (read_of (files path)) (Ok text.items))
+    told : (t : Option (List ℕ → FileReport)) → IfSome t (λ files. IsReadOf (Ok text) (files path)) → May t (λ files. ◌≡◌ {A = Result (List ℕ) FileFault} (read_of (files path)) (Ok text.items))
     told None is = tt
     told (Some files) is = is
 
@@ -100,11 +100,11 @@ parse_cause table path text e (Err r) read refused err = subst (IsFileCause tabl
     go false is = rw is (text.items, told table read, refused)
 
 -- the cause of a fault: where the trust is asked, and where the file is read
-pub trust_fault : (table : Option (List ℕ → FileTold)) (path : String Global) (fault : FileFault) → IfSome table (λ files. IsTrustOf (Err fault) (files (string_bytes path)))
+pub trust_fault : (table : Option (List ℕ → FileReport)) (path : String Global) (fault : FileFault) → IfSome table (λ files. IsTrustOf (Err fault) (files (string_bytes path)))
     → IsFileCause table (string_bytes path) (load_refusal fault path)
 trust_fault table path fault told = go fault.stage refl
   where
-    fault_told : (t : Option (List ℕ → FileTold)) → IfSome t (λ files. IsTrustOf (Err fault) (files (string_bytes path))) → (fault.stage ≡ Memory → ⊥) → IsFault t (string_bytes path) fault
+    fault_told : (t : Option (List ℕ → FileReport)) → IfSome t (λ files. IsTrustOf (Err fault) (files (string_bytes path))) → (fault.stage ≡ Memory → ⊥) → IsFault t (string_bytes path) fault
     fault_told None is some = tt
     fault_told (Some files) (inl wanting) some = absurd (some wanting)
     fault_told (Some files) (inr is) some = inl is
@@ -114,11 +114,11 @@ trust_fault table path fault told = go fault.stage refl
     go Read is = (refl, fault_told table told (λ wanting. let e : Read ≡ Memory = sym is ∙ wanting in absurd (cc)))
     go Memory is = tt
 
-pub read_fault : (Z : Type 0) (table : Option (List ℕ → FileTold)) (path : String Global) (fault : FileFault) → IfSome table (λ files. IsReadOf {Z = Z} (Err fault) (files (string_bytes path)))
+pub read_fault : (Z : Type 0) (table : Option (List ℕ → FileReport)) (path : String Global) (fault : FileFault) → IfSome table (λ files. IsReadOf {Z = Z} (Err fault) (files (string_bytes path)))
     → IsFileCause table (string_bytes path) (load_refusal fault path)
 read_fault Z table path fault told = go fault.stage refl
   where
-    fault_told : (t : Option (List ℕ → FileTold)) → IfSome t (λ files. IsReadOf {Z = Z} (Err fault) (files (string_bytes path))) → (fault.stage ≡ Memory → ⊥) → IsFault t (string_bytes path) fault
+    fault_told : (t : Option (List ℕ → FileReport)) → IfSome t (λ files. IsReadOf {Z = Z} (Err fault) (files (string_bytes path))) → (fault.stage ≡ Memory → ⊥) → IsFault t (string_bytes path) fault
     fault_told None is some = tt
     fault_told (Some files) (inl wanting) some = absurd (some wanting)
     fault_told (Some files) (inr is) some = inr is

@@ -8,7 +8,7 @@ use Rattle.std.specs.Cmp.Lexicographic.{bytes_decides}
 use Rattle.std.specs.declared.vec.Vec.{Vec}
 use Rattle.std.proofs.lemmas.Bool.{eqb-true, leb-false, le-ltb, lt-leb, ltb-false}
 use Rattle.gitconf_base.specs.Metadata.{Meta}
-use Rattle.gitconf_host.specs.Told.{FileTold, IsNoLess, IsReadOf, May, read_of}
+use Rattle.gitconf_host.specs.Reports.{FileReport, IsNoLess, IsReadOf, May, read_of}
 use Rattle.gitconf_host.specs.declared.fault.FileFault.{FileFault}
 use Rattle.gitconf_host.specs.declared.fault.Stage.{Stage}
 use Rattle.gitconf_host.specs.declared.fault.Stage.TheVariants.{Open, Read, Memory}
@@ -85,16 +85,16 @@ join_cause target other n (Err r) (inr wanting, large) err = inl (err ∙ ap pat
 join_cause target other n (Err r) (inl is, large) err = inr (err ∙ ap paths_of_span is)
 
 -- what is taken of a file that was read
-pub text_read : {Z : Type 0} (table : Option (List ℕ → FileTold)) (must_exist ignores : Bool) (path : List ℕ) (text : Vec ℕ Z)
+pub text_read : {Z : Type 0} (table : Option (List ℕ → FileReport)) (must_exist ignores : Bool) (path : List ℕ) (text : Vec ℕ Z)
     → IfSome table (λ files. IsReadOf (Ok text) (files path)) → IsTextTaken table must_exist ignores path (Ok (Some text.items))
 text_read table must_exist ignores path text told = (Ok text.items, go table told, refl)
   where
-    go : (table : Option (List ℕ → FileTold)) → IfSome table (λ files. IsReadOf (Ok text) (files path)) → May table (λ files. ◌≡◌ {A = Result (List ℕ) FileFault} (Ok text.items) (read_of (files path)))
+    go : (table : Option (List ℕ → FileReport)) → IfSome table (λ files. IsReadOf (Ok text) (files path)) → May table (λ files. ◌≡◌ {A = Result (List ℕ) FileFault} (Ok text.items) (read_of (files path)))
     go None told = tt
     go (Some files) told = sym told
 
 -- of a fault, which may be one of memory that the table doesn't say
-pub text_faulted : (Z : Type 0) (table : Option (List ℕ → FileTold)) (must_exist ignores : Bool) (path : List ℕ) (fault : FileFault) (text : Result (Option (List ℕ)) ℕ)
+pub text_faulted : (Z : Type 0) (table : Option (List ℕ → FileReport)) (must_exist ignores : Bool) (path : List ℕ) (fault : FileFault) (text : Result (Option (List ℕ)) ℕ)
     → IfSome table (λ files. IsReadOf {Z = Z} (Err fault) (files path)) → text ≡ taken must_exist ignores (Err fault) → (text ≡ Err 27) ⊎ IsTextTaken table must_exist ignores path text
 text_faulted Z table must_exist ignores path fault text told is = go table told
   where
@@ -103,7 +103,7 @@ text_faulted Z table must_exist ignores path fault text told is = go table told
     wanting Open at e = absurd (cc)
     wanting Read at e = absurd (cc)
 
-    go : (table : Option (List ℕ → FileTold)) → IfSome table (λ files. IsReadOf {Z = Z} (Err fault) (files path)) → (text ≡ Err 27) ⊎ IsTextTaken table must_exist ignores path text
+    go : (table : Option (List ℕ → FileReport)) → IfSome table (λ files. IsReadOf {Z = Z} (Err fault) (files path)) → (text ≡ Err 27) ⊎ IsTextTaken table must_exist ignores path text
     go None told = inr (Err fault, tt, is)
     go (Some files) (inl memory) = inl (wanting fault.stage refl memory)
     go (Some files) (inr told) = inr (Err fault, sym told, is)
@@ -212,7 +212,7 @@ made_counts target e (Err r) old mid new err first second =
     counts_later (Option State) (Err (paths_number r)) old mid new first (renumbered (Option State) (Option State) (init_number e) (paths_number r) mid new (ap paths_number err ∙ init_numbers e) (fault_load (Option State) (init_number e) mid new second))
 
 -- and their causes
-pub init_cause : {T : Type 0} (must_exist : Bool) (options : Options) (table : Option (List ℕ → FileTold)) (path text : List ℕ) (e : Init) (result : Result T Error)
+pub init_cause : {T : Type 0} (must_exist : Bool) (options : Options) (table : Option (List ℕ → FileReport)) (path text : List ℕ) (e : Init) (result : Result T Error)
     → IsTextTaken table must_exist options.ignore_io_errors path (Ok (Some text)) → IsMadeCause options table text e → IsErrAnd result (λ r. r ≡ paths_of_init e)
     → IfErr result (IsPathCause must_exist options table path)
 init_cause must_exist options table path text e (Ok made) taken is err = tt
@@ -226,7 +226,7 @@ init_cause must_exist options table path text e (Err r) taken is err = subst (Is
     go init.Memory is = tt
 
 -- metadata of one path
-pub cause_of : {T : Type 0} (must_exist : Bool) (options : Options) (table : Option (List ℕ → FileTold)) (meta : Meta) (path : List ℕ) (result : Result T Error) → meta.path ≡ Some path
+pub cause_of : {T : Type 0} (must_exist : Bool) (options : Options) (table : Option (List ℕ → FileReport)) (meta : Meta) (path : List ℕ) (result : Result T Error) → meta.path ≡ Some path
     → IfErr result (IsPathCause must_exist options table path) → IfErr result (IsMetaCause must_exist options table meta)
 cause_of must_exist options table meta path (Ok made) is cause = tt
 cause_of must_exist options table meta path (Err e) is cause = rw is cause
@@ -319,7 +319,7 @@ first_of path meta metas is = go (has_path path meta) (ap (λ o. option_eq bytes
     go false e = absurd (cc)
 
 -- the cause of a refusal of one is one of all
-pub cause_of_one : (must_exist : Bool) (options : Options) (table : Option (List ℕ → FileTold)) (meta : Meta) (metas all : List Meta) (e : Error)
+pub cause_of_one : (must_exist : Bool) (options : Options) (table : Option (List ℕ → FileReport)) (meta : Meta) (metas all : List Meta) (e : Error)
     → ((path : List ℕ) → list_any (has_path path) (meta ∷ metas) ≡ true → list_any (has_path path) all ≡ true) → IsMetaCause must_exist options table meta e → IsLoadCause must_exist options table all e
 cause_of_one must_exist options table meta metas all e one cause = go meta.path refl cause
   where

@@ -8,7 +8,7 @@ use Rattle.std.specs.declared.alloc.Global.{Global}
 use Rattle.std.specs.declared.string.String.{String}
 use Rattle.gitconf_base.specs.Metadata.{Meta}
 use Rattle.gitconf_base.specs.declared.source.Trust.{Trust}
-use Rattle.gitconf_host.specs.Told.{FileTold, May, read_of, trust_of}
+use Rattle.gitconf_host.specs.Reports.{FileReport, May, read_of, trust_of}
 use Rattle.gitconf_host.specs.declared.fault.FileFault.{FileFault}
 use Rattle.gitconf_host.specs.declared.fault.Stage.TheVariants.{Open, Read, Memory}
 use Rattle.gitconf_includes.specs.declared.init.Error.TheVariants as init
@@ -24,19 +24,19 @@ abbrev pub load_refusal : FileFault → (path : String Global) → Error
 load_refusal fault path = elim fault.stage [ Open ↦ paths.Io path fault | Read ↦ paths.Io path fault | Memory ↦ paths.Memory ]
 
 -- a host that reports what is at each path has this fault at the path, when the file is read or when its trust is asked
-abbrev pub IsFault : Option (List ℕ → FileTold) → (path : List ℕ) → FileFault → Type 0
+abbrev pub IsFault : Option (List ℕ → FileReport) → (path : List ℕ) → FileFault → Type 0
 IsFault table path fault =
     May table (λ told. (◌≡◌ {A = Result Trust FileFault} (trust_of (told path)) (Err fault)) ⊎ (◌≡◌ {A = Result (List ℕ) FileFault} (read_of (told path)) (Err fault)))
 
 -- The cause for one file: its path, with the fault; or how the parser refuses its text.
-abbrev pub IsFileCause : Option (List ℕ → FileTold) → (path : List ℕ) → Error → Type 0
+abbrev pub IsFileCause : Option (List ℕ → FileReport) → (path : List ℕ) → Error → Type 0
 IsFileCause table path (paths.Io at fault) = (string_bytes at ≡ path) × IsFault table path fault
 IsFileCause table path (paths.Init (init.Parse e)) = (text : List ℕ) × IsTextOf table path text × IsRefused text e
 IsFileCause table path e = Unit {0}
 
 -- The cause for one file with what it includes: its path, with the fault; how the parser refuses the text; or what the refusal of an
 -- include says.
-abbrev pub IsPathCause : (must_exist : Bool) → Options → Option (List ℕ → FileTold) → (path : List ℕ) → Error → Type 0
+abbrev pub IsPathCause : (must_exist : Bool) → Options → Option (List ℕ → FileReport) → (path : List ℕ) → Error → Type 0
 IsPathCause must_exist options table path (paths.Io at fault) = (string_bytes at ≡ path) × IsFaultOf table path fault
 IsPathCause must_exist options table path (paths.Init (init.Parse e)) =
     (text : List ℕ) × IsTextTaken table must_exist options.ignore_io_errors path (Ok (Some text)) × IsRefused text e
@@ -44,7 +44,7 @@ IsPathCause must_exist options table path (paths.Init (init.Includes e)) = IsCau
 IsPathCause must_exist options table path e = Unit {0}
 
 -- the cause for the file of metadata, if that has a path
-abbrev pub IsMetaCause : (must_exist : Bool) → Options → Option (List ℕ → FileTold) → Meta → Error → Type 0
+abbrev pub IsMetaCause : (must_exist : Bool) → Options → Option (List ℕ → FileReport) → Meta → Error → Type 0
 IsMetaCause must_exist options table meta e = elim meta.path [ None ↦ ⊥ | Some path ↦ IsPathCause must_exist options table path e ]
 
 -- the metadata has that path
@@ -52,7 +52,7 @@ abbrev pub has_path : (path : List ℕ) → Meta → Bool
 has_path path meta = option_eq bytes_eq meta.path (Some path)
 
 -- The cause for several files: that of one of them; or memory ran out.
-abbrev pub IsLoadCause : (must_exist : Bool) → Options → Option (List ℕ → FileTold) → List Meta → Error → Type 0
+abbrev pub IsLoadCause : (must_exist : Bool) → Options → Option (List ℕ → FileReport) → List Meta → Error → Type 0
 IsLoadCause must_exist options table metas e =
     (e ≡ paths.Memory) ⊎ (path : List ℕ) × (list_any (has_path path) metas ≡ true) × IsPathCause must_exist options table path e
 

@@ -6,7 +6,7 @@ use Rattle.gitconf_base.specs.Metadata.{api_meta, Meta, meta_of_file}
 use Rattle.gitconf_base.specs.declared.source.Source.{Source}
 use Rattle.gitconf_base.specs.declared.source.Source.TheVariants.{GitInstallation, System, Git, User}
 use Rattle.gitconf_base.specs.declared.source.Trust.TheVariants.{Full}
-use Rattle.gitconf_host.specs.Told.{FileTold, is_there, May, VariableTold}
+use Rattle.gitconf_host.specs.Reports.{FileReport, is_there, May, VariableReport}
 use Rattle.gitconf_host.specs.declared.host.Places.{Places}
 use Rattle.gitconf_includes.specs.Rules.{Rules, rules_of}
 use Rattle.gitconf_includes.specs.declared.init.Options.{Options}
@@ -42,7 +42,7 @@ found_list None = []
 found_list (Some meta) = meta ∷ []
 
 -- the metadata of the file at a place, if there is a file
-abbrev pub IsFileAt : Option (List ℕ → FileTold) → Source → (place : Option (List ℕ)) → List Meta → Type 0
+abbrev pub IsFileAt : Option (List ℕ → FileReport) → Source → (place : Option (List ℕ)) → List Meta → Type 0
 IsFileAt table source None found = found ≡ []
 IsFileAt table source (Some path) found = (there : Bool) × May table (λ told. there ≡ is_there (told path)) × elim there [
   | true ↦ found ≡ meta_of_file path source Full ∷ []
@@ -50,12 +50,12 @@ IsFileAt table source (Some path) found = (there : Bool) × May table (λ told. 
 ]
 
 -- the same, for the place of a source, by what variables are set to
-abbrev pub IsFound : Option (List ℕ → VariableTold) → Places → Option (List ℕ → FileTold) → Source → List Meta → Type 0
+abbrev pub IsFound : Option (List ℕ → VariableReport) → Places → Option (List ℕ → FileReport) → Source → List Meta → Type 0
 IsFound variables places table source found =
     (place : Option (List ℕ)) × IsPlaced variables (λ var. place_of var places source) place × IsFileAt table source place found
 
 -- the metadata of the files of sources, in order
-abbrev pub AreFound : Option (List ℕ → VariableTold) → Places → Option (List ℕ → FileTold) → List Source → List Meta → Type 0
+abbrev pub AreFound : Option (List ℕ → VariableReport) → Places → Option (List ℕ → FileReport) → List Source → List Meta → Type 0
 AreFound variables places table [] found = found ≡ []
 AreFound variables places table (source ∷ sources) found =
     (here : List Meta) × IsFound variables places table source here × (rest : List Meta) × AreFound variables places table sources rest × (found ≡ here ++ rest)
@@ -69,11 +69,11 @@ abbrev pub IsOrEmpty : Option State → Result State ℕ → Type 0
 IsOrEmpty loaded r = r ≡ Ok (unwrap_or loaded (empty_file api_meta))
 
 -- the files of the machine and of the user, one after the other; memory may run out
-abbrev pub IsGlobal : Option (List ℕ → VariableTold) → Places → Option (List ℕ → FileTold) → Result State ℕ → Type 0
+abbrev pub IsGlobal : Option (List ℕ → VariableReport) → Places → Option (List ℕ → FileReport) → Result State ℕ → Type 0
 IsGlobal variables places table r = (r ≡ Err 27)
     ⊎ (found : List Meta) × AreFound variables places table global_sources found
     × Then (IsLoadOfPaths true false (record { rules = home_rules places; table = table }) found) IsOrEmpty r
 
 -- the causes of its refusals; or memory ran out
-abbrev pub IsGlobalCause : Places → Option (List ℕ → FileTold) → Error → Type 0
+abbrev pub IsGlobalCause : Places → Option (List ℕ → FileReport) → Error → Type 0
 IsGlobalCause places table e = (e ≡ Memory) ⊎ (options : Options) × (rules_of options ≡ home_rules places) × (found : List Meta) × IsLoadCause true options table found e

@@ -9,7 +9,7 @@ use Rattle.std.specs.declared.vec.Vec.{Vec}
 use Rattle.gitconf_base.specs.Metadata.{Meta, meta_of_file}
 use Rattle.gitconf_base.specs.declared.source.Source.{Source}
 use Rattle.gitconf_base.specs.declared.source.Trust.{Trust}
-use Rattle.gitconf_host.specs.Told.{FileTold, Grew, IsNoLess, May, read_of, trust_of}
+use Rattle.gitconf_host.specs.Reports.{FileReport, Grew, IsNoLess, May, read_of, trust_of}
 use Rattle.gitconf_host.specs.declared.fault.FileFault.{FileFault}
 use Rattle.gitconf_host.specs.declared.fault.Stage.{Stage}
 use Rattle.gitconf_host.specs.declared.fault.Stage.TheVariants.{Open, Read, Memory}
@@ -46,19 +46,19 @@ load_fault Read = 21
 load_fault Memory = 27
 
 -- The file at a path, without its includes, whose trust was asked before.
-abbrev pub IsRead : Option (List ℕ → FileTold) → (path : List ℕ) → Source → Trust → Result State ℕ → Type 0
+abbrev pub IsRead : Option (List ℕ → FileReport) → (path : List ℕ) → Source → Trust → Result State ℕ → Type 0
 IsRead table path source trust r = (answer : Result (List ℕ) FileFault) × May table (λ told. answer ≡ read_of (told path)) × elim answer [
   | Err fault ↦ r ≡ Err (load_fault fault.stage)
   | Ok text ↦ IsLoadOf false text (meta_of_file path source trust) r
 ]
 
 -- a file is read with its trust; if that can't be asked, the load is refused
-abbrev pub IsReadWhereTrusted : Option (List ℕ → FileTold) → (path : List ℕ) → Source → Result Trust FileFault → Result State ℕ → Type 0
+abbrev pub IsReadWhereTrusted : Option (List ℕ → FileReport) → (path : List ℕ) → Source → Result Trust FileFault → Result State ℕ → Type 0
 IsReadWhereTrusted table path source (Ok trust) r = IsRead table path source trust r
 IsReadWhereTrusted table path source (Err fault) r = r ≡ Err (load_fault fault.stage)
 
 -- first the trust of the file is asked; memory may run out
-abbrev pub IsLoadedFrom : Option (List ℕ → FileTold) → (path : List ℕ) → Source → Result State ℕ → Type 0
+abbrev pub IsLoadedFrom : Option (List ℕ → FileReport) → (path : List ℕ) → Source → Result State ℕ → Type 0
 IsLoadedFrom table path source r = (r ≡ Err 27) ⊎ (answer : Result Trust FileFault) × May table (λ told. answer ≡ trust_of (told path)) × IsReadWhereTrusted table path source answer r
 
 -- a path is among others
@@ -84,7 +84,7 @@ taken must_exist ignores (Err fault) = elim fault.stage [
 ]
 
 -- the same of the file at a path, by what a host reports of it
-abbrev pub IsTextTaken : Option (List ℕ → FileTold) → (must_exist ignores : Bool) → (path : List ℕ) → Result (Option (List ℕ)) ℕ → Type 0
+abbrev pub IsTextTaken : Option (List ℕ → FileReport) → (must_exist ignores : Bool) → (path : List ℕ) → Result (Option (List ℕ)) ℕ → Type 0
 IsTextTaken table must_exist ignores path text = (answer : Result (List ℕ) FileFault) × May table (λ told. answer ≡ read_of (told path)) × (text ≡ taken must_exist ignores answer)
 
 -- the text that was taken, as its bytes, or the number of the fault

@@ -5,7 +5,7 @@ use Rattle.std.specs.List.{list_any}
 use Rattle.std.specs.Result.{OkIff}
 use Rattle.std.specs.Str.Parse.{digits_value, IsNumeral, without_leading_plus}
 use Rattle.gitconf_base.specs.Key.{parsed_key}
-use Rattle.gitconf_host.specs.Told.{HasText, May, NoText, NotSet, VariableTold}
+use Rattle.gitconf_host.specs.Reports.{HasText, May, NoText, NotSet, VariableReport}
 use Rattle.gitconf_text.specs.HeaderErrors.{header_number}
 use Rattle.gitconf_views.specs.ValueErrors.{edit_numbers, value_number}
 use Rattle.gitconf_store.specs.Renamings.{header_numbers}
@@ -14,7 +14,7 @@ use Rattle.gitconf_loaders.specs.declared.from_env.Error.TheVariants as env
 
 -- how many entries there are: none if the variable isn't set to a text; otherwise digits, with an optional plus, below 2 to the 64th, or
 -- refusal 23
-abbrev pub IsCountOf : VariableTold → Result ℕ ℕ → Type 0
+abbrev pub IsCountOf : VariableReport → Result ℕ ℕ → Type 0
 IsCountOf NotSet r = r ≡ Ok 0
 IsCountOf NoText r = r ≡ Ok 0
 IsCountOf (HasText text) r =
@@ -30,35 +30,35 @@ abbrev pub value_variable : (index : ℕ) → List ℕ
 value_variable index = codes "GIT_CONFIG_VALUE_" ++ decimal index
 
 -- the key that its variable has: refusal 24 if it isn't set, 22 if it isn't UTF-8
-abbrev pub key_told : VariableTold → Result (List ℕ) ℕ
-key_told (HasText text) = Ok text
-key_told NotSet = Err 24
-key_told NoText = Err 22
+abbrev pub reported_key : VariableReport → Result (List ℕ) ℕ
+reported_key (HasText text) = Ok text
+reported_key NotSet = Err 24
+reported_key NoText = Err 22
 
 -- the value that its variable has; one that isn't UTF-8 is refused later, when it is put into its section
-abbrev pub value_told : VariableTold → Result (Option (List ℕ)) ℕ
-value_told (HasText text) = Ok (Some text)
-value_told NotSet = Err 26
-value_told NoText = Ok None
+abbrev pub reported_value : VariableReport → Result (Option (List ℕ)) ℕ
+reported_value (HasText text) = Ok (Some text)
+reported_value NotSet = Err 26
+reported_value NoText = Ok None
 
 -- what is returned for a variable that is asked once; memory may run out
-abbrev pub IsAnswer : {T : Type 0} → Option (List ℕ → VariableTold) → (name : List ℕ) → (VariableTold → Result T ℕ → Type 0) → Result T ℕ → Type 0
-IsAnswer variables name gives r = (r ≡ Err 27) ⊎ (told : VariableTold) × May variables (λ var. told ≡ var name) × gives told r
+abbrev pub IsAnswer : {T : Type 0} → Option (List ℕ → VariableReport) → (name : List ℕ) → (VariableReport → Result T ℕ → Type 0) → Result T ℕ → Type 0
+IsAnswer variables name gives r = (r ≡ Err 27) ⊎ (told : VariableReport) × May variables (λ var. told ≡ var name) × gives told r
 
 -- what `GIT_CONFIG_COUNT` gives
-abbrev pub IsCount : Option (List ℕ → VariableTold) → Result ℕ ℕ → Type 0
+abbrev pub IsCount : Option (List ℕ → VariableReport) → Result ℕ ℕ → Type 0
 IsCount variables = IsAnswer variables (codes "GIT_CONFIG_COUNT") IsCountOf
 
 -- what the variable of an entry's key gives
-abbrev pub IsKeyAt : Option (List ℕ → VariableTold) → (index : ℕ) → Result (List ℕ) ℕ → Type 0
-IsKeyAt variables index = IsAnswer variables (key_variable index) (λ told r. r ≡ key_told told)
+abbrev pub IsKeyAt : Option (List ℕ → VariableReport) → (index : ℕ) → Result (List ℕ) ℕ → Type 0
+IsKeyAt variables index = IsAnswer variables (key_variable index) (λ told r. r ≡ reported_key told)
 
 -- what the variable of an entry's value gives
-abbrev pub IsValueAt : Option (List ℕ → VariableTold) → (index : ℕ) → Result (Option (List ℕ)) ℕ → Type 0
-IsValueAt variables index = IsAnswer variables (value_variable index) (λ told r. r ≡ value_told told)
+abbrev pub IsValueAt : Option (List ℕ → VariableReport) → (index : ℕ) → Result (Option (List ℕ)) ℕ → Type 0
+IsValueAt variables index = IsAnswer variables (value_variable index) (λ told r. r ≡ reported_value told)
 
 -- What a refused count says besides its number: the text that the variable is set to.
-abbrev pub IsCountCause : Option (List ℕ → VariableTold) → Error → Type 0
+abbrev pub IsCountCause : Option (List ℕ → VariableReport) → Error → Type 0
 IsCountCause variables (env.InvalidConfigCount input) = May variables (λ var. HasText (string_bytes input) ≡ var (codes "GIT_CONFIG_COUNT"))
 IsCountCause variables env.Memory = Unit {0}
 IsCountCause variables e = ⊥

@@ -2,7 +2,7 @@
 ghost use Rattle.std.specs.Prelude.{◌≡◌, ℕ, Bool, List, [], Ok, Option, Some};
 ghost use Rattle.gitconf_base.specs.Metadata.{Meta};
 ghost use Rattle.gitconf_base.specs.declared.source.Source.{Source};
-ghost use Rattle.gitconf_host.specs.Told.{FileTold, VariableTold};
+ghost use Rattle.gitconf_host.specs.Reports.{FileReport, VariableReport};
 ghost use Rattle.gitconf_host.specs.declared.host.Places.{Places};
 ghost use Rattle.gitconf_state.specs.Clean.{IsClean};
 ghost use Rattle.gitconf_state.specs.State.{entries_of, State};
@@ -15,11 +15,11 @@ ghost use Rattle.gitconf_loaders.specs.Paths.{IsLoadedFrom, IsLoadOfPaths};
 /// if no text that may be loaded or included has such an entry. A file that is loaded without includes is clean in any case. So what is
 /// written of them reads back.
 pub fn loaded_files_are_clean()
-    ensures path { (table : Option (List ℕ → FileTold)) (path : List ℕ) (source : Source) (file : State) → IsLoadedFrom table path source (Ok file)
+    ensures path { (table : Option (List ℕ → FileReport)) (path : List ℕ) (source : Source) (file : State) → IsLoadedFrom table path source (Ok file)
         → IsClean file }
-    ensures paths { (files : List ℕ → FileTold) (must_exist ignores : Bool) (asks : Asks) (metas : List Meta) (file : State)
+    ensures paths { (files : List ℕ → FileReport) (must_exist ignores : Bool) (asks : Asks) (metas : List Meta) (file : State)
         → asks.table ≡ Some files → AreHeaded files
         → IsLoadOfPaths must_exist ignores asks metas (Ok (Some file)) → IsClean file × (entries_of file.front ≡ []) }
-    ensures globals { (variables : Option (List ℕ → VariableTold)) (places : Places) (files : List ℕ → FileTold) (file : State) → AreHeaded files
+    ensures globals { (variables : Option (List ℕ → VariableReport)) (places : Places) (files : List ℕ → FileReport) (file : State) → AreHeaded files
         → IsGlobal variables places (Some files) (Ok file) → IsClean file × (entries_of file.front ≡ []) }
 {}

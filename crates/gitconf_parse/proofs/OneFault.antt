@@ -196,8 +196,8 @@ assignment_some : (name blanks behind rest : List ℕ) → IsAssignment name bla
 assignment_some [] blanks behind rest is none = let x = IsAssignment.name_is is in cc
 assignment_some (b ∷ name) blanks behind rest is none = cc
 
-value_told : (text : List ℕ) (line : ℕ) (rest kind : List ℕ) → IsValueFault text line rest kind → (f : Fault) × IsTold (unmarked text) line rest kind f
-value_told text line rest kind s = finish o.parts o.rest o.whole o.fits o.end
+reported_value : (text : List ℕ) (line : ℕ) (rest kind : List ℕ) → IsValueFault text line rest kind → (f : Fault) × IsTold (unmarked text) line rest kind f
+reported_value text line rest kind s = finish o.parts o.rest o.whole o.fits o.end
   where
     input : List ℕ
     input = unmarked text
@@ -255,7 +255,7 @@ value_told text line rest kind s = finish o.parts o.rest o.whole o.fits o.end
 
 told : (text : List ℕ) (line : ℕ) (rest kind : List ℕ) → IsStuck text line rest kind → (f : Fault) × IsTold (unmarked text) line rest kind f
 told text line rest kind (inl s) = part_told text line rest kind s
-told text line rest kind (inr s) = value_told text line rest kind s
+told text line rest kind (inr s) = reported_value text line rest kind s
 
 -- A text that is stuck has no document.
 pub stuck_undocumented : (text : List ℕ) (line : ℕ) (rest kind : List ℕ) → IsStuck text line rest kind → (parts : List Part) → IsText text parts → ⊥

@@ -28,11 +28,11 @@ impl Narrow {
 
 impl Sink for Narrow {
     ghost use Rattle.std.specs.Prelude.{Some};
-    ghost use Rattle.gitconf_items.specs.Sink.{told_count};
+    ghost use Rattle.gitconf_items.specs.Sink.{reported_count};
 
     ghost told = { λ s. Some s.taken.items };
 
-    ghost faults = { λ s. told_count s.failures };
+    ghost faults = { λ s. reported_count s.failures };
 
     fn write(&mut self, text: &[u8]) -> Result<usize, SinkFault> {
         let part = &text[..text.len().min(self.width).min(self.room)];

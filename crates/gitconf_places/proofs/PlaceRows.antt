@@ -5,15 +5,15 @@ use Rattle.std.specs.Option.{option_map}
 use Rattle.std.specs.Str.{bytes_eq}
 use Rattle.gitconf_values.specs.Paths.{join, trimmed_length}
 use Rattle.gitconf_base.specs.declared.source.Source.TheVariants.{GitInstallation, System, Git, User, Local, Worktree, Api}
-use Rattle.gitconf_host.specs.Told.{VariableTold, NotSet, HasText, NoText}
+use Rattle.gitconf_host.specs.Reports.{VariableReport, NotSet, HasText, NoText}
 use Rattle.gitconf_places.specs.Places.{place_of}
 use Rattle.gitconf_host.specs.declared.host.Places.{Places}
 
-abbrev unset : (name : List ℕ) → VariableTold
+abbrev unset : (name : List ℕ) → VariableReport
 unset name = NotSet
 
 -- a variable is set, beside others
-abbrev with_text : (variable text : String) → (var : List ℕ → VariableTold) → List ℕ → VariableTold
+abbrev with_text : (variable text : String) → (var : List ℕ → VariableReport) → List ℕ → VariableReport
 with_text variable text var name = cond (bytes_eq (codes variable) name) (HasText (codes text)) (var name)
 
 module _ (places : Places) where

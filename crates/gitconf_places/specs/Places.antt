@@ -7,15 +7,15 @@ use Rattle.gitconf_text.specs.Typed.{boolean_of}
 use Rattle.gitconf_values.specs.Paths.{join}
 use Rattle.gitconf_base.specs.declared.source.Source.{Source}
 use Rattle.gitconf_base.specs.declared.source.Source.TheVariants.{GitInstallation, System, Git, User, Local, Worktree, Env, Cli, Api, EnvOverride}
-use Rattle.gitconf_host.specs.Told.{VariableTold, NotSet, HasText, NoText}
-pub use Rattle.gitconf_host.specs.Told.{May}
+use Rattle.gitconf_host.specs.Reports.{VariableReport, NotSet, HasText, NoText}
+pub use Rattle.gitconf_host.specs.Reports.{May}
 use Rattle.gitconf_host.specs.declared.host.Places.{Places}
 
 -- the text that a variable is set to; bytes that aren't UTF-8 count as unset
-abbrev pub text_told : VariableTold → Option (List ℕ)
-text_told NotSet = None
-text_told (HasText text) = Some text
-text_told NoText = None
+abbrev pub reported_text : VariableReport → Option (List ℕ)
+reported_text NotSet = None
+reported_text (HasText text) = Some text
+reported_text NoText = None
 
 -- whether a text is a true boolean; one that is not a boolean counts as false
 abbrev pub is_true : (text : List ℕ) → Bool
@@ -60,11 +60,11 @@ abbrev pub user_place : (global home : Option (List ℕ)) → Option (List ℕ)
 user_place global home = option_or global (in_folder (codes ".gitconfig") home)
 
 -- the text that a variable is set to, by its name
-abbrev pub text_of : (var : List ℕ → VariableTold) → (name : List ℕ) → Option (List ℕ)
-text_of var name = text_told (var name)
+abbrev pub text_of : (var : List ℕ → VariableReport) → (name : List ℕ) → Option (List ℕ)
+text_of var name = reported_text (var name)
 
 -- the path of the configuration of a source, if it has one
-abbrev pub place_of : (var : List ℕ → VariableTold) → Places → Source → Option (List ℕ)
+abbrev pub place_of : (var : List ℕ → VariableReport) → Places → Source → Option (List ℕ)
 place_of var places GitInstallation = installation_place places (text_of var (codes "GIT_CONFIG_NOSYSTEM"))
 place_of var places System = system_place places (text_of var (codes "GIT_CONFIG_NOSYSTEM")) (text_of var (codes "GIT_CONFIG_SYSTEM"))
 place_of var places Git = git_place (text_of var (codes "GIT_CONFIG_GLOBAL")) (text_of var (codes "XDG_CONFIG_HOME")) (text_of var (codes "HOME"))
@@ -78,9 +78,9 @@ place_of var places EnvOverride = None
 
 -- A place that variables decide: by what the environment says they are set to, if it does. If it doesn't, each variable counts as set to
 -- what was returned for it; each is asked at most once.
-abbrev pub IsPlaced : (variables : Option (List ℕ → VariableTold)) → ((var : List ℕ → VariableTold) → Option (List ℕ)) → (place : Option (List ℕ)) → Type 0
-IsPlaced variables placed place = (var : List ℕ → VariableTold) × May variables (λ told. var ≡ told) × (place ≡ placed var)
+abbrev pub IsPlaced : (variables : Option (List ℕ → VariableReport)) → ((var : List ℕ → VariableReport) → Option (List ℕ)) → (place : Option (List ℕ)) → Type 0
+IsPlaced variables placed place = (var : List ℕ → VariableReport) × May variables (λ told. var ≡ told) × (place ≡ placed var)
 
 -- if the environment says what the variable is set to, this is its text
-abbrev pub IsText : (variables : Option (List ℕ → VariableTold)) → (name : List ℕ) → (text : Option (List ℕ)) → Type 0
+abbrev pub IsText : (variables : Option (List ℕ → VariableReport)) → (name : List ℕ) → (text : Option (List ℕ)) → Type 0
 IsText variables name text = May variables (λ told. text ≡ text_of told name)

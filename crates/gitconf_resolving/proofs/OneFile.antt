@@ -1,7 +1,7 @@
 -- Over one table that is told a text makes one file, apart from running out of memory.
 use Rattle.std.proofs.Common.{◌≡◌, ◌≢◌, ℕ, List, Some, None, Result, Ok, Err, IfErr, sym, subst, ◌∙◌}
 use Rattle.gitconf_base.specs.Metadata.{Meta}
-use Rattle.gitconf_host.specs.Told.{FileTold}
+use Rattle.gitconf_host.specs.Reports.{FileReport}
 use Rattle.gitconf_includes.specs.declared.init.Error.{Error}
 use Rattle.gitconf_includes.specs.Errors.{init_number}
 use Rattle.gitconf_state.specs.State.{State}
@@ -36,7 +36,7 @@ made_alike (Err e) (Err f) (On done) is too = absurd is
 made_alike (Err e) (Err f) (Ended n file) is too = sym is ∙ too
 
 -- of one load
-one_made : (asks : Asks) (files : List ℕ → FileTold) (one other : Result State Error) (loaded : Result State ℕ) → asks.table ≡ Some files
+one_made : (asks : Asks) (files : List ℕ → FileReport) (one other : Result State Error) (loaded : Result State ℕ) → asks.table ≡ Some files
     → IfErr one (λ e. init_number e ≢ 27) → IfErr other (λ e. init_number e ≢ 27) → MakesOf init_number asks one loaded → MakesOf init_number asks other loaded → AreMadeAlike one other
 one_made asks files one other (Ok state) tells known known_too (r, is, makes) (s, too, makes_too) =
     let same : r ≡ s = one_outcome asks files asks.rules.max_depth None state r s tells (made_answered one r known makes) (made_answered other s known_too makes_too) is too in
@@ -46,7 +46,7 @@ one_made asks files (Err e) (Ok made) (Err n) tells known known_too is too = abs
 one_made asks files (Err e) (Err f) (Err n) tells known known_too is too = sym is ∙ too
 
 -- Apart from running out of memory, a text from one place makes one file.
-pub one_file : (asks : Asks) (files : List ℕ → FileTold) (text : List ℕ) (place : Meta) (one other : Result State Error) → asks.table ≡ Some files
+pub one_file : (asks : Asks) (files : List ℕ → FileReport) (text : List ℕ) (place : Meta) (one other : Result State Error) → asks.table ≡ Some files
     → IfErr one (λ e. init_number e ≢ 27) → IfErr other (λ e. init_number e ≢ 27) → IsMadeOf init_number asks text place one → IsMadeOf init_number asks text place other → AreMadeAlike one other
 one_file asks files text place one other tells known known_too (loaded, load, makes) (loaded_too, load_too, makes_too) =
     let same : loaded ≡ loaded_too = one_load asks.rules.lossy text place loaded loaded_too (loaded_answered asks one loaded known makes) (loaded_answered asks other loaded_too known_too makes_too) load load_too in

@@ -1,7 +1,7 @@
 -- A file that is made of bytes, and then expanded.
 use Rattle.std.specs.Prelude.{◌≡◌, ℕ, List, Option, None, Result, Ok, Err}
 use Rattle.gitconf_base.specs.Metadata.{Meta}
-use Rattle.gitconf_host.specs.Told.{FileTold}
+use Rattle.gitconf_host.specs.Reports.{FileReport}
 use Rattle.gitconf_includes.specs.declared.init.Error.{Error}
 use Rattle.gitconf_includes.specs.declared.init.Error.TheVariants.{Includes, Parse}
 use Rattle.gitconf_includes.specs.declared.init.Options.{Options}
@@ -34,7 +34,7 @@ MakesCounted (Ok made) old new = new ≡ old
 MakesCounted (Err e) old new = CountsFault (init_number e) old new
 
 -- what a refusal says besides its number: how the parser refuses the text, and what the refusal of an include says
-abbrev pub IsMadeCause : Options → Option (List ℕ → FileTold) → (text : List ℕ) → Error → Type 0
+abbrev pub IsMadeCause : Options → Option (List ℕ → FileReport) → (text : List ℕ) → Error → Type 0
 IsMadeCause options table text (Parse e) = IsRefused text e
 IsMadeCause options table text (Includes e) = IsCause options table e
 IsMadeCause options table text e = Unit {0}

@@ -12,7 +12,7 @@ use Rattle.gitconf_text.proofs.Tests.{both_true}
 use Rattle.gitconf_state.specs.State.{is_item, is_piece, is_value, is_assigned, is_entry, Cut, cut_last}
 use Rattle.gitconf_state.specs.Clean.{has_blanks}
 use Rattle.gitconf_state.specs.Edit.{Spacing, leading_item, with_value, is_entry_of}
-use Rattle.gitconf_state.specs.Editors.{Editor, entry_made, comment_text, comment_made, end_made, line_made, pushed, line_end_pushed, value_set, without_last_blanks, without_first_line_ends, removed, popped, popped_entry, entry_told, unless_empty, last_line_end, is_before_comment, line_end_item, kept_line_end, behind_old, written_at, deleted_at}
+use Rattle.gitconf_state.specs.Editors.{Editor, entry_made, comment_text, comment_made, end_made, line_made, pushed, line_end_pushed, value_set, without_last_blanks, without_first_line_ends, removed, popped, popped_entry, key_and_meaning, unless_empty, last_line_end, is_before_comment, line_end_item, kept_line_end, behind_old, written_at, deleted_at}
 use Rattle.gitconf_state.specs.Edits.{IsEditor, has_blank_leading}
 use Rattle.gitconf_state.proofs.LoadingFilters.{both_hold}
 use Rattle.gitconf_state.proofs.EditLists.{update_last_all}
@@ -91,7 +91,7 @@ popped_all p items all = go (cut_last is_entry items) refl
     go (Some c) e = rw (e, popped) (last_blanks_all p c.0 (cut_passes p is_entry items all c e).before)
 
 -- the key of the entry that is removed is a name
-told_named : (told : List ℕ × List ℕ) (i : Item) → is_item i ≡ true → entry_told i ≡ Some told → is_value_name told.0 ≡ true
+told_named : (told : List ℕ × List ℕ) (i : Item) → is_item i ≡ true → key_and_meaning i ≡ Some told → is_value_name told.0 ≡ true
 told_named told (BlanksItem run) is same = absurd (cc)
 told_named told (LineEndsItem run) is same = absurd (cc)
 told_named told (CommentItem tag text) is same = absurd (cc)

@@ -90,15 +90,15 @@ abbrev pub popped : List Item → List Item
 popped items = elim (cut_last is_entry items) [ None ↦ [] | Some c ↦ without_last_blanks c.0 ]
 
 -- the key and the meaning of an entry
-abbrev pub entry_told : Item → Option (List ℕ × List ℕ)
-entry_told (EntryItem e) = Some (e.name, plain (item_raw (EntryItem e)))
-entry_told _ = None
+abbrev pub key_and_meaning : Item → Option (List ℕ × List ℕ)
+key_and_meaning (EntryItem e) = Some (e.name, plain (item_raw (EntryItem e)))
+key_and_meaning _ = None
 
 -- the key and the meaning of the entry that `popped` removes; no value counts as an empty one
 abbrev pub popped_entry : List Item → Option (List ℕ × List ℕ)
 popped_entry items = elim (cut_last is_entry items) [
   | None ↦ None
-  | Some c ↦ entry_told c.1.0
+  | Some c ↦ key_and_meaning c.1.0
 ]
 
 -- these bytes, or the others if there are none

@@ -167,8 +167,8 @@ abbrev pub numbered : (number : ℕ) → State → Option SectionState
 numbered number state = last_or None (filter (λ s. s.number == number) state.sections)
 
 -- what is said of the items of the section of a number
-abbrev pub told_of : {A : Type 0} → (number : ℕ) → (List Item → Option A) → State → Option A
-told_of number told state = elim (numbered number state) [ None ↦ None | Some s ↦ told s.items ]
+abbrev pub said_in_section : {A : Type 0} → (number : ℕ) → (List Item → Option A) → State → Option A
+said_in_section number told state = elim (numbered number state) [ None ↦ None | Some s ↦ told s.items ]
 
 -- what edits return: nothing, a raw text that was there, a key and a meaning, a number, a section that was removed
 pub data Answer : Type 0 where
@@ -181,9 +181,9 @@ pub data Answer : Type 0 where
 -- what an edit returns, by the state before it
 abbrev pub answer : Edit → State → Answer
 answer (SetRawValue name subsection key keeps value) state = Raw (replaced_value name subsection key keeps state)
-answer (SetValue number editor key value) state = Raw (told_of number (old_value key) state)
-answer (Remove number key) state = Raw (told_of number (old_value key) state)
-answer (Pop number) state = Entry (told_of number popped_entry state)
+answer (SetValue number editor key value) state = Raw (said_in_section number (old_value key) state)
+answer (Remove number key) state = Raw (said_in_section number (old_value key) state)
+answer (Pop number) state = Entry (said_in_section number popped_entry state)
 answer (NewSection name subsection) state = Number state.next
 answer (PushSection detached) state = Number state.next
 answer (RemoveSection name subsection keeps) state = Gone (last_or None (filter (is_target name subsection keeps) state.sections))

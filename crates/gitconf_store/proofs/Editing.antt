@@ -12,7 +12,7 @@ use Rattle.gitconf_items.specs.Events.{header_of}
 use Rattle.gitconf_items.specs.ItemsFit.{AreItemsWithin}
 use Rattle.gitconf_items.specs.ShownEvents.{IsExtended}
 use Rattle.gitconf_state.specs.Edit.{with_used}
-use Rattle.gitconf_state.specs.Edits.{change_items, items_of_numbered, numbered, told_of, Raw, Entry}
+use Rattle.gitconf_state.specs.Edits.{change_items, items_of_numbered, numbered, said_in_section, Raw, Entry}
 use Rattle.gitconf_state.specs.State.{SectionState, State, HasItems}
 use Rattle.gitconf_items.specs.Items.{items_of}
 use Rattle.gitconf_lines.specs.declared.editor.Leading.{Leading}
@@ -102,7 +102,7 @@ numbered_view b new copies front meta table id at s t change x others within fit
 
 pub numbered_told : {A : Type 0} (b : List ℕ) (front : List Item) (meta : Meta) (table : Sections Section) (id at : ℕ) (s : Section) (told : List parts.Item → Option A)
     → AreNumbered table.next table.entries → section_at at table ≡ Some s → number_at at table ≡ Some id
-    → told_of id told (state_of b front meta table) ≡ told (items_of b s.items.items)
+    → said_in_section id told (state_of b front meta table) ≡ told (items_of b s.items.items)
 numbered_told {A} b front meta table id at s told once here number = go (numbered id (state_of b front meta table)) (told_at b s table.entries table.next id at None once here number)
   where
     go : (o : Option SectionState) → option_map (λ (s : SectionState). s.items) o ≡ Some (items_of b s.items.items)
@@ -161,7 +161,7 @@ missing_stays b front meta table id change none =
     λ i. record { front = items_of b front; meta = meta; next = table.next; used = length b; sections = others_stay b id change table.entries (missing id table.entries none) i }
 
 pub missing_told : {A : Type 0} (b : List ℕ) (front : List Item) (meta : Meta) (table : Sections Section) (id : ℕ) (told : List parts.Item → Option A) → place_of id table ≡ None
-    → told_of id told (state_of b front meta table) ≡ None
+    → said_in_section id told (state_of b front meta table) ≡ None
 missing_told {A} b front meta table id told none = go (numbered id (state_of b front meta table)) (others_untold b id None table.entries (missing id table.entries none))
   where
     go : (o : Option SectionState) → o ≡ None → elim o as (λ _. Option A) [ None ↦ None | Some s ↦ told s.items ] ≡ None

@@ -3,7 +3,7 @@ use Rattle.std.specs.Prelude.{◌≡◌, ◌≢◌, ◌⊎◌, ◌↔◌, ◌+�
 use Rattle.gitconf_text.specs.Names.{is_value_name}
 use Rattle.gitconf_base.specs.Key.{Key}
 use Rattle.gitconf_state.specs.Edit.{with_used}
-use Rattle.gitconf_state.specs.Edits.{Edit, DeleteAt, WriteAt, apply, numbered, told_of}
+use Rattle.gitconf_state.specs.Edits.{Edit, DeleteAt, WriteAt, apply, numbered, said_in_section}
 use Rattle.gitconf_state.specs.State.{State}
 use Rattle.gitconf_body.specs.ValuesAt.{rewritten_put}
 use Rattle.gitconf_finding.specs.declared.existing.Error.{Error as ExistingError}
@@ -69,7 +69,7 @@ AreSetExisting key values result old new =
 
 -- what the entry at a place means; without a value it counts as empty
 abbrev pub meaning_of_place : State → (place : ℕ × ℕ) → List ℕ
-meaning_of_place state place = elim (told_of place.0 (meaning_at place.1) state) [ None ↦ [] | Some text ↦ text ]
+meaning_of_place state place = elim (said_in_section place.0 (meaning_at place.1) state) [ None ↦ [] | Some text ↦ text ]
 
 -- what the entries at places mean, in order
 abbrev pub all_meanings : List (ℕ × ℕ) → State → List (List ℕ)

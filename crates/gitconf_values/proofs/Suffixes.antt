@@ -6,15 +6,15 @@ use Rattle.gitconf_text.specs.Typed.{integer_written, number_of, suffix_of}
 use Rattle.gitconf_text.specs.Typed as typed
 use Rattle.gitconf_values.specs.declared.integer.Suffix.{Suffix}
 use Rattle.gitconf_values.specs.declared.integer.Suffix.TheVariants.{Kibi, Mebi, Gibi}
-use Rattle.gitconf_values.specs.Integers.{suffix_told}
+use Rattle.gitconf_values.specs.Integers.{suffix_read}
 
 -- where the last byte is a suffix, the integer is told by the bytes before it
 written : (last digits : List ℕ) (s : typed.Suffix) (bytes : List ℕ) → drop (length bytes - 1) bytes ≡ last → take (length bytes - 1) bytes ≡ digits → suffix_of last ≡ Some s
     → integer_written bytes ≡ option_map (λ n. record { number = n; suffix = Some s }) (number_of digits)
 written last digits s bytes behind before is = rw (behind, is, integer_written) (ap (λ t. option_map (λ n. record { number = n; suffix = Some s }) (number_of t)) before)
 
-pub written_with : (digits : List ℕ) (last : ℕ) (s : Suffix) (bytes : List ℕ) → bytes ≡ digits ++ last ∷ [] → suffix_told (Some s) ≡ suffix_of (last ∷ [])
-    → integer_written bytes ≡ option_map (λ n. record { number = n; suffix = suffix_told (Some s) }) (number_of digits)
+pub written_with : (digits : List ℕ) (last : ℕ) (s : Suffix) (bytes : List ℕ) → bytes ≡ digits ++ last ∷ [] → suffix_read (Some s) ≡ suffix_of (last ∷ [])
+    → integer_written bytes ≡ option_map (λ n. record { number = n; suffix = suffix_read (Some s) }) (number_of digits)
 written_with digits last s bytes is told = go s told
   where
     long : length bytes - 1 ≡ length digits
@@ -26,7 +26,7 @@ written_with digits last s bytes is told = go s told
     before : take (length bytes - 1) bytes ≡ digits
     before = ap (λ n. take n bytes) long ∙ ap (take (length digits)) is ∙ take_at digits (last ∷ []) (length digits) refl
 
-    go : (s : Suffix) → suffix_told (Some s) ≡ suffix_of (last ∷ []) → integer_written bytes ≡ option_map (λ n. record { number = n; suffix = suffix_told (Some s) }) (number_of digits)
+    go : (s : Suffix) → suffix_read (Some s) ≡ suffix_of (last ∷ []) → integer_written bytes ≡ option_map (λ n. record { number = n; suffix = suffix_read (Some s) }) (number_of digits)
     go Kibi told = written (last ∷ []) digits typed.Kibi bytes behind before (sym told)
     go Mebi told = written (last ∷ []) digits typed.Mebi bytes behind before (sym told)
     go Gibi told = written (last ∷ []) digits typed.Gibi bytes behind before (sym told)

@@ -8,15 +8,15 @@ use Rattle.gitconf_values.specs.declared.integer.Suffix.{Suffix}
 use Rattle.gitconf_values.specs.declared.integer.Suffix.TheVariants.{Kibi, Mebi, Gibi}
 
 -- the suffix that the code has read
-abbrev pub suffix_told : Option Suffix → Option typed.Suffix
-suffix_told None = None
-suffix_told (Some Kibi) = Some typed.Kibi
-suffix_told (Some Mebi) = Some typed.Mebi
-suffix_told (Some Gibi) = Some typed.Gibi
+abbrev pub suffix_read : Option Suffix → Option typed.Suffix
+suffix_read None = None
+suffix_read (Some Kibi) = Some typed.Kibi
+suffix_read (Some Mebi) = Some typed.Mebi
+suffix_read (Some Gibi) = Some typed.Gibi
 
 -- the integer that the code has read: its number and its suffix
-abbrev pub integer_told : Integer → typed.Integer
-integer_told i = record { number = i.value; suffix = suffix_told i.suffix }
+abbrev pub integer_read : Integer → typed.Integer
+integer_read i = record { number = i.value; suffix = suffix_read i.suffix }
 
 -- the integer of a value, or how it is refused
 abbrev pub integer_or_refusal : (value : List ℕ) → Result ℤ ValueError

@@ -4,7 +4,7 @@ ghost use Rattle.std.specs.Option.{option_map};
 ghost use Rattle.bstr.specs.Owned.{bstring_bytes};
 ghost use Rattle.gitconf_text.specs.Typed.{decimal_of, factor_of, integer_written, suffix_of};
 ghost use Rattle.gitconf_text.specs.ValueErrors.{refused};
-ghost use Rattle.gitconf_values.specs.Integers.{integer_told, integer_or_refusal, suffix_told};
+ghost use Rattle.gitconf_values.specs.Integers.{integer_read, integer_or_refusal, suffix_read};
 
 use crate::number::number;
 use bstr::BString;
@@ -34,7 +34,7 @@ pub struct Integer {
 impl Integer {
     /// The number times the factor of its suffix, or `None` if that doesn't fit in 64 bits.
     pub fn to_decimal(&self) -> Option<i64>
-        ensures { result ≡ decimal_of (integer_told self.now) }
+        ensures { result ≡ decimal_of (integer_read self.now) }
     {
         self.value.checked_mul(factor(self.suffix))
     }
@@ -43,7 +43,7 @@ impl Integer {
 impl TryFrom<BString> for Integer {
     type Error = Error;
 
-    ghost try_from_gives = { λ bytes result. MatchResult result (λ i. integer_written (bstring_bytes bytes) ≡ Some (integer_told i))
+    ghost try_from_gives = { λ bytes result. MatchResult result (λ i. integer_written (bstring_bytes bytes) ≡ Some (integer_read i))
         (λ e. (integer_written (bstring_bytes bytes) ≡ None) × (e ≡ refused (codes "not an integer") (bstring_bytes bytes))) };
 
     /// The integer that a value writes. One pass, which takes no memory.
@@ -78,7 +78,7 @@ pub fn decimal(bytes: BString) -> Result<i64, Error>
 
 /// The factor of a suffix.
 fn factor(suffix: Option<Suffix>) -> i64
-    ensures { result ≡ factor_of (suffix_told suffix) }
+    ensures { result ≡ factor_of (suffix_read suffix) }
 {
     match suffix {
         None => 1,
@@ -90,7 +90,7 @@ fn factor(suffix: Option<Suffix>) -> i64
 
 /// The suffix that a byte is, if it is one.
 fn suffix_at(byte: u8) -> Option<Suffix>
-    ensures { suffix_told result ≡ suffix_of (byte ∷ []) }
+    ensures { suffix_read result ≡ suffix_of (byte ∷ []) }
 {
     match byte {
         b'k' | b'K' => Some(Suffix::Kibi),
@@ -102,7 +102,7 @@ fn suffix_at(byte: u8) -> Option<Suffix>
 
 /// The integer that a value writes, if it is one.
 fn parse(bytes: &[u8]) -> Option<Integer>
-    ensures { option_map integer_told result ≡ integer_written bytes.now }
+    ensures { option_map integer_read result ≡ integer_written bytes.now }
 {
     if let Some((last, digits)) = bytes.split_last() {
         if let Some(suffix) = suffix_at(*last) {

@@ -4,7 +4,7 @@ use Rattle.gitconf_base.specs.Key.{Key, parsed_key}
 use Rattle.gitconf_base.specs.Metadata.{api_meta, Meta}
 use Rattle.gitconf_base.specs.declared.source.Source.{Source}
 use Rattle.gitconf_base.specs.declared.source.Source.TheVariants.{Local, Worktree}
-use Rattle.gitconf_host.specs.Told.{FileTold, VariableTold}
+use Rattle.gitconf_host.specs.Reports.{FileReport, VariableReport}
 use Rattle.gitconf_host.specs.declared.host.Places.{Places}
 use Rattle.gitconf_state.specs.Clean.{IsClean, is_nameless}
 use Rattle.gitconf_state.specs.Edit.{made_header, with_used}
@@ -19,7 +19,7 @@ use Rattle.gitconf_finding.specs.Picks.{picked}
 use Rattle.gitconf_resolving.specs.Resolving.{MakesOf}
 use Rattle.gitconf_loaders.specs.Globals.{empty_file, home_rules}
 use Rattle.gitconf_loaders.specs.Paths.{has_room_behind, IsBehind, IsLoadedFrom, Then}
-use Rattle.gitconf_loaders.specs.Variables.{key_told, key_variable}
+use Rattle.gitconf_loaders.specs.Variables.{reported_key, key_variable}
 use Rattle.gitconf_loaders.proofs.Clean.{behind_headed, global_clean, path_headed}
 use Rattle.gix_config.specs.Environment.{AreNamed, ArePut, Edited, env_meta, IsEntryPut, IsFromEnv, IsOverrides, IsPushed, IsPut, IsPutUnder}
 use Rattle.gix_config.specs.Repository.{folder_of, has_worktree, IsExpandedBehind, IsJoined, IsPutBehind, IsRepository, IsWorktree, IsWorktreeBehind, local_path, repository_rules, RepositoryFiles, worktree_path}
@@ -65,8 +65,8 @@ put_headed key value old new named is (Ok edited, found, pushed) =
     let there = section_headed key old edited (picked key.section key.subsection (λ _. true) old) refl named is found.ok in
     pushed_headed key.name value edited new there.0 there.1 pushed
 
-module _ (variables : List ℕ → VariableTold) (named : AreNamed variables) where
-  under_headed : (index : ℕ) (text : List ℕ) (value : Option (List ℕ)) (old new : State) → ◌≡◌ {A = Result (List ℕ) ℕ} (key_told (variables (key_variable index))) (Ok text)
+module _ (variables : List ℕ → VariableReport) (named : AreNamed variables) where
+  under_headed : (index : ℕ) (text : List ℕ) (value : Option (List ℕ)) (old new : State) → ◌≡◌ {A = Result (List ℕ) ℕ} (reported_key (variables (key_variable index))) (Ok text)
       → IsHeaded old → IsPutUnder (parsed_key text) value old (Ok new) → IsHeaded new
   under_headed index text value old new told is put = go (parsed_key text) refl put
     where
@@ -80,7 +80,7 @@ module _ (variables : List ℕ → VariableTold) (named : AreNamed variables) wh
   entry_headed index old new is (Ok text, key, (Ok value, told, inl wanting)) = absurd (cc)
   entry_headed index old new is (Ok text, inl wanting, (Ok value, told, inr put)) = absurd (cc)
   entry_headed index old new is (Ok text, inr (answer, asked, given), (Ok value, told, inr put)) =
-      under_headed index text value old new (ap key_told (sym asked) ∙ sym given) is put
+      under_headed index text value old new (ap reported_key (sym asked) ∙ sym given) is put
 
   entries_headed : (left index : ℕ) (old new : State) → IsHeaded old → ArePut (Some variables) left index old (Ok new) → IsHeaded new
   entries_headed zero index old new is put = subst IsHeaded (sym (ap (state_in new) put)) is
@@ -92,11 +92,11 @@ empty_headed : (meta : Meta) → IsHeaded (empty_file meta)
 empty_headed meta = record { clean = record { sections = tt; blanks = refl; names = refl }; front = refl }
 
 -- a file with what it includes
-expanded_headed : (files : List ℕ → FileTold) (asks : Asks) (old new : State) → asks.table ≡ Some files → AreHeaded files → IsHeaded old → MakesOf (λ n. n) asks (Ok new) (Ok old) → IsHeaded new
+expanded_headed : (files : List ℕ → FileReport) (asks : Asks) (old new : State) → asks.table ≡ Some files → AreHeaded files → IsHeaded old → MakesOf (λ n. n) asks (Ok new) (Ok old) → IsHeaded new
 expanded_headed files asks old new tells headed is (On done, expands, e) = subst IsHeaded (sym e) (headed_stays files asks.rules.max_depth asks None old (On done) tells headed is expands)
 expanded_headed files asks old new tells headed is (Ended n end, expands, e) = absurd e
 
-env_headed : (variables : List ℕ → VariableTold) (files : List ℕ → FileTold) (asks : Asks) (file : State) → AreNamed variables → asks.table ≡ Some files → AreHeaded files
+env_headed : (variables : List ℕ → VariableReport) (files : List ℕ → FileReport) (asks : Asks) (file : State) → AreNamed variables → asks.table ≡ Some files → AreHeaded files
     → IsFromEnv (Some variables) asks (Ok (Some file)) → IsHeaded file
 env_headed variables files asks file named tells headed (inl wanting) = absurd (cc)
 env_headed variables files asks file named tells headed (inr (Err n, counts, e)) = absurd (cc)
@@ -119,7 +119,7 @@ env_headed variables files asks file named tells headed (inr (Ok count, counts, 
     go true e = absurd (cc)
     go false made = of_entries made
 
-overrides_headed : (variables : List ℕ → VariableTold) (places : Places) (files : List ℕ → FileTold) (file : State) → AreNamed variables → AreHeaded files
+overrides_headed : (variables : List ℕ → VariableReport) (places : Places) (files : List ℕ → FileReport) (file : State) → AreNamed variables → AreHeaded files
     → IsOverrides (Some variables) places (Some files) (Ok file) → IsHeaded file
 overrides_headed variables places files file named headed (inl wanting) = absurd (cc)
 overrides_headed variables places files file named headed (inr (Err n, made, e)) = absurd (cc)
@@ -136,7 +136,7 @@ put_behind_headed target other now is more (inr put) = go (has_room_behind targe
     go true (s, behind, e) = subst IsHeaded (sym (ap (state_in now) e)) (behind_headed target other s is more behind)
     go false e = absurd (cc)
 
-module _ (variables : List ℕ → VariableTold) (places : Places) (files : List ℕ → FileTold) (named : AreNamed variables) (headed : AreHeaded files) where
+module _ (variables : List ℕ → VariableReport) (places : Places) (files : List ℕ → FileReport) (named : AreNamed variables) (headed : AreHeaded files) where
   behind_expanded : (asks : Asks) (target file now : State) → asks.table ≡ Some files → IsHeaded target → IsHeaded file → IsExpandedBehind asks target file (Ok now) → IsHeaded now
   behind_expanded asks target file now tells is more (Err n, expands, e) = absurd (cc)
   behind_expanded asks target file now tells is more (Ok full, expands, put) = put_behind_headed target full now is (expanded_headed files asks file full tells headed more expands) put
@@ -201,14 +201,14 @@ module _ (variables : List ℕ → VariableTold) (places : Places) (files : List
       parts_in (Err n) = parts
 
 -- as the laws say it
-pub env_clean : (variables : List ℕ → VariableTold) (files : List ℕ → FileTold) (asks : Asks) (file : State) → AreNamed variables → asks.table ≡ Some files → AreHeaded files
+pub env_clean : (variables : List ℕ → VariableReport) (files : List ℕ → FileReport) (asks : Asks) (file : State) → AreNamed variables → asks.table ≡ Some files → AreHeaded files
     → IsFromEnv (Some variables) asks (Ok (Some file)) → IsClean file × (entries_of file.front ≡ [])
 env_clean variables files asks file named tells headed made = let is = env_headed variables files asks file named tells headed made in (is.clean, is.front)
 
-pub overrides_clean : (variables : List ℕ → VariableTold) (places : Places) (files : List ℕ → FileTold) (file : State) → AreNamed variables → AreHeaded files
+pub overrides_clean : (variables : List ℕ → VariableReport) (places : Places) (files : List ℕ → FileReport) (file : State) → AreNamed variables → AreHeaded files
     → IsOverrides (Some variables) places (Some files) (Ok file) → IsClean file × (entries_of file.front ≡ [])
 overrides_clean variables places files file named headed made = let is = overrides_headed variables places files file named headed made in (is.clean, is.front)
 
-pub repository_clean : (variables : List ℕ → VariableTold) (places : Places) (files : List ℕ → FileTold) (dir : List ℕ) (real : Option (List ℕ)) (file : State) → AreNamed variables → AreHeaded files
+pub repository_clean : (variables : List ℕ → VariableReport) (places : Places) (files : List ℕ → FileReport) (dir : List ℕ) (real : Option (List ℕ)) (file : State) → AreNamed variables → AreHeaded files
     → IsRepository (Some variables) places (Some files) dir real (Ok file) → IsClean file × (entries_of file.front ≡ [])
 repository_clean variables places files dir real file named headed loaded = let is = repository_headed variables places files named headed dir real file loaded in (is.clean, is.front)

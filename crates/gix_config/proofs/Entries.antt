@@ -13,7 +13,7 @@ use Rattle.gitconf_views.specs.declared.section.value.Error.{Error as ValueError
 use Rattle.gitconf_views.specs.declared.section.value.Error.TheVariants as value
 use Rattle.gitconf_base.specs.Key.{Key, parsed_key}
 use Rattle.gitconf_base.specs.Metadata.{api_meta, Meta}
-use Rattle.gitconf_host.specs.Told.{FileTold, VariableTold}
+use Rattle.gitconf_host.specs.Reports.{FileReport, VariableReport}
 use Rattle.gitconf_host.specs.declared.host.Places.{Places}
 use Rattle.gitconf_includes.specs.declared.init.Options.{Options}
 use Rattle.gitconf_includes.specs.declared.includes.Error.{Error as Includes}
@@ -100,41 +100,41 @@ pub in_section : (key : Key) (value : Option (List ℕ)) (old : State) (edited :
 in_section key value old edited r is pushed = (Ok edited, is, pushed)
 
 -- more entries are left: one is put, and then the rest
-pub one_put : (variables : Option (List ℕ → VariableTold)) (count index : ℕ) (old mid : State) (r : Result State ℕ) → index < count → IsEntryPut variables index old (Ok mid)
+pub one_put : (variables : Option (List ℕ → VariableReport)) (count index : ℕ) (old mid : State) (r : Result State ℕ) → index < count → IsEntryPut variables index old (Ok mid)
     → ArePut variables (count - (index + 1)) (index + 1) mid r → ArePut variables (count - index) index old r
 one_put variables count index old mid r within put later = subst (λ left. ArePut variables left index old r) one (Ok mid, put, later)
   where
     one : suc (count - (index + 1)) ≡ count - index
     one = omega (arith, within)
 
-pub one_refused : (variables : Option (List ℕ → VariableTold)) (count index : ℕ) (old : State) (n : ℕ) → index < count → IsEntryPut variables index old (Err n) → ArePut variables (count - index) index old (Err n)
+pub one_refused : (variables : Option (List ℕ → VariableReport)) (count index : ℕ) (old : State) (n : ℕ) → index < count → IsEntryPut variables index old (Err n) → ArePut variables (count - index) index old (Err n)
 one_refused variables count index old n within put = subst (λ left. ArePut variables left index old (Err n)) one (Err n, put, refl)
   where
     one : suc (count - (index + 1)) ≡ count - index
     one = omega (arith, within)
 
-pub none_left : (variables : Option (List ℕ → VariableTold)) (left index : ℕ) (old : State) → left ≡ 0 → ArePut variables left index old (Ok old)
+pub none_left : (variables : Option (List ℕ → VariableReport)) (left index : ℕ) (old : State) → left ≡ 0 → ArePut variables left index old (Ok old)
 none_left variables zero index old is = refl
 none_left variables (suc left) index old is = absurd (omega (arith, is))
 
 -- an entry whose key, or whose value, can't be told
-pub key_refused : (variables : Option (List ℕ → VariableTold)) (index : ℕ) (old new : State) (e : Error) (result : Result Unit Error) → IsKeyAt variables index (Err (env_number e))
+pub key_refused : (variables : Option (List ℕ → VariableReport)) (index : ℕ) (old new : State) (e : Error) (result : Result Unit Error) → IsKeyAt variables index (Err (env_number e))
     → IsErrAnd result (λ r. r ≡ e) → IsEntryPut variables index old (left_by env_number result new)
 key_refused variables index old new e (Ok done) is err = absurd err
 key_refused variables index old new e (Err r) is err = (Err (env_number e), is, ap Err (ap env_number err))
 
-pub value_refused : (variables : Option (List ℕ → VariableTold)) (index : ℕ) (text : List ℕ) (old new : State) (e : Error) (result : Result Unit Error) → IsKeyAt variables index (Ok text)
+pub value_refused : (variables : Option (List ℕ → VariableReport)) (index : ℕ) (text : List ℕ) (old new : State) (e : Error) (result : Result Unit Error) → IsKeyAt variables index (Ok text)
     → IsValueAt variables index (Err (env_number e)) → IsErrAnd result (λ r. r ≡ e) → IsEntryPut variables index old (left_by env_number result new)
 value_refused variables index text old new e (Ok done) key is err = absurd err
 value_refused variables index text old new e (Err r) key is err = (Ok text, key, (Err (env_number e), is, ap Err (ap env_number err)))
 
 -- one that is put, or refused then
-pub entry_put : (variables : Option (List ℕ → VariableTold)) (index : ℕ) (text : List ℕ) (value : Option (List ℕ)) (old : State) (r : Result State ℕ) → IsKeyAt variables index (Ok text)
+pub entry_put : (variables : Option (List ℕ → VariableReport)) (index : ℕ) (text : List ℕ) (value : Option (List ℕ)) (old : State) (r : Result State ℕ) → IsKeyAt variables index (Ok text)
     → IsValueAt variables index (Ok value) → IsPutUnder (parsed_key text) value old r → IsEntryPut variables index old r
 entry_put variables index text value old r key told put = (Ok text, key, (Ok value, told, inr put))
 
 -- a refusal that is handed on
-pub entry_refused : (variables : Option (List ℕ → VariableTold)) (count index : ℕ) (all old new : State) (e : Error) (result : Result Unit Error) → index < count
+pub entry_refused : (variables : Option (List ℕ → VariableReport)) (count index : ℕ) (all old new : State) (e : Error) (result : Result Unit Error) → index < count
     → ((r : Result State ℕ) → ArePut variables (count - index) index old r → ArePut variables count 0 all r) → IsEntryPut variables index old (Err (env_number e)) → IsErrAnd result (λ r. r ≡ e)
     → ArePut variables count 0 all (left_by env_number result new)
 entry_refused variables count index all old new e (Ok done) within suffices is err = absurd err
@@ -142,21 +142,21 @@ entry_refused variables count index all old new e (Err r) within suffices is err
     subst (λ x. ArePut variables count 0 all (Err (env_number x))) (sym err) (suffices (Err (env_number e)) (one_refused variables count index old (env_number e) within is))
 
 -- all are put
-pub all_put : (variables : Option (List ℕ → VariableTold)) (count index : ℕ) (all old : State) → count ≤ index
+pub all_put : (variables : Option (List ℕ → VariableReport)) (count index : ℕ) (all old : State) → count ≤ index
     → ((r : Result State ℕ) → ArePut variables (count - index) index old r → ArePut variables count 0 all r) → ArePut variables count 0 all (Ok old)
 all_put variables count index all old ends suffices = suffices (Ok old) (none_left variables (count - index) index old (none ends))
   where
     none : count ≤ index → count - index ≡ 0
     none ends = omega (arith, ends)
 
-pub from_first : (variables : Option (List ℕ → VariableTold)) (count : ℕ) (all : State) (r : Result State ℕ) → ArePut variables (count - 0) 0 all r → ArePut variables count 0 all r
+pub from_first : (variables : Option (List ℕ → VariableReport)) (count : ℕ) (all : State) (r : Result State ℕ) → ArePut variables (count - 0) 0 all r → ArePut variables count 0 all r
 from_first variables count all r is = subst (λ left. ArePut variables left 0 all r) same is
   where
     same : count - 0 ≡ count
     same = omega arith
 
 -- the file of entries, with what it includes
-of_entries : (variables : Option (List ℕ → VariableTold)) (asks : Asks) (count : ℕ) (r : Result (Option State) ℕ) → count ≢ 0
+of_entries : (variables : Option (List ℕ → VariableReport)) (asks : Asks) (count : ℕ) (r : Result (Option State) ℕ) → count ≢ 0
     → Then (ArePut variables count 0 (empty_file env_meta)) (λ file. Then (λ r. MakesOf (λ number. number) asks r (Ok file)) IsSome) r → IsMadeOfEntries variables asks count r
 of_entries variables asks count r some is = go (count == 0) refl
   where
@@ -167,18 +167,18 @@ of_entries variables asks count r some is = go (count == 0) refl
     go true e = absurd (some (eqb-true count 0 e))
     go false e = is
 
-pub no_entries : (variables : Option (List ℕ → VariableTold)) (asks : Asks) (count : ℕ) → count ≡ 0 → IsCount variables (Ok count) → IsFromEnv variables asks (Ok None)
+pub no_entries : (variables : Option (List ℕ → VariableReport)) (asks : Asks) (count : ℕ) → count ≡ 0 → IsCount variables (Ok count) → IsFromEnv variables asks (Ok None)
 no_entries variables asks count none counts = inr (Ok count, counts, made none)
   where
     made : count ≡ 0 → IsMadeOfEntries variables asks count (Ok None)
     made e = rw (e, IsMadeOfEntries) refl
 
-pub count_refused : (variables : Option (List ℕ → VariableTold)) (asks : Asks) (e : Error) (result : Result (Option State) Error) → IsCount variables (Err (env_number e)) → IsErrAnd result (λ r. r ≡ e)
+pub count_refused : (variables : Option (List ℕ → VariableReport)) (asks : Asks) (e : Error) (result : Result (Option State) Error) → IsCount variables (Err (env_number e)) → IsErrAnd result (λ r. r ≡ e)
     → IsFromEnv variables asks (numbered env_number result)
 count_refused variables asks e (Ok made) counts err = absurd err
 count_refused variables asks e (Err r) counts err = inr (Err (env_number e), counts, ap Err (ap env_number err))
 
-pub entries_refused : (variables : Option (List ℕ → VariableTold)) (asks : Asks) (count : ℕ) (e : Error) (result : Result (Option State) Error) → count ≢ 0 → IsCount variables (Ok count)
+pub entries_refused : (variables : Option (List ℕ → VariableReport)) (asks : Asks) (count : ℕ) (e : Error) (result : Result (Option State) Error) → count ≢ 0 → IsCount variables (Ok count)
     → ArePut variables count 0 (empty_file env_meta) (Err (env_number e)) → IsErrAnd result (λ r. r ≡ e) → IsFromEnv variables asks (numbered env_number result)
 entries_refused variables asks count e (Ok made) some counts put err = absurd err
 entries_refused variables asks count e (Err r) some counts put err =
@@ -191,7 +191,7 @@ expanded_number asks old (Ok made) (Ended n file, expands, is) = absurd is
 expanded_number asks old (Err e) (On done, expands, is) = absurd is
 expanded_number asks old (Err e) (Ended n file, expands, is) = (Ended n file, expands, is)
 
-pub includes_refused : (variables : Option (List ℕ → VariableTold)) (asks : Asks) (count : ℕ) (file : State) (e : Includes) (result : Result (Option State) Error) → count ≢ 0 → IsCount variables (Ok count)
+pub includes_refused : (variables : Option (List ℕ → VariableReport)) (asks : Asks) (count : ℕ) (file : State) (e : Includes) (result : Result (Option State) Error) → count ≢ 0 → IsCount variables (Ok count)
     → ArePut variables count 0 (empty_file env_meta) (Ok file) → MakesOf includes_number asks (Err e) (Ok file) → IsErrAnd result (λ r. r ≡ env_of_includes e) → IsFromEnv variables asks (numbered env_number result)
 includes_refused variables asks count file e (Ok made) some counts put expands err = absurd err
 includes_refused variables asks count file e (Err r) some counts put expands err =
@@ -202,7 +202,7 @@ includes_refused variables asks count file e (Err r) some counts put expands err
           (Ok file, put, (Err (includes_number e), expanded_number asks file (Err e) expands, ap Err (ap env_number err ∙ includes_numbers e))),
     )
 
-pub entries_made : (variables : Option (List ℕ → VariableTold)) (asks : Asks) (count : ℕ) (file full : State) → count ≢ 0 → IsCount variables (Ok count) → ArePut variables count 0 (empty_file env_meta) (Ok file)
+pub entries_made : (variables : Option (List ℕ → VariableReport)) (asks : Asks) (count : ℕ) (file full : State) → count ≢ 0 → IsCount variables (Ok count) → ArePut variables count 0 (empty_file env_meta) (Ok file)
     → MakesOf includes_number asks (Ok full) (Ok file) → IsFromEnv variables asks (Ok (Some full))
 entries_made variables asks count file full some counts put expands =
     inr (Ok count, counts, of_entries variables asks count (Ok (Some full)) some (Ok file, put, (Ok full, expanded_number asks file (Ok full) expands, refl)))
@@ -263,7 +263,7 @@ entries_count {T = T} e (Err r) old new err (index, cause) is =
     subst (λ x. CountsLoad {T = T} (Err (env_number x)) old new) (sym err) (refused_else T (env_number e) old new (no_file index e cause) (same old new is))
 
 -- and each is a cause of all
-pub entry_cause : {T : Type 0} (variables : Option (List ℕ → VariableTold)) (options : Options) (table : Option (List ℕ → FileTold)) (e : Error) (result : Result T Error) → (index : ℕ) × IsEntryCause index e
+pub entry_cause : {T : Type 0} (variables : Option (List ℕ → VariableReport)) (options : Options) (table : Option (List ℕ → FileReport)) (e : Error) (result : Result T Error) → (index : ℕ) × IsEntryCause index e
     → IsErrAnd result (λ r. r ≡ e) → IfErr result (IsEnvCause variables options table)
 entry_cause variables options table e (Ok made) cause err = tt
 entry_cause variables options table e (Err r) cause err = subst (IsEnvCause variables options table) (sym err) (go e cause)
@@ -280,7 +280,7 @@ entry_cause variables options table e (Err r) cause err = subst (IsEnvCause vari
     go (env.SectionValue e) is = is
     go env.Memory is = is
 
-pub count_cause : {T : Type 0} (variables : Option (List ℕ → VariableTold)) (options : Options) (table : Option (List ℕ → FileTold)) (e : Error) (result : Result T Error) → IsCountCause variables e
+pub count_cause : {T : Type 0} (variables : Option (List ℕ → VariableReport)) (options : Options) (table : Option (List ℕ → FileReport)) (e : Error) (result : Result T Error) → IsCountCause variables e
     → IsErrAnd result (λ r. r ≡ e) → IfErr result (IsEnvCause variables options table)
 count_cause variables options table e (Ok made) cause err = tt
 count_cause variables options table e (Err r) cause err = subst (IsEnvCause variables options table) (sym err) (go e cause)
@@ -298,11 +298,11 @@ count_cause variables options table e (Err r) cause err = subst (IsEnvCause vari
     go env.Memory is = (0, tt)
 
 -- the overrides
-pub overridden : (variables : Option (List ℕ → VariableTold)) (places : Places) (table : Option (List ℕ → FileTold)) (made : Option State) (file : State)
+pub overridden : (variables : Option (List ℕ → VariableReport)) (places : Places) (table : Option (List ℕ → FileReport)) (made : Option State) (file : State)
     → IsFromEnv variables (record { rules = home_rules places; table = table }) (Ok made) → file ≡ unwrap_or made (empty_file api_meta) → IsOverrides variables places table (Ok file)
 overridden variables places table made file is told = inr (Ok made, is, ap Ok told)
 
-pub not_overridden : (variables : Option (List ℕ → VariableTold)) (places : Places) (table : Option (List ℕ → FileTold)) (e : Error) (result : Result State Error)
+pub not_overridden : (variables : Option (List ℕ → VariableReport)) (places : Places) (table : Option (List ℕ → FileReport)) (e : Error) (result : Result State Error)
     → IsFromEnv variables (record { rules = home_rules places; table = table }) (Err (env_number e)) → IsErrAnd result (λ r. r ≡ e) → IsOverrides variables places table (numbered env_number result)
 not_overridden variables places table e (Ok file) is err = absurd err
 not_overridden variables places table e (Err r) is err = inr (Err (env_number e), is, ap Err (ap env_number err))

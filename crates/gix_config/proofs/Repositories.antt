@@ -5,7 +5,7 @@ use Rattle.std.specs.Option.{option_map}
 use Rattle.std.proofs.lemmas.Bool.{eqb-true}
 use Rattle.gitconf_text.specs.ValueErrors.{ValueError, wanting}
 use Rattle.gitconf_base.specs.declared.source.Source.TheVariants.{Local, Worktree}
-use Rattle.gitconf_host.specs.Told.{FileTold, IsNoLess, VariableTold}
+use Rattle.gitconf_host.specs.Reports.{FileReport, IsNoLess, VariableReport}
 use Rattle.gitconf_host.specs.declared.host.Places.{Places}
 use Rattle.gitconf_includes.specs.declared.includes.Error.{Error as Includes}
 use Rattle.gitconf_includes.specs.declared.includes.Error.TheVariants as includes
@@ -33,7 +33,7 @@ use Rattle.gitconf_loaders.specs.Globals.{IsGlobal, IsGlobalCause}
 use Rattle.gitconf_loaders.proofs.Counts.{later, renumbered}
 use Rattle.gitconf_loaders.proofs.Several.{IsAppendRefusal, open_room, shut_room}
 use Rattle.gix_config.specs.Environment.{IsOverridesCause}
-use Rattle.gix_config.specs.Repository.{AreOverridesBehind, has_worktree, IsExpanded, IsExpandedBehind, IsGitCause, IsIncludeCause, IsJoined, IsOverridingCause, IsPutBehind, IsReadCause, IsReadOf, IsRepository, IsRepositoryCause, is_told_true, IsWorktree, IsWorktreeBehind, folder_of, local_path, parts_of, repository_rules, RepositoryFiles, worktree_path}
+use Rattle.gix_config.specs.Repository.{AreOverridesBehind, has_worktree, IsExpanded, IsExpandedBehind, IsGitCause, IsIncludeCause, IsJoined, IsOverridingCause, IsPutBehind, IsReadCause, IsReadOf, IsRepository, IsRepositoryCause, is_set_true, IsWorktree, IsWorktreeBehind, folder_of, local_path, parts_of, repository_rules, RepositoryFiles, worktree_path}
 use Rattle.gix_config.specs.declared.file.init.repository.Parts.{Parts}
 use Rattle.gix_config.specs.Typed.{boolean_or_refusal, IsTyped}
 use Rattle.gix_config.proofs.Entries.{expanded_number}
@@ -76,17 +76,17 @@ of_span n = go (n == 27) refl
     go false is = rw is refl
 
 -- a boolean that was told, or not
-pub told_on : (value : Option (Option (List ℕ))) (on : Bool) → IsTyped {T = Bool} boolean_or_refusal (λ b. b) value (Ok (Some on)) → is_told_true (option_map boolean_or_refusal value) ≡ on
-told_on value on is = ap is_told_true is
+pub told_on : (value : Option (Option (List ℕ))) (on : Bool) → IsTyped {T = Bool} boolean_or_refusal (λ b. b) value (Ok (Some on)) → is_set_true (option_map boolean_or_refusal value) ≡ on
+told_on value on is = ap is_set_true is
 
-pub not_told : (value : Option (Option (List ℕ))) → IsTyped {T = Bool} boolean_or_refusal (λ b. b) value (Ok None) → is_told_true (option_map boolean_or_refusal value) ≡ false
-not_told value is = ap is_told_true is
+pub not_told : (value : Option (Option (List ℕ))) → IsTyped {T = Bool} boolean_or_refusal (λ b. b) value (Ok None) → is_set_true (option_map boolean_or_refusal value) ≡ false
+not_told value is = ap is_set_true is
 
-pub refused_told : (value : Option (Option (List ℕ))) (e : ValueError) → IsTyped {T = Bool} boolean_or_refusal (λ b. b) value (Err e) → (e.number ≡ 27 → ⊥) → is_told_true (option_map boolean_or_refusal value) ≡ false
-refused_told value e (inl is) other = ap is_told_true is
+pub refused_told : (value : Option (Option (List ℕ))) (e : ValueError) → IsTyped {T = Bool} boolean_or_refusal (λ b. b) value (Err e) → (e.number ≡ 27 → ⊥) → is_set_true (option_map boolean_or_refusal value) ≡ false
+refused_told value e (inl is) other = ap is_set_true is
 refused_told value e (inr (some, is)) other = absurd (other (ap (λ (x : ValueError). x.number) is))
 
-module _ (table : Option (List ℕ → FileTold)) (folder : List ℕ) (local : State) where
+module _ (table : Option (List ℕ → FileReport)) (folder : List ℕ) (local : State) where
   pub no_worktree : has_worktree local ≡ false → IsWorktree table folder local (Ok None)
   no_worktree is = go (has_worktree local) is
     where
@@ -164,7 +164,7 @@ pub git_count : (T U : Type 0) (n : ℕ) (e : Error) (result : Result T Error) (
 git_count T U n e (Ok made) old mid new err number first second = absurd err
 git_count T U n e (Err r) old mid new err number first second = later T (Err (git_number r)) old mid new first (renumbered U T n (git_number r) mid new (ap git_number err ∙ number) second)
 
-module _ (variables : Option (List ℕ → VariableTold)) (places : Places) (table : Option (List ℕ → FileTold)) (path folder : List ℕ) where
+module _ (variables : Option (List ℕ → VariableReport)) (places : Places) (table : Option (List ℕ → FileReport)) (path folder : List ℕ) where
   abbrev pub Reads : Result RepositoryFiles ℕ → Type 0
   Reads r = IsReadOf variables places table path folder r
 
@@ -196,12 +196,12 @@ module _ (variables : Option (List ℕ → VariableTold)) (places : Places) (tab
   all_read local worktree globals loaded (inr tree) is = inr (Ok local, loaded, (Ok worktree, tree, (Ok globals, is, refl)))
 
 -- the causes of refusals that are handed on
-pub global_cause : {T : Type 0} (places : Places) (table : Option (List ℕ → FileTold)) (e : PathsError) (result : Result T PathsError) → IsGlobalCause places table e → IsErrAnd result (λ r. r ≡ e)
+pub global_cause : {T : Type 0} (places : Places) (table : Option (List ℕ → FileReport)) (e : PathsError) (result : Result T PathsError) → IsGlobalCause places table e → IsErrAnd result (λ r. r ≡ e)
     → IfErr result (IsReadCause places table)
 global_cause places table e (Ok made) cause err = tt
 global_cause places table e (Err r) cause err = subst (IsReadCause places table) (sym err) (inr cause)
 
-pub overriding_cause : {T : Type 0} (variables : Option (List ℕ → VariableTold)) (places : Places) (table : Option (List ℕ → FileTold)) (e : EnvError) (result : Result T Error) → IsOverridesCause variables places table e
+pub overriding_cause : {T : Type 0} (variables : Option (List ℕ → VariableReport)) (places : Places) (table : Option (List ℕ → FileReport)) (e : EnvError) (result : Result T Error) → IsOverridesCause variables places table e
     → IsErrAnd result (λ r. r ≡ git_of_env e) → IfErr result (IsOverridingCause variables places table)
 overriding_cause variables places table e (Ok made) cause err = tt
 overriding_cause variables places table e (Err r) cause err = subst (IsOverridingCause variables places table) (sym err) (go e cause)
@@ -218,7 +218,7 @@ overriding_cause variables places table e (Err r) cause err = subst (IsOverridin
     go (env.SectionValue e) is = is
     go env.Memory is = tt
 
-pub include_cause : {T : Type 0} (variables : Option (List ℕ → VariableTold)) (options : Options) (places : Places) (table : Option (List ℕ → FileTold)) (e : Error) (result : Result T Error)
+pub include_cause : {T : Type 0} (variables : Option (List ℕ → VariableReport)) (options : Options) (places : Places) (table : Option (List ℕ → FileReport)) (e : Error) (result : Result T Error)
     → IsIncludeCause options table e → IsErrAnd result (λ r. r ≡ e) → IfErr result (IsGitCause variables options places table)
 include_cause variables options places table e (Ok made) cause err = tt
 include_cause variables options places table e (Err r) cause err = subst (IsGitCause variables options places table) (sym err) (go e cause)
@@ -231,7 +231,7 @@ include_cause variables options places table e (Err r) cause err = subst (IsGitC
     go (git.Span e) is = tt
     go git.Memory is = tt
 
-pub last_cause : {T : Type 0} (variables : Option (List ℕ → VariableTold)) (options : Options) (places : Places) (table : Option (List ℕ → FileTold)) (e : Error) (result : Result T Error)
+pub last_cause : {T : Type 0} (variables : Option (List ℕ → VariableReport)) (options : Options) (places : Places) (table : Option (List ℕ → FileReport)) (e : Error) (result : Result T Error)
     → IsOverridingCause variables places table e → IsErrAnd result (λ r. r ≡ e) → IfErr result (IsGitCause variables options places table)
 last_cause variables options places table e (Ok made) cause err = tt
 last_cause variables options places table e (Err r) cause err = subst (IsGitCause variables options places table) (sym err) (go e cause)
@@ -245,7 +245,7 @@ last_cause variables options places table e (Err r) cause err = subst (IsGitCaus
     go git.Memory is = tt
 
 -- the cause of an expansion's refusal
-pub expansion_cause : {T : Type 0} (variables : Option (List ℕ → VariableTold)) (options : Options) (places : Places) (table : Option (List ℕ → FileTold)) (e : Includes) (result : Result T Error)
+pub expansion_cause : {T : Type 0} (variables : Option (List ℕ → VariableReport)) (options : Options) (places : Places) (table : Option (List ℕ → FileReport)) (e : Includes) (result : Result T Error)
     → IsCause options table e → IsErrAnd result (λ r. r ≡ git_of_includes e) → IfErr result (IsGitCause variables options places table)
 expansion_cause variables options places table e (Ok made) cause err = tt
 expansion_cause variables options places table e (Err r) cause err = subst (IsGitCause variables options places table) (sym err) (go e cause)
@@ -263,7 +263,7 @@ expansion_cause variables options places table e (Err r) cause err = subst (IsGi
     go includes.Memory is = tt
 
 -- what the files that are read, and then put together, make of the repository
-module _ (variables : Option (List ℕ → VariableTold)) (places : Places) (table : Option (List ℕ → FileTold)) (dir : List ℕ) (real : Option (List ℕ)) (path folder : List ℕ) (is_path : path ≡ local_path dir)
+module _ (variables : Option (List ℕ → VariableReport)) (places : Places) (table : Option (List ℕ → FileReport)) (dir : List ℕ) (real : Option (List ℕ)) (path folder : List ℕ) (is_path : path ≡ local_path dir)
     (is_folder : folder ≡ folder_of (local_path dir)) where
   abbrev pub Made : Result State ℕ → Type 0
   Made r = IsRepository variables places table dir real r
@@ -302,7 +302,7 @@ module _ (variables : Option (List ℕ → VariableTold)) (places : Places) (tab
   joined_cause options (Ok made) rules cause = tt
   joined_cause options (Err e) rules cause = inr (options, rules ∙ ap (λ f. repository_rules places f real) is_folder, cause)
 
-module _ (variables : Option (List ℕ → VariableTold)) (places : Places) (table : Option (List ℕ → FileTold)) (asks : Asks) (parts : RepositoryFiles) where
+module _ (variables : Option (List ℕ → VariableReport)) (places : Places) (table : Option (List ℕ → FileReport)) (asks : Asks) (parts : RepositoryFiles) where
   abbrev pub Joins : Result State ℕ → Type 0
   Joins r = IsJoined variables places table asks parts r
 

@@ -6,7 +6,7 @@ use Rattle.gitconf_text.specs.HeaderErrors.{header_number}
 use Rattle.gitconf_base.specs.Key.{Key, parsed_key}
 use Rattle.gitconf_base.specs.Metadata.{Meta, meta_of_source}
 use Rattle.gitconf_base.specs.declared.source.Source.TheVariants.{Env}
-use Rattle.gitconf_host.specs.Told.{FileTold, VariableTold}
+use Rattle.gitconf_host.specs.Reports.{FileReport, VariableReport}
 use Rattle.gitconf_host.specs.declared.host.Places.{Places}
 use Rattle.gitconf_includes.specs.Rules.{rules_of}
 use Rattle.gitconf_includes.specs.declared.init.Options.{Options}
@@ -20,7 +20,7 @@ use Rattle.gitconf_expansion.specs.Outcomes.{IsCause}
 use Rattle.gitconf_resolving.specs.Resolving.{MakesOf}
 use Rattle.gitconf_loaders.specs.Globals.{empty_file, home_rules, IsOrEmpty}
 use Rattle.gitconf_loaders.specs.Paths.{left_by, Then}
-use Rattle.gitconf_loaders.specs.Variables.{IsCount, IsCountCause, IsEntryCause, IsKeyAt, IsValueAt, key_told, key_variable}
+use Rattle.gitconf_loaders.specs.Variables.{IsCount, IsCountCause, IsEntryCause, IsKeyAt, IsValueAt, reported_key, key_variable}
 use Rattle.gitconf_loaders.specs.declared.from_env.Error.{Error}
 use Rattle.gitconf_loaders.specs.declared.from_env.Error.TheVariants as env
 use Rattle.gitconf_views.specs.ValueErrors.{value_number}
@@ -55,12 +55,12 @@ IsPutUnder None value old r = r ≡ Err 25
 IsPutUnder (Some key) value old r = IsPut key value old r
 
 -- an entry, counted from 0: its key and its value are asked, and then it is put into the file
-abbrev pub IsEntryPut : Option (List ℕ → VariableTold) → (index : ℕ) → (old : State) → Result State ℕ → Type 0
+abbrev pub IsEntryPut : Option (List ℕ → VariableReport) → (index : ℕ) → (old : State) → Result State ℕ → Type 0
 IsEntryPut variables index old =
     Then (IsKeyAt variables index) (λ key. Then (IsValueAt variables index) (λ value. λ r. (r ≡ Err 27) ⊎ IsPutUnder (parsed_key key) value old r))
 
 -- that many entries, from this one on
-abbrev pub ArePut : Option (List ℕ → VariableTold) → (left index : ℕ) → (old : State) → Result State ℕ → Type 0
+abbrev pub ArePut : Option (List ℕ → VariableReport) → (left index : ℕ) → (old : State) → Result State ℕ → Type 0
 ArePut variables zero index old r = r ≡ Ok old
 ArePut variables (suc left) index old r = Then (IsEntryPut variables index old) (ArePut variables left (index + 1)) r
 
@@ -73,31 +73,31 @@ abbrev pub IsSome : State → Result (Option State) ℕ → Type 0
 IsSome file r = r ≡ Ok (Some file)
 
 -- the file of that many entries, and then what it includes; nothing without entries
-abbrev pub IsMadeOfEntries : Option (List ℕ → VariableTold) → Asks → (count : ℕ) → Result (Option State) ℕ → Type 0
+abbrev pub IsMadeOfEntries : Option (List ℕ → VariableReport) → Asks → (count : ℕ) → Result (Option State) ℕ → Type 0
 IsMadeOfEntries variables asks count r = elim (count == 0) [
   | true ↦ r ≡ Ok None
   | false ↦ Then (ArePut variables count 0 (empty_file env_meta)) (λ file. Then (λ r. MakesOf (λ number. number) asks r (Ok file)) IsSome) r
 ]
 
 -- first the count is asked; memory may run out
-abbrev pub IsFromEnv : Option (List ℕ → VariableTold) → Asks → Result (Option State) ℕ → Type 0
+abbrev pub IsFromEnv : Option (List ℕ → VariableReport) → Asks → Result (Option State) ℕ → Type 0
 IsFromEnv variables asks r = (r ≡ Err 27) ⊎ Then (IsCount variables) (IsMadeOfEntries variables asks) r
 
 -- the causes of its refusals
-abbrev pub IsEnvCause : Option (List ℕ → VariableTold) → Options → Option (List ℕ → FileTold) → Error → Type 0
+abbrev pub IsEnvCause : Option (List ℕ → VariableReport) → Options → Option (List ℕ → FileReport) → Error → Type 0
 IsEnvCause variables options table (env.Includes e) = IsCause options table e
 IsEnvCause variables options table (env.InvalidConfigCount input) = IsCountCause variables (env.InvalidConfigCount input)
 IsEnvCause variables options table e = (index : ℕ) × IsEntryCause index e
 
 -- no key that variables set names a section `[]`, with an empty name and no subsection
-abbrev pub AreNamed : (variables : List ℕ → VariableTold) → Type 0
-AreNamed variables = (index : ℕ) (text : List ℕ) (key : Key) → ◌≡◌ {A = Result (List ℕ) ℕ} (key_told (variables (key_variable index))) (Ok text) → parsed_key text ≡ Some key
+abbrev pub AreNamed : (variables : List ℕ → VariableReport) → Type 0
+AreNamed variables = (index : ℕ) (text : List ℕ) (key : Key) → ◌≡◌ {A = Result (List ℕ) ℕ} (reported_key (variables (key_variable index))) (Ok text) → parsed_key text ≡ Some key
     → is_nameless (made_header key.section key.subsection) ≡ false
 
 -- the overrides: includes know the home folder of the places, and without entries the file is empty
-abbrev pub IsOverrides : Option (List ℕ → VariableTold) → Places → Option (List ℕ → FileTold) → Result State ℕ → Type 0
+abbrev pub IsOverrides : Option (List ℕ → VariableReport) → Places → Option (List ℕ → FileReport) → Result State ℕ → Type 0
 IsOverrides variables places table r = (r ≡ Err 27) ⊎ Then (IsFromEnv variables (record { rules = home_rules places; table = table })) IsOrEmpty r
 
 -- the causes of its refusals; or memory ran out
-abbrev pub IsOverridesCause : Option (List ℕ → VariableTold) → Places → Option (List ℕ → FileTold) → Error → Type 0
+abbrev pub IsOverridesCause : Option (List ℕ → VariableReport) → Places → Option (List ℕ → FileReport) → Error → Type 0
 IsOverridesCause variables places table e = (e ≡ env.Memory) ⊎ (options : Options) × (rules_of options ≡ home_rules places) × IsEnvCause variables options table e

@@ -6,7 +6,7 @@ use Rattle.gitconf_text.specs.ValueErrors.{ValueError}
 use Rattle.gitconf_values.specs.Paths.{join, parent}
 use Rattle.gitconf_base.specs.Key.{Key}
 use Rattle.gitconf_base.specs.declared.source.Source.TheVariants.{Local, Worktree}
-use Rattle.gitconf_host.specs.Told.{FileTold, VariableTold}
+use Rattle.gitconf_host.specs.Reports.{FileReport, VariableReport}
 use Rattle.gitconf_host.specs.declared.host.Places.{Places}
 use Rattle.gitconf_includes.specs.Rules.{Rules, rules_of}
 use Rattle.gitconf_includes.specs.declared.init.Options.{Options}
@@ -34,10 +34,10 @@ abbrev pub folder_of : (path : List ℕ) → List ℕ
 folder_of path = unwrap_or (parent path) []
 
 -- there is a boolean, and it is true
-abbrev pub is_told_true : Option (Result Bool ValueError) → Bool
-is_told_true None = false
-is_told_true (Some (Ok on)) = on
-is_told_true (Some (Err e)) = false
+abbrev pub is_set_true : Option (Result Bool ValueError) → Bool
+is_set_true None = false
+is_set_true (Some (Ok on)) = on
+is_set_true (Some (Err e)) = false
 
 -- the key that switches the worktree's configuration on: `extensions.worktreeConfig`
 abbrev pub worktree_key : Key
@@ -45,14 +45,14 @@ worktree_key = record { section = codes "extensions"; subsection = None; name = 
 
 -- the repository has configuration of its worktree
 abbrev pub has_worktree : State → Bool
-has_worktree local = is_told_true (option_map boolean_or_refusal (implicit_at worktree_key (λ _. true) local))
+has_worktree local = is_set_true (option_map boolean_or_refusal (implicit_at worktree_key (λ _. true) local))
 
 -- the path of the worktree's configuration
 abbrev pub worktree_path : (folder : List ℕ) → List ℕ
 worktree_path folder = join folder (codes "config.worktree")
 
 -- the worktree's configuration, loaded without its includes, if the repository has one
-abbrev pub IsWorktree : Option (List ℕ → FileTold) → (folder : List ℕ) → (local : State) → Result (Option State) ℕ → Type 0
+abbrev pub IsWorktree : Option (List ℕ → FileReport) → (folder : List ℕ) → (local : State) → Result (Option State) ℕ → Type 0
 IsWorktree table folder local r = elim (has_worktree local) [
   | true ↦ Then (IsLoadedFrom table (worktree_path folder) Worktree) (λ worktree. λ r. r ≡ Ok (Some worktree)) r
   | false ↦ r ≡ Ok None
@@ -103,7 +103,7 @@ pub record RepositoryFiles : Type 0 where
 abbrev pub parts_of : Parts → RepositoryFiles
 parts_of parts = record { local = parts.local; worktree = parts.worktree; globals = parts.globals }
 
-module _ (variables : Option (List ℕ → VariableTold)) (places : Places) (table : Option (List ℕ → FileTold)) where
+module _ (variables : Option (List ℕ → VariableReport)) (places : Places) (table : Option (List ℕ → FileReport)) where
   -- The files are read: first the repository's, then that of its worktree, then those of the machine and of the user; memory may run out.
   abbrev pub IsReadOf : (path folder : List ℕ) → Result RepositoryFiles ℕ → Type 0
   IsReadOf path folder r = (r ≡ Err 27) ⊎ Then (IsLoadedFrom table path Local) (λ local. Then (IsWorktree table folder local)
@@ -124,30 +124,30 @@ module _ (variables : Option (List ℕ → VariableTold)) (places : Places) (tab
       ⊎ Then (IsReadOf (local_path dir) (folder_of (local_path dir))) (IsJoined (record { rules = repository_rules places (folder_of (local_path dir)) real; table = table })) r
 
 -- The cause of a refusal, besides its number: of a file that is read.
-abbrev pub IsReadCause : Places → Option (List ℕ → FileTold) → PathsError → Type 0
+abbrev pub IsReadCause : Places → Option (List ℕ → FileReport) → PathsError → Type 0
 IsReadCause places table e = ((path : List ℕ) × IsFileCause table path e) ⊎ IsGlobalCause places table e
 
 -- the cause of a refusal of a file that includes
-abbrev pub IsIncludeCause : Options → Option (List ℕ → FileTold) → Error → Type 0
+abbrev pub IsIncludeCause : Options → Option (List ℕ → FileReport) → Error → Type 0
 IsIncludeCause options table (git.Includes e) = IsCause options table e
 IsIncludeCause options table (git.FromPaths e) = ⊥
 IsIncludeCause options table (git.FromEnv e) = ⊥
 IsIncludeCause options table e = Unit {0}
 
 -- the cause of a refusal of the overrides
-abbrev pub IsOverridingCause : Option (List ℕ → VariableTold) → Places → Option (List ℕ → FileTold) → Error → Type 0
+abbrev pub IsOverridingCause : Option (List ℕ → VariableReport) → Places → Option (List ℕ → FileReport) → Error → Type 0
 IsOverridingCause variables places table (git.FromEnv e) = IsOverridesCause variables places table e
 IsOverridingCause variables places table (git.FromPaths e) = ⊥
 IsOverridingCause variables places table (git.Includes e) = ⊥
 IsOverridingCause variables places table e = Unit {0}
 
 -- the cause of a refusal of a repository's configuration: of a file that is read, of one that includes, or of the overrides
-abbrev pub IsGitCause : Option (List ℕ → VariableTold) → Options → Places → Option (List ℕ → FileTold) → Error → Type 0
+abbrev pub IsGitCause : Option (List ℕ → VariableReport) → Options → Places → Option (List ℕ → FileReport) → Error → Type 0
 IsGitCause variables options places table (git.FromPaths e) = IsReadCause places table e
 IsGitCause variables options places table (git.FromEnv e) = IsOverridesCause variables places table e
 IsGitCause variables options places table (git.Includes e) = IsCause options table e
 IsGitCause variables options places table e = Unit {0}
 
 -- the cause of a refusal of the repository in that folder; or memory ran out
-abbrev pub IsRepositoryCause : Option (List ℕ → VariableTold) → Places → Option (List ℕ → FileTold) → (dir : List ℕ) → (real : Option (List ℕ)) → Error → Type 0
+abbrev pub IsRepositoryCause : Option (List ℕ → VariableReport) → Places → Option (List ℕ → FileReport) → (dir : List ℕ) → (real : Option (List ℕ)) → Error → Type 0
 IsRepositoryCause variables places table dir real e = (e ≡ git.Memory) ⊎ (options : Options) × (rules_of options ≡ repository_rules places (folder_of (local_path dir)) real) × IsGitCause variables options places table e

@@ -3,7 +3,7 @@ use Rattle.std.specs.Prelude.{◌≡◌, ◌≢◌, ℕ, Bool, true, List, Optio
 use Rattle.std.specs.Borrow.{GName}
 use Rattle.gitconf_base.specs.Key.{Key}
 use Rattle.gitconf_base.specs.Metadata.{Meta}
-use Rattle.gitconf_state.specs.Edits.{Edit, DeleteAt, WriteAt, apply, told_of}
+use Rattle.gitconf_state.specs.Edits.{Edit, DeleteAt, WriteAt, apply, said_in_section}
 use Rattle.gitconf_state.specs.Editors.{Editor}
 use Rattle.gitconf_state.specs.State.{State}
 use Rattle.gitconf_lines.specs.Blanks.{editor_with}
@@ -48,7 +48,7 @@ without_entry e = if e.stands then apply (DeleteAt e.id e.place) (edited e) else
 
 -- what the entry means, if it is there
 abbrev pub meaning_of : {S : Type 0} → ValueMut S → Option (List ℕ)
-meaning_of e = if e.stands then told_of e.id (meaning_at e.place) (edited e) else None
+meaning_of e = if e.stands then said_in_section e.id (meaning_at e.place) (edited e) else None
 
 -- the place, whether the entry is there, the name, and what the editor writes
 abbrev pub told : ValueMut Spelled → ((ℕ × ℕ) × Bool) × (List ℕ × Editor)

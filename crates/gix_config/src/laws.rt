@@ -1,7 +1,7 @@
 //! What holds of editors and of loaded files, for all of them: each law is a function that does nothing.
 ghost use Rattle.std.specs.Prelude.{◌≡◌, ◌≤◌, ℕ, Bool, true, List, [], Ok, Option, Some};
 ghost use Rattle.gitconf_base.specs.Metadata.{Meta};
-ghost use Rattle.gitconf_host.specs.Told.{FileTold, VariableTold};
+ghost use Rattle.gitconf_host.specs.Reports.{FileReport, VariableReport};
 ghost use Rattle.gitconf_host.specs.declared.host.Places.{Places};
 ghost use Rattle.gitconf_state.specs.Clean.{IsClean};
 ghost use Rattle.gitconf_state.specs.Edit.{new_section};
@@ -53,17 +53,17 @@ pub fn edits_put_no_more_than_their_tokens()
 /// The file that variables set is clean, and that of the overrides, if no key names a section with an empty name and no subsection, and no
 /// text that may be included has an entry before its first section.
 pub fn files_of_variables_are_clean()
-    ensures made { (variables : List ℕ → VariableTold) (files : List ℕ → FileTold) (asks : Asks) (file : State) → AreNamed variables
+    ensures made { (variables : List ℕ → VariableReport) (files : List ℕ → FileReport) (asks : Asks) (file : State) → AreNamed variables
         → asks.table ≡ Some files → AreHeaded files
         → IsFromEnv (Some variables) asks (Ok (Some file)) → IsClean file × (entries_of file.front ≡ []) }
-    ensures overrides { (variables : List ℕ → VariableTold) (places : Places) (files : List ℕ → FileTold) (file : State) → AreNamed variables → AreHeaded files
+    ensures overrides { (variables : List ℕ → VariableReport) (places : Places) (files : List ℕ → FileReport) (file : State) → AreNamed variables → AreHeaded files
         → IsOverrides (Some variables) places (Some files) (Ok file) → IsClean file × (entries_of file.front ≡ []) }
 {}
 
 /// The configuration of a repository is clean, if that holds of variables and of texts, also those of the repository's own files: so what is
 /// written of it reads back.
 pub fn repositories_are_clean()
-    ensures { (variables : List ℕ → VariableTold) (places : Places) (files : List ℕ → FileTold) (dir : List ℕ) (real : Option (List ℕ))
+    ensures { (variables : List ℕ → VariableReport) (places : Places) (files : List ℕ → FileReport) (dir : List ℕ) (real : Option (List ℕ))
         (file : State) → AreNamed variables → AreHeaded files
         → IsRepository (Some variables) places (Some files) dir real (Ok file) → IsClean file × (entries_of file.front ≡ []) }
 {}

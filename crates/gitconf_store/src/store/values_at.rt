@@ -22,7 +22,7 @@ impl Store {
     ghost use Rattle.gitconf_text.specs.Names.{is_value_name};
     ghost use Rattle.gitconf_base.specs.Metadata.{Meta};
     ghost use Rattle.gitconf_state.specs.Edit.{with_used};
-    ghost use Rattle.gitconf_state.specs.Edits.{apply, items_of_numbered, numbered, told_of, DeleteAt, IsEditor, WriteAt};
+    ghost use Rattle.gitconf_state.specs.Edits.{apply, items_of_numbered, numbered, said_in_section, DeleteAt, IsEditor, WriteAt};
     ghost use Rattle.gitconf_body.specs.ValuesAt.{keeps_line_end, rewritten_put, stands, written_put};
     ghost use Rattle.gitconf_store.specs.Editors.{given_editor, IsGiven, PutsIn};
     ghost use Rattle.gitconf_finding.specs.Lookups.{IsFound, key_at};
@@ -113,7 +113,7 @@ impl Store {
     ///
     /// Out of memory for the result, only if there is an entry.
     pub fn meaning_at(&self, id: SectionId, place: usize) -> Result<Option<BString>, NoMemory>
-        ensures { IsFound bstring_bytes result (told_of id (meaning_at place) self.now) }
+        ensures { IsFound bstring_bytes result (said_in_section id (meaning_at place) self.now) }
     {
         match self.section_by_id(id) {
             Some(section) => section.meaning_at(place),

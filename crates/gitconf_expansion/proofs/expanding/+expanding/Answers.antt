@@ -2,7 +2,7 @@ use Rattle.std.proofs.Common.{rules, ◌≡◌, ◌⊎◌, ◌-◌, ◌<◌, tru
 use Rattle.std.specs.Option.{option_copied, option_map}
 use Rattle.std.specs.Prelude.{IfSome, string_bytes}
 use Rattle.bstr.specs.Owned.{bstring_bytes}
-use Rattle.gitconf_host.specs.Told.{is_there}
+use Rattle.gitconf_host.specs.Reports.{is_there}
 use Rattle.gitconf_includes.specs.declared.includes.Error.TheVariants as refusals
 use Rattle.gitconf_includes.specs.Paths.{file_named}
 use Rattle.gitconf_includes.specs.Rules.{rules_of}

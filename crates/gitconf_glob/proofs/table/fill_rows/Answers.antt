@@ -1,5 +1,5 @@
 use Rattle.std.proofs.Common.{◌+◌, ◌-◌, ◌∙◌, ap, sym, map, arith, length-set}
-use Rattle.gitconf_glob.specs.Places.{all_told, shown}
+use Rattle.gitconf_glob.specs.Places.{all_known, shown}
 use Rattle.gitconf_glob.proofs.Telling.{places_from}
 use Rattle.std.specs.Prelude.{vec_items}
 use Rattle.gitconf_glob.proofs.RowLemmas.{last_filled, row_filled, rest_is}
@@ -26,4 +26,4 @@ pattern_row-requires-clause-places c =
     ap (map shown) (rest_is c.args.places.now (c.loop-i.i - 1 + 1))
     ∙ places_from shown c.args.places.now c.args.ignore_case c.args.text.now c.args.pattern.now (c.loop-i.i - 1 + 1)
     (omega (arith, c.loop-i-test.true, c.loop-i.invariant.within)) c.requires.places
-    ∙ sym (ap (all_told c.args.ignore_case c.args.text.now) (rest_is c.args.pattern.now (c.loop-i.i - 1 + 1)))
+    ∙ sym (ap (all_known c.args.ignore_case c.args.text.now) (rest_is c.args.pattern.now (c.loop-i.i - 1 + 1)))

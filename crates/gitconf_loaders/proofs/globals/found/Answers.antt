@@ -3,7 +3,7 @@ use Rattle.std.specs.Option.{option_map}
 use Rattle.std.specs.Prelude.{IfSome}
 use Rattle.gitconf_base.specs.Metadata.{meta_of_file}
 use Rattle.gitconf_base.specs.declared.source.Trust.TheVariants.{Full}
-use Rattle.gitconf_host.specs.Told.{is_there}
+use Rattle.gitconf_host.specs.Reports.{is_there}
 use Rattle.gitconf_places.specs.Places.{IsPlaced, place_of}
 use Rattle.gitconf_loaders.proofs.Everywhere.{a_file, no_file}
 use Rattle.gitconf_loaders.proofs.globals.found.Goals as goal

@@ -16,7 +16,7 @@ impl File {
     ghost use Rattle.gitconf_text.specs.Names.{is_value_name};
     ghost use Rattle.gitconf_base.specs.Metadata.{Meta};
     ghost use Rattle.gitconf_state.specs.Edit.{spacing_of};
-    ghost use Rattle.gitconf_state.specs.Edits.{apply, items_of_numbered, told_of, DeleteAt, IsEditor, WriteAt};
+    ghost use Rattle.gitconf_state.specs.Edits.{apply, items_of_numbered, said_in_section, DeleteAt, IsEditor, WriteAt};
     ghost use Rattle.gitconf_lines.specs.Blanks.{PutsAround};
     ghost use Rattle.gitconf_body.specs.ValuesAt.{keeps_line_end, stands};
     ghost use Rattle.gitconf_store.specs.Editors.{given_editor, IsGiven};
@@ -49,7 +49,7 @@ impl File {
         id: SectionId,
         place: usize,
     ) -> Result<Option<BString>, NoMemory>
-        ensures { IsFound bstring_bytes result (told_of id (meaning_at place) self.now) }
+        ensures { IsFound bstring_bytes result (said_in_section id (meaning_at place) self.now) }
     {
         self.store.meaning_at(id, place)
     }

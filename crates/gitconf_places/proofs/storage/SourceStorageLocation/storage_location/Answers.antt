@@ -3,7 +3,7 @@ use Rattle.std.proofs.lemmas.Result.{IfOk-weaker}
 use Rattle.std.specs.Option.{option_map}
 use Rattle.gitconf_base.specs.declared.source.Source.{Source}
 use Rattle.gitconf_base.specs.declared.source.Source.TheVariants.{Env, Cli, Api, EnvOverride}
-use Rattle.gitconf_host.specs.Told.{VariableTold}
+use Rattle.gitconf_host.specs.Reports.{VariableReport}
 use Rattle.gitconf_places.specs.Places.{place_of}
 use Rattle.gitconf_places.proofs.PlaceLemmas.{stands}
 use Rattle.gitconf_places.proofs.storage.SourceStorageLocation.storage_location.Goals as goal
@@ -26,7 +26,7 @@ pub returns-in-Env-clause-placed : goal.returns-in-Env-clause-placed
 returns-in-Env-clause-placed g c =
     stands (g.E.Env.variables c.args.env.now) (λ var. place_of var c.args.places.now c.args.self) None (λ var. nowhere var c.args.self c.in-Env.is)
   where
-    nowhere : (var : List ℕ → VariableTold) (source : Source) → (source ≡ Env) ⊎ (source ≡ Cli) ⊎ (source ≡ Api) ⊎ (source ≡ EnvOverride) → None ≡ place_of var c.args.places.now source
+    nowhere : (var : List ℕ → VariableReport) (source : Source) → (source ≡ Env) ⊎ (source ≡ Cli) ⊎ (source ≡ Api) ⊎ (source ≡ EnvOverride) → None ≡ place_of var c.args.places.now source
     nowhere var source (inl is) = rw is refl
     nowhere var source (inr (inl is)) = rw is refl
     nowhere var source (inr (inr (inl is))) = rw is refl

@@ -9,40 +9,40 @@ use Rattle.gitconf_host.specs.declared.env.EnvVar.{EnvVar}
 use Rattle.gitconf_host.specs.declared.env.EnvVar.TheVariants.{Unset, Text, IllFormed}
 
 -- what is at a path: no file, one with these bytes and this trust, one that can't be opened, or one that can't be read
-pub data FileTold : Type 0 where
-  NoFile : FileTold
-  IsFile : (bytes : List ℕ) (trust : Trust) → FileTold
-  Unopened : (not_found : Bool) → FileTold
-  Unread : FileTold
+pub data FileReport : Type 0 where
+  NoFile : FileReport
+  IsFile : (bytes : List ℕ) (trust : Trust) → FileReport
+  Unopened : (not_found : Bool) → FileReport
+  Unread : FileReport
 
 -- whether there is a file, even one that can't be opened or read
-abbrev pub is_there : FileTold → Bool
+abbrev pub is_there : FileReport → Bool
 is_there NoFile = false
 is_there (IsFile bytes trust) = true
 is_there (Unopened not_found) = true
 is_there Unread = true
 
 -- its bytes, or why they can't be read
-abbrev pub read_of : FileTold → Result (List ℕ) FileFault
+abbrev pub read_of : FileReport → Result (List ℕ) FileFault
 read_of NoFile = Err (record { stage = Open; not_found = true })
 read_of (IsFile bytes trust) = Ok bytes
 read_of (Unopened not_found) = Err (record { stage = Open; not_found = not_found })
 read_of Unread = Err (record { stage = Read; not_found = false })
 
 -- how far it is trusted, or why that can't be asked
-abbrev pub trust_of : FileTold → Result Trust FileFault
+abbrev pub trust_of : FileReport → Result Trust FileFault
 trust_of NoFile = Err (record { stage = Open; not_found = true })
 trust_of (IsFile bytes trust) = Ok trust
 trust_of (Unopened not_found) = Err (record { stage = Open; not_found = not_found })
 trust_of Unread = Err (record { stage = Read; not_found = false })
 
 -- the outcome of reading what is there; memory may run out in any case
-abbrev pub IsReadOf : {Z : Type 0} → Result (Vec ℕ Z) FileFault → FileTold → Type 0
+abbrev pub IsReadOf : {Z : Type 0} → Result (Vec ℕ Z) FileFault → FileReport → Type 0
 IsReadOf (Ok bytes) told = read_of told ≡ Ok bytes.items
 IsReadOf (Err fault) told = (fault.stage ≡ Memory) ⊎ (read_of told ≡ Err fault)
 
 -- the outcome of asking how far it is trusted; memory may run out in any case
-abbrev pub IsTrustOf : Result Trust FileFault → FileTold → Type 0
+abbrev pub IsTrustOf : Result Trust FileFault → FileReport → Type 0
 IsTrustOf (Ok trust) told = trust_of told ≡ Ok trust
 IsTrustOf (Err fault) told = (fault.stage ≡ Memory) ⊎ (trust_of told ≡ Err fault)
 
@@ -75,17 +75,17 @@ Grew (Some m) None = Unit {0}
 Grew None n = n ≡ None
 
 -- a count that is kept in 64 bits, which reports nothing once it is at its greatest value
-abbrev pub told_count : (count : ℕ) → Option ℕ
-told_count count = if count == 18446744073709551615 then None else Some count
+abbrev pub reported_count : (count : ℕ) → Option ℕ
+reported_count count = if count == 18446744073709551615 then None else Some count
 
 -- what a variable is set to: nothing, a text, or bytes that aren't UTF-8
-pub data VariableTold : Type 0 where
-  NotSet : VariableTold
-  HasText : (text : List ℕ) → VariableTold
-  NoText : VariableTold
+pub data VariableReport : Type 0 where
+  NotSet : VariableReport
+  HasText : (text : List ℕ) → VariableReport
+  NoText : VariableReport
 
 -- what is known of a variable
-abbrev pub variable_told : EnvVar → VariableTold
-variable_told Unset = NotSet
-variable_told (Text text) = HasText (string_bytes text)
-variable_told IllFormed = NoText
+abbrev pub variable_report : EnvVar → VariableReport
+variable_report Unset = NotSet
+variable_report (Text text) = HasText (string_bytes text)
+variable_report IllFormed = NoText
