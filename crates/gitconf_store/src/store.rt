@@ -1,12 +1,12 @@
 //! The state of a file over one buffer.
-mod appending;
+mod append;
 mod editing;
 mod existing;
 mod including;
-mod joined;
 mod leaving_out;
 mod look_ups;
 mod making;
+mod push_section;
 mod removing;
 mod renaming;
 mod reseeding;

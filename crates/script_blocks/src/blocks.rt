@@ -23,6 +23,9 @@ use script_answers::session::Session;
 use std::alloc::Global;
 use std::io::{Read, Write};
 
+/// How the lines of an editor were played, or what is answered where there is no editor.
+type Played<'a> = Result<Result<(), Fault>, Outcome<'a>>;
+
 /// Opens an editor, and answers the lines up to `end`.
 pub fn play_block<R: Read + Drop, W: Write + Drop>(
     alloc: Global,
@@ -32,13 +35,59 @@ pub fn play_block<R: Read + Drop, W: Write + Drop>(
     streams: &mut Streams<R, W>,
 ) -> Result<(), Fault> {
     let mut tells = session.tells_refusals();
+    let bracket = Bracket::open(alloc, tells)?;
     let played = match opening {
-        Opening::Section => edit(alloc, session.file_mut(), words, streams, &mut tells),
-        Opening::SectionNumbered => editid(alloc, session.file_mut(), words, streams, &mut tells),
-        Opening::SectionOrNew => editnew(alloc, session.file_mut(), words, streams, &mut tells),
-        Opening::SectionAlone => editdetached(alloc, session, words, streams, &mut tells),
-        Opening::Value => value(alloc, session.file_mut(), words, streams, &mut tells),
-        Opening::Values => multi(alloc, session.file_mut(), words, streams, &mut tells),
+        Opening::Section => edit(
+            alloc,
+            bracket,
+            session.file_mut(),
+            words,
+            streams,
+            &mut tells,
+        ),
+        Opening::SectionNumbered => {
+            editid(
+                alloc,
+                bracket,
+                session.file_mut(),
+                words,
+                streams,
+                &mut tells,
+            )
+        }
+        Opening::SectionOrNew => {
+            editnew(
+                alloc,
+                bracket,
+                session.file_mut(),
+                words,
+                streams,
+                &mut tells,
+            )
+        }
+        Opening::SectionAlone => {
+            editdetached(alloc, bracket, session, words, streams, &mut tells)
+        }
+        Opening::Value => value(
+            alloc,
+            bracket,
+            session.file_mut(),
+            words,
+            streams,
+            &mut tells,
+        ),
+        Opening::Values => multi(
+            alloc,
+            bracket,
+            session.file_mut(),
+            words,
+            streams,
+            &mut tells,
+        ),
+    };
+    let played = match played {
+        Ok(played) => played,
+        Err(outcome) => play_without(alloc, bracket, &outcome, streams, &mut tells),
     };
     session.tell_refusals(tells);
     played
@@ -69,102 +118,93 @@ fn play_without<R: Read + Drop, W: Write + Drop>(
 }
 
 /// `edit SEC2`: the last section of the name and subsection.
-fn edit<R: Read + Drop, W: Write + Drop>(
+fn edit<'a, R: Read + Drop, W: Write + Drop>(
     alloc: Global,
+    bracket: Bracket,
     file: &mut File,
     words: &[Word<'_>],
     streams: &mut Streams<R, W>,
     tells: &mut bool,
-) -> Result<(), Fault> {
-    let bracket = Bracket::open(alloc, *tells)?;
+) -> Played<'a> {
     let Ok(names) = section_names(words) else {
-        return play_without(alloc, bracket, &Err(Refusal::Line), streams, tells);
+        return Err(Err(Refusal::Line));
     };
     match file.section_mut(names.name, names.subsection) {
-        Ok(mut editor) => section_lines::play(alloc, bracket, &mut editor, streams, tells),
-        Err(refusal) => {
-            let refusal = Err(Refusal::from(refusal));
-            play_without(alloc, bracket, &refusal, streams, tells)
-        }
+        Ok(mut editor) => Ok(section_lines::play(alloc, bracket, &mut editor, streams, tells)),
+        Err(refusal) => Err(Err(Refusal::from(refusal))),
     }
 }
 
 /// `editnew SEC2`: the same; if there is none, one is made.
-fn editnew<R: Read + Drop, W: Write + Drop>(
+fn editnew<'a, R: Read + Drop, W: Write + Drop>(
     alloc: Global,
+    bracket: Bracket,
     file: &mut File,
     words: &[Word<'_>],
     streams: &mut Streams<R, W>,
     tells: &mut bool,
-) -> Result<(), Fault> {
-    let bracket = Bracket::open(alloc, *tells)?;
+) -> Played<'a> {
     let Ok(names) = section_names(words) else {
-        return play_without(alloc, bracket, &Err(Refusal::Line), streams, tells);
+        return Err(Err(Refusal::Line));
     };
     match file.section_mut_or_create_new(names.name, names.subsection) {
-        Ok(mut editor) => section_lines::play(alloc, bracket, &mut editor, streams, tells),
-        Err(refusal) => {
-            let refusal = Err(Refusal::from(refusal));
-            play_without(alloc, bracket, &refusal, streams, tells)
-        }
+        Ok(mut editor) => Ok(section_lines::play(alloc, bracket, &mut editor, streams, tells)),
+        Err(refusal) => Err(Err(Refusal::from(refusal))),
     }
 }
 
 /// `editid N`: the section of a number.
-fn editid<R: Read + Drop, W: Write + Drop>(
+fn editid<'a, R: Read + Drop, W: Write + Drop>(
     alloc: Global,
+    bracket: Bracket,
     file: &mut File,
     words: &[Word<'_>],
     streams: &mut Streams<R, W>,
     tells: &mut bool,
-) -> Result<(), Fault> {
-    let bracket = Bracket::open(alloc, *tells)?;
+) -> Played<'a> {
     let Ok(number) = number(words) else {
-        return play_without(alloc, bracket, &Err(Refusal::Line), streams, tells);
+        return Err(Err(Refusal::Line));
     };
     let id = match id_of(alloc, file, number) {
         Ok(id) => id,
-        Err(refusal) => return play_without(alloc, bracket, &Err(refusal), streams, tells),
+        Err(refusal) => return Err(Err(refusal)),
     };
     match file.section_mut_by_id(id) {
-        Ok(mut editor) => section_lines::play(alloc, bracket, &mut editor, streams, tells),
-        Err(refusal) => play_without(alloc, bracket, &unfound(refusal), streams, tells),
+        Ok(mut editor) => Ok(section_lines::play(alloc, bracket, &mut editor, streams, tells)),
+        Err(refusal) => Err(unfound(refusal)),
     }
 }
 
 /// `editdetached PLACE`: the section of that place, which is in no file.
-fn editdetached<R: Read + Drop, W: Write + Drop>(
+fn editdetached<'a, R: Read + Drop, W: Write + Drop>(
     alloc: Global,
+    bracket: Bracket,
     session: &mut Session,
     words: &[Word<'_>],
     streams: &mut Streams<R, W>,
     tells: &mut bool,
-) -> Result<(), Fault> {
-    let bracket = Bracket::open(alloc, *tells)?;
+) -> Played<'a> {
     let Ok(place) = place(words) else {
-        return play_without(alloc, bracket, &Err(Refusal::Line), streams, tells);
+        return Err(Err(Refusal::Line));
     };
     let Some(mut section) = session.replace_section(place, None) else {
-        return play_without(alloc, bracket, &Ok(Answer::Absent), streams, tells);
+        return Err(Ok(Answer::Absent));
     };
     let played = edit_alone(alloc, bracket, &mut section, streams, tells);
     drop(session.replace_section(place, Some(section)));
     played
 }
 
-fn edit_alone<R: Read + Drop, W: Write + Drop>(
+fn edit_alone<'a, R: Read + Drop, W: Write + Drop>(
     alloc: Global,
     bracket: Bracket,
     section: &mut Section,
     streams: &mut Streams<R, W>,
     tells: &mut bool,
-) -> Result<(), Fault> {
+) -> Played<'a> {
     match section.to_mut() {
-        Ok(mut editor) => section_lines::play(alloc, bracket, &mut editor, streams, tells),
-        Err(refusal) => {
-            let refusal = Err(Refusal::from(refusal));
-            play_without(alloc, bracket, &refusal, streams, tells)
-        }
+        Ok(mut editor) => Ok(section_lines::play(alloc, bracket, &mut editor, streams, tells)),
+        Err(refusal) => Err(Err(Refusal::from(refusal))),
     }
 }
 
@@ -176,43 +216,37 @@ fn unfound<'a>(refusal: Error) -> Outcome<'a> {
 }
 
 /// `value KEY3`: the last entry of the key.
-fn value<R: Read + Drop, W: Write + Drop>(
+fn value<'a, R: Read + Drop, W: Write + Drop>(
     alloc: Global,
+    bracket: Bracket,
     file: &mut File,
     words: &[Word<'_>],
     streams: &mut Streams<R, W>,
     tells: &mut bool,
-) -> Result<(), Fault> {
-    let bracket = Bracket::open(alloc, *tells)?;
+) -> Played<'a> {
     let Ok(names) = names(words) else {
-        return play_without(alloc, bracket, &Err(Refusal::Line), streams, tells);
+        return Err(Err(Refusal::Line));
     };
     match file.raw_value_mut_by(names.section, names.subsection, names.value) {
-        Ok(mut editor) => value_lines::play(alloc, bracket, &mut editor, streams, tells),
-        Err(refusal) => {
-            let refusal = Err(Refusal::from(refusal));
-            play_without(alloc, bracket, &refusal, streams, tells)
-        }
+        Ok(mut editor) => Ok(value_lines::play(alloc, bracket, &mut editor, streams, tells)),
+        Err(refusal) => Err(Err(Refusal::from(refusal))),
     }
 }
 
 /// `multi KEY3`: all entries of the key.
-fn multi<R: Read + Drop, W: Write + Drop>(
+fn multi<'a, R: Read + Drop, W: Write + Drop>(
     alloc: Global,
+    bracket: Bracket,
     file: &mut File,
     words: &[Word<'_>],
     streams: &mut Streams<R, W>,
     tells: &mut bool,
-) -> Result<(), Fault> {
-    let bracket = Bracket::open(alloc, *tells)?;
+) -> Played<'a> {
     let Ok(names) = names(words) else {
-        return play_without(alloc, bracket, &Err(Refusal::Line), streams, tells);
+        return Err(Err(Refusal::Line));
     };
     match file.raw_values_mut_by(names.section, names.subsection, names.value) {
-        Ok(mut editor) => values_lines::play(alloc, bracket, &mut editor, streams, tells),
-        Err(refusal) => {
-            let refusal = Err(Refusal::from(refusal));
-            play_without(alloc, bracket, &refusal, streams, tells)
-        }
+        Ok(mut editor) => Ok(values_lines::play(alloc, bracket, &mut editor, streams, tells)),
+        Err(refusal) => Err(Err(Refusal::from(refusal))),
     }
 }

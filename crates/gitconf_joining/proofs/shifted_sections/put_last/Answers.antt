@@ -3,7 +3,7 @@ use Rattle.std.specs.Option.{option_copied}
 use Rattle.gitconf_sections.specs.Section.{made}
 use Rattle.gitconf_joining.proofs.Loading.{added_fits}
 use Rattle.gitconf_views.proofs.Outcomes.{on_ok}
-use Rattle.gitconf_joining.proofs.moving.put_last.Goals as goal
+use Rattle.gitconf_joining.proofs.shifted_sections.put_last.Goals as goal
 
 pub returns-clause-fits : goal.returns-clause-fits
 returns-clause-fits c =

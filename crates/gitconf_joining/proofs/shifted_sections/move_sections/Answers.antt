@@ -5,7 +5,7 @@ use Rattle.gitconf_sections.specs.Section.{Section}
 use Rattle.gitconf_sections.proofs.Edits.{if_there}
 use Rattle.gitconf_joining.specs.Moves.{IsEntryMoved}
 use Rattle.gitconf_joining.proofs.MovedTables.{AreMovedTo, all_changed, next_movable, next_moved}
-use Rattle.gitconf_joining.proofs.moving.move_sections.Goals as goal
+use Rattle.gitconf_joining.proofs.shifted_sections.move_sections.Goals as goal
 
 pub loop-at-init : goal.loop-at-init
 loop-at-init c = record { next = refl; entries = refl }

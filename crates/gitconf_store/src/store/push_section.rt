@@ -6,7 +6,7 @@ ghost use Rattle.gitconf_state.specs.Edits.{Number, PushSection, answer, apply};
 
 use crate::store::Store;
 use gitconf_items::moving::moved_header;
-use gitconf_joining::moving::{copies_before, move_list, put_last};
+use gitconf_joining::shifted_sections::{copies_before, move_list, put_last};
 use gitconf_lines::buffer::{append, check_room};
 use gitconf_table::table::SectionId;
 use gitconf_text::parse::span;

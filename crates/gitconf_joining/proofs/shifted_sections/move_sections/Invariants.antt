@@ -1,5 +1,5 @@
 use Rattle.gitconf_joining.proofs.MovedTables.{AreMovedTo}
-use Rattle.gitconf_joining.proofs.moving.move_sections.Given as goal
+use Rattle.gitconf_joining.proofs.shifted_sections.move_sections.Given as goal
 
 -- those before the place are moved
 abbrev pub invariant-loop-at : goal.invariant-loop-at

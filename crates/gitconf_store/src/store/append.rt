@@ -10,8 +10,8 @@ ghost use Rattle.gitconf_store.specs.Appends.{appended_bytes, bytes_at, kept_at,
 use crate::store::Store;
 use gitconf_items::event::Span;
 use gitconf_items::items::Item;
-use gitconf_joining::joining::{parts_lines, put_behind};
-use gitconf_joining::moving::{copies_before, move_front, move_sections};
+use gitconf_joining::fronts::{parts_lines, put_behind};
+use gitconf_joining::shifted_sections::{copies_before, move_front, move_sections};
 use gitconf_lines::buffer::{append, check_room};
 use gitconf_sections::sections::SectionList;
 use gitconf_text::line_end::LineEnd;

@@ -3,7 +3,7 @@ use Rattle.gitconf_table.specs.Sections.{with_all}
 use Rattle.gitconf_sections.specs.Held.{line_end_item}
 use Rattle.gitconf_joining.proofs.Joined.{put_behind_none, same_sections}
 use Rattle.gitconf_views.proofs.Outcomes.{if_err_at_all}
-use Rattle.gitconf_joining.proofs.joining.put_behind_front.Goals as goal
+use Rattle.gitconf_joining.proofs.fronts.put_behind_front.Goals as goal
 
 pub returns-in_err-reserve-clause-err : goal.returns-in_err-reserve-clause-err
 returns-in_err-reserve-clause-err c = if_err_at_all c.from_residual.result (same_sections c.args.sections.now c.args.sections.now refl)
