@@ -1,0 +1,4 @@
+pub mod Orders
+pub mod Groups
+pub mod Kept
+pub mod Walked
