@@ -1,13 +1,13 @@
 -- Groups of the same names in a list that stands in order: each group alone decides of its settings.
-use Rattle.std.proofs.Common.{◌≡◌, ℕ, ◌+◌, ◌<◌, ◌≤◌, Bool, true, false, not, ◌&&◌, List, [], ◌∷◌, ◌++◌, map, length, take, drop, zero, suc, refl, sym, ap, subst, ◌∙◌, arith, append-nil, take-append-drop, append_assoc}
+use Rattle.std.proofs.Common.{◌≡◌, ℕ, ◌+◌, ◌≤◌, Bool, true, false, not, ◌&&◌, List, [], ◌∷◌, ◌++◌, map, length, take, drop, suc, refl, sym, ap, subst, ◌∙◌, arith, append-nil}
 use Rattle.std.specs.Prelude.{filter, if◌then◌else◌, nat_lt, unwrap_or, position}
 use Rattle.std.specs.List.{AllByRecursion, position_or_len, prefix_len}
 use Rattle.std.specs.declared.cmp.Ordering.{Ordering}
 use Rattle.std.specs.declared.cmp.Ordering.TheVariants.{Less, Equal, Greater}
 use Rattle.std.specs.Ordering.{is_lt, is_eq, ordering_reverse, ordering_then, nat_cmp}
-use Rattle.std.proofs.lemmas.Bool.{and_parts, ltb-false, le-ltb}
+use Rattle.std.proofs.lemmas.Bool.{ltb-false}
 use Rattle.std.proofs.lemmas.List.Elements.{filter-append, filter_agree}
-use Rattle.gitconf_compared.specs.Settings.{Names, Told, all_told, are_same, differ_alone, differ_in, is_said, marked, marks_of, names_cmp, rank, said_of, same_names, same_side, told, told_cmp, IsBySide}
+use Rattle.gitconf_compared.specs.Settings.{Names, Told, all_told, are_same, differ_alone, differ_in, is_said, marked, marks_of, names_cmp, rank, said_of, same_names, same_side, told, IsBySide}
 use Rattle.gitconf_compared.specs.declared.setting.Setting.{Setting}
 use Rattle.gitconf_compared.specs.declared.setting.Side.{Side}
 use Rattle.gitconf_compared.specs.declared.setting.Side.TheVariants.{One, Other}
@@ -105,7 +105,7 @@ differ_of_group names group others are none =
 differ_of_others : (names : Names) (group others : List Told) → NoneIsOf names group → differ_in names (group ++ others) ≡ differ_in names others
 differ_of_others names group others none =
     let said : (side : Side) → said_of names side (group ++ others) ≡ said_of names side others
-        = λ side. filter-append (is_said names side) group others ∙ ap (λ ts. ts ++ said_of names side others) (said_outside names side group none) in
+    = λ side. filter-append (is_said names side) group others ∙ ap (λ ts. ts ++ said_of names side others) (said_outside names side group none) in
     λ i. not (are_same (said One i) (said Other i))
 
 -- names that a group of others doesn't have

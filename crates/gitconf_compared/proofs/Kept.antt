@@ -1,5 +1,5 @@
 -- What is kept of settings: of settings that are sorted, and of those that were sorted.
-use Rattle.std.proofs.Common.{◌≡◌, ℕ, ◌+◌, ◌<◌, ◌≤◌, ◌⊎◌, inl, inr, Bool, true, false, not, ◌&&◌, List, [], ◌∷◌, ◌++◌, map, length, get_or, suc, refl, sym, ap, subst, ◌∙◌, arith}
+use Rattle.std.proofs.Common.{◌≡◌, ℕ, ◌+◌, ◌<◌, ◌⊎◌, inl, inr, Bool, true, false, not, ◌&&◌, List, [], ◌∷◌, length, suc, refl, sym, ap, subst, ◌∙◌, arith}
 use Rattle.std.specs.Prelude.{filter, if◌then◌else◌}
 use Rattle.std.specs.List.{All, AllByRecursion, list_all}
 use Rattle.std.specs.List.Sorted.{IsPermutation, IsSortedBy, IsSorted, IsStableBy, ties}
@@ -13,7 +13,7 @@ use Rattle.gitconf_compared.specs.declared.setting.Side.{Side}
 use Rattle.gitconf_compared.specs.declared.setting.Side.TheVariants.{One, Other}
 use Rattle.std.specs.Cmp.{nat_eq_equiv}
 use Rattle.gitconf_compared.proofs.Orders.{same_equiv, ties_are_said, before, Ascends, ascends, is_sorted}
-use Rattle.gitconf_compared.proofs.Groups.{said_alike, differ_alike, marked_by}
+use Rattle.gitconf_compared.proofs.Groups.{differ_alike, marked_by}
 
 -- the test of the order, on settings of the program
 abbrev pub is_before : Setting → Setting → Bool
@@ -59,7 +59,7 @@ said_stays names side old new moved stable = filter_told (is_said names side) ne
         filter_agree (λ s. is_said names side (told s)) (ties is_before found.0) agree new ∙ stable found.0 ∙ sym (filter_agree (λ s. is_said names side (told s)) (ties is_before found.0) agree old)
     go (inr none) =
         let all : All (λ s. is_said names side (told s) ≡ false) new
-            = All-permutation (λ s. is_said names side (told s) ≡ false) old new moved (All-from_recursion (λ s. is_said names side (told s) ≡ false) old none) in
+        = All-permutation (λ s. is_said names side (told s) ≡ false) old new moved (All-from_recursion (λ s. is_said names side (told s) ≡ false) old none) in
         none_pass (λ s. is_said names side (told s)) new (recursion_from_All (λ s. is_said names side (told s) ≡ false) new all) ∙ sym (none_pass (λ s. is_said names side (told s)) old none)
 
 -- a filter behind one that is the same wherever it passes
@@ -84,7 +84,7 @@ marks_keep : (settings : List Told) → IsKept settings (marked (marks_of settin
 marks_keep settings names side =
     ap (said_of names side) (marked_by (λ t. differ_in t.names settings) settings)
     ∙ filter_both (is_said names side) (λ t. differ_in t.names settings) (differ_in names settings)
-      (λ t is. sym (differ_alike names t.names (and_parts (same_names names t.names) (same_side side t.side) is).0 settings)) settings
+    (λ t is. sym (differ_alike names t.names (and_parts (same_names names t.names) (same_side side t.side) is).0 settings)) settings
 
 -- of settings that were sorted too
 pub kept_of_sorted : (old new : List Setting) → IsPermutation old new → IsStableBy is_before old new → IsKept (all_told old) (marked (marks_of (all_told new)) (all_told new))
@@ -143,6 +143,6 @@ all_test p (t ∷ settings) all = rw all.0 (all_test p settings all.1)
 pub all_kept : (old new : List Setting) → IsPermutation old new → (p : Told → Bool) → list_all p (all_told old) ≡ true → list_all p (marked (marks_of (all_told new)) (all_told new)) ≡ true
 all_kept old new moved p all =
     let every : AllByRecursion (λ s. p (told s) ≡ true) new
-        = recursion_from_All (λ s. p (told s) ≡ true) new (All-permutation (λ s. p (told s) ≡ true) old new moved (All-from_recursion (λ s. p (told s) ≡ true) old (all_from_tests p old all))) in
+    = recursion_from_All (λ s. p (told s) ≡ true) new (All-permutation (λ s. p (told s) ≡ true) old new moved (All-from_recursion (λ s. p (told s) ≡ true) old (all_from_tests p old all))) in
     ap (list_all p) (marked_by (λ t. differ_in t.names (all_told new)) (all_told new))
     ∙ all_test p (filter (λ t. differ_in t.names (all_told new)) (all_told new)) (all_passing (λ t. p t ≡ true) (λ t. differ_in t.names (all_told new)) (all_told new) (tests_from_all p new every))

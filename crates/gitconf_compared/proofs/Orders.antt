@@ -1,7 +1,6 @@
 -- The order of settings, and lists that stand in it.
-use Rattle.std.proofs.Common.{◌≡◌, ℕ, ◌+◌, ◌<◌, Bool, true, false, not, ◌&&◌, List, [], ◌∷◌, ◌++◌, map, length, get_or, Option, Some, None, zero, suc, refl, sym, ap, ◌∙◌, arith, add-one}
-use Rattle.std.specs.Prelude.{filter}
-use Rattle.std.specs.List.{All, AllByRecursion}
+use Rattle.std.proofs.Common.{◌≡◌, ℕ, Bool, false, not, ◌&&◌, List, [], ◌∷◌, Option, Some, None, zero, suc, refl, sym, ap, ◌∙◌, arith, add-one}
+use Rattle.std.specs.List.{AllByRecursion}
 use Rattle.std.specs.List.Sorted.{IsSorted, IsSortedBy, ties}
 use Rattle.std.specs.Option.{option_eq, option_cmp}
 use Rattle.std.specs.declared.cmp.Ordering.{Ordering}
@@ -10,13 +9,9 @@ use Rattle.std.specs.Ordering.{is_lt, is_eq, ordering_reverse, ordering_then, na
 use Rattle.std.specs.Cmp.{IsEquivalence, IsTotalOrder, IsStrictWeakOrder, on_equiv, and_equiv, on_total, then_total, nat_cmp_total, both_tied, unsigned_ties}
 use Rattle.std.specs.Cmp.Lexicographic.{nat_list_eq_equiv, nat_list_cmp_total, options_equiv, options_total, texts_ties, slice_cmp}
 use Rattle.std.specs.Str.{bytes_eq}
-use Rattle.std.proofs.lemmas.Cmp.{tied_back}
-use Rattle.std.proofs.lemmas.List.{get_or-map}
 use Rattle.std.proofs.lemmas.List.Elements.{recursion_from_All}
 use Rattle.std.proofs.lemmas.List.Sorted.{sorted_far, ranks_by}
-use Rattle.gitconf_compared.specs.Settings.{Names, Told, all_told, is_said, names_cmp, rank, same_names, same_side, told, told_cmp}
-use Rattle.gitconf_compared.specs.declared.setting.Setting.{Setting}
-use Rattle.gitconf_compared.specs.declared.setting.Side.{Side}
+use Rattle.gitconf_compared.specs.Settings.{Names, Told, is_said, names_cmp, rank, same_names, told_cmp}
 
 pub same_equiv : IsEquivalence same_names
 same_equiv =

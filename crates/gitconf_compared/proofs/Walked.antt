@@ -1,17 +1,14 @@
 -- Steps of the walks over the settings of one key.
-use Rattle.std.proofs.Common.{◌≡◌, ℕ, ◌+◌, ◌-◌, ◌<◌, ◌≤◌, Bool, true, false, not, ◌&&◌, List, [], ◌∷◌, ◌++◌, map, length, get_or, take, drop, zero, suc, Option, Some, None, refl, sym, ap, subst, ◌∙◌, arith, take-append-drop}
+use Rattle.std.proofs.Common.{◌≡◌, ℕ, ◌+◌, ◌<◌, ◌≤◌, Bool, true, false, not, ◌&&◌, List, [], ◌∷◌, ◌++◌, map, length, get_or, take, drop, zero, suc, Option, Some, None, refl, sym, ap, subst, ◌∙◌, arith, take-append-drop}
 use Rattle.std.specs.Prelude.{filter, if◌then◌else◌, unwrap_or, position}
-use Rattle.std.specs.List.{AllByRecursion, position_or_len}
-use Rattle.std.specs.Option.{option_eq, option_map}
+use Rattle.std.specs.Option.{option_eq}
 use Rattle.std.specs.Cmp.Lexicographic.{pointwise}
 use Rattle.std.specs.Str.{bytes_eq}
 use Rattle.std.proofs.lemmas.List.{drop_more, drop_all, take-map, drop-map}
-use Rattle.bstr.specs.Owned.{bstring_bytes}
-use Rattle.gitconf_compared.specs.Settings.{Names, Told, all_told, are_same, differ_alone, differ_in, found_in, goes_on, marks_of, names_of, same_names, same_side, told, values_of, IsBySide}
+use Rattle.gitconf_compared.specs.Settings.{Told, all_told, are_same, differ_alone, found_in, goes_on, marks_of, names_of, same_names, same_side, told, values_of, IsBySide}
 use Rattle.gitconf_compared.specs.declared.setting.Setting.{Setting}
-use Rattle.gitconf_compared.specs.declared.setting.Side.{Side}
 use Rattle.gitconf_compared.specs.declared.setting.Side.TheVariants.{One, Other}
-use Rattle.gitconf_compared.proofs.Orders.{Ascends, before, same_equiv}
+use Rattle.gitconf_compared.proofs.Orders.{Ascends, same_equiv}
 use Rattle.gitconf_compared.proofs.Groups.{AreOf, NoneIsOf, alike, at_front, behind_front, by_side, firsts, front_ascends, rest_ascends, in_two, marks_step, place_of_told, place_or_all}
 
 -- the settings have the same values, in order
@@ -98,20 +95,20 @@ pub grouped : (first : Setting) (others : List Setting) (n : ℕ) → Ascends (a
     → IsGrouped (take (suc n) (first ∷ others)) (drop (suc n) (first ∷ others)) (first ∷ others)
 grouped first others n up is =
     let place : n ≡ alike (names_of first) (all_told others)
-        = is ∙ place_or_all (λ s. not (same_names (names_of first) (names_of s))) others ∙ place_of_told (λ t. not (same_names (names_of first) t.names)) others in
+    = is ∙ place_or_all (λ s. not (same_names (names_of first) (names_of s))) others ∙ place_of_told (λ t. not (same_names (names_of first) t.names)) others in
     let group : all_told (take n others) ≡ take (alike (names_of first) (all_told others)) (all_told others) = sym (take-map told n others) ∙ ap (λ n. take n (all_told others)) place in
     let behind : all_told (drop n others) ≡ drop (alike (names_of first) (all_told others)) (all_told others) = sym (drop-map told n others) ∙ ap (λ n. drop n (all_told others)) place in
     let are : AreOf (names_of first) (all_told (take n others)) = subst (λ (ts : List Told). AreOf (names_of first) ts) (sym group) (at_front (names_of first) (all_told others)) in
     let none : NoneIsOf (names_of first) (all_told (drop n others)) = subst (λ (ts : List Told). NoneIsOf (names_of first) ts) (sym behind) (behind_front (told first) (all_told others) up.0 up.1) in
     let whole : all_told (take n others) ++ all_told (drop n others) ≡ all_told others
-        = (λ i. sym (take-map told n others) i ++ sym (drop-map told n others) i) ∙ take-append-drop n (all_told others) in
+    = (λ i. sym (take-map told n others) i ++ sym (drop-map told n others) i) ∙ take-append-drop n (all_told others) in
     let rising : Ascends (told first ∷ (all_told (take n others) ++ all_told (drop n others))) = subst (λ (ts : List Told). Ascends (told first ∷ ts)) (sym whole) up in
     let all : AreOf (names_of first) (told first ∷ all_told (take n others)) = (same_equiv.refl (names_of first), are) in
     record {
       sides = by_side (names_of first) (told first ∷ all_told (take n others)) all (front_ascends (told first ∷ all_told (take n others)) (all_told (drop n others)) rising);
       up = rest_ascends (told first ∷ all_told (take n others)) (all_told (drop n others)) rising;
       marks =
-        (λ i. marks_of (told first ∷ sym whole i))
-        ∙ marks_step (names_of first) (told first ∷ all_told (take n others)) (all_told (drop n others)) all none
-        ∙ (λ i. map_over (differ_alone (all_told (take (suc n) (first ∷ others)))) (take (suc n) (first ∷ others)) i ++ marks_of (all_told (drop n others)));
+          (λ i. marks_of (told first ∷ sym whole i))
+          ∙ marks_step (names_of first) (told first ∷ all_told (take n others)) (all_told (drop n others)) all none
+          ∙ (λ i. map_over (differ_alone (all_told (take (suc n) (first ∷ others)))) (take (suc n) (first ∷ others)) i ++ marks_of (all_told (drop n others)));
     }

@@ -1,5 +1,5 @@
 -- Settings as plain values, their order, and what two files say of a key.
-use Rattle.std.specs.Prelude.{◌≡◌, ◌≤◌, ℕ, Bool, true, false, not, List, [], ◌∷◌, ◌==◌, ◌&&◌, map, filter, Option, Some, None, if◌then◌else◌}
+use Rattle.std.specs.Prelude.{◌≡◌, ◌≤◌, ℕ, Bool, false, not, List, [], ◌∷◌, ◌==◌, ◌&&◌, map, filter, Option, Some, None, if◌then◌else◌}
 use Rattle.std.specs.List.{AllByRecursion}
 use Rattle.std.specs.Option.{option_eq, option_cmp, option_map}
 use Rattle.std.specs.Str.{bytes_eq}
@@ -17,7 +17,7 @@ pub record Names : Type 0 where
   pub subsection : Option (List ℕ)
   pub name : List ℕ
 
--- a setting: its names, the file that has it, the place of its section there, and its value; none for an entry without `=`
+-- a setting: its names, the file that has it, the number of its section there, and its value; none for an entry without `=`
 pub record Told : Type 0 where
   pub names : Names
   pub side : Side

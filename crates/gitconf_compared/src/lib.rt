@@ -3,5 +3,4 @@
 
 pub mod comparing;
 pub mod differing;
-pub mod probe;
 pub mod setting;

@@ -3,6 +3,7 @@ ghost use Rattle.std.specs.Prelude.{◌≡◌};
 ghost use Rattle.gitconf_compared.specs.Settings.{names_cmp, names_of, same_names, told, told_cmp};
 
 use bstr::BString;
+use gitconf_table::table::SectionId;
 use std::cmp::Ordering;
 
 /// Which of two files.
@@ -38,8 +39,8 @@ pub struct Setting {
     pub value_name: BString,
     /// The file that has it.
     pub side: Side,
-    /// The place of its section in that file.
-    pub section: usize,
+    /// The number of its section in that file.
+    pub section: SectionId,
     /// What it means; `None` for an entry without `=`.
     pub value: Option<BString>,
 }

@@ -1,5 +1,4 @@
-use Rattle.std.proofs.Common.{◌≡◌, List, Bool, true, subst, sym, ap, ◌∙◌, rules}
-use Rattle.std.specs.Prelude.{IfOk}
+use Rattle.std.proofs.Common.{◌≡◌, List, subst, sym, ap, ◌∙◌, rules}
 use Rattle.std.specs.List.{list_all}
 use Rattle.std.specs.List.Sorted.{IsSorted, IsSortedBy, IsStableBy}
 use Rattle.std.proofs.lemmas.List.Sorted.{answers_always, ranks_by}

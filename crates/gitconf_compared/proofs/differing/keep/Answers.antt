@@ -1,4 +1,4 @@
-use Rattle.std.proofs.Common.{◌≡◌, Bool, List, [], ◌∷◌, ◌++◌, length, inl, inr, refl, ap, sym, ◌∙◌, append-nil}
+use Rattle.std.proofs.Common.{◌≡◌, Bool, List, [], ◌∷◌, ◌++◌, inl, inr, refl, ap, sym, ◌∙◌, append-nil}
 use Rattle.std.specs.Iterator.Adapters.{zip_first, zip_second}
 use Rattle.std.specs.Slice.Iter.{iter_rest}
 use Rattle.std.specs.Vec.Iter.{into_iter_items}
@@ -13,9 +13,9 @@ none_marked (m ∷ marks) settings none = ap (marked (m ∷ marks)) none
 pub returns : goal.returns
 returns c =
     let nothing : marked (iter_rest (zip_second c.loop-setting.setting-iterator)) (all_told (into_iter_items (zip_first c.loop-setting.setting-iterator))) ≡ []
-        = elim c.in-None.ensures.steps [
-          | inl end ↦ none_marked (iter_rest (zip_second c.loop-setting.setting-iterator)) (all_told (into_iter_items (zip_first c.loop-setting.setting-iterator)))
-            (ap all_told (nil_from_length (into_iter_items (zip_first c.loop-setting.setting-iterator)) (sym c.loop-setting.setting-iterator.a.rest.ok.0 ∙ end.1.0)))
-          | inr end ↦ ap (λ ms. marked ms (all_told (into_iter_items (zip_first c.loop-setting.setting-iterator)))) (nil_from_length (iter_rest (zip_second c.loop-setting.setting-iterator)) end.1.0)
-        ] in
+    = elim c.in-None.ensures.steps [
+      | inl end ↦ none_marked (iter_rest (zip_second c.loop-setting.setting-iterator)) (all_told (into_iter_items (zip_first c.loop-setting.setting-iterator)))
+          (ap all_told (nil_from_length (into_iter_items (zip_first c.loop-setting.setting-iterator)) (sym c.loop-setting.setting-iterator.a.rest.ok.0 ∙ end.1.0)))
+      | inr end ↦ ap (λ ms. marked ms (all_told (into_iter_items (zip_first c.loop-setting.setting-iterator)))) (nil_from_length (iter_rest (zip_second c.loop-setting.setting-iterator)) end.1.0)
+    ] in
     sym (append-nil (all_told c.loop-setting.kept.items)) ∙ ap (λ ts. all_told c.loop-setting.kept.items ++ ts) (sym nothing) ∙ c.loop-setting.invariant

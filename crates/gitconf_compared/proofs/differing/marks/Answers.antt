@@ -1,6 +1,6 @@
-use Rattle.std.proofs.Common.{◌≡◌, ℕ, ◌+◌, ◌++◌, List, ◌∷◌, map, length, take, drop, suc, refl, sym, ap, subst, ◌∙◌, append_assoc, rules, add-one}
+use Rattle.std.proofs.Common.{◌≡◌, ℕ, ◌+◌, ◌++◌, List, ◌∷◌, map, length, take, drop, sym, ap, subst, ◌∙◌, append_assoc, rules, add-one}
 use Rattle.std.specs.Prelude.{unwrap_or, position, not}
-use Rattle.gitconf_compared.specs.Settings.{Told, all_told, differ_alone, marks_of, names_of, same_names, IsBySide}
+use Rattle.gitconf_compared.specs.Settings.{all_told, differ_alone, marks_of, names_of, same_names}
 use Rattle.gitconf_compared.specs.declared.setting.Setting.{Setting}
 use Rattle.gitconf_compared.proofs.Orders.{Ascends, ascends}
 use Rattle.gitconf_compared.proofs.Walked.{IsGrouped, grouped}
@@ -12,7 +12,7 @@ cut : (rest : List Setting) (first : Setting) (others group behind : List Settin
     → group ≡ take (n + 1) rest → behind ≡ drop (n + 1) rest → IsGrouped group behind rest
 cut rest first others group behind n is up count front back =
     let more : IsGrouped (take (n + 1) (first ∷ others)) (drop (n + 1) (first ∷ others)) (first ∷ others)
-        = rw add-one (grouped first others n (subst (λ (ss : List Setting). Ascends (all_told ss)) is up) count) in
+    = rw add-one (grouped first others n (subst (λ (ss : List Setting). Ascends (all_told ss)) is up) count) in
     let same : IsGrouped (take (n + 1) rest) (drop (n + 1) rest) rest = subst (λ (ss : List Setting). IsGrouped (take (n + 1) ss) (drop (n + 1) ss) ss) (sym is) more in
     rw (front, back) same
 
@@ -30,10 +30,10 @@ differ-requires c =
 pub loop-first-preserved : goal.loop-first-preserved
 loop-first-preserved c =
     let g : IsGrouped c.split_at.result.0.now c.split_at.result.1.now c.loop-first.rest.now
-        = cut c.loop-first.rest.now c.in-Some.first.now c.in-Some.others.now c.split_at.result.0.now c.split_at.result.1.now c.alike_count.result (search rules) c.loop-first.invariant.up
-          c.alike_count.ensures.count c.split_at.ensures.front c.split_at.ensures.back in
+    = cut c.loop-first.rest.now c.in-Some.first.now c.in-Some.others.now c.split_at.result.0.now c.split_at.result.1.now c.alike_count.result (search rules) c.loop-first.invariant.up
+    c.alike_count.ensures.count c.split_at.ensures.front c.split_at.ensures.back in
     let put : c.put_marks.new.marks.items ≡ c.loop-first.marks.items ++ map (λ _. differ_alone (all_told c.split_at.result.0.now)) c.split_at.result.0.now
-        = c.in_ok-put_marks.ensures ∙ (λ i. c.loop-first.marks.items ++ map (λ _. c.differ.ensures i) c.split_at.result.0.now) in
+    = c.in_ok-put_marks.ensures ∙ (λ i. c.loop-first.marks.items ++ map (λ _. c.differ.ensures i) c.split_at.result.0.now) in
     record {
       settled = ap (λ ms. ms ++ marks_of (all_told c.split_at.result.1.now)) put ∙ append_assoc c.loop-first.marks.items _ _ ∙ ap (λ ms. c.loop-first.marks.items ++ ms) (sym g.marks) ∙ c.loop-first.invariant.settled;
       up = g.up;
