@@ -79,7 +79,7 @@ pub fn add_settings(
     sections: Sections<'_>,
     side: Side,
 ) -> Result<(), NoMemory>
-    ensures { IfOk result (λ _. all_told settings.new.items ≡ all_told settings.old.items ++ settings_of side (sections_left sections)) }
+    ensures { IfOk result (λ _. all_told settings.new.items ≡ all_told settings.old.items ++ settings_of side (sections_left sections.entry)) }
 {
     for section in sections {
         add_section(settings, &section, side)?;
