@@ -1,14 +1,13 @@
 -- What is kept of the settings of two files are their differences.
-use Rattle.std.proofs.Common.{◌≡◌, ◌≢◌, ℕ, ◌+◌, ◌<◌, Bool, true, false, not, ◌&&◌, List, [], ◌∷◌, ◌++◌, map, length, get_or, Option, Some, None, suc, refl, sym, ap, subst, ◌∙◌, append-nil, append_assoc, arith}
-use Rattle.std.specs.Prelude.{filter, flat_map, if◌then◌else◌, unwrap_or, ◌↔◌}
-use Rattle.std.specs.List.{All, AllByRecursion, last_or, list_all}
+use Rattle.std.proofs.Common.{◌≡◌, ◌≢◌, ℕ, ◌+◌, ◌<◌, Bool, true, false, not, ◌&&◌, List, [], ◌∷◌, ◌++◌, map, length, Option, Some, None, suc, refl, sym, ap, subst, ◌∙◌, append-nil, append_assoc, arith}
+use Rattle.std.specs.Prelude.{if◌then◌else◌, unwrap_or, ◌↔◌}
+use Rattle.std.specs.List.{AllByRecursion, last_or, list_all}
 use Rattle.std.specs.List.Sorted.{IsSorted}
-use Rattle.std.specs.Option.{option_eq, option_map}
+use Rattle.std.specs.Option.{option_eq}
 use Rattle.std.specs.Ordering.{is_lt}
 use Rattle.std.specs.Str.{bytes_eq}
 use Rattle.std.specs.Cmp.{nat_eq_equiv}
 use Rattle.std.specs.Cmp.Lexicographic.{pointwise, pointwise_decides, bytes_decides}
-use Rattle.std.specs.Char.{to_ascii_lowercase}
 use Rattle.std.proofs.lemmas.Bool.{and_from, and_parts, false_from_ne_true}
 use Rattle.std.proofs.lemmas.List.{get_or-map}
 use Rattle.std.proofs.lemmas.List.Elements.{All-from_recursion, All-head, filter-append}
@@ -18,7 +17,7 @@ use Rattle.gitconf_text.specs.Bytes.{fold}
 use Rattle.gitconf_text.specs.Document.{DocumentEntry}
 use Rattle.gitconf_text.specs.Header.{name_of}
 use Rattle.gitconf_base.specs.Key.{Key}
-use Rattle.gitconf_compared.specs.Settings.{Names, Told, are_same, differ_in, found_in, is_said, rank, said_of, same_names, same_side, told_cmp, values_of, IsKept}
+use Rattle.gitconf_compared.specs.Settings.{Told, are_same, differ_in, is_said, rank, said_of, same_names, same_side, told_cmp, values_of, IsKept}
 use Rattle.gitconf_compared.specs.declared.setting.Side.{Side}
 use Rattle.gitconf_compared.specs.declared.setting.Side.TheVariants.{One, Other}
 use Rattle.gitconf_compared.proofs.Orders.{same_equiv}
@@ -126,15 +125,16 @@ pub are_differences : (one other : List SectionState) (m n : ℕ) → AreNumbere
     → ((p : Told → Bool) → list_all p (of_both one other) ≡ true → list_all p kept ≡ true) → AreDifferences one other (map plainly kept)
 are_differences one other m n numbered also kept is sorted all = record {
   same = λ key e side.
-    let alike : differ_in (names_at key) (of_both one other) ≡ false = differ_at key one other m n numbered also ∙ ap not (same_from (answers_at key one) (answers_at key other) e) in
-    told_so key side kept ∙ ap values_of (is (names_at key) side) ∙ ap (λ b. values_of (if b then said_of (names_at key) side (of_both one other) else [])) alike;
+      let alike : differ_in (names_at key) (of_both one other) ≡ false = differ_at key one other m n numbered also ∙ ap not (same_from (answers_at key one) (answers_at key other) e) in
+      told_so key side kept ∙ ap values_of (is (names_at key) side) ∙ ap (λ b. values_of (if b then said_of (names_at key) side (of_both one other) else [])) alike;
   different = λ key ne.
-    let unlike : differ_in (names_at key) (of_both one other) ≡ true
-        = differ_at key one other m n numbered also ∙ ap not (false_from_ne_true (same_answers (answers_at key one) (answers_at key other)) (λ e. ne (are_same_answers (answers_at key one) (answers_at key other) e))) in
-    (told_so key One kept ∙ ap values_of (is (names_at key) One) ∙ ap (λ b. values_of (if b then said_of (names_at key) One (of_both one other) else [])) unlike
-    ∙ ap values_of (of_one key one other) ∙ values_said key One one,
-     told_so key Other kept ∙ ap values_of (is (names_at key) Other) ∙ ap (λ b. values_of (if b then said_of (names_at key) Other (of_both one other) else [])) unlike
-    ∙ ap values_of (of_other key one other) ∙ values_said key Other other);
+      let unlike : differ_in (names_at key) (of_both one other) ≡ true
+      = differ_at key one other m n numbered also ∙ ap not (false_from_ne_true (same_answers (answers_at key one) (answers_at key other)) (λ e. ne (are_same_answers (answers_at key one) (answers_at key other) e))) in (
+        told_so key One kept ∙ ap values_of (is (names_at key) One) ∙ ap (λ b. values_of (if b then said_of (names_at key) One (of_both one other) else [])) unlike
+            ∙ ap values_of (of_one key one other) ∙ values_said key One one,
+        told_so key Other kept ∙ ap values_of (is (names_at key) Other) ∙ ap (λ b. values_of (if b then said_of (names_at key) Other (of_both one other) else [])) unlike
+            ∙ ap values_of (of_other key one other) ∙ values_said key Other other,
+      );
   folded = All-from_recursion (λ (d : Different). IsFolded d.names) (map plainly kept) (are_folded kept (all folded (all_folded one other)));
   sorted = sorted_plainly kept sorted;
 }
@@ -159,7 +159,7 @@ none_where_same one other (d ∷ differences) are same =
     let is_folded = All-head (λ (d : Different). IsFolded d.names) d differences are.folded in
     let as_compared : names_at key ≡ d.names = λ i. record { section = is_folded.0 i; subsection = d.names.subsection; name = is_folded.1 i } in
     let here : (same_names (names_at key) d.names && same_side d.side d.side) ≡ true
-        = and_from (same_names (names_at key) d.names) (same_side d.side d.side) (ap (λ ns. same_names ns d.names) as_compared ∙ same_equiv.refl d.names) (nat_eq_equiv.refl (rank d.side)) in
+    = and_from (same_names (names_at key) d.names) (same_side d.side d.side) (ap (λ ns. same_names ns d.names) as_compared ∙ same_equiv.refl d.names) (nat_eq_equiv.refl (rank d.side)) in
     let told : told_at key d.side (d ∷ differences) ≡ d.value ∷ told_at key d.side differences = rw here refl in
     absurd (let nothing = are.same key (same key) d.side in cc (told, nothing))
 
@@ -175,5 +175,5 @@ pub look_ups_same : (one other : State) (key : Key) → answers_at key one.secti
 look_ups_same one other key same = (
   ap (λ (a : Answers). a.last) same,
   all_said key one.sections ∙ ap (λ (a : Answers). map (λ v. unwrap_or v []) a.values) same ∙ sym (all_said key other.sections),
-  implicit_said key one.sections ∙ ap (λ (a : Answers). last_or None a.values) same ∙ sym (implicit_said key other.sections)
+  implicit_said key one.sections ∙ ap (λ (a : Answers). last_or None a.values) same ∙ sym (implicit_said key other.sections),
 )

@@ -1,13 +1,13 @@
 -- What settings of sections say of a key is what the sections say of it.
-use Rattle.std.proofs.Common.{◌≡◌, ◌≢◌, ℕ, Bool, true, false, not, ◌&&◌, List, [], ◌∷◌, ◌++◌, map, Option, Some, None, refl, sym, ap, subst, ◌∙◌, append-nil}
-use Rattle.std.specs.Prelude.{filter, flat_map, unwrap_or, if◌then◌else◌, nat_eq, ◌==◌}
+use Rattle.std.proofs.Common.{◌≡◌, ℕ, Bool, true, false, ◌&&◌, List, [], ◌∷◌, ◌++◌, map, Option, Some, None, refl, sym, ap, subst, ◌∙◌, append-nil}
+use Rattle.std.specs.Prelude.{filter, flat_map, unwrap_or, if◌then◌else◌, ◌==◌}
 use Rattle.std.specs.List.{AllByRecursion, cons_option, filter_map, last_or}
 use Rattle.std.specs.Option.{option_eq, option_map}
 use Rattle.std.specs.Str.{bytes_eq}
 use Rattle.std.specs.Cmp.{nat_eq_equiv}
 use Rattle.std.specs.Cmp.Lexicographic.{nat_list_eq_equiv, options_equiv}
 use Rattle.std.proofs.lemmas.Grind.{flat_map-append}
-use Rattle.std.proofs.lemmas.List.Elements.{filter-append, filter_map-append}
+use Rattle.std.proofs.lemmas.List.Elements.{filter-append}
 use Rattle.gitconf_text.specs.Bytes.{fold}
 use Rattle.gitconf_text.specs.Document.{DocumentEntry}
 use Rattle.gitconf_text.specs.Header.{name_of, subsection_of}
@@ -15,14 +15,13 @@ use Rattle.gitconf_text.specs.Names.{is_same_name}
 use Rattle.gitconf_text.specs.Value.{plain}
 use Rattle.gitconf_base.specs.Key.{Key}
 use Rattle.gitconf_base.specs.Metadata.{Meta}
-use Rattle.gitconf_compared.specs.Settings.{Names, Told, found_in, goes_on, is_said, said_of, same_names, same_side, rank, values_of}
+use Rattle.gitconf_compared.specs.Settings.{Told, found_in, goes_on, is_said, said_of, same_names, same_side, rank, values_of}
 use Rattle.gitconf_compared.specs.declared.setting.Side.{Side}
-use Rattle.gitconf_compared.specs.declared.setting.Side.TheVariants.{One, Other}
 use Rattle.gitconf_state.specs.Lookup.{Listed, Said, all_values, deciding, meaning, entries_of_key, is_named, last_value, listing, said, said_by}
 use Rattle.gitconf_state.specs.Lookup as lookup
 use Rattle.gitconf_state.specs.State.{AreNumbered, SectionState, entries_of}
 use Rattle.gitconf_settings.specs.Settings.{section_settings, setting_of, settings_of}
-use Rattle.gitconf_settings.specs.Differences.{Answers, answers_at, names_at}
+use Rattle.gitconf_settings.specs.Differences.{answers_at, names_at}
 
 -- the entries of a key in a section, if the section has the key's names
 abbrev entries_at : Key → SectionState → List DocumentEntry
@@ -199,7 +198,7 @@ other_entries : (key : Key) (side other : Side) (s : SectionState) → same_side
 other_entries key side of s apart [] settings none = none
 other_entries key side of s apart (e ∷ entries) settings none =
     let here : is_said (names_at key) side (setting_of of s e) ≡ false
-        = ap (λ b. same_names (names_at key) (setting_of of s e).names && b) apart ∙ never (same_names (names_at key) (setting_of of s e).names) in
+    = ap (λ b. same_names (names_at key) (setting_of of s e).names && b) apart ∙ never (same_names (names_at key) (setting_of of s e).names) in
     rw here (other_entries key side of s apart entries settings none)
   where
     never : (b : Bool) → (b && false) ≡ false
@@ -228,7 +227,7 @@ none_listed key (s ∷ sections) none =
 pub none_found : (key : Key) (sections : List SectionState) → (answers_at key sections).values ≡ [] → (answers_at key sections).last ≡ None
 none_found key sections none =
     let none_said : said_listed key sections ≡ []
-        = none_listed key sections (nothing_mapped (λ (e : DocumentEntry). option_map plain e.raw) (flat_map (λ s. s.entries) (said_listed key sections)) none) in
+    = none_listed key sections (nothing_mapped (λ (e : DocumentEntry). option_map plain e.raw) (flat_map (λ s. s.entries) (said_listed key sections)) none) in
     unfiltered key sections ∙ ap (λ ss. option_map plain (last_or None (filter_map (λ s. deciding s.entries) ss))) none_said
 
 -- all values, and what the last entry means, of what a file says of a key

@@ -1,11 +1,11 @@
 -- The settings of a file's sections, as plain values.
-use Rattle.std.specs.Prelude.{ℕ, List, map, flat_map}
+use Rattle.std.specs.Prelude.{List, map, flat_map}
 use Rattle.std.specs.Option.{option_map}
 use Rattle.gitconf_text.specs.Bytes.{fold}
 use Rattle.gitconf_text.specs.Document.{DocumentEntry}
 use Rattle.gitconf_text.specs.Header.{name_of, subsection_of}
 use Rattle.gitconf_text.specs.Value.{plain}
-use Rattle.gitconf_compared.specs.Settings.{Names, Told}
+use Rattle.gitconf_compared.specs.Settings.{Told}
 use Rattle.gitconf_compared.specs.declared.setting.Side.{Side}
 use Rattle.gitconf_state.specs.State.{SectionState, entries_of}
 

@@ -14,7 +14,7 @@ use gitconf_views::section::Sections;
 use std::alloc::Global;
 
 /// An entry of one of two files, at a key of which they say different things.
-#[derive(Drop)]
+#[derive(Clone, Debug, Drop, PartialEq, Eq)]
 pub struct Difference {
     /// The file that has it.
     pub side: Side,
