@@ -1,5 +1,8 @@
 //! The line in which reading stopped, and the mark under it.
-ghost use Rattle.std.specs.Prelude.{◌≤◌, length};
+ghost use Rattle.std.specs.Prelude.{◌≡◌, ◌+◌, ◌≤◌, ◌++◌, length, map, chars, replicate, IfOk, OnOk, string_bytes};
+ghost use Rattle.std.specs.List.{flat_map};
+ghost use Rattle.bstr.specs.Utf8.{lossy_chars};
+ghost use Rattle.gixcfg_messages.specs.Line.{IsPlaceOf, first_line as first_line_lem, last_line as last_line_lem, line_from as line_from_lem, shown as shown_lem, shown_char as shown_char_lem, under_char, without_mark as without_mark_lem, without_return as without_return_lem};
 
 use bstr::ByteSlice;
 use std::alloc::{AllocError, Global};
@@ -26,38 +29,63 @@ pub struct Place {
 /// # Errors
 ///
 /// Want of memory.
-pub fn place_of(alloc: Global, text: &[u8], left: usize) -> Result<Place, AllocError> {
-    let (read, rest) = text.split_at(text.len() - left.min(text.len()));
-    let before = shown(alloc, last_line(read))?;
-    let behind = shown(alloc, first_line(rest))?;
+pub fn place_of(alloc: Global, text: &[u8], left: usize) -> Result<Place, AllocError>
+    ensures { IfOk result (IsPlaceOf text.now left) }
+{
+    let (read, rest) = text.split_at(text.len().saturating_sub(left));
+    let before = shown(alloc, last_line(without_mark(read)))?;
+    let behind = shown(alloc, line_from(rest))?;
     let under = under(alloc, before.as_str())?;
     Ok(Place {
-        column: before.as_str().chars().count().saturating_add(1),
+        column: column_of(before.as_str()),
         before,
         behind,
         under,
     })
 }
 
-/// A text from its last line feed on, without the mark.
-fn last_line(text: &[u8]) -> &[u8] {
-    let text = text.strip_prefix(MARK).unwrap_or(text);
+/// The column of what follows a text in its line.
+fn column_of(before: &str) -> usize
+    ensures { result ≡ length (chars before.now) + 1 }
+{
+    before.chars().count() + 1
+}
+
+/// A text without the mark at its start.
+fn without_mark(text: &[u8]) -> &[u8]
+    ensures { result.now ≡ without_mark_lem text.now }
+{
+    if text.starts_with(MARK) {
+        text.split_at(MARK.len()).1
+    } else {
+        text
+    }
+}
+
+/// A text from its last line feed on.
+fn last_line(text: &[u8]) -> &[u8]
+    ensures { result.now ≡ last_line_lem text.now }
+{
     match text.rfind_byte(b'\n') {
-        Some(end) => text.get(end + 1..).unwrap_or(b""),
+        Some(end) => text.split_at(end + 1).1,
         None => text,
     }
 }
 
 /// A text up to its first line ending.
-fn first_line(text: &[u8]) -> &[u8] {
+fn line_from(text: &[u8]) -> &[u8]
+    ensures { result.now ≡ line_from_lem text.now }
+{
     match text.find_byte(b'\n') {
-        Some(end) => without_return(text.get(..end).unwrap_or(text)),
+        Some(end) => without_return(text.split_at(end).0),
         None => text,
     }
 }
 
 /// A line without the carriage return at its end, where that isn't all of it.
-fn without_return(line: &[u8]) -> &[u8] {
+fn without_return(line: &[u8]) -> &[u8]
+    ensures { result.now ≡ without_return_lem line.now }
+{
     match line {
         [first @ .., b'\r'] if !first.is_empty() => first,
         _ => line,
@@ -65,16 +93,16 @@ fn without_return(line: &[u8]) -> &[u8] {
 }
 
 /// A text as it is shown: what isn't UTF-8 and what would steer a terminal as a replacement.
-fn shown(alloc: Global, text: &[u8]) -> Result<String, AllocError> {
-    let mut all = String::new(alloc);
-    for c in text.chars() {
-        all.push(shown_char(c))?;
-    }
-    Ok(all)
+fn shown(alloc: Global, text: &[u8]) -> Result<String, AllocError>
+    ensures { IfOk result (λ s. string_bytes s ≡ shown_lem (lossy_chars text.now)) }
+{
+    text.chars().map(|c| shown_char(c)).collect(alloc)
 }
 
 /// A character as it is shown.
-fn shown_char(c: char) -> char {
+fn shown_char(c: char) -> char
+    ensures { result ≡ shown_char_lem c }
+{
     if c.is_control() && c != '\t' {
         '\u{fffd}'
     } else {
@@ -83,7 +111,9 @@ fn shown_char(c: char) -> char {
 }
 
 /// Blanks that are as wide as a text that is shown; its tabs stay.
-fn under(alloc: Global, text: &str) -> Result<String, AllocError> {
+fn under(alloc: Global, text: &str) -> Result<String, AllocError>
+    ensures { IfOk result (λ s. string_bytes s ≡ flat_map under_char (chars text.now)) }
+{
     let mut all = String::new(alloc);
     for c in text.chars() {
         add_under(&mut all, c)?;
@@ -92,11 +122,20 @@ fn under(alloc: Global, text: &str) -> Result<String, AllocError> {
 }
 
 /// Adds what is as wide as a character.
-fn add_under(all: &mut String, c: char) -> Result<(), AllocError> {
+fn add_under(all: &mut String, c: char) -> Result<(), AllocError>
+    ensures { OnOk result (string_bytes all.new ≡ string_bytes all.old ++ under_char c) }
+{
     if c == '\t' {
         return all.push('\t');
     }
-    for _ in 0..c.width().unwrap_or(0) {
+    add_blanks(all, c.width().unwrap_or(0))
+}
+
+/// Adds so many blanks.
+fn add_blanks(all: &mut String, count: usize) -> Result<(), AllocError>
+    ensures { OnOk result (string_bytes all.new ≡ string_bytes all.old ++ replicate count 32) }
+{
+    for _ in 0..count {
         all.push(' ')?;
     }
     Ok(())

@@ -1,7 +1,9 @@
 //! The message.
+ghost use Rattle.std.specs.Prelude.{◌≡◌, IfOk, string_bytes};
+ghost use Rattle.gixcfg_messages.specs.Message.{because as because_lem, colors as colors_lem, first_row as first_row_lem, message_of};
 
 use crate::place::place_of;
-use crate::reason::{name_of, reason_of, wanted_of};
+use crate::reason::{Reason, name_of, reason_of, wanted_of};
 use std::alloc::{AllocError, Global};
 
 /// A text that the parser refused.
@@ -32,33 +34,46 @@ const PLAIN: &str = "\x1b[m";
 /// # Errors
 ///
 /// Want of memory.
-pub fn message(
+pub fn message(alloc: Global, refused: &Refused<'_>, is_colored: bool) -> Result<String, AllocError>
+    ensures { IfOk result (λ s. string_bytes s ≡ message_of refused.now is_colored) }
+{
+    let place = place_of(alloc, refused.text, refused.rest.len())?;
+    let first = first_row(alloc, refused, place.column, is_colored)?;
+    let (before, behind, under) = (place.before, place.behind, place.under);
+    let (red, plain) = (colors(is_colored, RED), colors(is_colored, PLAIN));
+    format!(in alloc; "{first}{before}{behind}\n{under}{red}^{plain}\n")
+}
+
+/// The first line: the place in this column, what was looked for there, and why it isn't there.
+fn first_row(
     alloc: Global,
     refused: &Refused<'_>,
+    column: usize,
     is_colored: bool,
-) -> Result<String, AllocError> {
-    let place = place_of(alloc, refused.text, refused.rest.len())?;
+) -> Result<String, AllocError>
+    ensures { IfOk result (λ s. string_bytes s ≡ first_row_lem refused.now column is_colored) }
+{
     let wanted = wanted_of(refused.kind, refused.rest);
-    let (what, because) = (
-        name_of(wanted),
-        because(alloc, reason_of(wanted, refused.rest))?,
-    );
-    let (bold, red, plain) = if is_colored {
-        (BOLD, RED, PLAIN)
-    } else {
-        ("", "", "")
-    };
-    let (file, line, column) = (refused.file, refused.line, place.column);
-    let (before, behind, under) = (place.before, place.behind, place.under);
-    format!(in alloc;
-        "gixcfg: {bold}{file}:{line}:{column}: {red}{what}{plain}{because} [E1]\n{before}{behind}\n{under}{red}^{plain}\n"
-    )
+    let because = because(alloc, reason_of(wanted, refused.rest))?;
+    let (file, line, what) = (refused.file, refused.line, name_of(wanted));
+    let bold = colors(is_colored, BOLD);
+    let (red, plain) = (colors(is_colored, RED), colors(is_colored, PLAIN));
+    format!(in alloc; "gixcfg: {bold}{file}:{line}:{column}: {red}{what}{plain}{because} [E1]\n")
+}
+
+/// What steers a terminal, where colors are shown.
+fn colors(is_colored: bool, code: &'static str) -> &'static str
+    ensures { result.now ≡ colors_lem is_colored code.entry.now }
+{
+    if is_colored { code } else { "" }
 }
 
 /// A reason after a colon, or nothing.
-fn because(alloc: Global, reason: Option<&str>) -> Result<String, AllocError> {
+fn because(alloc: Global, reason: Option<Reason>) -> Result<String, AllocError>
+    ensures { IfOk result (λ s. string_bytes s ≡ because_lem reason) }
+{
     match reason {
-        Some(reason) => format!(in alloc; ": {reason}"),
+        Some(reason) => format!(in alloc; ": {}", reason.words()),
         None => Ok(String::new(alloc)),
     }
 }

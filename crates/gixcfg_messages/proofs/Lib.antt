@@ -1,0 +1,4 @@
+mod LineLemmas
+mod MessageLemmas
+mod PlaceLemmas
+mod WidthLemmas
