@@ -1,4 +1,7 @@
 //! Why a file can't be read or edited.
+ghost use Rattle.std.specs.Prelude.{◌≡◌};
+ghost use Rattle.gixcfg_files.specs.Faults.{unread, unwritten};
+ghost use Rattle.gixcfg_files.specs.declared.fault.Fault.TheVariants.{Memory};
 
 use std::alloc::AllocError;
 use std::io::ErrorKind;
@@ -27,7 +30,9 @@ pub enum Fault {
 
 impl Fault {
     /// The fault of an error that was met while the file was read.
-    pub fn unread(error: io::Error) -> Fault {
+    pub fn unread(error: io::Error) -> Fault
+        ensures { result ≡ unread error }
+    {
         match error.kind() {
             ErrorKind::OutOfMemory => Fault::Memory,
             _ => Fault::Unread(error),
@@ -35,7 +40,9 @@ impl Fault {
     }
 
     /// The fault of an error that was met while the file was locked or written.
-    pub fn unwritten(error: io::Error) -> Fault {
+    pub fn unwritten(error: io::Error) -> Fault
+        ensures { result ≡ unwritten error }
+    {
         match error.kind() {
             ErrorKind::OutOfMemory => Fault::Memory,
             _ => Fault::Unwritten(error),
@@ -44,6 +51,8 @@ impl Fault {
 }
 
 impl From<AllocError> for Fault {
+    ghost from_gives = { λ _ fault. fault ≡ Memory };
+
     fn from(_: AllocError) -> Fault {
         Fault::Memory
     }

@@ -1,10 +1,14 @@
 //! Where git's files are; and the safe edit of a file on the disk: whatever fails, and whenever the process ends, the file is the
 //! old one or the new one.
+//!
+//! What values determine is proved: paths, and which fault an error is. The standard library's contracts of files and variables say
+//! nothing of what a disk or an environment answers, so no clause here can say what is found, read, locked or written.
 #![tactic(auto)]
 
 mod fault;
 mod links;
 mod lock;
+mod paths;
 mod places;
 mod reading;
 mod repository;

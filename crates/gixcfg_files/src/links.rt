@@ -1,4 +1,6 @@
 //! Where symbolic links end.
+ghost use Rattle.std.specs.Prelude.{◌≡◌};
+ghost use Rattle.gixcfg_files.specs.Faults.{is_end as is_end_lem};
 
 use crate::fault::Fault;
 use std::alloc::AllocGlobal;
@@ -27,6 +29,8 @@ pub fn end_of_links<R: Files + AllocGlobal>(files: &R, path: &str) -> Result<Str
 }
 
 /// Whether an error of that kind says that no link is there.
-fn is_end(kind: ErrorKind) -> bool {
+fn is_end(kind: ErrorKind) -> bool
+    ensures { result ≡ is_end_lem kind }
+{
     matches!(kind, ErrorKind::InvalidInput | ErrorKind::NotFound)
 }

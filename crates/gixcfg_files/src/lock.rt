@@ -2,6 +2,7 @@
 
 use crate::fault::Fault;
 use crate::links::end_of_links;
+use crate::paths::lock_of;
 use crate::reading::read;
 use std::alloc::AllocGlobal;
 use std::fs::{OpenFile, OpenOptions};
@@ -27,7 +28,7 @@ impl<'a, R: Files + AllocGlobal> Lock<'a, R> {
     /// file; out of memory. No lock is left.
     pub fn take(files: &'a R, path: &str) -> Result<Lock<'a, R>, Fault> {
         let target = end_of_links(files, path)?;
-        let path = format!(in files.alloc(); "{target}.lock")?;
+        let path = lock_of(files.alloc(), target.as_str())?;
         match new_file(files, path.as_str()) {
             Ok(file) => {
                 let lock = Lock {

@@ -1,6 +1,7 @@
 //! The files of the system and of the user, as git finds them.
 
 use crate::fault::Fault;
+use crate::paths::{home_file, other_file};
 use crate::variables::variable;
 use std::alloc::AllocGlobal;
 use std::fs;
@@ -32,7 +33,7 @@ pub fn user_file<R: Env + Files + AllocGlobal>(rt: &R) -> Result<String, Fault> 
     let Some(home) = variable(rt, "HOME")? else {
         return Err(Fault::NoHome);
     };
-    let path = format!(in rt.alloc(); "{home}/.gitconfig")?;
+    let path = home_file(rt.alloc(), home.as_str())?;
     if opens(rt, path.as_str())? {
         return Ok(path);
     }
@@ -46,10 +47,8 @@ pub fn user_file<R: Env + Files + AllocGlobal>(rt: &R) -> Result<String, Fault> 
 
 /// The path of the user's other file.
 fn other_user_file<R: Env + AllocGlobal>(rt: &R, home: &str) -> Result<String, Fault> {
-    match variable(rt, "XDG_CONFIG_HOME")? {
-        Some(folder) if !folder.is_empty() => Ok(format!(in rt.alloc(); "{folder}/git/config")?),
-        _ => Ok(format!(in rt.alloc(); "{home}/.config/git/config")?),
-    }
+    let folder = variable(rt, "XDG_CONFIG_HOME")?;
+    Ok(other_file(rt.alloc(), home, folder.as_deref())?)
 }
 
 /// Whether what is at a path can be opened.

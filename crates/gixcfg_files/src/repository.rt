@@ -1,6 +1,8 @@
 //! The file of the repository that the working folder is in, as git finds it.
+ghost use Rattle.std.specs.Prelude.{◌≡◌, ◌≤◌, ◌++◌, IfOk, codes, string_bytes};
 
 use crate::fault::Fault;
+use crate::paths::{as_folder, depth_of, joined, line_of, within};
 use crate::reading::read;
 use crate::variables::variable;
 use std::alloc::{AllocError, AllocGlobal, Global};
@@ -26,8 +28,10 @@ impl Repository {
     /// # Errors
     ///
     /// Want of memory.
-    pub fn file(&self, alloc: Global) -> Result<String, AllocError> {
-        format!(in alloc; "{}config", self.common)
+    pub fn file(&self, alloc: Global) -> Result<String, AllocError>
+        ensures { IfOk result (λ s. string_bytes s ≡ string_bytes self.now.common ++ codes "config") }
+    {
+        within(alloc, self.common.as_str(), "config")
     }
 
     /// The path of its working tree's file.
@@ -35,8 +39,10 @@ impl Repository {
     /// # Errors
     ///
     /// Want of memory.
-    pub fn worktree_file(&self, alloc: Global) -> Result<String, AllocError> {
-        format!(in alloc; "{}config.worktree", self.folder)
+    pub fn worktree_file(&self, alloc: Global) -> Result<String, AllocError>
+        ensures { IfOk result (λ s. string_bytes s ≡ string_bytes self.now.folder ++ codes "config.worktree") }
+    {
+        within(alloc, self.folder.as_str(), "config.worktree")
     }
 
     /// The path of its folder from the root, without symbolic links.
@@ -45,7 +51,7 @@ impl Repository {
     ///
     /// The path can't be found out; out of memory.
     pub fn real_folder<R: Files + AllocGlobal>(&self, files: &R) -> Result<String, Fault> {
-        let path = format!(in files.alloc(); "{}.", self.folder)?;
+        let path = within(files.alloc(), self.folder.as_str(), ".")?;
         match fs::canonicalize(files, path.as_str()) {
             Ok(path) => Ok(path.into_string()),
             Err(error) => Err(Fault::unread(error)),
@@ -58,7 +64,7 @@ impl Repository {
     ///
     /// Its `HEAD` can't be read; out of memory.
     pub fn branch<R: Files + AllocGlobal>(&self, files: &R) -> Result<Option<String>, Fault> {
-        let path = format!(in files.alloc(); "{}HEAD", self.folder)?;
+        let path = within(files.alloc(), self.folder.as_str(), "HEAD")?;
         let Some(text) = read(files, path.as_str())? else {
             return Ok(None);
         };
@@ -97,7 +103,7 @@ pub fn repository_file<R: Env + Files + AllocGlobal>(rt: &R) -> Result<String, F
 /// The first repository from the working folder upwards.
 fn repository_above<R: Env + Files + AllocGlobal>(rt: &R) -> Result<Option<Repository>, Fault> {
     let mut folder = String::new(rt.alloc());
-    for _ in 0..depth(rt).saturating_add(1) {
+    for _ in 0..depth(rt) + 1 {
         if let Some(found) = repository_of(rt, folder.as_str())? {
             return Ok(Some(found));
         }
@@ -107,20 +113,22 @@ fn repository_above<R: Env + Files + AllocGlobal>(rt: &R) -> Result<Option<Repos
 }
 
 /// How many folders hold the working folder; none where that isn't known.
-fn depth<R: Env>(rt: &R) -> usize {
+fn depth<R: Env>(rt: &R) -> usize
+    ensures { result ≤ 4096 }
+{
     let mut path = [0u8; LONGEST];
     match rt.current_dir(&mut path) {
-        Ok(_) => path.iter().filter(|byte| **byte == b'/').count(),
+        Ok(_) => depth_of(&path),
         Err(_) => 0,
     }
 }
 
 /// The repository that a folder has as `.git`, or that it is itself.
-fn repository_of<R: Files + AllocGlobal>(
+fn repository_of<R: Env + Files + AllocGlobal>(
     rt: &R,
     folder: &str,
 ) -> Result<Option<Repository>, Fault> {
-    let path = format!(in rt.alloc(); "{folder}.git")?;
+    let path = within(rt.alloc(), folder, ".git")?;
     match repository_at(rt, path.as_str())? {
         Some(found) => Ok(Some(found)),
         None => repository_in(rt, String::from_str(rt.alloc(), folder)?),
@@ -128,7 +136,10 @@ fn repository_of<R: Files + AllocGlobal>(
 }
 
 /// The repository at a path: a folder, or one that a file there leads to.
-fn repository_at<R: Files + AllocGlobal>(rt: &R, path: &str) -> Result<Option<Repository>, Fault> {
+fn repository_at<R: Env + Files + AllocGlobal>(
+    rt: &R,
+    path: &str,
+) -> Result<Option<Repository>, Fault> {
     if is_file(rt, path)? {
         let Some(folder) = folder_behind(rt, path, "gitdir: ")? else {
             return Err(Fault::NoRepository);
@@ -138,12 +149,12 @@ fn repository_at<R: Files + AllocGlobal>(rt: &R, path: &str) -> Result<Option<Re
             None => Err(Fault::NoRepository),
         };
     }
-    repository_in(rt, format!(in rt.alloc(); "{path}/")?)
+    repository_in(rt, as_folder(rt.alloc(), path)?)
 }
 
 /// The repository that a folder is. It has `HEAD`, and `objects` and `refs` beside its file; these are in another folder if
-/// `commondir` says so, as for a further working tree.
-fn repository_in<R: Files + AllocGlobal>(
+/// `GIT_COMMON_DIR` is set, or `commondir` says so, as for a further working tree.
+fn repository_in<R: Env + Files + AllocGlobal>(
     rt: &R,
     folder: String,
 ) -> Result<Option<Repository>, Fault> {
@@ -158,9 +169,12 @@ fn repository_in<R: Files + AllocGlobal>(
     }
 }
 
-/// The folder that working trees of a repository have in common.
-fn common_folder<R: Files + AllocGlobal>(rt: &R, folder: &str) -> Result<String, Fault> {
-    let path = format!(in rt.alloc(); "{folder}commondir")?;
+/// The folder that working trees of a repository have in common: `GIT_COMMON_DIR`, else what its `commondir` leads to, else its own.
+fn common_folder<R: Env + Files + AllocGlobal>(rt: &R, folder: &str) -> Result<String, Fault> {
+    if let Some(path) = variable(rt, "GIT_COMMON_DIR")? {
+        return Ok(as_folder(rt.alloc(), path.as_str())?);
+    }
+    let path = within(rt.alloc(), folder, "commondir")?;
     match folder_behind(rt, path.as_str(), "")? {
         Some(common) => Ok(common),
         None => Ok(String::from_str(rt.alloc(), folder)?),
@@ -183,28 +197,9 @@ fn folder_behind<R: Files + AllocGlobal>(
     }
 }
 
-/// What a text of one line has after its beginning.
-fn line_of<'a>(text: &'a [u8], before: &str) -> Option<&'a str> {
-    match str::from_utf8(text) {
-        Ok(text) => {
-            let line = text.strip_prefix(before)?;
-            Some(line.trim_end_matches('\n').trim_end_matches('\r'))
-        }
-        Err(_) => None,
-    }
-}
-
-/// A folder that a file names, which begins in the file's folder if it is relative.
-fn joined(alloc: Global, path: &str, folder: &str) -> Result<String, Fault> {
-    match path.rsplit_once('/') {
-        Some((start, _)) if !folder.starts_with('/') => Ok(format!(in alloc; "{start}/{folder}/")?),
-        _ => Ok(format!(in alloc; "{folder}/")?),
-    }
-}
-
 /// Whether a folder has something of this name.
 fn has<R: Files + AllocGlobal>(rt: &R, folder: &str, name: &str) -> Result<bool, Fault> {
-    let path = format!(in rt.alloc(); "{folder}{name}")?;
+    let path = within(rt.alloc(), folder, name)?;
     match fs::symlink_metadata(rt, path.as_str()) {
         Ok(_) => Ok(true),
         Err(error) if error.kind() == ErrorKind::OutOfMemory => Err(Fault::Memory),

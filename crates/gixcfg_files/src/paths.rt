@@ -1,0 +1,127 @@
+//! Paths that are put together, and what a file of one line names.
+ghost use Rattle.std.specs.Prelude.{◌≡◌, ◌==◌, ◌++◌, count_by, IfOk, codes, string_bytes, option_map};
+ghost use Rattle.gixcfg_files.specs.Paths.{folder_of as folder_of_lem, is_absolute as is_absolute_lem, is_line_end as is_line_end_lem, joined as joined_lem, named, other_file as other_file_lem, without_ends as without_ends_lem};
+
+use std::alloc::{AllocError, Global};
+
+/// The path of the user's own file in the home folder.
+///
+/// # Errors
+///
+/// Want of memory.
+pub fn home_file(alloc: Global, home: &str) -> Result<String, AllocError>
+    ensures { IfOk result (λ s. string_bytes s ≡ home.now ++ codes "/.gitconfig") }
+{
+    format!(in alloc; "{home}/.gitconfig")
+}
+
+/// The path of the user's other file: in the folder that is set, else in the home folder.
+///
+/// # Errors
+///
+/// Want of memory.
+pub fn other_file(alloc: Global, home: &str, folder: Option<&str>) -> Result<String, AllocError>
+    ensures { IfOk result (λ s. string_bytes s ≡ other_file_lem home.now (option_map (λ f. f.now) folder.entry)) }
+{
+    match folder {
+        Some(folder) if !folder.is_empty() => format!(in alloc; "{folder}/git/config"),
+        _ => format!(in alloc; "{home}/.config/git/config"),
+    }
+}
+
+/// The path of the lock of a file.
+///
+/// # Errors
+///
+/// Want of memory.
+pub fn lock_of(alloc: Global, path: &str) -> Result<String, AllocError>
+    ensures { IfOk result (λ s. string_bytes s ≡ path.now ++ codes ".lock") }
+{
+    format!(in alloc; "{path}.lock")
+}
+
+/// The path of what has this name in a folder, whose path ends with a slash or is empty.
+///
+/// # Errors
+///
+/// Want of memory.
+pub fn within(alloc: Global, folder: &str, name: &str) -> Result<String, AllocError>
+    ensures { IfOk result (λ s. string_bytes s ≡ folder.now ++ name.now) }
+{
+    format!(in alloc; "{folder}{name}")
+}
+
+/// A path with a slash at its end, as of a folder.
+///
+/// # Errors
+///
+/// Want of memory.
+pub fn as_folder(alloc: Global, path: &str) -> Result<String, AllocError>
+    ensures { IfOk result (λ s. string_bytes s ≡ path.now ++ codes "/") }
+{
+    format!(in alloc; "{path}/")
+}
+
+/// The path of a folder that the file at a path names. A relative one begins in the file's folder.
+///
+/// # Errors
+///
+/// Want of memory.
+pub fn joined(alloc: Global, path: &str, folder: &str) -> Result<String, AllocError>
+    ensures { IfOk result (λ s. string_bytes s ≡ joined_lem path.now folder.now) }
+{
+    if is_absolute(folder) {
+        return as_folder(alloc, folder);
+    }
+    match path.rsplit_once('/') {
+        Some((start, _)) => format!(in alloc; "{start}/{folder}/"),
+        None => as_folder(alloc, folder),
+    }
+}
+
+/// Whether a path is from the root on.
+fn is_absolute(path: &str) -> bool
+    ensures { result ≡ is_absolute_lem path.now }
+{
+    matches!(path.as_bytes(), [b'/', ..])
+}
+
+/// What a text of one line names after its beginning.
+pub fn line_of<'a>(text: &'a [u8], before: &str) -> Option<&'a str>
+    ensures { option_map (λ s. s.now) result ≡ named text.entry.now before.now }
+{
+    let line = without_ends(text);
+    if !line.starts_with(before.as_bytes()) {
+        return None;
+    }
+    match str::from_utf8(line.split_at(before.len()).1) {
+        Ok(name) => Some(name),
+        Err(_) => None,
+    }
+}
+
+/// A text without the line ends that it ends with.
+fn without_ends(text: &[u8]) -> &[u8]
+    ensures { result.now ≡ without_ends_lem text.now }
+{
+    let ends = text
+        .iter()
+        .rev()
+        .take_while(|byte| is_line_end(**byte))
+        .count();
+    text.split_at(text.len().saturating_sub(ends)).0
+}
+
+/// Whether a byte ends a line.
+fn is_line_end(byte: u8) -> bool
+    ensures { result ≡ is_line_end_lem byte }
+{
+    byte == b'\n' || byte == b'\r'
+}
+
+/// How many folders hold the one at a path from the root on.
+pub fn depth_of(path: &[u8]) -> usize
+    ensures { result ≡ count_by (λ b. b == 47) path.now }
+{
+    path.iter().filter(|byte| **byte == b'/').count()
+}
