@@ -1,9 +1,9 @@
 -- The folder of a path, and the name in a line.
-use Rattle.std.proofs.Common.{◌≡◌, ◌≢◌, ℕ, ◌+◌, ◌<◌, Bool, true, false, ◌==◌, List, [], ◌∷◌, ◌++◌, length, take, drop, get_or, refl, sym, ap, ◌∙◌, arith, lit<, codes, suc, nat_eq, eqb-true}
+use Rattle.std.proofs.Common.{◌≡◌, ◌≢◌, ℕ, ◌<◌, Bool, true, false, ◌==◌, List, [], ◌∷◌, ◌++◌, length, take, drop, get_or, refl, sym, ap, ◌∙◌, arith, lit<, codes, suc, nat_eq, eqb-true}
 use Rattle.std.proofs.lemmas.Str.{IsUtf8-from_is_utf8, is_utf8-from_IsUtf8}
 use Rattle.std.proofs.lemmas.Str.Pattern.{drop_at_char, NoCharPasses-char}
 use Rattle.std.specs.List.{list_any, starts_with}
-use Rattle.std.specs.Prelude.{if◌then◌else◌, ◌||◌, ◌&&◌, Option, Some, None}
+use Rattle.std.specs.Prelude.{if◌then◌else◌, ◌||◌, ◌&&◌, Some, None}
 use Rattle.std.specs.Str.{is_utf8, IsUtf8, NoCharPasses}
 use Rattle.std.specs.Str.Pattern.{HasCharAt}
 use mathlib.Core.List.{append_assoc}
