@@ -4,7 +4,7 @@ ghost use Rattle.std.specs.Option.{option_eq, option_map};
 ghost use Rattle.std.specs.Cmp.Lexicographic.{pointwise};
 ghost use Rattle.std.specs.Str.{bytes_eq};
 ghost use Rattle.bstr.specs.Owned.{bstring_bytes};
-ghost use Rattle.gitconf_compared.specs.Settings.{all_told, are_same, differ_alone, found_in, goes_on, same_side, values_of, IsBySide, told};
+ghost use Rattle.gitconf_compared.specs.Settings.{plain_settings, are_same, differ_alone, found_in, goes_on, same_side, values_of, IsBySide, plain_setting};
 ghost use Rattle.gitconf_compared.specs.declared.setting.Side.TheVariants.{Other};
 
 use crate::setting::Setting;
@@ -12,7 +12,7 @@ use bstr::BString;
 
 /// Whether the settings have the same values, in order.
 fn have_same_values(one: &[Setting], other: &[Setting]) -> bool
-    ensures { result ≡ pointwise (option_eq bytes_eq) (values_of (all_told one.now)) (values_of (all_told other.now)) }
+    ensures { result ≡ pointwise (option_eq bytes_eq) (values_of (plain_settings one.now)) (values_of (plain_settings other.now)) }
 {
     if one.len() != other.len() {
         return false;
@@ -29,7 +29,7 @@ fn have_same_values(one: &[Setting], other: &[Setting]) -> bool
 fn deciding(settings: &[Setting], at: usize) -> Option<&BString>
     requires { at < length settings.now }
     ensures { (d : Setting) → option_map (λ v. bstring_bytes v.now) result
-        ≡ (if goes_on (told (slice_index_or settings.now at d)) (all_told (drop (at + 1) settings.now)) then None else (told (slice_index_or settings.now at d)).value) }
+        ≡ (if goes_on (plain_setting (slice_index_or settings.now at d)) (plain_settings (drop (at + 1) settings.now)) then None else (plain_setting (slice_index_or settings.now at d)).value) }
 {
     let setting = &settings[at];
     match settings.get(at + 1) {
@@ -40,7 +40,7 @@ fn deciding(settings: &[Setting], at: usize) -> Option<&BString>
 
 /// The value that a lookup finds among the settings of a key.
 fn found_in(settings: &[Setting]) -> Option<&BString>
-    ensures { option_map (λ v. bstring_bytes v.now) result ≡ found_in (all_told settings.now) }
+    ensures { option_map (λ v. bstring_bytes v.now) result ≡ found_in (plain_settings settings.now) }
 {
     let mut at = settings.len();
     while at > 0 {
@@ -55,7 +55,7 @@ fn found_in(settings: &[Setting]) -> Option<&BString>
 
 /// Whether two files say the same of a key: the same values, and lookups find the same one.
 fn say_same(one: &[Setting], other: &[Setting]) -> bool
-    ensures { result ≡ are_same (all_told one.now) (all_told other.now) }
+    ensures { result ≡ are_same (plain_settings one.now) (plain_settings other.now) }
 {
     have_same_values(one, other) && found_in(one) == found_in(other)
 }
@@ -77,8 +77,8 @@ fn first_count(settings: &[Setting]) -> usize
 
 /// Whether the files say different things of a key, of whose settings the first file's come first.
 pub fn differ(settings: &[Setting]) -> bool
-    requires { IsBySide (all_told settings.now) }
-    ensures { result ≡ differ_alone (all_told settings.now) }
+    requires { IsBySide (plain_settings settings.now) }
+    ensures { result ≡ differ_alone (plain_settings settings.now) }
 {
     let (one, other) = settings.split_at(first_count(settings));
     !say_same(one, other)

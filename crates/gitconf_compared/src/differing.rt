@@ -2,7 +2,7 @@
 ghost use Rattle.std.specs.Prelude.{◌≡◌, unwrap_or, position, ◌≤◌, ◌++◌, length, map, true, not, IfOk, Bool};
 ghost use Rattle.std.specs.List.{list_all};
 ghost use Rattle.std.specs.List.Sorted.{IsSorted};
-ghost use Rattle.gitconf_compared.specs.Settings.{all_told, marked, marks_of, names_of, same_names, told_cmp, IsKept, Told};
+ghost use Rattle.gitconf_compared.specs.Settings.{plain_settings, marked, marks_of, names_of, same_names, setting_cmp, IsKept, PlainSetting};
 
 use crate::comparing::differ;
 use crate::setting::{Setting, have_same_names, order};
@@ -35,8 +35,8 @@ fn put_marks(marks: &mut Vec<bool>, settings: &[Setting], mark: bool) -> Result<
 
 /// Which settings have names in which the files differ. They stand in order.
 fn marks(alloc: Global, settings: &[Setting]) -> Result<Vec<bool>, AllocError>
-    requires { IsSorted told_cmp (all_told settings.now) }
-    ensures { IfOk result (λ marks. marks.items ≡ marks_of (all_told settings.now)) }
+    requires { IsSorted setting_cmp (plain_settings settings.now) }
+    ensures { IfOk result (λ marks. marks.items ≡ marks_of (plain_settings settings.now)) }
 {
     let mut marks = Vec::new(alloc);
     let mut rest = settings;
@@ -50,7 +50,7 @@ fn marks(alloc: Global, settings: &[Setting]) -> Result<Vec<bool>, AllocError>
 
 /// The settings that are marked, in order.
 fn keep(alloc: Global, settings: Vec<Setting>, marks: &[bool]) -> Result<Vec<Setting>, AllocError>
-    ensures { IfOk result (λ kept. all_told kept.items ≡ marked marks.now (all_told settings.items)) }
+    ensures { IfOk result (λ kept. plain_settings kept.items ≡ marked marks.now (plain_settings settings.items)) }
 {
     let mut kept = Vec::new(alloc);
     for (setting, mark) in settings.into_iter().zip(marks) {
@@ -72,9 +72,9 @@ fn keep(alloc: Global, settings: Vec<Setting>, marks: &[bool]) -> Result<Vec<Set
 ///
 /// Out of memory.
 pub fn differing(alloc: Global, mut settings: Vec<Setting>) -> Result<Vec<Setting>, AllocError>
-    ensures kept { IfOk result (λ kept. IsKept (all_told settings.items) (all_told kept.items)) }
-    ensures sorted { IfOk result (λ kept. IsSorted told_cmp (all_told kept.items)) }
-    ensures all { (p : Told → Bool) → list_all p (all_told settings.items) ≡ true → IfOk result (λ kept. list_all p (all_told kept.items) ≡ true) }
+    ensures kept { IfOk result (λ kept. IsKept (plain_settings settings.items) (plain_settings kept.items)) }
+    ensures sorted { IfOk result (λ kept. IsSorted setting_cmp (plain_settings kept.items)) }
+    ensures all { (p : PlainSetting → Bool) → list_all p (plain_settings settings.items) ≡ true → IfOk result (λ kept. list_all p (plain_settings kept.items) ≡ true) }
 {
     settings.sort_by(|one, other| order(one, other))?;
     let marks = marks(alloc, &settings)?;

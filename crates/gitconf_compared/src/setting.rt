@@ -1,6 +1,6 @@
 //! Settings: what a file gives to a key, with the file that gives it.
 ghost use Rattle.std.specs.Prelude.{◌≡◌};
-ghost use Rattle.gitconf_compared.specs.Settings.{names_cmp, names_of, same_names, told, told_cmp};
+ghost use Rattle.gitconf_compared.specs.Settings.{names_cmp, names_of, same_names, plain_setting, setting_cmp};
 
 use bstr::BString;
 use gitconf_table::table::SectionId;
@@ -61,7 +61,7 @@ fn names_order(one: &Setting, other: &Setting) -> Ordering
 
 /// How two settings are ordered: by their names, and of the same names those of the first file come first.
 pub fn order(one: &Setting, other: &Setting) -> Ordering
-    ensures { result ≡ told_cmp (told one.now) (told other.now) }
+    ensures { result ≡ setting_cmp (plain_setting one.now) (plain_setting other.now) }
 {
     match names_order(one, other) {
         Ordering::Equal => one.side.cmp(&other.side),

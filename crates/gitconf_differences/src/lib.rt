@@ -6,8 +6,8 @@ ghost use Rattle.gitconf_settings.specs.Differences.{different_of, AreDifference
 
 pub use gitconf_compared::setting::Side;
 pub use gitconf_settings::differences::Difference;
-/// Nothing differs exactly if both files say the same of every key, and then lookups of a key return the same from both.
 use gitconf_settings::differences::differences_of;
+/// Nothing differs exactly if both files say the same of every key, and then lookups of a key return the same from both.
 pub use gitconf_settings::laws;
 use gitconf_text::NoMemory;
 use gix_config::File;

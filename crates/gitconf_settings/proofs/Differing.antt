@@ -17,14 +17,14 @@ use Rattle.gitconf_text.specs.Bytes.{fold}
 use Rattle.gitconf_text.specs.Document.{DocumentEntry}
 use Rattle.gitconf_text.specs.Header.{name_of}
 use Rattle.gitconf_base.specs.Key.{Key}
-use Rattle.gitconf_compared.specs.Settings.{Told, are_same, differ_in, is_said, rank, said_of, same_names, same_side, told_cmp, values_of, IsKept}
+use Rattle.gitconf_compared.specs.Settings.{PlainSetting, are_same, differ_in, is_said, rank, said_of, same_names, same_side, setting_cmp, values_of, IsKept}
 use Rattle.gitconf_compared.specs.declared.setting.Side.{Side}
 use Rattle.gitconf_compared.specs.declared.setting.Side.TheVariants.{One, Other}
 use Rattle.gitconf_compared.proofs.Orders.{same_equiv}
 use Rattle.gitconf_finding.specs.Lookups.{implicit_at, value_at, values_at}
 use Rattle.gitconf_state.specs.State.{AreNumbered, SectionState, State, entries_of}
 use Rattle.gitconf_settings.specs.Settings.{section_settings, setting_of, settings_of}
-use Rattle.gitconf_settings.specs.Differences.{Answers, Different, answers_at, different_cmp, names_at, plainly, told_at, AreDifferences, IsFolded}
+use Rattle.gitconf_settings.specs.Differences.{Answers, Different, answers_at, different_cmp, names_at, plainly, values_at_key, AreDifferences, IsFolded}
 use Rattle.gitconf_settings.proofs.Said.{all_said, found_said, implicit_said, none_found, none_of_other, values_said}
 
 -- whether two answers are the same
@@ -48,7 +48,7 @@ same_from a b e =
     ((options_decide a.last b.last).1 (ap (λ (x : Answers). x.last) e))
 
 -- the settings of two files: those of the first, and those of the other
-abbrev pub of_both : (one other : List SectionState) → List Told
+abbrev pub of_both : (one other : List SectionState) → List PlainSetting
 of_both one other = settings_of One one ++ settings_of Other other
 
 of_one : (key : Key) (one other : List SectionState) → said_of (names_at key) One (of_both one other) ≡ said_of (names_at key) One (settings_of One one)
@@ -68,24 +68,24 @@ differ_at key one other m n numbered also =
     ∙ (λ i. not (pointwise (option_eq bytes_eq) (values_said key One one i) (values_said key Other other i) && option_eq bytes_eq (found_said key One m one numbered i) (found_said key Other n other also i)))
 
 -- what differences say at a key is what the settings say
-told_so : (key : Key) (side : Side) (kept : List Told) → told_at key side (map plainly kept) ≡ values_of (said_of (names_at key) side kept)
+told_so : (key : Key) (side : Side) (kept : List PlainSetting) → values_at_key key side (map plainly kept) ≡ values_of (said_of (names_at key) side kept)
 told_so key side [] = refl
 told_so key side (t ∷ kept) = go (is_said (names_at key) side t) refl (told_so key side kept)
   where
-    go : (b : Bool) → is_said (names_at key) side t ≡ b → told_at key side (map plainly kept) ≡ values_of (said_of (names_at key) side kept)
-        → told_at key side (map plainly (t ∷ kept)) ≡ values_of (said_of (names_at key) side (t ∷ kept))
+    go : (b : Bool) → is_said (names_at key) side t ≡ b → values_at_key key side (map plainly kept) ≡ values_of (said_of (names_at key) side kept)
+        → values_at_key key side (map plainly (t ∷ kept)) ≡ values_of (said_of (names_at key) side (t ∷ kept))
     go true is more = rw is (ap (λ vs. t.value ∷ vs) more)
     go false is more = rw is more
 
 -- names that are folded
-abbrev folded : Told → Bool
+abbrev folded : PlainSetting → Bool
 folded t = bytes_eq (fold t.names.section) t.names.section && bytes_eq (fold t.names.name) t.names.name
 
 fold_again : (bytes : List ℕ) → fold (fold bytes) ≡ fold bytes
 fold_again [] = refl
 fold_again (b ∷ bytes) = λ i. lowercase-lowercase b i ∷ fold_again bytes i
 
-folded_entries : (side : Side) (s : SectionState) (entries : List DocumentEntry) (settings : List Told) → list_all folded settings ≡ true → list_all folded (map (setting_of side s) entries ++ settings) ≡ true
+folded_entries : (side : Side) (s : SectionState) (entries : List DocumentEntry) (settings : List PlainSetting) → list_all folded settings ≡ true → list_all folded (map (setting_of side s) entries ++ settings) ≡ true
 folded_entries side s [] settings all = all
 folded_entries side s (e ∷ entries) settings all =
     and_from (folded (setting_of side s e)) (list_all folded (map (setting_of side s) entries ++ settings))
@@ -93,7 +93,7 @@ folded_entries side s (e ∷ entries) settings all =
     ((bytes_decides (fold (fold (name_of s.header))) (fold (name_of s.header))).1 (fold_again (name_of s.header))) ((bytes_decides (fold (fold e.name)) (fold e.name)).1 (fold_again e.name)))
     (folded_entries side s entries settings all)
 
-folded_settings : (side : Side) (sections : List SectionState) (settings : List Told) → list_all folded settings ≡ true → list_all folded (settings_of side sections ++ settings) ≡ true
+folded_settings : (side : Side) (sections : List SectionState) (settings : List PlainSetting) → list_all folded settings ≡ true → list_all folded (settings_of side sections ++ settings) ≡ true
 folded_settings side [] settings all = all
 folded_settings side (s ∷ sections) settings all =
     ap (list_all folded) (append_assoc (section_settings side s) (settings_of side sections) settings)
@@ -102,7 +102,7 @@ folded_settings side (s ∷ sections) settings all =
 all_folded : (one other : List SectionState) → list_all folded (of_both one other) ≡ true
 all_folded one other = folded_settings One one (settings_of Other other) (ap (list_all folded) (sym (append-nil (settings_of Other other))) ∙ folded_settings Other other [] refl)
 
-are_folded : (kept : List Told) → list_all folded kept ≡ true → AllByRecursion (λ (d : Different). IsFolded d.names) (map plainly kept)
+are_folded : (kept : List PlainSetting) → list_all folded kept ≡ true → AllByRecursion (λ (d : Different). IsFolded d.names) (map plainly kept)
 are_folded [] all = tt
 are_folded (t ∷ kept) all =
     let parts = and_parts (folded t) (list_all folded kept) all in
@@ -110,19 +110,19 @@ are_folded (t ∷ kept) all =
     (((bytes_decides (fold t.names.section) t.names.section).0 names.0, (bytes_decides (fold t.names.name) t.names.name).0 names.1), are_folded kept parts.1)
 
 -- differences stand as settings stand
-length_plainly : (kept : List Told) → length (map plainly kept) ≡ length kept
+length_plainly : (kept : List PlainSetting) → length (map plainly kept) ≡ length kept
 length_plainly [] = refl
 length_plainly (t ∷ kept) = ap suc (length_plainly kept)
 
-sorted_plainly : (kept : List Told) → IsSorted told_cmp kept → IsSorted different_cmp (map plainly kept)
+sorted_plainly : (kept : List PlainSetting) → IsSorted setting_cmp kept → IsSorted different_cmp (map plainly kept)
 sorted_plainly [] sorted k d low less = absurd (omega arith)
 sorted_plainly (t ∷ kept) sorted k d low less =
     let within : k + 1 < length (t ∷ kept) = subst (λ (n : ℕ). k + 1 < n) (length_plainly (t ∷ kept)) less in
     let here : k < length (t ∷ kept) = omega arith in
     (λ i. is_lt (different_cmp (get_or-map plainly (t ∷ kept) (k + 1) t d within i) (get_or-map plainly (t ∷ kept) k t d here i))) ∙ sorted k t low within
 
-pub are_differences : (one other : List SectionState) (m n : ℕ) → AreNumbered m one → AreNumbered n other → (kept : List Told) → IsKept (of_both one other) kept → IsSorted told_cmp kept
-    → ((p : Told → Bool) → list_all p (of_both one other) ≡ true → list_all p kept ≡ true) → AreDifferences one other (map plainly kept)
+pub are_differences : (one other : List SectionState) (m n : ℕ) → AreNumbered m one → AreNumbered n other → (kept : List PlainSetting) → IsKept (of_both one other) kept → IsSorted setting_cmp kept
+    → ((p : PlainSetting → Bool) → list_all p (of_both one other) ≡ true → list_all p kept ≡ true) → AreDifferences one other (map plainly kept)
 are_differences one other m n numbered also kept is sorted all = record {
   same = λ key e side.
       let alike : differ_in (names_at key) (of_both one other) ≡ false = differ_at key one other m n numbered also ∙ ap not (same_from (answers_at key one) (answers_at key other) e) in
@@ -160,8 +160,8 @@ none_where_same one other (d ∷ differences) are same =
     let as_compared : names_at key ≡ d.names = λ i. record { section = is_folded.0 i; subsection = d.names.subsection; name = is_folded.1 i } in
     let here : (same_names (names_at key) d.names && same_side d.side d.side) ≡ true
     = and_from (same_names (names_at key) d.names) (same_side d.side d.side) (ap (λ ns. same_names ns d.names) as_compared ∙ same_equiv.refl d.names) (nat_eq_equiv.refl (rank d.side)) in
-    let told : told_at key d.side (d ∷ differences) ≡ d.value ∷ told_at key d.side differences = rw here refl in
-    absurd (let nothing = are.same key (same key) d.side in cc (told, nothing))
+    let plain_setting : values_at_key key d.side (d ∷ differences) ≡ d.value ∷ values_at_key key d.side differences = rw here refl in
+    absurd (let nothing = are.same key (same key) d.side in cc (plain_setting, nothing))
 
 pub nothing_iff : (one other : List SectionState) (differences : List Different) → AreDifferences one other differences
     → (differences ≡ []) ↔ ((key : Key) → answers_at key one ≡ answers_at key other)

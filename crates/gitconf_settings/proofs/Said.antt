@@ -15,7 +15,7 @@ use Rattle.gitconf_text.specs.Names.{is_same_name}
 use Rattle.gitconf_text.specs.Value.{plain}
 use Rattle.gitconf_base.specs.Key.{Key}
 use Rattle.gitconf_base.specs.Metadata.{Meta}
-use Rattle.gitconf_compared.specs.Settings.{Told, found_in, goes_on, is_said, said_of, same_names, same_side, rank, values_of}
+use Rattle.gitconf_compared.specs.Settings.{PlainSetting, found_in, goes_on, is_said, said_of, same_names, same_side, rank, values_of}
 use Rattle.gitconf_compared.specs.declared.setting.Side.{Side}
 use Rattle.gitconf_state.specs.Lookup.{Listed, Said, all_values, deciding, meaning, entries_of_key, is_named, last_value, listing, said, said_by}
 use Rattle.gitconf_state.specs.Lookup as lookup
@@ -100,16 +100,16 @@ values_of_entries side s (e ∷ entries) = ap (λ vs. option_map plain e.raw ∷
 pub values_said : (key : Key) (side : Side) (sections : List SectionState) → values_of (said_of (names_at key) side (settings_of side sections)) ≡ (answers_at key sections).values
 values_said key side [] = refl
 values_said key side (s ∷ sections) =
-    ap values_of (said_step key side s sections) ∙ map_append (λ (t : Told). t.value) (map (setting_of side s) (entries_at key s)) (said_of (names_at key) side (settings_of side sections))
+    ap values_of (said_step key side s sections) ∙ map_append (λ (t : PlainSetting). t.value) (map (setting_of side s) (entries_at key s)) (said_of (names_at key) side (settings_of side sections))
     ∙ (λ i. values_of_entries side s (entries_at key s) i ++ values_said key side sections i)
     ∙ sym (map_append (λ (e : DocumentEntry). option_map plain e.raw) (entries_at key s) (flat_map (λ s. s.entries) (said_listed key sections)))
     ∙ ap (map (λ (e : DocumentEntry). option_map plain e.raw)) (sym (entries_step key s sections))
 
 -- the settings of other sections have other numbers
-abbrev AreApart : ℕ → List Told → Type 0
+abbrev AreApart : ℕ → List PlainSetting → Type 0
 AreApart number settings = AllByRecursion (λ t. (number == t.section) ≡ false) settings
 
-apart_entries : (number : ℕ) (side : Side) (s : SectionState) → (s.number == number) ≡ false → (entries : List DocumentEntry) (settings : List Told) → AreApart number settings
+apart_entries : (number : ℕ) (side : Side) (s : SectionState) → (s.number == number) ≡ false → (entries : List DocumentEntry) (settings : List PlainSetting) → AreApart number settings
     → AreApart number (map (setting_of side s) entries ++ settings)
 apart_entries number side s other [] settings apart = apart
 apart_entries number side s other (e ∷ entries) settings apart = (nat_eq_equiv.symm number s.number ∙ other, apart_entries number side s other entries settings apart)
@@ -118,14 +118,14 @@ apart_said : (key : Key) (side : Side) (number : ℕ) (sections : List SectionSt
     → AreApart number (said_of (names_at key) side (settings_of side sections))
 apart_said key side number [] others = tt
 apart_said key side number (s ∷ sections) others =
-    subst (λ (ts : List Told). AreApart number ts) (sym (said_step key side s sections))
+    subst (λ (ts : List PlainSetting). AreApart number ts) (sym (said_step key side s sections))
     (apart_entries number side s others.0 (entries_at key s) (said_of (names_at key) side (settings_of side sections)) (apart_said key side number sections others.1))
 
 -- the last of two, if there is one
 abbrev later : {A : Type 0} → Option A → Option A → Option A
 later first second = elim second [ Some v ↦ Some v | None ↦ first ]
 
-stops : (number : ℕ) (t : Told) → t.section ≡ number → (settings : List Told) → AreApart number settings → goes_on t settings ≡ false
+stops : (number : ℕ) (t : PlainSetting) → t.section ≡ number → (settings : List PlainSetting) → AreApart number settings → goes_on t settings ≡ false
 stops number t is [] apart = refl
 stops number t is (u ∷ settings) apart = ap (λ n. n == u.section) is ∙ apart.0
 
@@ -134,7 +134,7 @@ same_or_none None = refl
 same_or_none (Some v) = refl
 
 -- what a lookup finds in a section's settings of a key and in those behind it
-found_section : (side : Side) (s : SectionState) (entries : List DocumentEntry) (settings : List Told) → AreApart s.number settings
+found_section : (side : Side) (s : SectionState) (entries : List DocumentEntry) (settings : List PlainSetting) → AreApart s.number settings
     → found_in (map (setting_of side s) entries ++ settings) ≡ later (option_map plain (deciding entries)) (found_in settings)
 found_section side s [] settings apart = sym (same_or_none (found_in settings))
 found_section side s (e ∷ []) settings apart =
@@ -193,7 +193,7 @@ pub found_said : (key : Key) (side : Side) (next : ℕ) (sections : List Section
 found_said key side next sections numbered = found_said_so key side next sections numbered ∙ sym (unfiltered key sections)
 
 -- the settings of one file say nothing of the other
-other_entries : (key : Key) (side other : Side) (s : SectionState) → same_side side other ≡ false → (entries : List DocumentEntry) (settings : List Told)
+other_entries : (key : Key) (side other : Side) (s : SectionState) → same_side side other ≡ false → (entries : List DocumentEntry) (settings : List PlainSetting)
     → said_of (names_at key) side settings ≡ [] → said_of (names_at key) side (map (setting_of other s) entries ++ settings) ≡ []
 other_entries key side of s apart [] settings none = none
 other_entries key side of s apart (e ∷ entries) settings none =

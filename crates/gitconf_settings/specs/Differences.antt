@@ -8,7 +8,7 @@ use Rattle.bstr.specs.Owned.{bstring_bytes}
 use Rattle.gitconf_text.specs.Bytes.{fold}
 use Rattle.gitconf_text.specs.Value.{plain}
 use Rattle.gitconf_base.specs.Key.{Key}
-use Rattle.gitconf_compared.specs.Settings.{Names, Told, names_cmp, rank, same_names, same_side}
+use Rattle.gitconf_compared.specs.Settings.{Names, PlainSetting, names_cmp, rank, same_names, same_side}
 use Rattle.gitconf_compared.specs.declared.setting.Side.{Side}
 use Rattle.gitconf_compared.specs.declared.setting.Side.TheVariants.{One, Other}
 use Rattle.gitconf_state.specs.Lookup.{last_value, listing, said}
@@ -42,7 +42,7 @@ different_of d = record {
 }
 
 -- the difference that a setting is
-abbrev pub plainly : Told → Different
+abbrev pub plainly : PlainSetting → Different
 plainly t = record { side = t.side; names = t.names; value = t.value }
 
 -- the names of a key as names are compared: those of the section and of the value in lower case
@@ -50,8 +50,8 @@ abbrev pub names_at : Key → Names
 names_at key = record { section = fold key.section; subsection = key.subsection; name = fold key.name }
 
 -- the values of one of the files that stand among differences at a key, in order
-abbrev pub told_at : Key → Side → List Different → List (Option (List ℕ))
-told_at key side differences = map (λ d. d.value) (filter (λ d. same_names (names_at key) d.names && same_side side d.side) differences)
+abbrev pub values_at_key : Key → Side → List Different → List (Option (List ℕ))
+values_at_key key side differences = map (λ d. d.value) (filter (λ d. same_names (names_at key) d.names && same_side side d.side) differences)
 
 -- the names stand as names are compared
 abbrev pub IsFolded : Names → Type 0
@@ -63,8 +63,8 @@ different_cmp c d = ordering_then (names_cmp c.names d.names) (nat_cmp (rank c.s
 
 -- The differences of two files: nothing at a key of which both say the same; at any other key all that each file says; in order.
 pub record AreDifferences (one other : List SectionState) (differences : List Different) : Type 0 where
-  pub same : (key : Key) → answers_at key one ≡ answers_at key other → (side : Side) → told_at key side differences ≡ []
+  pub same : (key : Key) → answers_at key one ≡ answers_at key other → (side : Side) → values_at_key key side differences ≡ []
   pub different : (key : Key) → answers_at key one ≢ answers_at key other
-      → (told_at key One differences ≡ (answers_at key one).values) × (told_at key Other differences ≡ (answers_at key other).values)
+      → (values_at_key key One differences ≡ (answers_at key one).values) × (values_at_key key Other differences ≡ (answers_at key other).values)
   pub folded : All (λ d. IsFolded d.names) differences
   pub sorted : IsSorted different_cmp differences

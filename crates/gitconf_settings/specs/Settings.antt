@@ -5,12 +5,12 @@ use Rattle.gitconf_text.specs.Bytes.{fold}
 use Rattle.gitconf_text.specs.Document.{DocumentEntry}
 use Rattle.gitconf_text.specs.Header.{name_of, subsection_of}
 use Rattle.gitconf_text.specs.Value.{plain}
-use Rattle.gitconf_compared.specs.Settings.{Told}
+use Rattle.gitconf_compared.specs.Settings.{PlainSetting}
 use Rattle.gitconf_compared.specs.declared.setting.Side.{Side}
 use Rattle.gitconf_state.specs.State.{SectionState, entries_of}
 
 -- the setting of an entry of a section: both names in lower case, the subsection as it is, and what the entry means, if it has `=`
-abbrev pub setting_of : Side → SectionState → DocumentEntry → Told
+abbrev pub setting_of : Side → SectionState → DocumentEntry → PlainSetting
 setting_of side s e = record {
   names = record { section = fold (name_of s.header); subsection = subsection_of s.header; name = fold e.name };
   side = side;
@@ -19,9 +19,9 @@ setting_of side s e = record {
 }
 
 -- the settings of a section, in order
-abbrev pub section_settings : Side → SectionState → List Told
+abbrev pub section_settings : Side → SectionState → List PlainSetting
 section_settings side s = map (setting_of side s) (entries_of s.items)
 
 -- the settings of sections, in order
-abbrev pub settings_of : Side → List SectionState → List Told
+abbrev pub settings_of : Side → List SectionState → List PlainSetting
 settings_of side sections = flat_map (section_settings side) sections

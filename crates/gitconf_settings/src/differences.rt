@@ -1,6 +1,6 @@
 //! What two files mean differently.
 ghost use Rattle.std.specs.Prelude.{◌≡◌, ℕ, map, IfOk};
-ghost use Rattle.gitconf_compared.specs.Settings.{all_told, told};
+ghost use Rattle.gitconf_compared.specs.Settings.{plain_settings, plain_setting};
 ghost use Rattle.gitconf_state.specs.State.{AreNumbered};
 ghost use Rattle.gitconf_views.specs.Views.{sections_left};
 ghost use Rattle.gitconf_settings.specs.Differences.{different_of, plainly, AreDifferences};
@@ -30,7 +30,7 @@ pub struct Difference {
 
 /// The difference that a setting is. No memory is taken.
 fn of_setting(setting: Setting) -> Difference
-    ensures { different_of result ≡ plainly (told setting) }
+    ensures { different_of result ≡ plainly (plain_setting setting) }
 {
     let Setting {
         section_name,
@@ -51,7 +51,7 @@ fn of_setting(setting: Setting) -> Difference
 
 /// The differences that settings are, in order.
 fn shown(alloc: Global, settings: Vec<Setting>) -> Result<Vec<Difference>, NoMemory>
-    ensures { IfOk result (λ shown. map different_of shown.items ≡ map plainly (all_told settings.items)) }
+    ensures { IfOk result (λ shown. map different_of shown.items ≡ map plainly (plain_settings settings.items)) }
 {
     let mut shown = Vec::new(alloc);
     for setting in settings {

@@ -5,7 +5,7 @@ ghost use Rattle.bstr.specs.Owned.{bstring_bytes};
 ghost use Rattle.gitconf_text.specs.Bytes.{fold};
 ghost use Rattle.gitconf_text.specs.Document.{document_entry};
 ghost use Rattle.gitconf_items.specs.Items.{entry_of};
-ghost use Rattle.gitconf_compared.specs.Settings.{all_told, told};
+ghost use Rattle.gitconf_compared.specs.Settings.{plain_settings, plain_setting};
 ghost use Rattle.gitconf_views.specs.Views.{sections_left, shown};
 ghost use Rattle.gitconf_settings.specs.Settings.{section_settings, setting_of, settings_of};
 
@@ -38,7 +38,7 @@ fn copied(alloc: Global, text: Option<&[u8]>) -> Result<Option<BString>, NoMemor
 
 /// The setting of an entry of a section.
 fn setting(section: &SectionRef<'_>, entry: &Entry, side: Side) -> Result<Setting, NoMemory>
-    ensures { IfOk result (λ s. told s ≡ setting_of side (shown section.now) (document_entry (entry_of section.now.buffer.now entry.now))) }
+    ensures { IfOk result (λ s. plain_setting s ≡ setting_of side (shown section.now) (document_entry (entry_of section.now.buffer.now entry.now))) }
 {
     let header = section.header();
     Ok(Setting {
@@ -57,7 +57,7 @@ fn add_section(
     section: &SectionRef<'_>,
     side: Side,
 ) -> Result<(), NoMemory>
-    ensures { IfOk result (λ _. all_told settings.new.items ≡ all_told settings.old.items ++ section_settings side (shown section.now)) }
+    ensures { IfOk result (λ _. plain_settings settings.new.items ≡ plain_settings settings.old.items ++ section_settings side (shown section.now)) }
 {
     let mut rest = section.items;
     while let Some((entry, behind)) = next_entry(rest) {
@@ -79,7 +79,7 @@ pub fn add_settings(
     sections: Sections<'_>,
     side: Side,
 ) -> Result<(), NoMemory>
-    ensures { IfOk result (λ _. all_told settings.new.items ≡ all_told settings.old.items ++ settings_of side (sections_left sections.entry)) }
+    ensures { IfOk result (λ _. plain_settings settings.new.items ≡ plain_settings settings.old.items ++ settings_of side (sections_left sections.entry)) }
 {
     for section in sections {
         add_section(settings, &section, side)?;

@@ -1,10 +1,10 @@
 use Rattle.std.proofs.Common.{◌≡◌, ◌≤◌, length, drop, None}
-use Rattle.gitconf_compared.specs.Settings.{all_told, found_in}
+use Rattle.gitconf_compared.specs.Settings.{plain_settings, found_in}
 use Rattle.gitconf_compared.proofs.comparing.found_in.Given as goal
 
 abbrev pub invariant-loop-at : goal.invariant-loop-at
 invariant-loop-at l = record {
-  none : found_in (all_told (drop l.at l.settings)) ≡ None;
+  none : found_in (plain_settings (drop l.at l.settings)) ≡ None;
   within : l.at ≤ length l.settings;
 }
 

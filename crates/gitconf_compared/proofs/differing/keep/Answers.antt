@@ -3,19 +3,19 @@ use Rattle.std.specs.Iterator.Adapters.{zip_first, zip_second}
 use Rattle.std.specs.Slice.Iter.{iter_rest}
 use Rattle.std.specs.Vec.Iter.{into_iter_items}
 use Rattle.std.proofs.lemmas.List.{nil_from_length}
-use Rattle.gitconf_compared.specs.Settings.{Told, all_told, marked}
+use Rattle.gitconf_compared.specs.Settings.{PlainSetting, plain_settings, marked}
 use Rattle.gitconf_compared.proofs.differing.keep.Goals as goal
 
-none_marked : (marks : List Bool) (settings : List Told) → settings ≡ [] → marked marks settings ≡ []
+none_marked : (marks : List Bool) (settings : List PlainSetting) → settings ≡ [] → marked marks settings ≡ []
 none_marked [] settings none = refl
 none_marked (m ∷ marks) settings none = ap (marked (m ∷ marks)) none
 
 pub returns : goal.returns
 returns c =
-    let nothing : marked (iter_rest (zip_second c.loop-setting.setting-iterator)) (all_told (into_iter_items (zip_first c.loop-setting.setting-iterator))) ≡ []
+    let nothing : marked (iter_rest (zip_second c.loop-setting.setting-iterator)) (plain_settings (into_iter_items (zip_first c.loop-setting.setting-iterator))) ≡ []
     = elim c.in-None.ensures.steps [
-      | inl end ↦ none_marked (iter_rest (zip_second c.loop-setting.setting-iterator)) (all_told (into_iter_items (zip_first c.loop-setting.setting-iterator)))
-          (ap all_told (nil_from_length (into_iter_items (zip_first c.loop-setting.setting-iterator)) (sym c.loop-setting.setting-iterator.a.rest.ok.0 ∙ end.1.0)))
-      | inr end ↦ ap (λ ms. marked ms (all_told (into_iter_items (zip_first c.loop-setting.setting-iterator)))) (nil_from_length (iter_rest (zip_second c.loop-setting.setting-iterator)) end.1.0)
+      | inl end ↦ none_marked (iter_rest (zip_second c.loop-setting.setting-iterator)) (plain_settings (into_iter_items (zip_first c.loop-setting.setting-iterator)))
+          (ap plain_settings (nil_from_length (into_iter_items (zip_first c.loop-setting.setting-iterator)) (sym c.loop-setting.setting-iterator.a.rest.ok.0 ∙ end.1.0)))
+      | inr end ↦ ap (λ ms. marked ms (plain_settings (into_iter_items (zip_first c.loop-setting.setting-iterator)))) (nil_from_length (iter_rest (zip_second c.loop-setting.setting-iterator)) end.1.0)
     ] in
-    sym (append-nil (all_told c.loop-setting.kept.items)) ∙ ap (λ ts. all_told c.loop-setting.kept.items ++ ts) (sym nothing) ∙ c.loop-setting.invariant
+    sym (append-nil (plain_settings c.loop-setting.kept.items)) ∙ ap (λ ts. plain_settings c.loop-setting.kept.items ++ ts) (sym nothing) ∙ c.loop-setting.invariant

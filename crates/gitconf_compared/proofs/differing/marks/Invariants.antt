@@ -1,12 +1,12 @@
 use Rattle.std.proofs.Common.{◌≡◌, ◌++◌, length}
-use Rattle.gitconf_compared.specs.Settings.{all_told, marks_of}
+use Rattle.gitconf_compared.specs.Settings.{plain_settings, marks_of}
 use Rattle.gitconf_compared.proofs.Orders.{Ascends}
 use Rattle.gitconf_compared.proofs.differing.marks.Given as goal
 
 abbrev pub invariant-loop-first : goal.invariant-loop-first
 invariant-loop-first l = record {
-  settled : l.marks.items ++ marks_of (all_told l.rest) ≡ marks_of (all_told l.settings);
-  up : Ascends (all_told l.rest);
+  settled : l.marks.items ++ marks_of (plain_settings l.rest) ≡ marks_of (plain_settings l.settings);
+  up : Ascends (plain_settings l.rest);
 }
 
 abbrev pub decreases-loop-first : goal.decreases-loop-first

@@ -1,5 +1,5 @@
 use Rattle.std.proofs.Common.{◌≡◌, ◌++◌}
-use Rattle.gitconf_compared.specs.Settings.{all_told}
+use Rattle.gitconf_compared.specs.Settings.{plain_settings}
 use Rattle.gitconf_views.specs.Views.{sections_left}
 use Rattle.gitconf_settings.specs.Settings.{settings_of}
 use Rattle.gitconf_settings.proofs.settings.add_settings.Given as goal
@@ -7,4 +7,4 @@ use Rattle.gitconf_settings.proofs.settings.add_settings.Given as goal
 -- the settings so far, and those of the sections that are left
 abbrev pub invariant-loop-section : goal.invariant-loop-section
 invariant-loop-section l =
-    all_told l.settings.items ++ settings_of l.side (sections_left l.section-iterator) ≡ all_told l.fn.settings.items ++ settings_of l.side (sections_left l.fn.sections)
+    plain_settings l.settings.items ++ settings_of l.side (sections_left l.section-iterator) ≡ plain_settings l.fn.settings.items ++ settings_of l.side (sections_left l.fn.sections)
