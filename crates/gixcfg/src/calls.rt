@@ -2,6 +2,7 @@
 ghost use Rattle.std.specs.Prelude.{◌≤◌};
 
 use crate::checks::check;
+use crate::differing::diff;
 use crate::edits::edit;
 use crate::loading::{Outside, path_of};
 use crate::program::MEMORY;
@@ -97,6 +98,7 @@ fn do_command<I: Read, W: Write, E: Write>(
 {
     let done = match call.command {
         Command::Check => return check(rt, call, outside, input, err),
+        Command::Diff => return diff(rt, call, outside, input, out, err),
         Command::Get => get(rt, call, outside, input, out),
         Command::List => list(rt, call, outside, input, out),
         _ => edit(rt, call, outside, input, out),

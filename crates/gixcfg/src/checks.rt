@@ -1,7 +1,7 @@
 //! `check`: the first fault of each file.
 ghost use Rattle.std.specs.Prelude.{◌≤◌};
 
-use crate::loading::{Outside, loaded, text_of};
+use crate::loading::{Outside, file_at};
 use crate::program::MEMORY;
 use gixcfg_answers::trouble::{Trouble, tell};
 use gixcfg_words::call::Call;
@@ -66,9 +66,11 @@ fn found<R: Files + AllocGlobal, I: Read, E: Write>(
     input: &mut I,
     err: &mut E,
 ) -> Finding {
-    let path = if word == "-" { None } else { Some(word) };
-    match read_one(rt, path, word, outside, input) {
-        Ok(()) => Finding::Fine,
+    match file_at(rt, word, outside, input) {
+        Ok(file) => {
+            drop(file);
+            Finding::Fine
+        }
         Err(trouble) => {
             if !is_quiet || matches!(trouble, Trouble::Memory) {
                 tell(&trouble, word, err);
@@ -80,20 +82,4 @@ fn found<R: Files + AllocGlobal, I: Read, E: Write>(
             }
         }
     }
-}
-
-/// Reads a file.
-fn read_one<R: Files + AllocGlobal, I: Read>(
-    rt: &R,
-    path: Option<&str>,
-    name: &str,
-    outside: Outside<'_>,
-    input: &mut I,
-) -> Result<(), Trouble> {
-    let Some(text) = text_of(rt, path, input)? else {
-        return Err(Trouble::NoFile);
-    };
-    let file = loaded(rt.alloc(), name, &text, outside)?;
-    drop(file);
-    Ok(())
 }

@@ -1,13 +1,15 @@
 //! `set`, `unset`, `rename-section`, `remove-section` and `fmt` with options.
 
+use crate::comments::commented;
 use crate::loading::{Outside, loaded, refused, text_of};
-use crate::program::{key_of, last_with, put, remove};
+use crate::program::{key_of, put};
+use crate::removals::{Names, count_of, holders_of, remove_entries, text_without};
 use bstr::BString;
 use gix_config::file::rename_section;
 use gix_config::format::{self, normalize};
 use gix_config::lookup::existing;
 use gix_config::refusals::Refusal;
-use gix_config::{File, KeyRef, NoMemory};
+use gix_config::{File, KeyRef};
 use gixcfg_answers::trouble::{Trouble, of_number};
 use gixcfg_answers::typed::typed;
 use gixcfg_files::Lock;
@@ -109,14 +111,36 @@ fn edited(
     outside: Outside<'_>,
 ) -> Result<BString, Trouble> {
     if let Command::Fmt = call.command {
-        return match normalize(alloc, text, layout_of(&call.options)) {
-            Ok(text) => Ok(text),
-            Err(refusal) => Err(refused(alloc, call.options.file_name(), text, &refusal, outside)),
-        };
+        return laid_out(alloc, call, text, outside);
     }
     let mut file = loaded(alloc, call.options.file_name(), text, outside)?;
+    if let (Command::RemoveSection, [name]) = (call.command, call.words.as_slice()) {
+        return text_without(alloc, &file, &names_of(name));
+    }
     apply(alloc, &mut file, call, outside)?;
-    Ok(file.to_bstring()?)
+    printed(alloc, &file, call)
+}
+
+/// A text, laid out as the options ask for it.
+fn laid_out(
+    alloc: Global,
+    call: &Call<'_>,
+    text: &[u8],
+    outside: Outside<'_>,
+) -> Result<BString, Trouble> {
+    match normalize(alloc, text, layout_of(&call.options)) {
+        Ok(text) => Ok(text),
+        Err(refusal) => Err(refused(alloc, call.options.file_name(), text, &refusal, outside)),
+    }
+}
+
+/// The text of a file that was edited, with a comment after the value if one is asked for.
+fn printed(alloc: Global, file: &File, call: &Call<'_>) -> Result<BString, Trouble> {
+    let text = file.to_bstring()?;
+    match (call.options.comment, call.words.first()) {
+        (Some(comment), Some(key)) => commented(alloc, file, &text, key_of(key)?, comment),
+        _ => Ok(text),
+    }
 }
 
 /// The layout that the options ask for.
@@ -146,9 +170,8 @@ fn apply(
 ) -> Result<(), Trouble> {
     match (call.command, call.words.as_slice()) {
         (Command::Set, [key, value]) => set(alloc, file, key, value, &call.options, outside),
-        (Command::Unset, [key]) => unset(file, key_of(key)?, call.options.all),
+        (Command::Unset, [key]) => unset(alloc, file, key_of(key)?, call.options.all),
         (Command::RenameSection, [old, new]) => rename(alloc, file, old, new),
-        (Command::RemoveSection, [name]) => remove_sections(file, name),
         _ => Err(Trouble::NoKey),
     }
 }
@@ -164,16 +187,17 @@ fn set(
 ) -> Result<(), Trouble> {
     let key = key_of(key)?;
     match options.kind {
-        None | Some(Kind::Path) => put_value(file, key, value.as_bytes(), options),
+        None | Some(Kind::Path) => put_value(alloc, file, key, value.as_bytes(), options),
         Some(kind) => {
             let value = typed(alloc, Some(value.as_bytes()), kind, outside.home)?;
-            put_value(file, key, value.as_bytes(), options)
+            put_value(alloc, file, key, value.as_bytes(), options)
         }
     }
 }
 
 /// Gives a key a value: the only one, one in place of all, or one more.
 fn put_value(
+    alloc: Global,
     file: &mut File,
     key: KeyRef<'_>,
     value: &[u8],
@@ -182,11 +206,12 @@ fn put_value(
     if options.append {
         return append(file, key, value);
     }
-    match count_of(file, key)? {
+    let holders = holders_of(alloc, file, key)?;
+    match count_of(&holders) {
         0 => put_new(file, key, value),
         1 => rewrite(file, key, value),
-        count if options.all => {
-            remove_last(file, key, count.saturating_sub(1))?;
+        _ if options.all => {
+            remove_entries(file, &holders, key.value_name, 1)?;
             rewrite(file, key, value)
         }
         _ => Err(Trouble::Several),
@@ -201,14 +226,6 @@ fn put_new(file: &mut File, key: KeyRef<'_>, value: &[u8]) -> Result<(), Trouble
             Ok(())
         }
         Err(refusal) => Err(of_number(refusal.number())),
-    }
-}
-
-/// How many entries a key has.
-fn count_of(file: &File, key: KeyRef<'_>) -> Result<usize, NoMemory> {
-    match file.strings(key)? {
-        Some(values) => Ok(values.len()),
-        None => Ok(0),
     }
 }
 
@@ -228,7 +245,7 @@ fn rewrite(file: &mut File, key: KeyRef<'_>, value: &[u8]) -> Result<(), Trouble
     match file.raw_values_mut(key) {
         Ok(mut editor) => {
             if editor.is_empty() {
-                return Ok(());
+                return Err(Trouble::Missing);
             }
             match editor.set_at(0, value) {
                 Ok(()) => Ok(()),
@@ -240,72 +257,41 @@ fn rewrite(file: &mut File, key: KeyRef<'_>, value: &[u8]) -> Result<(), Trouble
     }
 }
 
-/// Removes the last `count` entries of a key, with a lookup of all its entries for each.
-fn remove_last(file: &mut File, key: KeyRef<'_>, count: usize) -> Result<(), Trouble> {
-    for _ in 0..count {
-        remove_one(file, key)?;
-    }
-    Ok(())
-}
-
-/// Removes the last entry of a key.
-fn remove_one(file: &mut File, key: KeyRef<'_>) -> Result<(), Trouble> {
-    let id = last_with(file, key)?;
-    Ok(remove(file, id, key)?)
-}
-
 /// Removes the only entry of a key, or all of them.
-fn unset(file: &mut File, key: KeyRef<'_>, is_all: bool) -> Result<(), Trouble> {
-    match count_of(file, key)? {
+fn unset(alloc: Global, file: &mut File, key: KeyRef<'_>, is_all: bool) -> Result<(), Trouble> {
+    let holders = holders_of(alloc, file, key)?;
+    match count_of(&holders) {
         0 => Err(Trouble::NoEntry),
-        1 => remove_one(file, key),
-        count if is_all => remove_last(file, key, count),
+        1 => remove_entries(file, &holders, key.value_name, 0),
+        _ if is_all => remove_entries(file, &holders, key.value_name, 0),
         _ => Err(Trouble::Several),
     }
 }
 
 /// The name of a section and its subsection, which a word has with a dot between them.
-fn parts_of(word: &str) -> (&str, Option<&[u8]>) {
+fn names_of(word: &str) -> Names<'_> {
     match word.split_once('.') {
-        Some((name, subsection_name)) => (name, Some(subsection_name.as_bytes())),
-        None => (word, None),
+        Some((name, subsection_name)) => Names {
+            name,
+            subsection_name: Some(subsection_name.as_bytes()),
+        },
+        None => Names {
+            name: word,
+            subsection_name: None,
+        },
     }
 }
 
 /// Gives the sections of a name another one.
 fn rename(alloc: Global, file: &mut File, old: &str, new: &str) -> Result<(), Trouble> {
-    let (name, subsection_name) = parts_of(old);
-    let (new_name, new_subsection_name) = parts_of(new);
-    let new_subsection_name = match new_subsection_name {
+    let (old, new) = (names_of(old), names_of(new));
+    let new_subsection_name = match new.subsection_name {
         Some(bytes) => Some(BString::new(bytes.to_vec(alloc)?)),
         None => None,
     };
-    match file.rename_section(name, subsection_name, new_name, new_subsection_name) {
+    match file.rename_section(old.name, old.subsection_name, new.name, new_subsection_name) {
         Ok(()) => Ok(()),
         Err(rename_section::Error::Lookup(_)) => Err(Trouble::NoSection),
         Err(refusal) => Err(of_number(refusal.number())),
     }
-}
-
-/// Removes all sections of a name, with a walk over all sections for each.
-fn remove_sections(file: &mut File, word: &str) -> Result<(), Trouble> {
-    let (name, subsection_name) = parts_of(word);
-    if !remove_section(file, name, subsection_name)? {
-        return Err(Trouble::NoSection);
-    }
-    for _ in 0..file.sections().count() {
-        if !remove_section(file, name, subsection_name)? {
-            break;
-        }
-    }
-    Ok(())
-}
-
-/// Removes the last section of a name; whether there was one.
-fn remove_section(
-    file: &mut File,
-    name: &str,
-    subsection_name: Option<&[u8]>,
-) -> Result<bool, NoMemory> {
-    Ok(file.remove_section(name, subsection_name)?.is_some())
 }

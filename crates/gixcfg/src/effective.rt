@@ -1,28 +1,32 @@
 //! All that git reads, from where the program is called.
 
 use crate::including::{here_from, options_of, trouble_of};
-use crate::loading::places_of;
+use crate::loading::{Outside, places_of};
+use crate::placing::{of_paths, placed};
+use crate::worktrees::has_worktree_file;
 use gitconf_disk::{Disk, Process};
-use gix_config::file::{Metadata, init};
+use gix_config::file::Metadata;
+use gix_config::file::init::{self, from_paths};
 use gix_config::host::{Host, StorageLocation};
 use gix_config::refusals::Refusal;
 use gix_config::source::{Source, Trust};
-use gix_config::{File, KeyRef, NoMemory};
+use gix_config::{File, NoMemory};
 use gixcfg_answers::trouble::Trouble;
-use gixcfg_files::{Repository, find_repository, read};
+use gixcfg_files::{Repository, find_repository};
 use std::alloc::Global;
 use std::rc::Rc;
 
 /// All that git reads from here, in its order, with what is included or without: the files of the system, of the user, of the
 /// repository and of its working tree, then the variables.
-pub fn effective(rt: &HostRuntime, home: Option<&str>, follows: bool) -> Result<File, Trouble> {
+pub fn effective(rt: &HostRuntime, outside: Outside<'_>, follows: bool) -> Result<File, Trouble> {
+    let home = outside.home;
     let found = find_repository(rt)?;
     let here = here_from(rt, found.as_ref())?;
     let metas = match found {
         Some(found) => metas_of(rt, home, &found)?,
         None => metas_of_user(rt, home)?,
     };
-    load(rt, metas, home, options_of(home, &here, follows))
+    load(rt, metas, outside, options_of(home, &here, follows))
 }
 
 /// Where the files of the system and of the user are.
@@ -65,40 +69,16 @@ fn add(metas: &mut Vec<Metadata>, path: String, source: Source) -> Result<(), No
     })?)
 }
 
-/// Whether the repository's file says that each working tree has a file of its own. A text that is refused says nothing, and is
-/// refused again when it is loaded.
-fn has_worktree_file(rt: &HostRuntime, path: &str) -> Result<bool, Trouble> {
-    let Some(text) = read(rt, path)? else {
-        return Ok(false);
-    };
-    match File::try_from_bytes_owned_lossy(rt.alloc(), text) {
-        Ok(file) => is_set(&file),
-        Err(refusal) if refusal.is_memory() => Err(Trouble::Memory),
-        Err(_) => Ok(false),
-    }
-}
-
-/// Whether a file says that each working tree has a file of its own.
-fn is_set(file: &File) -> Result<bool, Trouble> {
-    let Some(key) = KeyRef::parse_unvalidated(b"extensions.worktreeConfig") else {
-        return Ok(false);
-    };
-    match file.boolean(key) {
-        Ok(value) => Ok(value.unwrap_or(false)),
-        Err(refusal) if refusal.number() == 27 => Err(Trouble::Memory),
-        Err(_) => Ok(false),
-    }
-}
-
 /// The files of these places, and the variables, as the options have it.
 fn load(
     rt: &HostRuntime,
     metas: Vec<Metadata>,
-    home: Option<&str>,
+    outside: Outside<'_>,
     options: init::Options<'_>,
 ) -> Result<File, Trouble> {
     let alloc = rt.alloc();
-    let places = places_of(alloc, home)?;
+    let paths = paths_of(alloc, &metas)?;
+    let places = places_of(alloc, outside.home)?;
     let (Ok(files), Ok(env)) = (
         Box::new(alloc, Disk::new(*rt)),
         Box::new(alloc, Process::new(*rt)),
@@ -113,8 +93,36 @@ fn load(
     match File::from_paths_metadata_buf(alloc, metas, false, options, &mut host) {
         Ok(Some(file)) => joined(file, variables),
         Ok(None) => Ok(or_empty(alloc, variables)?),
-        Err(refusal) => Err(trouble_of(alloc, refusal.number(), &refusal)),
+        Err(refusal) => Err(refused(rt, paths, &refusal, outside)),
     }
+}
+
+/// The paths of files.
+fn paths_of(alloc: Global, metas: &[Metadata]) -> Result<Vec<String>, NoMemory> {
+    let mut paths = Vec::new(alloc);
+    for meta in metas {
+        if let Some(path) = &meta.path {
+            paths.push(String::from_str(alloc, path.as_str())?)?;
+        }
+    }
+    Ok(paths)
+}
+
+/// The trouble that a refusal of a load of these files is.
+fn refused(
+    rt: &HostRuntime,
+    paths: Vec<String>,
+    refusal: &from_paths::Error,
+    outside: Outside<'_>,
+) -> Trouble {
+    if let Some(cause) = of_paths(refusal) {
+        match placed(rt, paths, cause, outside) {
+            Ok(Some(trouble)) => return trouble,
+            Ok(None) => {}
+            Err(_) => return Trouble::Memory,
+        }
+    }
+    trouble_of(rt.alloc(), refusal.number(), refusal)
 }
 
 /// A file, or an empty one.

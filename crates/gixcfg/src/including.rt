@@ -1,6 +1,7 @@
 //! Files with what they include.
 
-use crate::loading::places_of;
+use crate::loading::{Outside, places_of, refused};
+use crate::placing::{included_by, of_init, placed};
 use gitconf_disk::{Disk, Process};
 use gix_config::file::includes::{self, conditional};
 use gix_config::file::{Metadata, init};
@@ -10,6 +11,7 @@ use gix_config::refusals::Refusal;
 use gix_config::{File, NoMemory};
 use gixcfg_answers::trouble::Trouble;
 use gixcfg_files::{Repository, find_repository};
+use gixcfg_words::options::Options;
 use std::alloc::Global;
 use std::fmt::Display;
 use std::rc::Rc;
@@ -71,18 +73,33 @@ fn git_dir(path: &str) -> conditional::GitDir<'_> {
     }
 }
 
-/// A text as a file, with what it includes; that of the file at a path, or of standard input.
+/// A text as a file, with what it includes; that of the file that the options name, or of standard input. The text is copied, for the
+/// message of a refusal.
 pub fn included(
+    rt: &HostRuntime,
+    call: &Options<'_>,
+    text: Vec<u8>,
+    outside: Outside<'_>,
+) -> Result<File, Trouble> {
+    let found = find_repository(rt)?;
+    let here = here_from(rt, found.as_ref())?;
+    let copy = text.to_vec(rt.alloc())?;
+    match with_includes(rt, call.path(), text, options_of(outside.home, &here, true))? {
+        Ok(file) => Ok(file),
+        Err(refusal) => Err(refused_load(rt, call, &copy, &refusal, outside)?),
+    }
+}
+
+/// A text as a file, with what it includes as the options have it, or why it is refused.
+fn with_includes(
     rt: &HostRuntime,
     path: Option<&str>,
     text: Vec<u8>,
-    home: Option<&str>,
-) -> Result<File, Trouble> {
+    options: init::Options<'_>,
+) -> Result<Result<File, init::Error>, Trouble> {
     let alloc = rt.alloc();
-    let found = find_repository(rt)?;
-    let here = here_from(rt, found.as_ref())?;
     let meta = meta_of(alloc, path)?;
-    let places = places_of(alloc, home)?;
+    let places = places_of(alloc, None)?;
     let (Ok(files), Ok(env)) = (
         Box::new(alloc, Disk::new(*rt)),
         Box::new(alloc, Process::new(*rt)),
@@ -90,10 +107,41 @@ pub fn included(
         return Err(Trouble::Memory);
     };
     let mut host = Host { files, env, places };
-    let options = options_of(home, &here, true);
-    match File::from_bytes_owned(alloc, text, meta, options, &mut host) {
-        Ok(file) => Ok(file),
-        Err(refusal) => Err(trouble_of(alloc, refusal.number(), &refusal)),
+    Ok(File::from_bytes_owned(alloc, text, meta, options, &mut host))
+}
+
+/// The trouble that a refusal of a text with what it includes is: with its place, if a text is refused.
+fn refused_load(
+    rt: &HostRuntime,
+    call: &Options<'_>,
+    text: &[u8],
+    refusal: &init::Error,
+    outside: Outside<'_>,
+) -> Result<Trouble, NoMemory> {
+    let alloc = rt.alloc();
+    if let init::Error::Parse(cause) = refusal {
+        return Ok(refused(alloc, call.file_name(), text, cause, outside));
+    }
+    if let Some(cause) = of_init(refusal) {
+        let paths = included_in(alloc, text, call.path(), outside.home)?;
+        if let Some(trouble) = placed(rt, paths, cause, outside)? {
+            return Ok(trouble);
+        }
+    }
+    Ok(trouble_of(alloc, refusal.number(), refusal))
+}
+
+/// The paths that a text includes.
+fn included_in(
+    alloc: Global,
+    text: &[u8],
+    path: Option<&str>,
+    home: Option<&str>,
+) -> Result<Vec<String>, NoMemory> {
+    match File::try_from_bytes(alloc, text) {
+        Ok(file) => included_by(alloc, &file, path, home),
+        Err(refusal) if refusal.is_memory() => Err(NoMemory),
+        Err(_) => Ok(Vec::new(alloc)),
     }
 }
 

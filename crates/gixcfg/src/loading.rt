@@ -1,6 +1,7 @@
 //! What a call with options works on.
 
 use crate::program::{Fault, read_all};
+use crate::worktrees::worktree_path;
 use gix_config::host::Places;
 use gix_config::parse::Error;
 use gix_config::{File, NoMemory};
@@ -42,6 +43,7 @@ pub fn path_of<R: Files + Env + AllocGlobal>(
         Some(Place::Global) => Ok(Some(user_file(rt)?)),
         Some(Place::System) => Ok(Some(system_file(rt)?)),
         Some(Place::Local) => Ok(Some(repository_file(rt)?)),
+        Some(Place::Worktree) => Ok(Some(worktree_path(rt)?)),
         Some(Place::Effective) | None => Ok(None),
     }
 }
@@ -72,7 +74,21 @@ pub fn text_of<R: Files + AllocGlobal, I: Read>(
     }
 }
 
-/// A text as a file of this name.
+/// The file that a word names, or standard input for `-`.
+pub fn file_at<R: Files + AllocGlobal, I: Read>(
+    rt: &R,
+    word: &str,
+    outside: Outside<'_>,
+    input: &mut I,
+) -> Result<File, Trouble> {
+    let path = if word == "-" { None } else { Some(word) };
+    let Some(text) = text_of(rt, path, input)? else {
+        return Err(Trouble::NoFile);
+    };
+    loaded(rt.alloc(), word, &text, outside)
+}
+
+/// A text as a file of this name. The text is copied, since the message of a refusal shows a line of it, and an edit is compared with it.
 pub fn loaded(
     alloc: Global,
     name: &str,

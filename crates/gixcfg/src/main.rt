@@ -3,14 +3,19 @@
 
 mod calls;
 mod checks;
+mod comments;
+mod differing;
 mod edits;
 mod effective;
 mod entries;
 mod including;
 mod loading;
 mod output;
+mod placing;
 mod program;
 mod reads;
+mod removals;
+mod worktrees;
 
 use calls::run_call;
 use gitconf_disk::{Disk, Process};

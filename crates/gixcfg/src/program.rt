@@ -397,7 +397,12 @@ fn add_entries(lines: &mut Vec<u8>, section: &SectionRef<'_>) -> Result<(), NoMe
     let header = section.header();
     for entry in section.body() {
         let (name, value) = entry?;
-        add_names(lines, header.name(), header.subsection_name(), name)?;
+        add_names(
+            lines,
+            header.name(),
+            header.subsection_name(),
+            name.as_bytes(),
+        )?;
         lines.push(b'=')?;
         lines.extend_from_slice(&value)?;
         lines.push(b'\n')?;
@@ -412,7 +417,7 @@ fn set(file: &mut File, key: KeyRef<'_>, value: &str) -> Result<(), Fault> {
 }
 
 /// The number of the last section that has an entry of a key.
-pub fn last_with(file: &File, key: KeyRef<'_>) -> Result<SectionId, Fault> {
+fn last_with(file: &File, key: KeyRef<'_>) -> Result<SectionId, Fault> {
     match file.raw_values_with_sections(key) {
         Ok(found) => match found.last() {
             Some(found) => Ok(found.1.id()),
@@ -424,7 +429,7 @@ pub fn last_with(file: &File, key: KeyRef<'_>) -> Result<SectionId, Fault> {
 }
 
 /// Takes the last entry of a key out of the section of a number.
-pub fn remove(file: &mut File, id: SectionId, key: KeyRef<'_>) -> Result<(), Fault> {
+fn remove(file: &mut File, id: SectionId, key: KeyRef<'_>) -> Result<(), Fault> {
     match file.section_mut_by_id(id) {
         Ok(mut section) => {
             let _ = section.remove(key.value_name)?;

@@ -78,13 +78,13 @@ fn file_of<I: Read>(
 ) -> Result<Option<File>, Trouble> {
     let (path, follows) = (call.options.path(), call.options.follows());
     if let Some(Place::Effective) = call.options.place {
-        return Ok(Some(effective(rt, outside.home, follows)?));
+        return Ok(Some(effective(rt, outside, follows)?));
     }
     let Some(text) = text_of(rt, path, input)? else {
         return Ok(None);
     };
     if follows {
-        Ok(Some(included(rt, path, text, outside.home)?))
+        Ok(Some(included(rt, &call.options, text, outside)?))
     } else {
         let name = call.options.file_name();
         Ok(Some(loaded(rt.alloc(), name, &text, outside)?))

@@ -74,7 +74,12 @@ pub fn add_found(
         at = at.saturating_add(1);
         if value_name.is_none_or(|wanted| name.eq_ignore_ascii_case(wanted)) {
             let mut names = Vec::new(alloc);
-            add_names(&mut names, header.name(), header.subsection_name(), name)?;
+            add_names(
+                &mut names,
+                header.name(),
+                header.subsection_name(),
+                name.as_bytes(),
+            )?;
             let value = if has_value { Some(value) } else { None };
             let before = told.to_vec(alloc)?;
             found.push(Found {
@@ -89,9 +94,12 @@ pub fn add_found(
 
 /// Whether a section has the names of a key.
 pub fn is_named(section: &SectionRef<'_>, key: KeyRef<'_>) -> bool {
+    has_names(section, key.section_name, key.subsection_name)
+}
+
+/// Whether a section has this name, without ASCII case, and exactly this subsection.
+pub fn has_names(section: &SectionRef<'_>, name: &str, subsection_name: Option<&[u8]>) -> bool {
     let header = section.header();
-    header
-        .name()
-        .eq_ignore_ascii_case(key.section_name.as_bytes())
-        && header.subsection_name() == key.subsection_name
+    header.name().eq_ignore_ascii_case(name.as_bytes())
+        && header.subsection_name() == subsection_name
 }

@@ -12,7 +12,7 @@ pub fn add_names(
     text: &mut Vec<u8>,
     section_name: &[u8],
     subsection_name: Option<&[u8]>,
-    value_name: &str,
+    value_name: &[u8],
 ) -> Result<(), AllocError> {
     add_in_lower_case(text, section_name)?;
     text.push(b'.')?;
@@ -20,7 +20,7 @@ pub fn add_names(
         text.extend_from_slice(subsection_name)?;
         text.push(b'.')?;
     }
-    add_in_lower_case(text, value_name.as_bytes())
+    add_in_lower_case(text, value_name)
 }
 
 /// Adds bytes, ASCII letters of them in lower case.

@@ -35,7 +35,8 @@ fn scope_of(meta: &Metadata, options: &Options<'_>) -> &'static str {
         Some(Place::Effective) => scope_of_source(meta.source),
         Some(Place::System) => "system",
         Some(Place::Global) => "global",
-        Some(Place::Local) => "local",
+        // So has git for a working tree's file that is named.
+        Some(Place::Local | Place::Worktree) => "local",
         None => "command",
     }
 }

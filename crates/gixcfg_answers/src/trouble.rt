@@ -30,6 +30,8 @@ pub enum Trouble {
     Unread(String),
     /// The text or the edit is refused: the number of the refusal.
     Refused(u8),
+    /// The comment can't be put after the value.
+    Uncommented,
     /// A value is none of the type.
     Untyped(Kind),
     /// The file can't be read or edited.
@@ -63,7 +65,8 @@ impl Trouble {
             | Trouble::NoSection
             | Trouble::BadName(_) => 1,
             Trouble::NoKey => 2,
-            Trouble::Text(_) | Trouble::Refused(_) | Trouble::Untyped(_) => 3,
+            Trouble::Text(_) | Trouble::Refused(_) | Trouble::Uncommented | Trouble::Untyped(_) =>
+                3,
             Trouble::File(_)
             | Trouble::Unread(_)
             | Trouble::NoFile
@@ -139,6 +142,10 @@ fn tell_of_file<E: Write>(trouble: &Trouble, name: &str, err: &mut E) -> io::Res
             "gixcfg: {name}: the key has several entries; see --all"
         ),
         Trouble::BadName(number) => writeln!(err, "gixcfg: a name that isn't allowed [E{number}]"),
+        Trouble::Uncommented => writeln!(
+            err,
+            "gixcfg: {name}: the comment can't be put after the value"
+        ),
         Trouble::Refused(number) => writeln!(err, "gixcfg: {name}: refused [E{number}]"),
         Trouble::Untyped(kind) => {
             let refusal = refusal_of(*kind);

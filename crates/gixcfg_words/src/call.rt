@@ -1,6 +1,6 @@
 //! Calls, read word by word.
 
-use crate::commands::{Command, command_named};
+use crate::commands::{Command, command_named, plain_call};
 use crate::fault::Fault;
 use crate::options::{Opt, Options, option_named, options_of, takes_word};
 use std::alloc::Global;
@@ -71,7 +71,10 @@ pub fn has_options(words: &[&str]) -> bool {
 
 /// Whether a command is only called with words of this crate.
 fn is_own(word: &str) -> bool {
-    matches!(word, "rename-section" | "remove-section" | "check" | "help")
+    matches!(
+        word,
+        "rename-section" | "remove-section" | "check" | "diff" | "help"
+    )
 }
 
 /// What the words ask for.
@@ -89,8 +92,16 @@ pub fn read<'a>(alloc: Global, words: &[&'a str]) -> Result<Asked<'a>, Fault<'a>
         first => match command_named(first) {
             Some(Command::Help) => read_help(others),
             Some(command) => read_command(alloc, command, others),
-            None => Err(Fault::UnknownCommand(first)),
+            None => Err(no_command(first)),
         },
+    }
+}
+
+/// The fault of a word that is no command with options.
+fn no_command<'a>(word: &'a str) -> Fault<'a> {
+    match plain_call(word) {
+        Some(call) => Fault::NoOptions(word, call),
+        None => Fault::UnknownCommand(word),
     }
 }
 
@@ -100,7 +111,7 @@ fn read_help<'a>(words: &[&'a str]) -> Result<Asked<'a>, Fault<'a>> {
         [] => Ok(Asked::Help(None)),
         [word] => match command_named(word) {
             Some(command) => Ok(Asked::Help(Some(command))),
-            None => Err(Fault::UnknownCommand(word)),
+            None => Err(no_command(word)),
         },
         [_, word, ..] => Err(Fault::TooMany(Command::Help, word)),
     }
@@ -123,6 +134,7 @@ fn read_command<'a>(
     }
     check_count(&call)?;
     check_options(&call.options)?;
+    check_inputs(&call)?;
     Ok(Asked::Do(call))
 }
 
@@ -218,4 +230,12 @@ fn check_options<'a>(options: &Options<'a>) -> Result<(), Fault<'a>> {
         return Err(Fault::Both("--all", "--default"));
     }
     Ok(())
+}
+
+/// Tests that standard input isn't both of the files that are compared.
+fn check_inputs<'a>(call: &Call<'a>) -> Result<(), Fault<'a>> {
+    match (call.command, call.words.as_slice()) {
+        (Command::Diff, [one, other]) if *one == "-" && *other == "-" => Err(Fault::TwoInputs),
+        _ => Ok(()),
+    }
 }

@@ -19,12 +19,14 @@ pub enum Command {
     Fmt,
     /// Tells the first fault of each file.
     Check,
+    /// Tells what two files mean differently.
+    Diff,
     /// Tells how commands are called.
     Help,
 }
 
 /// The words of the commands, in the order in which help has them.
-pub static COMMANDS: [(&str, Command); 9] = [
+pub static COMMANDS: [(&str, Command); 10] = [
     ("get", Command::Get),
     ("set", Command::Set),
     ("unset", Command::Unset),
@@ -33,8 +35,28 @@ pub static COMMANDS: [(&str, Command); 9] = [
     ("remove-section", Command::RemoveSection),
     ("fmt", Command::Fmt),
     ("check", Command::Check),
+    ("diff", Command::Diff),
     ("help", Command::Help),
 ];
+
+/// The words that are called without options alone, each with how it is called.
+static PLAIN: [(&str, &str); 5] = [
+    ("all", "all KEY"),
+    ("bool", "bool KEY"),
+    ("int", "int KEY"),
+    ("print", "print"),
+    ("load", "load FILE get KEY"),
+];
+
+/// How a word is called that takes no options, if it is one of these.
+pub fn plain_call(word: &str) -> Option<&'static str> {
+    for (name, call) in &PLAIN {
+        if *name == word {
+            return Some(*call);
+        }
+    }
+    None
+}
 
 /// The command of a word.
 pub fn command_named(word: &str) -> Option<Command> {
@@ -58,6 +80,7 @@ impl Command {
             Command::RemoveSection => "remove-section",
             Command::Fmt => "fmt",
             Command::Check => "check",
+            Command::Diff => "diff",
             Command::Help => "help",
         }
     }
@@ -66,7 +89,7 @@ impl Command {
     pub fn counts(self) -> (usize, Option<usize>) {
         match self {
             Command::Get | Command::Unset | Command::RemoveSection => (1, Some(1)),
-            Command::Set | Command::RenameSection => (2, Some(2)),
+            Command::Set | Command::RenameSection | Command::Diff => (2, Some(2)),
             Command::List | Command::Fmt => (0, Some(0)),
             Command::Check => (1, None),
             Command::Help => (0, Some(1)),

@@ -14,6 +14,8 @@ pub enum Fault<'a> {
     NoCommand,
     /// The first word is no command.
     UnknownCommand(&'a str),
+    /// The first word is called without options alone: it, and how it is called.
+    NoOptions(&'a str, &'static str),
     /// A word that begins with a dash is no option.
     UnknownOption(&'a str),
     /// The command doesn't take this option.
@@ -32,6 +34,8 @@ pub enum Fault<'a> {
     TooMany(Command, &'a str),
     /// A word is no key: it has no dot.
     NoKey(&'a str),
+    /// Standard input is named as both of two files.
+    TwoInputs,
     /// Two options exclude each other.
     Both(&'static str, &'static str),
     /// Out of memory.
@@ -43,6 +47,7 @@ fn meaning_of(option: Opt) -> &'static str {
     match option {
         Opt::File => "a file",
         Opt::Default => "a value",
+        Opt::Comment => "a comment on one line",
         Opt::Type => "bool, int, bool-or-int or path",
         Opt::Indent => "tabs:N or spaces:N",
         Opt::Newline => "lf, crlf or detect",
@@ -72,6 +77,11 @@ fn tell_known<W: Write>(fault: Fault<'_>, err: &mut W) -> io::Result<()> {
         Fault::Memory => err.write_all(b"gixcfg: E27\n"),
         Fault::NoKey(word) => writeln!(err, "gixcfg: not a key, it has no dot: {word}"),
         Fault::TwoFiles(word) => writeln!(err, "gixcfg: a second file: {word}"),
+        Fault::NoOptions(word, call) => writeln!(
+            err,
+            "gixcfg: {word} takes no options, it is called as gixcfg {call}; see gixcfg help"
+        ),
+        Fault::TwoInputs => err.write_all(b"gixcfg: standard input can't be both files\n"),
         Fault::Both(one, other) => writeln!(err, "gixcfg: {one} and {other} exclude each other"),
         Fault::TooFew(command) => tell_command("words are missing", "", command, err),
         Fault::TooMany(command, word) => tell_command("one word too many: ", word, command, err),

@@ -14,11 +14,12 @@ usage: gixcfg COMMAND [OPTIONS] [WORDS]
     remove-section  removes a section
     fmt             lays a file out
     check           reports the first fault of each file
+    diff            prints what two files mean differently
     help            shows how a command is used
 
-With -f FILE a command works on that file, with --global, --system or --local on the file of the user, the system or the
-repository, and an edit changes it in place. Without them the file is standard input, and what an edit makes of it is
-standard output.
+With -f FILE a command works on that file, with --global, --system, --local or --worktree on the file of the user, the
+system, the repository or its working tree, and an edit changes it in place. Without them the file is standard input, and
+what an edit makes of it is standard output.
 
 Without options there are also: get KEY, all KEY, bool KEY, int KEY, set KEY VALUE, unset KEY, list, print, fmt, and
 load FILE get KEY.
@@ -35,6 +36,7 @@ Prints the last value of a key, or with --all each of its values, a line each.
     --global          the user's file, in place of -f: ~/.gitconfig
     --system          the system's file: /etc/gitconfig
     --local           the repository's file: .git/config
+    --worktree        the file of the working tree, if each has one of its own, else the repository's
     --effective       all that git reads here, with includes: these three, and GIT_CONFIG_COUNT
     --all             all values, in the order of the file
     --default VALUE   this value if the key isn't there
@@ -52,7 +54,7 @@ Ends with 1 if the key isn't there.
 ";
 
 const SET: &str = "\
-usage: gixcfg set [-f FILE] [--all] [--append] [--type TYPE] KEY VALUE
+usage: gixcfg set [-f FILE] [--all] [--append] [--type TYPE] [--comment COMMENT] KEY VALUE
 
 Gives a key a value, in its place if it is there, else in the last section of its name, else in a new one.
 
@@ -60,14 +62,16 @@ Gives a key a value, in its place if it is there, else in the last section of it
     --global          the user's file, in place of -f: ~/.gitconfig
     --system          the system's file: /etc/gitconfig
     --local           the repository's file: .git/config
+    --worktree        the file of the working tree, if each has one of its own, else the repository's
     --all             one entry in place of all entries of the key, where the first of them is
     --append          one more entry, at the end of the last section of the name
     --type TYPE       the value as bool, int, bool-or-int or path; refused if it is none
+    --comment COMMENT this comment after the value, in place of one that is there; # is put before it if it has none
 
 Ends with 5 if the key has several entries, and neither --all nor --append is given; with 4 if the file can't be
 written. The file is the old one or the new one at any time: it is written as FILE.lock, which is then renamed.
 
-    $ gixcfg set -f .git/config user.name Ada
+    $ gixcfg set -f .git/config --comment 'for this project' user.name Ada
 ";
 
 const UNSET: &str = "\
@@ -79,6 +83,7 @@ Removes a key's entry.
     --global          the user's file, in place of -f: ~/.gitconfig
     --system          the system's file: /etc/gitconfig
     --local           the repository's file: .git/config
+    --worktree        the file of the working tree, if each has one of its own, else the repository's
     --all             all entries of the key
 
 Ends with 5 if there is no entry, or several of them and --all isn't given.
@@ -95,6 +100,7 @@ Prints all entries, a line each: the key, = and the value.
     --global          the user's file, in place of -f: ~/.gitconfig
     --system          the system's file: /etc/gitconfig
     --local           the repository's file: .git/config
+    --worktree        the file of the working tree, if each has one of its own, else the repository's
     --effective       all that git reads here, with includes: these three, and GIT_CONFIG_COUNT
     -z, --null        a byte 0 in place of each line feed at the end, and a line feed after each key
     --name-only       keys without values
@@ -115,6 +121,7 @@ Gives all sections of a name another one: a name such as core, or a name and a s
     --global          the user's file, in place of -f: ~/.gitconfig
     --system          the system's file: /etc/gitconfig
     --local           the repository's file: .git/config
+    --worktree        the file of the working tree, if each has one of its own, else the repository's
 
 Ends with 1 if there is no such section.
 
@@ -130,6 +137,7 @@ Removes all sections of a name, with their entries and comments.
     --global          the user's file, in place of -f: ~/.gitconfig
     --system          the system's file: /etc/gitconfig
     --local           the repository's file: .git/config
+    --worktree        the file of the working tree, if each has one of its own, else the repository's
 
 Ends with 1 if there is no such section.
 
@@ -145,6 +153,7 @@ Lays a file out: an indent before each entry, one blank on each side of =, one l
     --global          the user's file, in place of -f: ~/.gitconfig
     --system          the system's file: /etc/gitconfig
     --local           the repository's file: .git/config
+    --worktree        the file of the working tree, if each has one of its own, else the repository's
     --check           nothing is written; ends with 1 if the file isn't laid out
     --indent INDENT   what comes before an entry: tabs:1 if it isn't given
     --newline ENDING  what lines end with: that of the file if it isn't given
@@ -162,6 +171,22 @@ Reads each file, and reports its first fault: the place, what is wrong, and the 
 Ends with 1 if a file has a fault, and with 4 if one can't be read.
 
     $ gixcfg check .git/config
+";
+
+const DIFF: &str = "\
+usage: gixcfg diff [-q] [-z] A B
+
+Prints what two files mean differently, a line each: -key=value for an entry of A, +key=value for one of B. It prints all
+entries of each key that has other values in B, or the same in another order. Keys are sorted. - is standard input.
+
+    -q, --quiet       nothing is printed
+    -z, --null        a byte 0 in place of each line feed at the end, and a line feed after each key
+
+Ends with 0 if they mean the same, and with 1 if not.
+
+    $ gixcfg diff .git/config ~/.gitconfig
+    -core.bare=false
+    +user.name=Ada
 ";
 
 const HELP: &str = "\
@@ -184,6 +209,7 @@ pub fn help_on(command: Option<Command>) -> &'static str {
         Some(Command::RemoveSection) => REMOVE,
         Some(Command::Fmt) => FMT,
         Some(Command::Check) => CHECK,
+        Some(Command::Diff) => DIFF,
         Some(Command::Help) => HELP,
     }
 }

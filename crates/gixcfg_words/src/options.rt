@@ -13,6 +13,8 @@ pub enum Opt {
     System,
     /// The repository's file.
     Local,
+    /// The file of the repository's working tree.
+    Worktree,
     /// All that git sees.
     Effective,
     /// Help on the command.
@@ -25,6 +27,8 @@ pub enum Opt {
     Default,
     /// The type of a value.
     Type,
+    /// A comment after the value.
+    Comment,
     /// A byte 0 after each value.
     Null,
     /// The file of each value.
@@ -50,12 +54,13 @@ pub enum Opt {
 }
 
 /// The words of the options.
-static OPTIONS: [(&str, Opt); 25] = [
+static OPTIONS: [(&str, Opt); 27] = [
     ("-f", Opt::File),
     ("--file", Opt::File),
     ("--global", Opt::Global),
     ("--system", Opt::System),
     ("--local", Opt::Local),
+    ("--worktree", Opt::Worktree),
     ("--effective", Opt::Effective),
     ("-h", Opt::Help),
     ("--help", Opt::Help),
@@ -63,6 +68,7 @@ static OPTIONS: [(&str, Opt); 25] = [
     ("--append", Opt::Append),
     ("--default", Opt::Default),
     ("--type", Opt::Type),
+    ("--comment", Opt::Comment),
     ("-z", Opt::Null),
     ("--null", Opt::Null),
     ("--show-origin", Opt::ShowOrigin),
@@ -78,11 +84,12 @@ static OPTIONS: [(&str, Opt); 25] = [
     ("--quiet", Opt::Quiet),
 ];
 
-static OF_GET: [Opt; 15] = [
+static OF_GET: [Opt; 16] = [
     Opt::File,
     Opt::Global,
     Opt::System,
     Opt::Local,
+    Opt::Worktree,
     Opt::Effective,
     Opt::Help,
     Opt::All,
@@ -96,31 +103,35 @@ static OF_GET: [Opt; 15] = [
     Opt::ShowNames,
 ];
 
-static OF_SET: [Opt; 8] = [
+static OF_SET: [Opt; 10] = [
     Opt::File,
     Opt::Global,
     Opt::System,
     Opt::Local,
+    Opt::Worktree,
     Opt::Help,
     Opt::All,
     Opt::Append,
     Opt::Type,
+    Opt::Comment,
 ];
 
-static OF_UNSET: [Opt; 6] = [
+static OF_UNSET: [Opt; 7] = [
     Opt::File,
     Opt::Global,
     Opt::System,
     Opt::Local,
+    Opt::Worktree,
     Opt::Help,
     Opt::All,
 ];
 
-static OF_LIST: [Opt; 12] = [
+static OF_LIST: [Opt; 13] = [
     Opt::File,
     Opt::Global,
     Opt::System,
     Opt::Local,
+    Opt::Worktree,
     Opt::Effective,
     Opt::Help,
     Opt::Null,
@@ -131,13 +142,21 @@ static OF_LIST: [Opt; 12] = [
     Opt::NoIncludes,
 ];
 
-static OF_SECTION: [Opt; 5] = [Opt::File, Opt::Global, Opt::System, Opt::Local, Opt::Help];
-
-static OF_FMT: [Opt; 8] = [
+static OF_SECTION: [Opt; 6] = [
     Opt::File,
     Opt::Global,
     Opt::System,
     Opt::Local,
+    Opt::Worktree,
+    Opt::Help,
+];
+
+static OF_FMT: [Opt; 9] = [
+    Opt::File,
+    Opt::Global,
+    Opt::System,
+    Opt::Local,
+    Opt::Worktree,
     Opt::Help,
     Opt::Check,
     Opt::Indent,
@@ -145,6 +164,8 @@ static OF_FMT: [Opt; 8] = [
 ];
 
 static OF_CHECK: [Opt; 2] = [Opt::Help, Opt::Quiet];
+
+static OF_DIFF: [Opt; 3] = [Opt::Help, Opt::Null, Opt::Quiet];
 
 static OF_HELP: [Opt; 1] = [Opt::Help];
 
@@ -158,6 +179,7 @@ pub fn options_of(command: Command) -> &'static [Opt] {
         Command::RenameSection | Command::RemoveSection => &OF_SECTION,
         Command::Fmt => &OF_FMT,
         Command::Check => &OF_CHECK,
+        Command::Diff => &OF_DIFF,
         Command::Help => &OF_HELP,
     }
 }
@@ -176,7 +198,7 @@ pub fn option_named(word: &str) -> Option<Opt> {
 pub fn takes_word(option: Opt) -> bool {
     matches!(
         option,
-        Opt::File | Opt::Default | Opt::Type | Opt::Indent | Opt::Newline
+        Opt::File | Opt::Default | Opt::Type | Opt::Comment | Opt::Indent | Opt::Newline
     )
 }
 
@@ -189,6 +211,8 @@ pub enum Place {
     System,
     /// The repository's file.
     Local,
+    /// The file of the repository's working tree, if it has one of its own; else the repository's.
+    Worktree,
     /// All of them that git reads, in its order, and its variables.
     Effective,
 }
@@ -200,6 +224,7 @@ impl Place {
             Place::Global => "--global",
             Place::System => "--system",
             Place::Local => "--local",
+            Place::Worktree => "--worktree",
             Place::Effective => "--effective",
         }
     }
@@ -211,6 +236,7 @@ fn place_named(option: Opt) -> Option<Place> {
         Opt::Global => Some(Place::Global),
         Opt::System => Some(Place::System),
         Opt::Local => Some(Place::Local),
+        Opt::Worktree => Some(Place::Worktree),
         Opt::Effective => Some(Place::Effective),
         _ => None,
     }
@@ -244,6 +270,16 @@ fn kind_named(word: &str) -> Option<Kind> {
         }
     }
     None
+}
+
+/// A comment on one line that a word is.
+fn comment_of(word: &str) -> Option<&str> {
+    let bytes = word.as_bytes();
+    if bytes.contains(&b'\n') || bytes.contains(&0) {
+        None
+    } else {
+        Some(word)
+    }
 }
 
 /// What comes before a name that begins a line.
@@ -295,7 +331,7 @@ fn newline_named(word: &str) -> Option<Newline> {
 pub struct Options<'a> {
     /// `-f`: the file that is worked on; standard input if it is `-` or isn't given.
     pub file: Option<&'a str>,
-    /// `--global`, `--system`, `--local` or `--effective`: what is worked on.
+    /// `--global`, `--system`, `--local`, `--worktree` or `--effective`: what is worked on.
     pub place: Option<Place>,
     /// `--help`
     pub help: bool,
@@ -307,6 +343,8 @@ pub struct Options<'a> {
     pub default: Option<&'a str>,
     /// `--type`
     pub kind: Option<Kind>,
+    /// `--comment`: on one line.
+    pub comment: Option<&'a str>,
     /// `-z`
     pub null: bool,
     /// `--show-origin`
@@ -340,6 +378,7 @@ impl<'a> Options<'a> {
             append: false,
             default: None,
             kind: None,
+            comment: None,
             null: false,
             show_origin: false,
             show_scope: false,
@@ -434,6 +473,7 @@ impl<'a> Options<'a> {
             Opt::File => return self.put_file(word),
             Opt::Default => put_in(&mut self.default, Some(word)),
             Opt::Type => put_in(&mut self.kind, kind_named(word)),
+            Opt::Comment => put_in(&mut self.comment, comment_of(word)),
             Opt::Indent => put_in(&mut self.indent, indent_named(word)),
             Opt::Newline => put_in(&mut self.newline, newline_named(word)),
             _ => true,
