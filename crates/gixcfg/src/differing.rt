@@ -25,6 +25,7 @@ pub fn diff<R: Files + AllocGlobal, I: Read, W: Write, E: Write>(
 ) -> u8
     ensures { result ≤ 5 }
 {
+    // There are two words, since they were counted.
     let [first, second] = call.words.as_slice() else {
         return 2;
     };

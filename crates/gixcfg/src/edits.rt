@@ -262,9 +262,8 @@ fn unset(alloc: Global, file: &mut File, key: KeyRef<'_>, is_all: bool) -> Resul
     let holders = holders_of(alloc, file, key)?;
     match count_of(&holders) {
         0 => Err(Trouble::NoEntry),
-        1 => remove_entries(file, &holders, key.value_name, 0),
-        _ if is_all => remove_entries(file, &holders, key.value_name, 0),
-        _ => Err(Trouble::Several),
+        count if count > 1 && !is_all => Err(Trouble::Several),
+        _ => remove_entries(file, &holders, key.value_name, 0),
     }
 }
 
