@@ -131,6 +131,15 @@ pub fn tell<E: Write>(trouble: &Trouble, name: &str, err: &mut E) {
     };
 }
 
+/// Why a text or an edit is refused.
+fn reason_of(number: u8) -> &'static str {
+    match number {
+        2 => "has more than 4294967295 bytes",
+        3 => "would have more than 4294967295 bytes",
+        _ => "refused",
+    }
+}
+
 /// Tells a trouble with what a file has.
 fn tell_of_file<E: Write>(trouble: &Trouble, name: &str, err: &mut E) -> io::Result<()> {
     match trouble {
@@ -146,7 +155,10 @@ fn tell_of_file<E: Write>(trouble: &Trouble, name: &str, err: &mut E) -> io::Res
             err,
             "gixcfg: {name}: the comment can't be put after the value"
         ),
-        Trouble::Refused(number) => writeln!(err, "gixcfg: {name}: refused [E{number}]"),
+        Trouble::Refused(number) => {
+            let reason = reason_of(*number);
+            writeln!(err, "gixcfg: {name}: {reason} [E{number}]")
+        }
         Trouble::Untyped(kind) => {
             let refusal = refusal_of(*kind);
             writeln!(err, "gixcfg: {name}: {refusal} [E11]")
