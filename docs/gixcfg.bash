@@ -21,7 +21,7 @@ _gixcfg() {
         get) words="-f --file --global --system --local --worktree --effective --includes --no-includes --all --default --type -z --null --show-origin --show-scope --show-names --help" ;;
         set) words="-f --file --global --system --local --worktree --all --append --type --comment --help" ;;
         unset) words="-f --file --global --system --local --worktree --all --help" ;;
-        list) words="-f --file --global --system --local --worktree --effective --includes --no-includes -z --null --name-only --show-origin --show-scope --help" ;;
+        list) words="-f --file --global --system --local --worktree --effective --type --includes --no-includes -z --null --name-only --show-origin --show-scope --help" ;;
         rename-section | remove-section) words="-f --file --global --system --local --worktree --help" ;;
         fmt) words="-f --file --global --system --local --worktree --check --indent --newline --help" ;;
         check | diff)

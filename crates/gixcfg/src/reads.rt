@@ -26,7 +26,7 @@ pub fn get<I: Read, W: Write>(
     Ok(put(&lines, out)?)
 }
 
-/// Prints all entries.
+/// Prints all entries, or those whose value is of a type.
 pub fn list<I: Read, W: Write>(
     rt: &HostRuntime,
     call: &Call<'_>,
@@ -35,7 +35,7 @@ pub fn list<I: Read, W: Write>(
     out: &mut W,
 ) -> Result<(), Trouble> {
     let found = all_found(rt, call, outside, input)?;
-    let lines = lines_of_all(rt.alloc(), &found, &call.options)?;
+    let lines = lines_of_all(rt.alloc(), &found, &call.options, outside.home)?;
     Ok(put(&lines, out)?)
 }
 

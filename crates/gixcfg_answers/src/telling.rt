@@ -30,15 +30,16 @@ pub fn lines_of_key(
     }
 }
 
-/// The lines of all entries.
+/// The lines of all entries; if a type is asked for, of those whose value is of it.
 ///
 /// # Errors
 ///
-/// Want of memory.
+/// Out of memory.
 pub fn lines_of_all(
     alloc: Global,
     found: &[Found],
     options: &Options<'_>,
+    home: Option<&str>,
 ) -> Result<Vec<u8>, Trouble> {
     let form = Form {
         has_value: !options.name_only,
@@ -46,13 +47,10 @@ pub fn lines_of_all(
     };
     let mut lines = Vec::new(alloc);
     for entry in found {
-        add_entry(
-            &mut lines,
-            &form,
-            &entry.before,
-            &entry.names,
-            entry.value(),
-        )?;
+        match add_typed(alloc, &mut lines, &form, entry, options, home) {
+            Ok(()) | Err(Trouble::Untyped(_)) => {}
+            Err(trouble) => return Err(trouble),
+        }
     }
     Ok(lines)
 }
@@ -98,7 +96,7 @@ fn lines_of(
     Ok(lines)
 }
 
-/// Adds an entry, its value in the type that is asked for.
+/// Adds an entry, its value in the type that is asked for. If it isn't of the type, nothing is added.
 fn add_typed(
     alloc: Global,
     lines: &mut Vec<u8>,

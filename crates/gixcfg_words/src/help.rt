@@ -92,7 +92,7 @@ Ends with 5 if there is no entry, or several of them and --all isn't given.
 ";
 
 const LIST: &str = "\
-usage: gixcfg list [-f FILE] [-z] [--name-only] [--show-origin] [--show-scope]
+usage: gixcfg list [-f FILE] [--type TYPE] [-z] [--name-only] [--show-origin] [--show-scope]
 
 Prints all entries, a line each: the key, = and the value.
 
@@ -102,6 +102,7 @@ Prints all entries, a line each: the key, = and the value.
     --local           the repository's file: .git/config
     --worktree        the file of the working tree, if each has one of its own, else the repository's
     --effective       all that git reads here, with includes: these three, and GIT_CONFIG_COUNT
+    --type TYPE       only values of this type, printed in it: bool, int, bool-or-int or path
     -z, --null        a byte 0 in place of each line feed at the end, and a line feed after each key
     --name-only       keys without values
     --show-origin     the file before each entry

@@ -126,7 +126,7 @@ static OF_UNSET: [Opt; 7] = [
     Opt::All,
 ];
 
-static OF_LIST: [Opt; 13] = [
+static OF_LIST: [Opt; 14] = [
     Opt::File,
     Opt::Global,
     Opt::System,
@@ -134,6 +134,7 @@ static OF_LIST: [Opt; 13] = [
     Opt::Worktree,
     Opt::Effective,
     Opt::Help,
+    Opt::Type,
     Opt::Null,
     Opt::NameOnly,
     Opt::ShowOrigin,
