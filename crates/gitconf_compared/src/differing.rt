@@ -66,7 +66,7 @@ fn keep(alloc: Global, settings: Vec<Setting>, marks: &[bool]) -> Result<Vec<Set
 ///
 /// A key is said differently if its values differ, in order, or if lookups of it find different ones.
 ///
-/// It sorts the settings, and passes over them once. No value is copied.
+/// It sorts the settings, and then goes over them a fixed number of times. No value is copied.
 ///
 /// # Errors
 ///

@@ -7,7 +7,7 @@ ghost use Rattle.gitconf_settings.specs.Differences.{different_of, AreDifference
 pub use gitconf_compared::setting::Side;
 pub use gitconf_settings::differences::Difference;
 use gitconf_settings::differences::differences_of;
-/// Nothing differs exactly if both files say the same of every key, and then lookups of a key return the same from both.
+/// Nothing differs exactly if both files say the same of every key, and then lookups of a key find the same values in both.
 pub use gitconf_settings::laws;
 use gitconf_text::NoMemory;
 use gix_config::File;
@@ -15,14 +15,14 @@ use std::alloc::Global;
 
 /// What two files mean differently, sorted by key: of each key of which they say different things the entries of the first file in file
 /// order, and then those of the other. A key is the name of a section, a subsection or none, and the name of a value; the two names are
-/// compared, and stand here, in lower case. The files say the same of a key if their entries of it mean the same in order, where one
+/// compared, and are here, in lower case. The files say the same of a key if their entries of it mean the same in order, where one
 /// without `=` means nothing, and if lookups of it find the same value in both. Where a section ends counts for this alone, as an entry
 /// without `=` hides the earlier values of its section; comments, spelling and where sections come from don't count at all.
 ///
-/// It is empty exactly if both say the same of every key ([`laws`]); then [`File::string`], [`File::strings`], [`File::boolean`] and
-/// the like return the same from both.
+/// It is empty exactly if both say the same of every key ([`laws`]); then [`File::string`], [`File::strings`] and [`File::boolean`]
+/// return the same from both. Calls that report what is missing may report another number.
 ///
-/// It goes over both files once, and sorts their entries by key.
+/// It goes over both files once, sorts their entries by key, and goes over these a fixed number of times.
 ///
 /// # Errors
 ///

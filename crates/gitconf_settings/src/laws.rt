@@ -5,7 +5,8 @@ ghost use Rattle.gitconf_state.specs.State.{State};
 ghost use Rattle.gitconf_finding.specs.Lookups.{implicit_at, value_at, values_at};
 ghost use Rattle.gitconf_settings.specs.Differences.{answers_at, AreDifferences, Different};
 
-/// Two files differ in nothing exactly if both say the same of every key; and then lookups of a key return the same from both.
+/// Two files differ in nothing exactly if both say the same of every key; and then lookups of a key without a filter find the same
+/// values in both.
 pub fn nothing_differs_if_files_say_the_same()
     ensures nothing { (one other : State) (differences : List Different) → AreDifferences one.sections other.sections differences
         → (differences ≡ []) ↔ ((key : Key) → answers_at key one.sections ≡ answers_at key other.sections) }

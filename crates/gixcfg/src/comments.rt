@@ -15,7 +15,7 @@ enum Part {
     Section,
     /// An entry of the key, up to the end of its value.
     Entry,
-    /// What is behind that value on its line.
+    /// What follows that value on its line.
     Tail,
 }
 
@@ -28,8 +28,7 @@ struct Ends {
     line: usize,
 }
 
-/// The text of a file, which is given, with a comment after the value of a key's last entry, in place of the blanks and the comment that
-/// are there. The new text is read again, and has to mean what the file means. Two walks over the text.
+/// A file's given text with a comment after the value of a key's last entry, in place of the blanks and the comment that are there. The new text is read again, and has to mean what the file means. Two walks over the text.
 ///
 /// # Errors
 ///
@@ -81,7 +80,7 @@ fn ends_in(alloc: Global, text: &[u8], key: KeyRef<'_>) -> Result<Option<Ends>, 
 fn ends_of(events: &Events, text: &[u8], key: KeyRef<'_>) -> Option<Ends> {
     let (mut part, mut at, mut ends) = (Part::Outside, 0usize, None);
     for event in events.iter() {
-        at = at.saturating_add(len_of(&event, behind(text, at)));
+        at = at.saturating_add(len_of(&event, after(text, at)));
         let next = next_part(part, &event, key);
         ends = next_ends(part, next, at, ends);
         part = next;
@@ -177,22 +176,22 @@ fn header_len(text: &[u8]) -> usize {
 }
 
 /// A text up to a place.
-fn ahead(text: &[u8], at: usize) -> &[u8] {
+fn before(text: &[u8], at: usize) -> &[u8] {
     text.split_at(at.min(text.len())).0
 }
 
 /// A text from a place on.
-fn behind(text: &[u8], at: usize) -> &[u8] {
+fn after(text: &[u8], at: usize) -> &[u8] {
     text.split_at(at.min(text.len())).1
 }
 
 /// A text with a comment in place of what is between the end of a value and the end of its line.
 fn spliced(alloc: Global, text: &[u8], ends: Ends, comment: &str) -> Result<Vec<u8>, NoMemory> {
     let mut new = Vec::new(alloc);
-    new.extend_from_slice(ahead(text, ends.value))?;
+    new.extend_from_slice(before(text, ends.value))?;
     new.extend_from_slice(lead_of(comment).as_bytes())?;
     new.extend_from_slice(comment.as_bytes())?;
-    new.extend_from_slice(behind(text, ends.line))?;
+    new.extend_from_slice(after(text, ends.line))?;
     Ok(new)
 }
 

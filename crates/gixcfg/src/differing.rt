@@ -14,7 +14,7 @@ use std::io::{Read, Write};
 use std::rt::Files;
 
 /// Prints what two files mean differently, and returns the exit status: 0 if they mean the same, 1 if not; 3 if the text of one is
-/// refused, 4 if one can't be read, which is reported.
+/// refused, 4 if one can't be read or standard output failed, 5 if out of memory. What failed is reported.
 pub fn diff<R: Files + AllocGlobal, I: Read, W: Write, E: Write>(
     rt: &R,
     call: &Call<'_>,
@@ -31,20 +31,20 @@ pub fn diff<R: Files + AllocGlobal, I: Read, W: Write, E: Write>(
     };
     let one = match file_at(rt, first, outside, input) {
         Ok(file) => file,
-        Err(trouble) => return told(&trouble, first, err),
+        Err(trouble) => return reported(&trouble, first, err),
     };
     let other = match file_at(rt, second, outside, input) {
         Ok(file) => file,
-        Err(trouble) => return told(&trouble, second, err),
+        Err(trouble) => return reported(&trouble, second, err),
     };
     match lines_between(rt.alloc(), &one, &other, call.options.null) {
         Ok(lines) => put_lines(&lines, call.options.quiet, out, err),
-        Err(_) => told(&Trouble::Memory, first, err),
+        Err(_) => reported(&Trouble::Memory, first, err),
     }
 }
 
 /// Reports a trouble with a file, and returns its status.
-fn told<E: Write>(trouble: &Trouble, name: &str, err: &mut E) -> u8
+fn reported<E: Write>(trouble: &Trouble, name: &str, err: &mut E) -> u8
     ensures { result ≤ 5 }
 {
     tell(trouble, name, err);
@@ -63,7 +63,7 @@ fn put_lines<W: Write, E: Write>(lines: &[u8], is_quiet: bool, out: &mut W, err:
     }
     match out.write_all(lines) {
         Ok(()) => 1,
-        Err(_) => told(&Trouble::Output, "", err),
+        Err(_) => reported(&Trouble::Output, "", err),
     }
 }
 

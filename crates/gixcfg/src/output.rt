@@ -18,7 +18,7 @@ impl<W: Write + Drop> Output<W> {
     ///
     /// # Errors
     ///
-    /// Want of memory.
+    /// Out of memory.
     pub fn new(alloc: Global, stream: W) -> io::Result<Output<W>> {
         Ok(Output {
             stream: BufWriter::with_capacity(alloc, GATHERED, stream)?,

@@ -43,12 +43,12 @@ pub fn of_paths(refusal: &from_paths::Error) -> Option<&Error> {
 }
 
 /// What is reported of the first of these files, and then of those that they may include, whose text is refused for this cause; none if
-/// none is, as when a file was written since. Conditions of includes aren't asked: another text that is refused at the same line with the
-/// same text behind it would be reported in the same way.
+/// none is, as when a file was written since. Conditions of includes aren't asked, so where two files have the same fault at the same
+/// line, with the same text after it, the first is named, though it may not have been read.
 ///
 /// # Errors
 ///
-/// Want of memory.
+/// Out of memory.
 pub fn placed<R: Files + AllocGlobal>(
     rt: &R,
     paths: Vec<String>,
@@ -129,11 +129,13 @@ pub fn included_by(
     Ok(paths)
 }
 
-/// Whether a section says what is included.
+/// Whether a section says what is included, as a load has it.
 fn is_include(section: &SectionRef<'_>) -> bool {
     let header = section.header();
-    header.name().eq_ignore_ascii_case(b"include")
-        || header.name().eq_ignore_ascii_case(b"includeif")
+    match header.subsection_name() {
+        None => header.name() == b"include".as_slice(),
+        Some(_) => header.name() == b"includeIf".as_slice(),
+    }
 }
 
 /// Adds a path that the file at another one includes, unless it stands for nothing.

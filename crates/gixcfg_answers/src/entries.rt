@@ -56,7 +56,7 @@ fn mark_last(marks: &mut Vec<bool>) {
 ///
 /// # Errors
 ///
-/// Want of memory.
+/// Out of memory.
 pub fn add_found(
     alloc: Global,
     found: &mut Vec<Found>,
@@ -65,7 +65,7 @@ pub fn add_found(
     options: &Options<'_>,
 ) -> Result<(), NoMemory> {
     let header = section.header();
-    let told = before_of(alloc, section.meta(), options)?;
+    let prefix = before_of(alloc, section.meta(), options)?;
     let marks = marks_of(alloc, section.events())?;
     let mut at = 0usize;
     for entry in section.body() {
@@ -81,7 +81,7 @@ pub fn add_found(
                 name.as_bytes(),
             )?;
             let value = if has_value { Some(value) } else { None };
-            let before = told.to_vec(alloc)?;
+            let before = prefix.to_vec(alloc)?;
             found.push(Found {
                 before,
                 names,

@@ -40,7 +40,7 @@ impl Form {
 ///
 /// # Errors
 ///
-/// Want of memory.
+/// Out of memory.
 pub fn add_entry(
     lines: &mut Vec<u8>,
     form: &Form,

@@ -7,7 +7,7 @@ use std::alloc::AllocError;
 ///
 /// # Errors
 ///
-/// Want of memory.
+/// Out of memory.
 pub fn add_names(
     text: &mut Vec<u8>,
     section_name: &[u8],

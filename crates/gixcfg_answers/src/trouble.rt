@@ -16,8 +16,6 @@ pub enum Trouble {
     Missing,
     /// The file isn't laid out.
     Different,
-    /// A file was reported to have a fault.
-    Faulty,
     /// A word is no key.
     NoKey,
     /// There is no such section.
@@ -59,11 +57,7 @@ impl Trouble {
         ensures { result ≤ 5 }
     {
         match self {
-            Trouble::Missing
-            | Trouble::Different
-            | Trouble::Faulty
-            | Trouble::NoSection
-            | Trouble::BadName(_) => 1,
+            Trouble::Missing | Trouble::Different | Trouble::NoSection | Trouble::BadName(_) => 1,
             Trouble::NoKey => 2,
             Trouble::Text(_) | Trouble::Refused(_) | Trouble::Uncommented | Trouble::Untyped(_) =>
                 3,
@@ -120,7 +114,7 @@ pub fn of_number(number: u8) -> Trouble {
 /// is taken.
 pub fn tell<E: Write>(trouble: &Trouble, name: &str, err: &mut E) {
     let _ = match trouble {
-        Trouble::Missing | Trouble::Faulty | Trouble::NoEntry => Ok(()),
+        Trouble::Missing | Trouble::NoEntry => Ok(()),
         Trouble::Text(message) | Trouble::Unread(message) => err.write_all(message.as_bytes()),
         Trouble::File(fault) => writeln!(err, "gixcfg: {name}: {fault}"),
         Trouble::Memory => err.write_all(b"gixcfg: E27\n"),

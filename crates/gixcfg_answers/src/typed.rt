@@ -75,16 +75,16 @@ fn copy_of(alloc: Global, bytes: &[u8]) -> Result<BString, Fault> {
 /// The boolean of a value. An integer with a suffix is one too.
 fn boolean(alloc: Global, value: &[u8], kind: Kind) -> Result<BString, Fault> {
     match Boolean::try_from(copy_of(alloc, value)?) {
-        Ok(Boolean(is_true)) => copy_of(alloc, told(is_true)),
+        Ok(Boolean(is_true)) => copy_of(alloc, text_of(is_true)),
         Err(_) => match decimal(copy_of(alloc, value)?) {
-            Ok(number) => copy_of(alloc, told(number != 0)),
+            Ok(number) => copy_of(alloc, text_of(number != 0)),
             Err(_) => Err(Fault::Refused(kind)),
         },
     }
 }
 
 /// A boolean as it is printed.
-fn told(is_true: bool) -> &'static [u8] {
+fn text_of(is_true: bool) -> &'static [u8] {
     if is_true { b"true" } else { b"false" }
 }
 

@@ -8,7 +8,7 @@ use std::alloc::{AllocError, Global};
 ///
 /// # Errors
 ///
-/// Want of memory.
+/// Out of memory.
 pub fn home_file(alloc: Global, home: &str) -> Result<String, AllocError>
     ensures { IfOk result (λ s. string_bytes s ≡ home.now ++ codes "/.gitconfig") }
 {
@@ -19,7 +19,7 @@ pub fn home_file(alloc: Global, home: &str) -> Result<String, AllocError>
 ///
 /// # Errors
 ///
-/// Want of memory.
+/// Out of memory.
 pub fn other_file(alloc: Global, home: &str, folder: Option<&str>) -> Result<String, AllocError>
     ensures { IfOk result (λ s. string_bytes s ≡ other_file_lem home.now (option_map (λ f. f.now) folder.entry)) }
 {
@@ -33,7 +33,7 @@ pub fn other_file(alloc: Global, home: &str, folder: Option<&str>) -> Result<Str
 ///
 /// # Errors
 ///
-/// Want of memory.
+/// Out of memory.
 pub fn lock_of(alloc: Global, path: &str) -> Result<String, AllocError>
     ensures { IfOk result (λ s. string_bytes s ≡ path.now ++ codes ".lock") }
 {
@@ -44,7 +44,7 @@ pub fn lock_of(alloc: Global, path: &str) -> Result<String, AllocError>
 ///
 /// # Errors
 ///
-/// Want of memory.
+/// Out of memory.
 pub fn within(alloc: Global, folder: &str, name: &str) -> Result<String, AllocError>
     ensures { IfOk result (λ s. string_bytes s ≡ folder.now ++ name.now) }
 {
@@ -55,7 +55,7 @@ pub fn within(alloc: Global, folder: &str, name: &str) -> Result<String, AllocEr
 ///
 /// # Errors
 ///
-/// Want of memory.
+/// Out of memory.
 pub fn as_folder(alloc: Global, path: &str) -> Result<String, AllocError>
     ensures { IfOk result (λ s. string_bytes s ≡ path.now ++ codes "/") }
 {
@@ -66,7 +66,7 @@ pub fn as_folder(alloc: Global, path: &str) -> Result<String, AllocError>
 ///
 /// # Errors
 ///
-/// Want of memory.
+/// Out of memory.
 pub fn joined(alloc: Global, path: &str, folder: &str) -> Result<String, AllocError>
     ensures { IfOk result (λ s. string_bytes s ≡ joined_lem path.now folder.now) }
 {

@@ -12,7 +12,7 @@ use std::rt::{Env, Files};
 ///
 /// # Errors
 ///
-/// Want of memory.
+/// Out of memory.
 pub fn system_file<R: Env + AllocGlobal>(rt: &R) -> Result<String, Fault> {
     match variable(rt, "GIT_CONFIG_SYSTEM")? {
         Some(path) => Ok(path),

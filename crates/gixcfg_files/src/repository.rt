@@ -27,7 +27,7 @@ impl Repository {
     ///
     /// # Errors
     ///
-    /// Want of memory.
+    /// Out of memory.
     pub fn file(&self, alloc: Global) -> Result<String, AllocError>
         ensures { IfOk result (λ s. string_bytes s ≡ string_bytes self.now.common ++ codes "config") }
     {
@@ -38,7 +38,7 @@ impl Repository {
     ///
     /// # Errors
     ///
-    /// Want of memory.
+    /// Out of memory.
     pub fn worktree_file(&self, alloc: Global) -> Result<String, AllocError>
         ensures { IfOk result (λ s. string_bytes s ≡ string_bytes self.now.folder ++ codes "config.worktree") }
     {

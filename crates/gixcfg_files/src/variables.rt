@@ -10,7 +10,7 @@ use std::rt::Env;
 ///
 /// # Errors
 ///
-/// Want of memory.
+/// Out of memory.
 pub fn variable<R: Env + AllocGlobal>(rt: &R, name: &str) -> Result<Option<String>, Fault> {
     match env::var(rt, name) {
         Ok(text) => Ok(Some(text)),

@@ -28,7 +28,7 @@ pub struct Place {
 ///
 /// # Errors
 ///
-/// Want of memory.
+/// Out of memory.
 pub fn place_of(alloc: Global, text: &[u8], left: usize) -> Result<Place, AllocError>
     ensures { IfOk result (IsPlaceOf text.now left) }
 {

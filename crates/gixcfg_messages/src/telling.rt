@@ -33,7 +33,7 @@ const PLAIN: &str = "\x1b[m";
 ///
 /// # Errors
 ///
-/// Want of memory.
+/// Out of memory.
 pub fn message(alloc: Global, refused: &Refused<'_>, is_colored: bool) -> Result<String, AllocError>
     ensures { IfOk result (λ s. string_bytes s ≡ message_of refused.now is_colored) }
 {

@@ -81,7 +81,7 @@ fn is_own(word: &str) -> bool {
 ///
 /// # Errors
 ///
-/// What is wrong with the first word that isn't understood, else with their number. Want of memory.
+/// What is wrong with the first word that isn't understood, else with their number. Out of memory.
 pub fn read<'a>(alloc: Global, words: &[&'a str]) -> Result<Asked<'a>, Fault<'a>> {
     let Some((first, others)) = words.split_first() else {
         return Err(Fault::NoCommand);

@@ -32,8 +32,6 @@ pub enum Fault<'a> {
     TooFew(Command),
     /// A word too much.
     TooMany(Command, &'a str),
-    /// A word is no key: it has no dot.
-    NoKey(&'a str),
     /// Standard input is named as both of two files.
     TwoInputs,
     /// Two options exclude each other.
@@ -59,7 +57,7 @@ fn meaning_of(option: Opt) -> &'static str {
 ///
 /// # Errors
 ///
-/// Want of memory, and then nothing is printed.
+/// Out of memory, and then nothing is printed.
 pub fn tell<W: Write>(alloc: Global, fault: Fault<'_>, err: &mut W) -> Result<(), AllocError> {
     if let Fault::UnknownCommand(word) = fault {
         let meant = nearest(alloc, word)?;
@@ -75,7 +73,6 @@ fn tell_known<W: Write>(fault: Fault<'_>, err: &mut W) -> io::Result<()> {
     match fault {
         Fault::NoCommand => err.write_all(b"gixcfg: no command; see gixcfg help\n"),
         Fault::Memory => err.write_all(b"gixcfg: E27\n"),
-        Fault::NoKey(word) => writeln!(err, "gixcfg: not a key, it has no dot: {word}"),
         Fault::TwoFiles(word) => writeln!(err, "gixcfg: a second file: {word}"),
         Fault::NoOptions(word, call) => writeln!(
             err,

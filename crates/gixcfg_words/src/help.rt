@@ -37,7 +37,7 @@ Prints the last value of a key, or with --all each of its values, a line each.
     --system          the system's file: /etc/gitconfig
     --local           the repository's file: .git/config
     --worktree        the file of the working tree, if each has one of its own, else the repository's
-    --effective       all that git reads here, with includes: these three, and GIT_CONFIG_COUNT
+    --effective       all that git reads here, with includes: the files of these four, and GIT_CONFIG_COUNT
     --all             all values, in the order of the file
     --default VALUE   this value if the key isn't there
     --type TYPE       the value as bool, int, bool-or-int or path; refused if it is none
@@ -101,7 +101,7 @@ Prints all entries, a line each: the key, = and the value.
     --system          the system's file: /etc/gitconfig
     --local           the repository's file: .git/config
     --worktree        the file of the working tree, if each has one of its own, else the repository's
-    --effective       all that git reads here, with includes: these three, and GIT_CONFIG_COUNT
+    --effective       all that git reads here, with includes: the files of these four, and GIT_CONFIG_COUNT
     --type TYPE       only values of this type, printed in it: bool, int, bool-or-int or path
     -z, --null        a byte 0 in place of each line feed at the end, and a line feed after each key
     --name-only       keys without values
@@ -180,7 +180,7 @@ usage: gixcfg diff [-q] [-z] A B
 Prints what two files mean differently, a line each: -key=value for an entry of A, +key=value for one of B. It prints all
 entries of each key that has other values in B, or the same in another order. Keys are sorted. - is standard input.
 
-    -q, --quiet       nothing is printed
+    -q, --quiet       no differences are printed
     -z, --null        a byte 0 in place of each line feed at the end, and a line feed after each key
 
 Ends with 0 if they mean the same, and with 1 if not.

@@ -12,7 +12,7 @@ const MOST: usize = 3;
 ///
 /// # Errors
 ///
-/// Want of memory.
+/// Out of memory.
 pub fn nearest(alloc: Global, word: &str) -> Result<Option<&'static str>, AllocError> {
     let mut found = None;
     let mut fewest = word.len().min(MOST + 1);
