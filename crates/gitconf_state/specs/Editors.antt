@@ -8,7 +8,7 @@ use Rattle.gitconf_text.specs.Value.{Piece, plain}
 use Rattle.gitconf_text.specs.Part.{Assigned, Item, BlanksItem, LineEndsItem, CommentItem, EntryItem}
 use Rattle.gitconf_state.specs.State.{SectionState, State, is_entry, cut_last}
 use Rattle.gitconf_state.specs.LineEnds.{file_line_end, section_line_end}
-use Rattle.gitconf_state.specs.Edit.{Spacing, spacing_of, leading_item, assigned_value, with_value, is_entry_of, update_last, item_raw}
+use Rattle.gitconf_state.specs.Entries.{Spacing, spacing_of, leading_item, assigned_value, with_value, is_entry_of, update_last, item_raw}
 
 -- An editor: the blanks that it writes, as they were when it was made, its line ending, and whether one follows what is pushed.
 pub record Editor : Type 0 where
@@ -16,13 +16,17 @@ pub record Editor : Type 0 where
   pub line_end : List ℕ
   pub ends : Bool
 
+-- the editor of a body, with the blanks that it uses and a line ending
+abbrev pub editor_with : (line_end : List ℕ) → List Item → Editor
+editor_with line_end items = record { spacing = spacing_of items; line_end = line_end; ends = true }
+
 -- the editor of a section in a file, which uses the file's line ending
 abbrev pub editor_of : State → SectionState → Editor
-editor_of state s = record { spacing = spacing_of s.items; line_end = file_line_end state; ends = true }
+editor_of state s = editor_with (file_line_end state) s.items
 
 -- the editor of a section that is in no file, which uses the section's own line ending
 abbrev pub editor_alone : SectionState → Editor
-editor_alone s = record { spacing = spacing_of s.items; line_end = section_line_end s; ends = true }
+editor_alone s = editor_with (section_line_end s) s.items
 
 -- an entry that is made: with the editor's blanks around `=`, or the name alone
 abbrev pub entry_made : Spacing → (key : List ℕ) → (value : Option (List ℕ)) → Item
