@@ -9,14 +9,14 @@ use Rattle.gitconf_text.specs.Token.{Token, HeaderToken, NewlineToken, ValueToke
 use Rattle.gitconf_items.specs.EventRef.{escaped_subsection}
 use Rattle.gitconf_base.specs.Metadata.{Meta}
 pub use Rattle.gitconf_state.specs.Entries.{update_last, is_entry_of, Spacing, blanks_of, before_entry, leading_blanks, blanks_around, separator_blanks, spacing_of, assigned_value, with_value, leading_item, item_raw}
-use Rattle.gitconf_state.specs.Editors.{Editor, editor_with, line_made, value_set}
+use Rattle.gitconf_state.specs.Editors.{Editor, editor_of_body, line_made, value_set}
 use Rattle.gitconf_state.specs.State.{SectionState, State, is_entry, with_items, with_last, with_sections}
 use Rattle.gitconf_state.specs.LineEnds.{file_line_end}
 use Rattle.gitconf_state.specs.Lookup.{is_named, listing}
 
 -- a body whose last entry of the key has the value, or with a new entry on a line of its own at its end
 abbrev pub set_value : (line_end key value : List ℕ) → List Item → List Item
-set_value line_end key value items = value_set (editor_with line_end items) key value items
+set_value line_end key value items = value_set (editor_of_body line_end items) key value items
 
 -- a new entry on a line of its own
 abbrev pub new_entry : Spacing → (line_end key value : List ℕ) → List Item
@@ -78,7 +78,7 @@ value_set_tokens editor key value items = elim (last_or None (filter (is_entry_o
 
 -- the tokens that setting a value adds to a body
 abbrev pub set_tokens : (line_end key value : List ℕ) → List Item → List Token
-set_tokens line_end key value items = value_set_tokens (editor_with line_end items) key value items
+set_tokens line_end key value items = value_set_tokens (editor_of_body line_end items) key value items
 
 -- the tokens of a new section with the value
 abbrev pub new_section_tokens : (line_end name : List ℕ) → (subsection : Option (List ℕ)) → (key value : List ℕ) → List Token

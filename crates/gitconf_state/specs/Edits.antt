@@ -19,7 +19,7 @@ use Rattle.gitconf_state.specs.LineEnds.{file_line_end, ends_line}
 use Rattle.gitconf_state.specs.Clean.{is_nameless, IsClean, IsCleanSection}
 pub use Rattle.gitconf_state.specs.Edit.{value_set_tokens}
 use Rattle.gitconf_state.specs.Edit.{made_header, new_section, is_target, is_entry_of, set_raw_value, set_raw_value_tokens, replaced_value, old_value, token_bytes}
-use Rattle.gitconf_state.specs.Editors.{Editor, entry_made, pushed, line_made, line_end_pushed, value_set, removed, popped, popped_entry, written_at, deleted_at}
+use Rattle.gitconf_state.specs.Editors.{Editor, InsteadOf, entry_made, pushed, line_made, line_end_pushed, value_set, removed, popped, popped_entry, written_at, deleted_at}
 
 -- a section that is in no file, and how many bytes its buffer has
 pub record Detached : Type 0 where
@@ -96,7 +96,7 @@ pub data Edit : Type 0 where
   SetValue : (number : ℕ) (editor : Editor) (key value : List ℕ) → Edit
   Remove : (number : ℕ) (key : List ℕ) → Edit
   Pop : (number : ℕ) → Edit
-  WriteAt : (number : ℕ) (editor : Editor) (place : ℕ) (stands keeps_line_end : Bool) (key value : List ℕ) → Edit
+  WriteAt : (number : ℕ) (editor : Editor) (place : ℕ) (instead : InsteadOf) (key value : List ℕ) → Edit
   DeleteAt : (number place : ℕ) → Edit
   Rename : (number : ℕ) (name : List ℕ) (subsection : Option (List ℕ)) → Edit
   RenameAll : (name : List ℕ) (subsection : Option (List ℕ)) (keeps : Meta → Bool) (new_name : List ℕ) (new_subsection : Option (List ℕ)) → Edit
@@ -116,7 +116,7 @@ apply (PushLineEnd number editor) state = change_items number (line_end_pushed e
 apply (SetValue number editor key value) state = change_items number (value_set editor key value) state
 apply (Remove number key) state = change_items number (removed key) state
 apply (Pop number) state = change_items number popped state
-apply (WriteAt number editor place stands keeps_line_end key value) state = change_items number (written_at editor place stands keeps_line_end key value) state
+apply (WriteAt number editor place instead key value) state = change_items number (written_at editor place instead key value) state
 apply (DeleteAt number place) state = change_items number (deleted_at place) state
 apply (Rename number name subsection) state = change_numbered number (renamed name subsection) state
 apply (RenameAll name subsection keeps new_name new_subsection) state =
@@ -171,7 +171,7 @@ new_bytes (SetRawValue name subsection key keeps value) state = token_bytes (set
 new_bytes (Push number editor key value comment) state = token_bytes (flat_map item_tokens (line_made editor key value comment))
 new_bytes (PushLineEnd number editor) state = length editor.line_end
 new_bytes (SetValue number editor key value) state = token_bytes (value_set_tokens editor key value (items_of_numbered number state))
-new_bytes (WriteAt number editor place stands keeps_line_end key value) state = token_bytes (item_tokens (entry_made editor.spacing key (Some value)))
+new_bytes (WriteAt number editor place instead key value) state = token_bytes (item_tokens (entry_made editor.spacing key (Some value)))
 new_bytes (Rename number name subsection) state = length (spelled_header (made_header name subsection))
 new_bytes (RenameAll name subsection keeps new_name new_subsection) state =
     length (flat_map (λ (s : SectionState). spelled_header (made_header new_name new_subsection)) (filter (is_target name subsection keeps) state.sections))
@@ -196,7 +196,7 @@ IsEdit (SetRawValue name subsection key keeps value) state = (is_value_name key 
 IsEdit (Push number editor key value comment) state = IsEditor editor × (is_value_name key ≡ true)
 IsEdit (PushLineEnd number editor) state = IsEditor editor
 IsEdit (SetValue number editor key value) state = IsEditor editor × (is_value_name key ≡ true)
-IsEdit (WriteAt number editor place stands keeps_line_end key value) state = IsEditor editor × (is_value_name key ≡ true)
+IsEdit (WriteAt number editor place instead key value) state = IsEditor editor × (is_value_name key ≡ true)
 IsEdit (Rename number name subsection) state = (is_made_name name && is_valid_or_none subsection) ≡ true
 IsEdit (RenameAll name subsection keeps new_name new_subsection) state = (is_made_name new_name && is_valid_or_none new_subsection) ≡ true
 IsEdit (NewSection name subsection) state = (is_made_name name && is_valid_or_none subsection) ≡ true
@@ -238,7 +238,7 @@ edited_number (PushLineEnd number editor) = Some number
 edited_number (SetValue number editor key value) = Some number
 edited_number (Remove number key) = Some number
 edited_number (Pop number) = Some number
-edited_number (WriteAt number editor place stands keeps_line_end key value) = Some number
+edited_number (WriteAt number editor place instead key value) = Some number
 edited_number (DeleteAt number place) = Some number
 edited_number (Rename number name subsection) = Some number
 edited_number (SetTrust number trust) = Some number
@@ -278,7 +278,7 @@ is_about (PushLineEnd number editor) name subsection key state = false
 is_about (SetValue number editor edited_key value) name subsection key state = is_there number name subsection (λ items. is_same_name edited_key key) state
 is_about (Remove number edited_key) name subsection key state = is_there number name subsection (λ items. is_same_name edited_key key) state
 is_about (Pop number) name subsection key state = is_there number name subsection (is_last_of key) state
-is_about (WriteAt number editor place stands keeps_line_end edited_key value) name subsection key state =
+is_about (WriteAt number editor place instead edited_key value) name subsection key state =
     is_there number name subsection (λ items. is_same_name edited_key key || is_one_at place key items) state
 is_about (DeleteAt number place) name subsection key state = is_there number name subsection (is_one_at place key) state
 is_about (Rename number new_name new_subsection) name subsection key state =
