@@ -23,8 +23,6 @@ use gitconf_text::NoMemory;
 use gitconf_text::line_end::LineEnd;
 use gitconf_text::parse::span;
 
-const NOTHING: Span = Span { start: 0, len: 0 };
-
 /// What an entry that is written at a place replaces.
 #[derive(Clone, Copy, Debug)]
 pub enum InPlaceOf {
@@ -41,7 +39,7 @@ pub enum InPlaceOf {
 fn last_line_end(value: &Value) -> Span
     ensures { result ≡ spec.last_end value.now.pieces.items }
 {
-    let mut last = NOTHING;
+    let mut last = Span::NOTHING;
     for piece in value.pieces.iter() {
         if piece.line_end.len != 0 {
             last = piece.line_end;
