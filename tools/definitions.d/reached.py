@@ -53,7 +53,7 @@ class Definitions:
             head = HEAD.match(line)
             if not line.strip():
                 now = None
-            elif not line.startswith("--"):
+            elif not line.lstrip().startswith("--"):
                 now = (path, head[1]) if head else now
                 if now:
                     self.lines.setdefault(now, []).append(line)

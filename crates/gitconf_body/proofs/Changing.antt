@@ -140,16 +140,6 @@ entry_replaced old new is js at e d editor key value l here grown within stand m
     all_parts P [] x behind all = (tt, all.1)
     all_parts P (y ∷ before) x behind all = let a = all_parts P before x behind all.1 in ((all.0, a.0), a.1)
 
--- The editor of items sets a value as an edit by names does.
-pub set_same : (line_end key value : List ℕ) (items : List parts.Item)
-    → states.value_set (record { spacing = spacing_of items; line_end = line_end; ends = true }) key value items ≡ set_value line_end key value items
-set_same line_end key value items = go (list_any (is_entry_of key) items) refl
-  where
-    go : (b : Bool) → list_any (is_entry_of key) items ≡ b
-        → states.value_set (record { spacing = spacing_of items; line_end = line_end; ends = true }) key value items ≡ set_value line_end key value items
-    go true e = rw (e, states.value_set, set_value) refl
-    go false e = rw (e, states.value_set, set_value) refl
-
 -- an entry of a key is an entry
 some_entry : (key : List ℕ) (items : List parts.Item) → list_any (is_entry_of key) items ≡ true → list_any is_entry items ≡ true
 some_entry key [] some = absurd (cc)
@@ -196,7 +186,6 @@ pub set_by_editor : (buffer : List ℕ) (editor : Editor) (line_end key value : 
 set_by_editor buffer editor line_end key value seen is same told =
     ap (λ e. states.value_set e key value (items_of buffer is))
     (told ∙ ap (λ xs. record { spacing = spacing_of (items_of buffer xs); line_end = line_end; ends = true }) same)
-    ∙ set_same line_end key value (items_of buffer is)
 
 pub put_by_editor : (buffer : List ℕ) (editor : Editor) (line_end key value : List ℕ) (seen is : List Item) → seen ≡ is
     → editor_in buffer editor ≡ record { spacing = spacing_of (items_of buffer seen); line_end = line_end; ends = true }

@@ -6,7 +6,7 @@ use Rattle.std.proofs.lemmas.Grind.{flat_map-append}
 use Rattle.gitconf_text.specs.Part.{Assigned, Item, BlanksItem, LineEndsItem, CommentItem, EntryItem}
 use Rattle.gitconf_text.specs.Token.{Token, HeaderToken, WhitespaceToken, NewlineToken, ValueToken, NameToken, SeparatorToken, item_tokens, filled, spelled_token}
 use Rattle.gitconf_text.specs.Value.{escaped}
-use Rattle.gitconf_state.specs.Edit.{Spacing, blank_bytes, header_bytes, is_target, made_header, new_section_bytes, new_section_tokens, set_bytes, set_raw_value_bytes, set_raw_value_tokens, is_entry_of, spacing_of, leading_item, new_entry, value_tokens_of, set_tokens, token_bytes}
+use Rattle.gitconf_state.specs.Edit.{Spacing, blank_bytes, header_bytes, is_target, made_header, new_section_bytes, new_section_tokens, set_bytes, set_raw_value_bytes, set_raw_value_tokens, is_entry_of, spacing_of, leading_item, new_entry, value_set_tokens, value_tokens_of, set_tokens, token_bytes}
 use Rattle.gitconf_base.specs.Metadata.{Meta}
 use Rattle.gitconf_state.specs.LineEnds.{file_line_end}
 use Rattle.gitconf_state.specs.State.{SectionState, State, is_entry}
@@ -82,7 +82,7 @@ set_tokens_at line_end key value items before i behind is passes none =
 
 pub set_tokens_new : (line_end key value : List ℕ) (items : List Item) → list_any (is_entry_of key) items ≡ false
     → set_tokens line_end key value items ≡ flat_map item_tokens (new_entry (spacing_of items) line_end key value)
-set_tokens_new line_end key value items none = rw (filter_none (is_entry_of key) items none, set_tokens) refl
+set_tokens_new line_end key value items none = rw (filter_none (is_entry_of key) items none, value_set_tokens) refl
 
 any_at : {A : Type 0} (test : A → Bool) (before : List A) (x : A) (behind : List A) → test x ≡ true → list_any test (before ++ x ∷ behind) ≡ true
 any_at test [] x behind is = rw is refl

@@ -16,14 +16,14 @@ use Rattle.gitconf_items.specs.Items.{piece_of, assigned_of, item_of, items_of}
 use Rattle.gitconf_items.specs.ItemsFit.{AreItemsWithin, AssignedFits, ItemFits, PieceFits}
 use Rattle.gitconf_items.specs.ShownEvents.{IsExtended}
 use Rattle.gitconf_state.specs.Editors as states
-use Rattle.gitconf_state.specs.Editors.{unless_empty, behind_old, deleted_at, entry_made, line_end_item, written_at}
+use Rattle.gitconf_state.specs.Editors.{unless_empty, behind_written, deleted_at, entry_made, line_end_item, written_at}
 use Rattle.gitconf_body.specs.declared.value_at.InPlaceOf.{InPlaceOf}
 use Rattle.gitconf_body.specs.declared.value_at.InPlaceOf.TheVariants.{Nothing, EntryButLineEnd}
 use Rattle.gitconf_body.specs.declared.value_at.InPlaceOf.TheVariants as in_place_of
 use Rattle.gitconf_lines.specs.Spacings.{nothing}
 use Rattle.gitconf_lines.specs.Standing.{Stand, end_items}
 use Rattle.gitconf_body.specs.Taken.{StayWithin}
-use Rattle.gitconf_body.specs.ValuesAt.{IfReplaces, behind_way, is_before_comment, kept_behind, kept_end, keeps_line_end, last_end, last_end_or, stands, unless_short, way_before, without_first}
+use Rattle.gitconf_body.specs.ValuesAt.{IfReplaces, behind_way, instead_of, is_before_comment, kept_behind, kept_end, last_end, last_end_or, unless_short, way_before, without_first}
 use Rattle.gitconf_lines.proofs.Entries.{all_both}
 use Rattle.gitconf_lines.proofs.Standing.{line_ends_stand, none_stand, stand_both, stand_more}
 use Rattle.gitconf_body.proofs.Taken.{dropped_all, taken_all}
@@ -136,7 +136,7 @@ kept_stands buffer (forms.Continued c) behind fits =
 
 -- What stands behind the entry that is put before items or in place of their first one.
 pub way_stands : (buffer : List ℕ) (what : InPlaceOf) (is : List Item) → AreItemsWithin (length buffer) is
-    → Stand buffer (behind_way (way_before what is) is) (if stands what then behind_old (keeps_line_end what) (items_of buffer is) else items_of buffer is)
+    → Stand buffer (behind_way (way_before what is) is) (behind_written (instead_of what) (items_of buffer is))
 way_stands buffer Nothing [] within = none_stand buffer
 way_stands buffer in_place_of.Entry [] within = none_stand buffer
 way_stands buffer EntryButLineEnd [] within = none_stand buffer
@@ -205,20 +205,20 @@ pub written_stand : (old new : List ℕ) (is js : List Item) (place at : ℕ) (w
     → IsExtended old new → AreItemsWithin (length old) is → at ≡ min place (length is)
     → Stand new (e ∷ []) (entry_made editor.spacing key (Some value) ∷ [])
     → js ≡ take at is ++ e ∷ behind_way (way_before what (drop at is)) (drop at is)
-    → Stand new js (written_at editor place (stands what) (keeps_line_end what) key value (items_of old is))
+    → Stand new js (written_at editor place (instead_of what) key value (items_of old is))
 written_stand old new is js place at what e editor key value grown within there stand made =
     let front : take at is ≡ take place is = ap (λ n. take n is) there ∙ take_min place is in
     let back : drop at is ≡ drop place is = ap (λ n. drop n is) there ∙ drop_min place is in
     let placed : js ≡ take place is ++ e ∷ behind_way (way_before what (drop place is)) (drop place is) =
     made ∙ (λ i. front i ++ e ∷ behind_way (way_before what (back i)) (back i)) in
     let shown : items_of old (take place is) ++ entry_made editor.spacing key (Some value)
-    ∷ (if stands what then behind_old (keeps_line_end what) (items_of old (drop place is)) else items_of old (drop place is))
-    ≡ written_at editor place (stands what) (keeps_line_end what) key value (items_of old is) =
+    ∷ behind_written (instead_of what) (items_of old (drop place is))
+    ≡ written_at editor place (instead_of what) key value (items_of old is) =
     λ i. sym (take-map (item_of old) place is) i ++ entry_made editor.spacing key (Some value)
-    ∷ (if stands what then behind_old (keeps_line_end what) (sym (drop-map (item_of old) place is) i) else sym (drop-map (item_of old) place is) i) in
+    ∷ behind_written (instead_of what) (sym (drop-map (item_of old) place is) i) in
     let before = stand_more old new (take place is) (items_of old (take place is)) grown (record { shown_are = refl; within = taken_all (length old) is place within }) in
     let behind = stand_more old new _ _ grown (way_stands old what (drop place is) (dropped_all (length old) is place within)) in
-    subst (λ xs. Stand new xs (written_at editor place (stands what) (keeps_line_end what) key value (items_of old is))) (sym placed)
+    subst (λ xs. Stand new xs (written_at editor place (instead_of what) key value (items_of old is))) (sym placed)
     (subst (Stand new (take place is ++ e ∷ behind_way (way_before what (drop place is)) (drop place is))) shown
     (stand_both new (take place is) (e ∷ behind_way (way_before what (drop place is)) (drop place is)) (items_of old (take place is)) _ before
     (stand_both new (e ∷ []) (behind_way (way_before what (drop place is)) (drop place is)) (entry_made editor.spacing key (Some value) ∷ []) _ stand behind)))

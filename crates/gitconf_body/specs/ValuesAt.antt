@@ -9,6 +9,7 @@ use Rattle.gitconf_items.specs.declared.entry.EntryParts.{EntryParts as Entry}
 use Rattle.gitconf_items.specs.declared.items.Item.{Item}
 use Rattle.gitconf_items.specs.declared.items.Item.TheVariants as items
 use Rattle.gitconf_items.specs.declared.entry.Piece.{Piece}
+use Rattle.gitconf_state.specs.Editors.{InsteadOf, OfNothing, OfEntry, OfEntryButLineEnd}
 use Rattle.gitconf_lines.specs.declared.editor.Editor.{Editor}
 use Rattle.gitconf_body.specs.declared.value_at.InPlaceOf.{InPlaceOf}
 use Rattle.gitconf_body.specs.declared.value_at.InPlaceOf.TheVariants.{Nothing, EntryButLineEnd}
@@ -19,17 +20,11 @@ use Rattle.gitconf_lines.specs.Editors.{around_bytes, value_put}
 use Rattle.gitconf_lines.specs.Spacings.{nothing}
 use Rattle.gitconf_lines.specs.Standing.{end_items}
 
--- an entry at the place is replaced
-abbrev pub stands : InPlaceOf → Bool
-stands Nothing = false
-stands in_place_of.Entry = true
-stands EntryButLineEnd = true
-
--- the last line ending of the replaced entry's value may stay
-abbrev pub keeps_line_end : InPlaceOf → Bool
-keeps_line_end Nothing = false
-keeps_line_end in_place_of.Entry = false
-keeps_line_end EntryButLineEnd = true
+-- what an entry is written in place of, as the definitions have it
+abbrev pub instead_of : InPlaceOf → InsteadOf
+instead_of Nothing = OfNothing
+instead_of in_place_of.Entry = OfEntry
+instead_of EntryButLineEnd = OfEntryButLineEnd
 
 -- how many bytes an editor adds to the buffer for an entry that is written
 abbrev pub written_put : Editor → (key value : List ℕ) → ℕ

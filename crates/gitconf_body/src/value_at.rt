@@ -11,7 +11,7 @@ ghost use Rattle.gitconf_lines.specs.Editors.{editor_in, EditorFits};
 ghost use Rattle.gitconf_lines.specs.Standing.{Stand, end_items};
 ghost use Rattle.gitconf_body.specs.Taken.{StayWithin};
 ghost use Rattle.gitconf_body.specs.ValuesAt as spec;
-ghost use Rattle.gitconf_body.specs.ValuesAt.{IfReplaces, behind_way, keeps_line_end, rewritten_put, stands, written_put};
+ghost use Rattle.gitconf_body.specs.ValuesAt.{IfReplaces, behind_way, instead_of, rewritten_put, written_put};
 
 use gitconf_items::entry::{AssignedRef, Entry, Value};
 use gitconf_items::event::Span;
@@ -22,8 +22,6 @@ use gitconf_lines::push::{put_entry, value_len};
 use gitconf_text::NoMemory;
 use gitconf_text::line_end::LineEnd;
 use gitconf_text::parse::span;
-
-const NOTHING: Span = Span { start: 0, len: 0 };
 
 /// What an entry that is written at a place replaces.
 #[derive(Clone, Copy, Debug)]
@@ -41,7 +39,7 @@ pub enum InPlaceOf {
 fn last_line_end(value: &Value) -> Span
     ensures { result ≡ spec.last_end value.now.pieces.items }
 {
-    let mut last = NOTHING;
+    let mut last = Span::NOTHING;
     for piece in value.pieces.iter() {
         if piece.line_end.len != 0 {
             last = piece.line_end;
@@ -174,7 +172,7 @@ pub fn write_at(
     requires within { AreItemsWithin (length buffer.old.items) items.old.items }
     requires fits { EditorFits (length buffer.old.items) editor.now }
     ensures ok { OnOk result (items_of buffer.new.items items.new.items ≡ state.written_at (editor_in buffer.old.items editor.now)
-        place (stands in_place_of) (keeps_line_end in_place_of) key.now value.now (items_of buffer.old.items items.old.items)) }
+        place (instead_of in_place_of) key.now value.now (items_of buffer.old.items items.old.items)) }
     ensures within { AreItemsWithin (length buffer.new.items) items.new.items }
     ensures grows { Grows result (written_put editor.now key.now value.now) buffer.old.items buffer.new.items }
     ensures refused { 2 ^ 32 ≤ length buffer.old.items + written_put editor.now key.now value.now → IsErrOf result 3 }
@@ -226,7 +224,7 @@ pub fn rewrite_at(
     requires within { AreItemsWithin (length buffer.old.items) items.old.items }
     ensures ok { (line_end : List ℕ) → OnOk result (items_of buffer.new.items items.new.items
         ≡ state.written_at (record { spacing = spacing_of (items_of buffer.old.items items.old.items); line_end = line_end; ends = true })
-        place (stands in_place_of) (keeps_line_end in_place_of) key.now value.now (items_of buffer.old.items items.old.items)) }
+        place (instead_of in_place_of) key.now value.now (items_of buffer.old.items items.old.items)) }
     ensures within { AreItemsWithin (length buffer.new.items) items.new.items }
     ensures grows { Grows result (rewritten_put key.now value.now (items_of buffer.old.items items.old.items)) buffer.old.items buffer.new.items }
     ensures refused { 2 ^ 32 ≤ length buffer.old.items + rewritten_put key.now value.now (items_of buffer.old.items items.old.items) → IsErrOf result 3 }

@@ -22,7 +22,7 @@ file_of (Ended number file) = file
 
 -- a section without what is held after it
 abbrev pub unheld : SectionState → SectionState
-unheld s = record { number = s.number; header = s.header; meta = s.meta; items = s.items; held = [] }
+unheld s = record s { held = [] }
 
 -- the sections with numbers below `below`, in order, without what is held after them
 abbrev pub own_sections : (below : ℕ) → List SectionState → List SectionState

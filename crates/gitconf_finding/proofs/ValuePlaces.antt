@@ -16,7 +16,7 @@ use Rattle.gitconf_base.specs.Metadata.{Meta}
 use Rattle.gitconf_items.specs.declared.items.Item.{Item}
 use Rattle.gitconf_items.specs.Items.{item_of, items_of}
 use Rattle.gitconf_state.specs.Edit.{is_entry_of, spacing_of}
-use Rattle.gitconf_state.specs.Editors.{Editor, entry_made, written_at}
+use Rattle.gitconf_state.specs.Editors.{Editor, InsteadOf, entry_made, written_at}
 use Rattle.gitconf_state.specs.Edits.{WriteAt, apply, items_of_numbered, numbered, with_sections}
 use Rattle.gitconf_state.specs.Lookup as lookup
 use Rattle.gitconf_state.specs.Lookup.{KeyMissing, Listed, Miss, has_name, is_named, listed, listing, miss_of}
@@ -196,13 +196,13 @@ numbered_are_items id state has = go (numbered id state) (last_holds HasSectionI
     go None one = refl
     go (Some s) one = one.items
 
-pub rewritten_items : (id place : ℕ) (stands keeps : Bool) (key value : List ℕ) (state : State) → is_value_name key ≡ true → HasItems state
-    → HasItems (apply (WriteAt id (editor_of_numbered id state) place stands keeps key value) state)
-rewritten_items id place stands keeps key value state named has =
+pub rewritten_items : (id place : ℕ) (instead : InsteadOf) (key value : List ℕ) (state : State) → is_value_name key ≡ true → HasItems state
+    → HasItems (apply (WriteAt id (editor_of_numbered id state) place instead key value) state)
+rewritten_items id place instead key value state named has =
     let fits = spacing_fits (items_of_numbered id state) (numbered_are_items id state has) in
     -- an edit that writes an entry writes no line ending
     let editor : Editor = record { spacing = spacing_of (items_of_numbered id state); line_end = 10 ∷ []; ends = true } in
-    apply_items (WriteAt id editor place stands keeps key value) state (record { before = fits.before; behind = fits.behind; line_end = refl }, named) has
+    apply_items (WriteAt id editor place instead key value) state (record { before = fits.before; behind = fits.behind; line_end = refl }, named) has
 
 -- A place that was found is in a section that is.
 one_of_places : (place : ℕ × ℕ) (n : ℕ) (o : Option (ℕ × ℕ)) (ats : List ℕ) → last_or o (map (λ at. (n, at)) ats) ≡ Some place → (o ≡ Some place) ⊎ ((n == place.0) ≡ true)
@@ -433,10 +433,10 @@ there items zero i behind within = refl
 there [] (suc place) i behind within = absurd (omega (arith, within))
 there (j ∷ items) (suc place) i behind within = there items place i behind (omega (arith, within))
 
-pub written_is_read : (editor : Editor) (place : ℕ) (stands keeps_line_end : Bool) (key value : List ℕ) (items : List parts.Item) → place ≤ length items
-    → meaning_at place (written_at editor place stands keeps_line_end key value items) ≡ Some value
-written_is_read editor place stands keeps_line_end key value items within =
-    go (slice_get (written_at editor place stands keeps_line_end key value items) place) (there items place (entry_made editor.spacing key (Some value)) _ within)
+pub written_is_read : (editor : Editor) (place : ℕ) (instead : InsteadOf) (key value : List ℕ) (items : List parts.Item) → place ≤ length items
+    → meaning_at place (written_at editor place instead key value items) ≡ Some value
+written_is_read editor place instead key value items within =
+    go (slice_get (written_at editor place instead key value items) place) (there items place (entry_made editor.spacing key (Some value)) _ within)
   where
     go : (o : Option parts.Item) → o ≡ Some (entry_made editor.spacing key (Some value))
         → elim o as (λ _. Option (List ℕ)) [ None ↦ None | Some i ↦ item_meaning i ] ≡ Some value

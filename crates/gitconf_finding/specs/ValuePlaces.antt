@@ -8,8 +8,8 @@ use Rattle.gitconf_text.specs.Names.{is_value_name}
 use Rattle.gitconf_text.specs.Part.{Item}
 use Rattle.gitconf_base.specs.Key.{Key}
 use Rattle.gitconf_base.specs.Metadata.{Meta}
-use Rattle.gitconf_state.specs.Edit.{is_entry_of, spacing_of}
-use Rattle.gitconf_state.specs.Editors.{Editor}
+use Rattle.gitconf_state.specs.Edit.{is_entry_of}
+use Rattle.gitconf_state.specs.Editors.{Editor, editor_of_body}
 use Rattle.gitconf_state.specs.Edits.{items_of_numbered}
 use Rattle.gitconf_state.specs.LineEnds.{file_line_end}
 use Rattle.gitconf_state.specs.Lookup as state
@@ -107,4 +107,4 @@ all_stand places state = list_all (λ place. list_any (λ s. s.number == place.0
 
 -- the editor of the section of a number, as it is now: its blanks, and the file's line ending
 abbrev pub editor_of_numbered : (number : ℕ) → State → Editor
-editor_of_numbered number state = record { spacing = spacing_of (items_of_numbered number state); line_end = file_line_end state; ends = true }
+editor_of_numbered number state = editor_of_body (file_line_end state) (items_of_numbered number state)

@@ -6,7 +6,7 @@ ghost use Rattle.gitconf_items.specs.Items.{entry_of};
 ghost use Rattle.gitconf_finding.specs.Finding.{deciding_entry, place_of, places_in};
 ghost use Rattle.gitconf_views.specs.Views.{shown};
 
-use crate::found::{Deciding, Found, same_view};
+use crate::found::{Deciding, Found, copied};
 use gitconf_items::entry::{AssignedRef, Entry};
 use gitconf_items::items::Item;
 use gitconf_lines::seeking::is_named;
@@ -44,8 +44,10 @@ pub fn push_entries<'a>(
     while let Some((item, behind)) = rest.split_first() {
         if let Item::Entry(entry) = item {
             if is_named(section.buffer, entry.name(), key) {
-                let section = same_view(section);
-                let place = Found { section, entry };
+                let place = Found {
+                    section: copied(section),
+                    entry,
+                };
                 put(found, place)?;
             }
         }

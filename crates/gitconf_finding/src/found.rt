@@ -17,20 +17,11 @@ pub enum Deciding {
     Value,
 }
 
-/// A copy of the view.
-pub fn same_view<'a>(section: &SectionRef<'a>) -> SectionRef<'a>
-    ensures { result ≡ section.now }
+/// A copy of what is behind a reference. The proof does not cover `*item` itself where `T` is a struct of references.
+pub(crate) fn copied<T: Copy>(item: &T) -> T
+    ensures { result ≡ item.now }
 {
-    SectionRef {
-        alloc: section.alloc,
-        buffer: section.buffer,
-        copies: section.copies,
-        id: section.id,
-        header: section.header,
-        meta: section.meta,
-        items: section.items,
-        held: section.held,
-    }
+    *item
 }
 
 /// An entry that a lookup found, and its section.
@@ -54,7 +45,7 @@ impl<'a> Found<'a> {
     pub fn section(&self) -> SectionRef<'a>
         ensures { shown result ≡ (place_of self.now).0 }
     {
-        same_view(&self.section)
+        copied(&self.section)
     }
 
     /// What the entry means; without a value it is empty. Memory is taken for the result, if there is a value.

@@ -34,16 +34,7 @@ impl<'a> Iterator for SectionsNamed<'a, '_, '_> {
 
     fn next(&mut self) -> Option<SectionRef<'a>> {
         match self.sections.next() {
-            Some((id, section)) => Some(SectionRef {
-                alloc: section.alloc,
-                buffer: self.buffer,
-                copies: self.copies,
-                id,
-                header: section.header,
-                meta: section.meta,
-                items: section.items,
-                held: section.held,
-            }),
+            Some((id, section)) => Some(SectionRef::of_row(self.buffer, self.copies, id, section)),
             None => None,
         }
     }
@@ -58,16 +49,7 @@ impl<'a> DoubleEndedIterator for SectionsNamed<'a, '_, '_> {
 
     fn next_back(&mut self) -> Option<SectionRef<'a>> {
         match self.sections.next_back() {
-            Some((id, section)) => Some(SectionRef {
-                alloc: section.alloc,
-                buffer: self.buffer,
-                copies: self.copies,
-                id,
-                header: section.header,
-                meta: section.meta,
-                items: section.items,
-                held: section.held,
-            }),
+            Some((id, section)) => Some(SectionRef::of_row(self.buffer, self.copies, id, section)),
             None => None,
         }
     }
@@ -99,16 +81,7 @@ impl<'a> Iterator for SectionsByName<'a, '_> {
 
     fn next(&mut self) -> Option<SectionRef<'a>> {
         match self.sections.next() {
-            Some((id, section)) => Some(SectionRef {
-                alloc: section.alloc,
-                buffer: self.buffer,
-                copies: self.copies,
-                id,
-                header: section.header,
-                meta: section.meta,
-                items: section.items,
-                held: section.held,
-            }),
+            Some((id, section)) => Some(SectionRef::of_row(self.buffer, self.copies, id, section)),
             None => None,
         }
     }

@@ -16,8 +16,6 @@ use smallvec::SmallVec;
 use std::alloc::{AllocError, Global};
 use std::marker::Model;
 
-const NOTHING: Span = Span { start: 0, len: 0 };
-
 /// A piece of a value other than the last one.
 #[derive(Clone, Copy, Debug, Default)]
 pub struct Piece {
@@ -191,7 +189,7 @@ impl Entry {
                 start: line.start + line.name as u32,
                 len: line.before as u32,
             },
-            Form::Bare(_) => NOTHING,
+            Form::Bare(_) => Span::NOTHING,
             Form::Apart(parts) => parts.blanks,
         }
     }
@@ -207,7 +205,7 @@ impl Entry {
                 value: line.value(),
             },
             Form::Bare(line) => AssignedRef::Plain {
-                blanks: NOTHING,
+                blanks: Span::NOTHING,
                 value: line.value(),
             },
             Form::Apart(parts) => match &parts.assigned {

@@ -15,6 +15,9 @@ pub struct Span {
 }
 
 impl Span {
+    /// No bytes.
+    pub const NOTHING: Span = Span { start: 0, len: 0 };
+
     /// The bytes from one offset up to another.
     pub fn between(from: usize, end: usize) -> Span
         requires ordered { from ≤ end }

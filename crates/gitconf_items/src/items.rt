@@ -20,7 +20,7 @@ const _: () = prove!(size_of::<Item>() == 24);
 /// Blanks of no bytes, which fill the unused places of a short list.
 impl Default for Item {
     fn default() -> Item {
-        Item::Blanks(NOTHING)
+        Item::Blanks(Span::NOTHING)
     }
 }
 
@@ -41,8 +41,6 @@ pub struct Section {
     /// The items after it, up to the next header.
     pub items: Vec<Item>,
 }
-
-const NOTHING: Span = Span { start: 0, len: 0 };
 
 /// A list of more items than this is returned as it is; the items of a shorter one are moved to a list of just their length.
 const MANY: usize = 64;

@@ -185,8 +185,6 @@ fn moved_item(item: Item, by: u32) -> Item
     }
 }
 
-const NOTHING: Span = Span { start: 0, len: 0 };
-
 /// Moves the items of a buffer, after `by` bytes were put before those of the buffer. One pass, which takes no memory.
 pub fn move_items(items: &mut [Item], by: u32)
     requires { AreItemsWithin (2 ^ 32 - 1 - by) items.old }
@@ -194,7 +192,7 @@ pub fn move_items(items: &mut [Item], by: u32)
     ensures len { length items.new ≡ length items.old }
 {
     for at in 0..items.len() {
-        let item = replace(&mut items[at], Item::LineEnds(NOTHING));
+        let item = replace(&mut items[at], Item::LineEnds(Span::NOTHING));
         drop(replace(&mut items[at], moved_item(item, by)));
     }
 }

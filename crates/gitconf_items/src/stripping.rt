@@ -14,15 +14,13 @@ use crate::entry::{Assigned, Continued, Entry, EntryParts, Form, Piece};
 use crate::event::Span;
 use crate::items::Keep;
 
-const NOTHING: Span = Span { start: 0, len: 0 };
-
 #[tactic(auto, using(crate::proofs::Strips::stripping))]
 fn stripped_piece(piece: Piece) -> Piece
     ensures { IsStripped piece_of stripped_piece PieceFits piece result }
 {
     Piece {
         text: piece.text,
-        line_end: NOTHING,
+        line_end: Span::NOTHING,
     }
 }
 
@@ -40,7 +38,7 @@ fn strip_pieces(pieces: &mut [Piece])
 fn strip_continued(continued: &mut Continued)
     ensures { IsStripped continued_of stripped_assigned ContinuedFits continued.old continued.new }
 {
-    continued.blanks = NOTHING;
+    continued.blanks = Span::NOTHING;
     strip_pieces(continued.value.pieces.as_mut_slice());
 }
 
@@ -50,7 +48,7 @@ fn strip_assigned(assigned: &mut Assigned)
 {
     match assigned {
         Assigned::Nothing => {}
-        Assigned::Plain { blanks, .. } => *blanks = NOTHING,
+        Assigned::Plain { blanks, .. } => *blanks = Span::NOTHING,
         Assigned::Continued(continued) => strip_continued(continued),
     }
 }
@@ -59,7 +57,7 @@ fn strip_assigned(assigned: &mut Assigned)
 fn strip_parts(parts: &mut EntryParts)
     ensures { IsStripped entry_of stripped_entry EntryFits parts.old parts.new }
 {
-    parts.blanks = NOTHING;
+    parts.blanks = Span::NOTHING;
     strip_assigned(&mut parts.assigned);
 }
 

@@ -13,7 +13,7 @@ use Rattle.gitconf_views.specs.Store.{section_state, AllSectionsFit}
 -- the section at a place holds these items after what it held
 abbrev pub held_at : (more : List parts.Item) → (at : ℕ) → List SectionState → List SectionState
 held_at more at [] = []
-held_at more zero (s ∷ sections) = record { number = s.number; header = s.header; meta = s.meta; items = s.items; held = s.held ++ more } ∷ sections
+held_at more zero (s ∷ sections) = record s { held = s.held ++ more } ∷ sections
 held_at more (suc at) (s ∷ sections) = s ∷ held_at more at sections
 
 -- The section at a place holds more items, and the sections of another table follow all others, under the next numbers: in every buffer that

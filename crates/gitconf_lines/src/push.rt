@@ -28,8 +28,6 @@ use gitconf_text::parse::span;
 use gitconf_text::value::{escape, escaped_len};
 use std::alloc::Global;
 
-const NOTHING: Span = Span { start: 0, len: 0 };
-
 /// The blanks before a key, added to the buffer if they aren't there.
 #[tactic(auto, using(crate::proofs::Buffers::extending, crate::proofs::Standing::standing))]
 fn put_leading(buffer: &mut Vec<u8>, leading: &Leading<'_>) -> Result<Option<Span>, span::Error>
@@ -128,7 +126,7 @@ pub fn put_entry(
         let name = append(buffer, key)?;
         let parts = EntryParts {
             name,
-            blanks: NOTHING,
+            blanks: Span::NOTHING,
             assigned: Assigned::Nothing,
         };
         return Ok(Entry::try_new(*buffer.allocator(), parts)?);

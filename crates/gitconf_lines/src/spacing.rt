@@ -7,8 +7,6 @@ use gitconf_items::entry::AssignedRef;
 use gitconf_items::event::Span;
 use gitconf_items::items::Item;
 
-const NOTHING: Span = Span { start: 0, len: 0 };
-
 /// Whether an item is an entry.
 pub fn has_entry(items: &[Item]) -> bool
     ensures { result ≡ list_any spec.is_stored_entry items.now }
@@ -44,5 +42,5 @@ pub fn separator_blanks(items: &[Item]) -> (Span, Span)
             }
         }
     }
-    (NOTHING, NOTHING)
+    (Span::NOTHING, Span::NOTHING)
 }

@@ -19,8 +19,6 @@ use gitconf_text::NoMemory;
 use smallvec::SmallVec;
 use std::alloc::Global;
 
-const NOTHING: Span = Span { start: 0, len: 0 };
-
 /// The blanks that the events begin with, or no bytes, and the events after them.
 fn blanks_first<'e>(buffer: &[u8], events: EventSlice<'e>) -> (Span, EventSlice<'e>)
     requires within { EventsWithin (length buffer.now) (events_of events) }
@@ -35,7 +33,7 @@ fn blanks_first<'e>(buffer: &[u8], events: EventSlice<'e>) -> (Span, EventSlice<
 {
     match events.split_first() {
         Some((Event::Whitespace(run), behind)) => (run, behind),
-        _ => (NOTHING, events),
+        _ => (Span::NOTHING, events),
     }
 }
 
@@ -52,7 +50,7 @@ fn line_end_first<'e>(buffer: &[u8], events: EventSlice<'e>) -> (Span, EventSlic
 {
     match events.split_first() {
         Some((Event::Newline(run), behind)) => (run, behind),
-        _ => (NOTHING, events),
+        _ => (Span::NOTHING, events),
     }
 }
 

@@ -76,8 +76,6 @@ fn move_part(list: &mut [Item], from: usize, len: usize, by: u32)
     move_items(part, by);
 }
 
-const NOTHING: Span = Span { start: 0, len: 0 };
-
 /// Moves items to a list of their own, and leaves line endings of no bytes in their places.
 ///
 /// # Errors
@@ -90,7 +88,7 @@ fn taken(alloc: Global, items: &mut [Item]) -> Result<Vec<Item>, AllocError>
 {
     let mut taken = Vec::with_capacity(alloc, items.len())?;
     for at in 0..items.len() {
-        taken.push_reserved(replace(&mut items[at], Item::LineEnds(NOTHING)));
+        taken.push_reserved(replace(&mut items[at], Item::LineEnds(Span::NOTHING)));
     }
     Ok(taken)
 }

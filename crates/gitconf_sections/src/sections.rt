@@ -94,11 +94,14 @@ impl SectionList {
         self.table.numbers_left()
     }
 
-    /// The place of a section in file order, or `None` if none has this number. Takes constant time.
+    /// The place of a section in file order, or `None` if none has this number. No number was given twice. Takes constant time.
     pub fn position(&self, id: SectionId) -> Option<usize>
         ensures place { result ≡ place_of id self.now }
         ensures within { IfSome result (λ at. at < length self.now.entries) }
+        ensures numbered { IsNumbered self.now }
     {
+        // The contract of `next_id` says that no number was given twice.
+        prove!(self.next_id() == self.next_id());
         self.table.position(id)
     }
 
@@ -110,14 +113,13 @@ impl SectionList {
         self.table.id_at(position)
     }
 
-    /// The section of this number, or `None` if none has it. Takes constant time.
+    /// The section of this number, or `None` if none has it. No number was given twice. Takes constant time.
     pub fn get(&self, id: SectionId) -> Option<Section<'_>>
-        ensures { option_map viewed result ≡ section_of id self.now }
+        ensures section { option_map viewed result ≡ section_of id self.now }
+        ensures numbered { IsNumbered self.now }
     {
-        match self.table.get(id) {
-            Some(row) => Some(read(&self.list, row)),
-            None => None,
-        }
+        let at = self.position(id)?;
+        Some(self.at(at))
     }
 
     /// The section at a place.

@@ -21,6 +21,7 @@ use Rattle.gitconf_state.specs.State.{SectionState, State, is_value, is_assigned
 use Rattle.gitconf_state.specs.LineEnds.{file_line_end}
 use Rattle.gitconf_state.specs.Clean.{has_blanks, IsCleanSection}
 use Rattle.gitconf_state.specs.Edit.{is_entry_of, Spacing, blanks_of, before_entry, separator_blanks, spacing_of, assigned_value, with_value, new_entry, set_value, made_header, new_section, is_target, section_with}
+use Rattle.gitconf_state.specs.Editors.{value_set}
 use Rattle.gitconf_state.specs.Edits.{finds_or_makes}
 use Rattle.gitconf_state.proofs.LoadingFilters.{both_hold}
 use Rattle.gitconf_state.proofs.InsertingLineEnds.{is_told_line_end}
@@ -119,8 +120,8 @@ pub set_value_is : (line_end key value : List ℕ) (items : List Item) → is_va
 set_value_is line_end key value items named closes all = go (list_any (is_entry_of key) items) refl
   where
     go : (t : Bool) → list_any (is_entry_of key) items ≡ t → list_all is_item (set_value line_end key value items) ≡ true
-    go true e = rw (e, set_value) (update_last_all (is_entry_of key) (with_value (spacing_of items) value) is_item (λ i is. with_value_is (spacing_of items) value i (spacing_fits items all) is) items all)
-    go false e = rw (e, set_value) (all_append is_item items (new_entry (spacing_of items) line_end key value) all (new_entry_is (spacing_of items) line_end key value (spacing_fits items all) named closes))
+    go true e = rw (e, value_set) (update_last_all (is_entry_of key) (with_value (spacing_of items) value) is_item (λ i is. with_value_is (spacing_of items) value i (spacing_fits items all) is) items all)
+    go false e = rw (e, value_set) (all_append is_item items (new_entry (spacing_of items) line_end key value) all (new_entry_is (spacing_of items) line_end key value (spacing_fits items all) named closes))
 
 -- the bytes of a name may be in a header
 names_stand : (name : List ℕ) → list_all is_name_byte name ≡ true → list_all is_header_byte name ≡ true
@@ -210,8 +211,8 @@ pub set_value_blank : (line_end key value : List ℕ) (items : List Item) → li
 set_value_blank line_end key value items all = go (list_any (is_entry_of key) items) refl
   where
     go : (t : Bool) → list_any (is_entry_of key) items ≡ t → list_all has_blanks (set_value line_end key value items) ≡ true
-    go true e = rw (e, set_value) (update_last_all (is_entry_of key) (with_value (spacing_of items) value) has_blanks (with_value_blank (spacing_of items) value) items all)
-    go false e = rw (e, set_value) (all_append has_blanks items (new_entry (spacing_of items) line_end key value) all (new_entry_blank (spacing_of items) line_end key value (spacing_blank items all)))
+    go true e = rw (e, value_set) (update_last_all (is_entry_of key) (with_value (spacing_of items) value) has_blanks (with_value_blank (spacing_of items) value) items all)
+    go false e = rw (e, value_set) (all_append has_blanks items (new_entry (spacing_of items) line_end key value) all (new_entry_blank (spacing_of items) line_end key value (spacing_blank items all)))
 
 -- a section with the value is clean
 pub section_with_clean : (line_end key value : List ℕ) (s : SectionState) → IsCleanSection s → IsCleanSection (section_with line_end key value s)

@@ -198,9 +198,9 @@ module _ (name : List ℕ) (subsection : Option (List ℕ)) (key : List ℕ) whe
   leaves (Remove number edited) state is not_about =
       items_changed number (removed edited) (λ items. is_same_name edited key) (λ items differ. removed_leaves edited key (apart edited differ) items) state not_about
   leaves (Pop number) state is not_about = items_changed number popped (is_last_of key) (popped_leaves key) state not_about
-  leaves (WriteAt number editor place stands keeps edited value) state is not_about =
-      items_changed number (written_at editor place stands keeps edited value) (λ items. is_same_name edited key || is_one_at place key items)
-      (λ items neither. let n = or_parts (is_same_name edited key) (is_one_at place key items) neither in written_leaves editor place stands keeps edited key value items (turned edited n.0) n.1) state not_about
+  leaves (WriteAt number editor place instead edited value) state is not_about =
+      items_changed number (written_at editor place instead edited value) (λ items. is_same_name edited key || is_one_at place key items)
+      (λ items neither. let n = or_parts (is_same_name edited key) (is_one_at place key items) neither in written_leaves editor place instead edited key value items (turned edited n.0) n.1) state not_about
   leaves (DeleteAt number place) state is not_about = items_changed number (deleted_at place) (is_one_at place key) (deleted_leaves place key) state not_about
   leaves (Rename number new_name new_subsection) state is not_about =
       let n = or_parts (is_same_section new_name new_subsection name subsection) (is_there number name subsection (λ items. true) state) not_about in

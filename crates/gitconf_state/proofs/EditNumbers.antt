@@ -133,7 +133,7 @@ apply_numbers (PushLineEnd number editor) state all = change_numbers number _ (�
 apply_numbers (SetValue number editor key value) state all = change_numbers number _ (λ s. refl) state all
 apply_numbers (Remove number key) state all = change_numbers number _ (λ s. refl) state all
 apply_numbers (Pop number) state all = change_numbers number _ (λ s. refl) state all
-apply_numbers (WriteAt number editor place stands keeps key value) state all = change_numbers number _ (λ s. refl) state all
+apply_numbers (WriteAt number editor place instead key value) state all = change_numbers number _ (λ s. refl) state all
 apply_numbers (DeleteAt number place) state all = change_numbers number _ (λ s. refl) state all
 apply_numbers (Rename number name subsection) state all = change_numbers number (renamed name subsection) (λ s. refl) state all
 apply_numbers (RenameAll name subsection keeps new_name new_subsection) state all =
@@ -212,7 +212,7 @@ edited_one (PushLineEnd n editor) number state is = let same : n ≡ number = cc
 edited_one (SetValue n editor key value) number state is = let same : n ≡ number = cc in rw same (one_changed number _ (λ s. refl) state)
 edited_one (Remove n key) number state is = let same : n ≡ number = cc in rw same (one_changed number _ (λ s. refl) state)
 edited_one (Pop n) number state is = let same : n ≡ number = cc in rw same (one_changed number _ (λ s. refl) state)
-edited_one (WriteAt n editor place stands keeps key value) number state is = let same : n ≡ number = cc in rw same (one_changed number _ (λ s. refl) state)
+edited_one (WriteAt n editor place instead key value) number state is = let same : n ≡ number = cc in rw same (one_changed number _ (λ s. refl) state)
 edited_one (DeleteAt n place) number state is = let same : n ≡ number = cc in rw same (one_changed number _ (λ s. refl) state)
 edited_one (Rename n name subsection) number state is = let same : n ≡ number = cc in rw same (one_changed number (renamed name subsection) (λ s. refl) state)
 edited_one (RenameAll name subsection keeps new_name new_subsection) number state is = absurd (cc)

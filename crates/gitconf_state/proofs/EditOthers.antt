@@ -14,6 +14,7 @@ use Rattle.gitconf_state.specs.State.{SectionState, State}
 use Rattle.gitconf_state.specs.LineEnds.{file_line_end}
 use Rattle.gitconf_state.specs.Lookup.{is_named, listing, listed, Said, said_of, said}
 use Rattle.gitconf_state.specs.Edit.{is_entry_of, spacing_of, new_entry, set_value, new_section, is_target, section_with, set_raw_value}
+use Rattle.gitconf_state.specs.Editors.{value_set}
 use Rattle.gitconf_state.specs.Edits.{finds_or_makes}
 use Rattle.gitconf_text.proofs.Tests.{both_true, refuted}
 use Rattle.gitconf_state.proofs.EditItems.{may_be_made}
@@ -40,8 +41,8 @@ set_value_others line_end key value other items differ = go (list_any (is_entry_
     new (Some run) at = rw at (rw (other_key key other key differ (same_name key)) refl)
 
     go : (t : Bool) → list_any (is_entry_of key) items ≡ t → of_key other (set_value line_end key value items) ≡ of_key other items
-    go true some = rw (some, set_value) (updated key other (spacing_of items) value (λ name same. other_key key other name differ same) items)
-    go false none = rw (none, set_value) (added other items (new_entry (spacing_of items) line_end key value) (new (spacing_of items).leading refl))
+    go true some = rw (some, value_set) (updated key other (spacing_of items) value (λ name same. other_key key other name differ same) items)
+    go false none = rw (none, value_set) (added other items (new_entry (spacing_of items) line_end key value) (new (spacing_of items).leading refl))
 
 -- one that gives the same, put in its place
 pub same_given : {A B : Type 0} (give : A → List B) (before : List A) (x y : A) (behind : List A) → give x ≡ give y

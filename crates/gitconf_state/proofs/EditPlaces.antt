@@ -8,6 +8,7 @@ use Rattle.gitconf_base.specs.Metadata.{Meta}
 use Rattle.gitconf_state.specs.State.{SectionState, State}
 use Rattle.gitconf_state.specs.LineEnds.{file_line_end}
 use Rattle.gitconf_state.specs.Edit.{update_last, is_entry_of, spacing_of, with_value, new_entry, set_value, item_raw, old_value, new_section, is_target, section_with, set_raw_value, replaced_value}
+use Rattle.gitconf_state.specs.Editors.{value_set}
 use Rattle.gitconf_state.proofs.EditLists.{any_at, update_last_at, last_passing, filter_none}
 
 -- A body in which the key's last entry is here: it alone is changed.
@@ -16,14 +17,14 @@ pub set_value_at : (line_end key value : List ℕ) (items before : List Item) (i
     → set_value line_end key value items ≡ before ++ with_value (spacing_of items) value i ∷ behind
 set_value_at line_end key value items before i behind is passes none =
     let some : list_any (is_entry_of key) items ≡ true = ap (list_any (is_entry_of key)) is ∙ any_at (is_entry_of key) before i behind passes in
-    let same : set_value line_end key value items ≡ update_last (is_entry_of key) (with_value (spacing_of items) value) items = rw (some, set_value) refl in
+    let same : set_value line_end key value items ≡ update_last (is_entry_of key) (with_value (spacing_of items) value) items = rw (some, value_set) refl in
     same ∙ ap (update_last (is_entry_of key) (with_value (spacing_of items) value)) is
     ∙ update_last_at (is_entry_of key) (with_value (spacing_of items) value) before i behind passes none
 
 -- A body without an entry of the key gets a new one after all others.
 pub set_value_new : (line_end key value : List ℕ) (items : List Item) → list_any (is_entry_of key) items ≡ false
     → set_value line_end key value items ≡ items ++ new_entry (spacing_of items) line_end key value
-set_value_new line_end key value items none = rw (none, set_value) refl
+set_value_new line_end key value items none = rw (none, value_set) refl
 
 -- The old value is the raw text of the key's last entry.
 pub old_value_at : (key : List ℕ) (items before : List Item) (i : Item) (behind : List Item) → items ≡ before ++ i ∷ behind

@@ -12,7 +12,7 @@ use Rattle.gitconf_text.proofs.Tests.{both_true}
 use Rattle.gitconf_state.specs.State.{is_item, is_piece, is_value, is_assigned, is_entry, Cut, cut_last}
 use Rattle.gitconf_state.specs.Clean.{has_blanks}
 use Rattle.gitconf_state.specs.Edit.{Spacing, leading_item, with_value, is_entry_of}
-use Rattle.gitconf_state.specs.Editors.{Editor, entry_made, comment_text, comment_made, end_made, line_made, pushed, line_end_pushed, value_set, without_last_blanks, without_first_line_ends, removed, popped, popped_entry, key_and_meaning, unless_empty, last_line_end, is_before_comment, line_end_item, kept_line_end, behind_old, written_at, deleted_at}
+use Rattle.gitconf_state.specs.Editors.{Editor, entry_made, comment_text, comment_made, end_made, line_made, pushed, line_end_pushed, value_set, without_last_blanks, without_first_line_ends, removed, popped, popped_entry, key_and_meaning, unless_empty, last_line_end, is_before_comment, line_end_item, kept_line_end, InsteadOf, OfNothing, OfEntry, OfEntryButLineEnd, behind_written, written_at, deleted_at}
 use Rattle.gitconf_state.specs.Edits.{IsEditor, has_blank_leading}
 use Rattle.gitconf_state.proofs.LoadingFilters.{both_hold}
 use Rattle.gitconf_state.proofs.EditLists.{update_last_all}
@@ -205,33 +205,30 @@ kept_line_end_is (Some a) behind is = go a.value.last
     go [] = here (is_before_comment behind)
     go (b ∷ l) = refl
 
-behind_old_is : (keeps_line_end : Bool) (items : List Item) → list_all is_item items ≡ true → list_all is_item (behind_old keeps_line_end items) ≡ true
-behind_old_is keeps [] all = refl
-behind_old_is keeps (BlanksItem run ∷ items) all = all
-behind_old_is keeps (LineEndsItem run ∷ items) all = all
-behind_old_is keeps (CommentItem tag text ∷ items) all = all
-behind_old_is keeps (EntryItem e ∷ items) all =
+behind_written_is : (instead : InsteadOf) (items : List Item) → list_all is_item items ≡ true → list_all is_item (behind_written instead items) ≡ true
+behind_written_is OfNothing items all = all
+behind_written_is OfEntry [] all = refl
+behind_written_is OfEntry (BlanksItem run ∷ items) all = all
+behind_written_is OfEntry (LineEndsItem run ∷ items) all = all
+behind_written_is OfEntry (CommentItem tag text ∷ items) all = all
+behind_written_is OfEntry (EntryItem e ∷ items) all = (both_true (is_item (EntryItem e)) (list_all is_item items) all).1
+behind_written_is OfEntryButLineEnd [] all = refl
+behind_written_is OfEntryButLineEnd (BlanksItem run ∷ items) all = all
+behind_written_is OfEntryButLineEnd (LineEndsItem run ∷ items) all = all
+behind_written_is OfEntryButLineEnd (CommentItem tag text ∷ items) all = all
+behind_written_is OfEntryButLineEnd (EntryItem e ∷ items) all =
     let b = both_true (is_item (EntryItem e)) (list_all is_item items) all in
-    go keeps b.0 b.1
-  where
-    go : (t : Bool) → is_item (EntryItem e) ≡ true → list_all is_item items ≡ true → list_all is_item ((if t then kept_line_end e.assigned items else []) ++ items) ≡ true
-    go true one all = all_append is_item (kept_line_end e.assigned items) items (kept_line_end_is e.assigned items (entry_parts e one).assigned) all
-    go false one all = all
+    all_append is_item (kept_line_end e.assigned items) items (kept_line_end_is e.assigned items (entry_parts e b.0).assigned) b.1
 
--- An entry that is rewritten.
-pub written_at_is : (editor : Editor) (place : ℕ) (stands keeps_line_end : Bool) (key value : List ℕ) (items : List Item) → IsEditor editor → is_value_name key ≡ true → list_all is_item items ≡ true
-    → list_all is_item (written_at editor place stands keeps_line_end key value items) ≡ true
-written_at_is editor place stands keeps key value items is named all = go stands
-  where
-    rest : (t : Bool) → list_all is_item (if t then behind_old keeps (drop place items) else drop place items) ≡ true
-    rest true = behind_old_is keeps (drop place items) (drop_all is_item place items all)
-    rest false = drop_all is_item place items all
-
-    go : (t : Bool) → list_all is_item (take place items ++ entry_made editor.spacing key (Some value) ∷ (if t then behind_old keeps (drop place items) else drop place items)) ≡ true
-    go t = all_append is_item (take place items) (entry_made editor.spacing key (Some value) ∷ (if t then behind_old keeps (drop place items) else drop place items))
-        (take_all is_item place items all)
-        (both_hold (is_item (entry_made editor.spacing key (Some value))) (list_all is_item (if t then behind_old keeps (drop place items) else drop place items))
-        (entry_made_is editor.spacing key (Some value) (record { before = is.before; behind = is.behind }) named) (rest t))
+-- An entry that is written.
+pub written_at_is : (editor : Editor) (place : ℕ) (instead : InsteadOf) (key value : List ℕ) (items : List Item) → IsEditor editor → is_value_name key ≡ true → list_all is_item items ≡ true
+    → list_all is_item (written_at editor place instead key value items) ≡ true
+written_at_is editor place instead key value items is named all =
+    all_append is_item (take place items) (entry_made editor.spacing key (Some value) ∷ behind_written instead (drop place items))
+    (take_all is_item place items all)
+    (both_hold (is_item (entry_made editor.spacing key (Some value))) (list_all is_item (behind_written instead (drop place items)))
+    (entry_made_is editor.spacing key (Some value) (record { before = is.before; behind = is.behind }) named)
+    (behind_written_is instead (drop place items) (drop_all is_item place items all)))
 
 -- Blanks that stand alone are spaces and tabs, where they were.
 
@@ -290,25 +287,21 @@ kept_line_end_blank (Some a) behind = go a.value.last
     go [] = here (is_before_comment behind)
     go (b ∷ l) = refl
 
-behind_old_blank : (keeps_line_end : Bool) (items : List Item) → list_all has_blanks items ≡ true → list_all has_blanks (behind_old keeps_line_end items) ≡ true
-behind_old_blank keeps [] all = refl
-behind_old_blank keeps (BlanksItem run ∷ items) all = all
-behind_old_blank keeps (LineEndsItem run ∷ items) all = all
-behind_old_blank keeps (CommentItem tag text ∷ items) all = all
-behind_old_blank keeps (EntryItem e ∷ items) all = go keeps
-  where
-    go : (t : Bool) → list_all has_blanks ((if t then kept_line_end e.assigned items else []) ++ items) ≡ true
-    go true = all_append has_blanks (kept_line_end e.assigned items) items (kept_line_end_blank e.assigned items) all
-    go false = all
+behind_written_blank : (instead : InsteadOf) (items : List Item) → list_all has_blanks items ≡ true → list_all has_blanks (behind_written instead items) ≡ true
+behind_written_blank OfNothing items all = all
+behind_written_blank OfEntry [] all = refl
+behind_written_blank OfEntry (BlanksItem run ∷ items) all = all
+behind_written_blank OfEntry (LineEndsItem run ∷ items) all = all
+behind_written_blank OfEntry (CommentItem tag text ∷ items) all = all
+behind_written_blank OfEntry (EntryItem e ∷ items) all = all
+behind_written_blank OfEntryButLineEnd [] all = refl
+behind_written_blank OfEntryButLineEnd (BlanksItem run ∷ items) all = all
+behind_written_blank OfEntryButLineEnd (LineEndsItem run ∷ items) all = all
+behind_written_blank OfEntryButLineEnd (CommentItem tag text ∷ items) all = all
+behind_written_blank OfEntryButLineEnd (EntryItem e ∷ items) all = all_append has_blanks (kept_line_end e.assigned items) items (kept_line_end_blank e.assigned items) all
 
-pub written_at_blank : (editor : Editor) (place : ℕ) (stands keeps_line_end : Bool) (key value : List ℕ) (items : List Item) → list_all has_blanks items ≡ true
-    → list_all has_blanks (written_at editor place stands keeps_line_end key value items) ≡ true
-written_at_blank editor place stands keeps key value items all = go stands
-  where
-    rest : (t : Bool) → list_all has_blanks (if t then behind_old keeps (drop place items) else drop place items) ≡ true
-    rest true = behind_old_blank keeps (drop place items) (drop_all has_blanks place items all)
-    rest false = drop_all has_blanks place items all
-
-    go : (t : Bool) → list_all has_blanks (take place items ++ entry_made editor.spacing key (Some value) ∷ (if t then behind_old keeps (drop place items) else drop place items)) ≡ true
-    go t = all_append has_blanks (take place items) (entry_made editor.spacing key (Some value) ∷ (if t then behind_old keeps (drop place items) else drop place items))
-        (take_all has_blanks place items all) (rest t)
+pub written_at_blank : (editor : Editor) (place : ℕ) (instead : InsteadOf) (key value : List ℕ) (items : List Item) → list_all has_blanks items ≡ true
+    → list_all has_blanks (written_at editor place instead key value items) ≡ true
+written_at_blank editor place instead key value items all =
+    all_append has_blanks (take place items) (entry_made editor.spacing key (Some value) ∷ behind_written instead (drop place items))
+    (take_all has_blanks place items all) (behind_written_blank instead (drop place items) (drop_all has_blanks place items all))

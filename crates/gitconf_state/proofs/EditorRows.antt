@@ -10,7 +10,7 @@ use Rattle.gitconf_base.specs.declared.source.Trust.TheVariants.{Reduced}
 use Rattle.gitconf_state.specs.State.{SectionState, State, cut_last}
 use Rattle.gitconf_state.specs.Printing.{printed}
 use Rattle.gitconf_state.specs.Edit.{is_entry_of}
-use Rattle.gitconf_state.specs.Editors.{Editor, editor_of}
+use Rattle.gitconf_state.specs.Editors.{Editor, OfNothing, OfEntry, OfEntryButLineEnd, editor_of}
 use Rattle.gitconf_state.specs.Edits.{Detached, Edit, Push, PushLineEnd, SetValue, Remove, Pop, WriteAt, DeleteAt, Rename, RenameAll, NewSection, PushSection, RemoveSection, RemoveNumbered, Append, SetTrust, SetMeta, Raw, Entry, Number, answer, apply, apply_all, numbered}
 
 abbrev blanks : String → Item
@@ -66,10 +66,10 @@ place_of number key state = elim (numbered number state) [
 
 -- the key's last entry is rewritten by an editor that is made for it; the last line ending of its value may stay
 abbrev write : (number : ℕ) → (key value : List ℕ) → State → State
-write number key value state = edited number ((λ e. WriteAt number e (place_of number key state) true true key value) ∷ []) state
+write number key value state = edited number ((λ e. WriteAt number e (place_of number key state) OfEntryButLineEnd key value) ∷ []) state
 
 abbrev write_plainly : (number : ℕ) → (key value : List ℕ) → State → State
-write_plainly number key value state = edited number ((λ e. WriteAt number e (place_of number key state) true false key value) ∷ []) state
+write_plainly number key value state = edited number ((λ e. WriteAt number e (place_of number key state) OfEntry key value) ∷ []) state
 
 abbrev delete : (number : ℕ) → (key : List ℕ) → State → State
 delete number key state = apply (DeleteAt number (place_of number key state)) state
@@ -77,7 +77,7 @@ delete number key state = apply (DeleteAt number (place_of number key state)) st
 -- it is deleted and then written, by one editor
 abbrev rewritten : (number : ℕ) → (key value : List ℕ) → State → State
 rewritten number key value state =
-    edited number ((λ e. DeleteAt number (place_of number key state)) ∷ (λ e. WriteAt number e (place_of number key state) false true key value) ∷ []) state
+    edited number ((λ e. DeleteAt number (place_of number key state)) ∷ (λ e. WriteAt number e (place_of number key state) OfNothing key value) ∷ []) state
 
 -- pushed lines
 push_in_an_empty_body : printed (edited 0 ((λ e. Push 0 e (codes "k") (Some (codes "v")) None) ∷ []) (file ([]) 1 (section 0 (PlainHeader (codes "a")) (line_ends "\n" ∷ []) ∷ []))) ≡ codes "[a]\n\tk = v\n"

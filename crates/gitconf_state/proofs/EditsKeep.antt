@@ -226,8 +226,8 @@ apply_items (PushLineEnd number editor) state is has = items_items number (line_
 apply_items (SetValue number editor key value) state is has = items_items number (value_set editor key value) (λ items all. value_set_is editor key value items is.0 is.1 all) state has
 apply_items (Remove number key) state is has = items_items number (removed key) (λ items all. removed_all is_item key items all) state has
 apply_items (Pop number) state is has = items_items number popped (λ items all. popped_all is_item items all) state has
-apply_items (WriteAt number editor place stands keeps key value) state is has =
-    items_items number (written_at editor place stands keeps key value) (λ items all. written_at_is editor place stands keeps key value items is.0 is.1 all) state has
+apply_items (WriteAt number editor place instead key value) state is has =
+    items_items number (written_at editor place instead key value) (λ items all. written_at_is editor place instead key value items is.0 is.1 all) state has
 apply_items (DeleteAt number place) state is has = items_items number (deleted_at place) (λ items all. deleted_all is_item place items all) state has
 apply_items (Rename number name subsection) state is has = numbered_items number (renamed name subsection) (renamed_is name subsection is) state has
 apply_items (RenameAll name subsection keeps new_name new_subsection) state is has = record {
@@ -259,8 +259,8 @@ apply_clean (PushLineEnd number editor) state is clean = items_clean number (lin
 apply_clean (SetValue number editor key value) state is clean = items_clean number (value_set editor key value) (λ items all. value_set_blank editor key value items is all) state clean
 apply_clean (Remove number key) state is clean = items_clean number (removed key) (λ items all. removed_all has_blanks key items all) state clean
 apply_clean (Pop number) state is clean = items_clean number popped (λ items all. popped_all has_blanks items all) state clean
-apply_clean (WriteAt number editor place stands keeps key value) state is clean =
-    items_clean number (written_at editor place stands keeps key value) (λ items all. written_at_blank editor place stands keeps key value items all) state clean
+apply_clean (WriteAt number editor place instead key value) state is clean =
+    items_clean number (written_at editor place instead key value) (λ items all. written_at_blank editor place instead key value items all) state clean
 apply_clean (DeleteAt number place) state is clean = items_clean number (deleted_at place) (λ items all. deleted_all has_blanks place items all) state clean
 apply_clean (Rename number name subsection) state is clean = numbered_clean number (renamed name subsection) (renamed_clean name subsection is) state clean
 apply_clean (RenameAll name subsection keeps new_name new_subsection) state is clean = record {

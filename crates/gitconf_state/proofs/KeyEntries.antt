@@ -10,7 +10,7 @@ use Rattle.gitconf_text.specs.Part.{Assigned, Item, BlanksItem, LineEndsItem, Co
 use Rattle.gitconf_text.specs.Document.{DocumentEntry}
 use Rattle.gitconf_state.specs.State.{item_entries, is_entry, Cut, cut_last}
 use Rattle.gitconf_state.specs.Edit.{is_entry_of, Spacing, leading_item, with_value, update_last}
-use Rattle.gitconf_state.specs.Editors.{Editor, entry_made, comment_made, end_made, line_made, pushed, value_set, without_last_blanks, without_first_line_ends, removed, popped, last_line_end, is_before_comment, line_end_item, kept_line_end, behind_old, written_at, deleted_at}
+use Rattle.gitconf_state.specs.Editors.{Editor, entry_made, comment_made, end_made, line_made, pushed, value_set, without_last_blanks, without_first_line_ends, removed, popped, last_line_end, is_before_comment, line_end_item, kept_line_end, InsteadOf, OfNothing, OfEntry, OfEntryButLineEnd, behind_written, written_at, deleted_at}
 use Rattle.gitconf_state.specs.Edits.{is_last_of, is_one_at}
 use Rattle.gitconf_state.proofs.EditLists.{last_passing}
 use Rattle.gitconf_state.proofs.EditValues.{of_key, of_key-none, with_value_written}
@@ -216,28 +216,27 @@ kept_none key (Some a) behind = go a.value.last refl (is_before_comment behind) 
     go [] e false run = refl
     go (b ∷ last) e t run = refl
 
-behind_old_leaves : (key : List ℕ) (keeps : Bool) (items : List Item) → list_any (is_entry_of key) (take 1 items) ≡ false → of_key key (behind_old keeps items) ≡ of_key key items
-behind_old_leaves key keeps [] none = refl
-behind_old_leaves key keeps (BlanksItem run ∷ items) none = refl
-behind_old_leaves key keeps (LineEndsItem run ∷ items) none = refl
-behind_old_leaves key keeps (CommentItem tag text ∷ items) none = refl
-behind_old_leaves key keeps (EntryItem e ∷ items) none =
-    of_key-append key (if keeps then kept_line_end e.assigned items else []) items
-    ∙ ap (λ es. es ++ of_key key items) (kept keeps)
+behind_written_leaves : (key : List ℕ) (instead : InsteadOf) (items : List Item) → list_any (is_entry_of key) (take 1 items) ≡ false
+    → of_key key (behind_written instead items) ≡ of_key key items
+behind_written_leaves key OfNothing items none = refl
+behind_written_leaves key OfEntry [] none = refl
+behind_written_leaves key OfEntry (BlanksItem run ∷ items) none = refl
+behind_written_leaves key OfEntry (LineEndsItem run ∷ items) none = refl
+behind_written_leaves key OfEntry (CommentItem tag text ∷ items) none = refl
+behind_written_leaves key OfEntry (EntryItem e ∷ items) none = sym (passed_by key (EntryItem e) items (or_parts (is_same_name key e.name) false none).0)
+behind_written_leaves key OfEntryButLineEnd [] none = refl
+behind_written_leaves key OfEntryButLineEnd (BlanksItem run ∷ items) none = refl
+behind_written_leaves key OfEntryButLineEnd (LineEndsItem run ∷ items) none = refl
+behind_written_leaves key OfEntryButLineEnd (CommentItem tag text ∷ items) none = refl
+behind_written_leaves key OfEntryButLineEnd (EntryItem e ∷ items) none =
+    of_key-append key (kept_line_end e.assigned items) items
+    ∙ ap (λ es. es ++ of_key key items) (kept_none key e.assigned items)
     ∙ sym (passed_by key (EntryItem e) items (or_parts (is_same_name key e.name) false none).0)
-  where
-    kept : (t : Bool) → of_key key (if t then kept_line_end e.assigned items else []) ≡ []
-    kept true = kept_none key e.assigned items
-    kept false = refl
 
-pub written_leaves : (editor : Editor) (place : ℕ) (stands keeps : Bool) (edited key value : List ℕ) (items : List Item) → is_same_name key edited ≡ false → is_one_at place key items ≡ false
-    → of_key key (written_at editor place stands keeps edited value items) ≡ of_key key items
-written_leaves editor place stands keeps edited key value items other there =
-    of_key-append key (take place items) (entry_made editor.spacing edited (Some value) ∷ (if stands then behind_old keeps (drop place items) else drop place items))
+pub written_leaves : (editor : Editor) (place : ℕ) (instead : InsteadOf) (edited key value : List ℕ) (items : List Item) → is_same_name key edited ≡ false → is_one_at place key items ≡ false
+    → of_key key (written_at editor place instead edited value items) ≡ of_key key items
+written_leaves editor place instead edited key value items other there =
+    of_key-append key (take place items) (entry_made editor.spacing edited (Some value) ∷ behind_written instead (drop place items))
     ∙ ap (λ es. of_key key (take place items) ++ es)
-    (passed_by key (entry_made editor.spacing edited (Some value)) (if stands then behind_old keeps (drop place items) else drop place items) other ∙ behind stands)
+    (passed_by key (entry_made editor.spacing edited (Some value)) (behind_written instead (drop place items)) other ∙ behind_written_leaves key instead (drop place items) there)
     ∙ sym (at_place place key items)
-  where
-    behind : (t : Bool) → of_key key (if t then behind_old keeps (drop place items) else drop place items) ≡ of_key key (drop place items)
-    behind true = behind_old_leaves key keeps (drop place items) there
-    behind false = refl

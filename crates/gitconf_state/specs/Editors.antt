@@ -8,7 +8,7 @@ use Rattle.gitconf_text.specs.Value.{Piece, plain}
 use Rattle.gitconf_text.specs.Part.{Assigned, Item, BlanksItem, LineEndsItem, CommentItem, EntryItem}
 use Rattle.gitconf_state.specs.State.{SectionState, State, is_entry, cut_last}
 use Rattle.gitconf_state.specs.LineEnds.{file_line_end, section_line_end}
-use Rattle.gitconf_state.specs.Edit.{Spacing, spacing_of, leading_item, assigned_value, with_value, is_entry_of, update_last, item_raw}
+use Rattle.gitconf_state.specs.Entries.{Spacing, spacing_of, leading_item, assigned_value, with_value, is_entry_of, update_last, item_raw}
 
 -- An editor: the blanks that it writes, as they were when it was made, its line ending, and whether one follows what is pushed.
 pub record Editor : Type 0 where
@@ -16,13 +16,17 @@ pub record Editor : Type 0 where
   pub line_end : List ℕ
   pub ends : Bool
 
+-- the editor of a body, with the blanks that it uses and a line ending
+abbrev pub editor_of_body : (line_end : List ℕ) → List Item → Editor
+editor_of_body line_end items = record { spacing = spacing_of items; line_end = line_end; ends = true }
+
 -- the editor of a section in a file, which uses the file's line ending
 abbrev pub editor_of : State → SectionState → Editor
-editor_of state s = record { spacing = spacing_of s.items; line_end = file_line_end state; ends = true }
+editor_of state s = editor_of_body (file_line_end state) s.items
 
 -- the editor of a section that is in no file, which uses the section's own line ending
 abbrev pub editor_alone : SectionState → Editor
-editor_alone s = record { spacing = spacing_of s.items; line_end = section_line_end s; ends = true }
+editor_alone s = editor_of_body (section_line_end s) s.items
 
 -- an entry that is made: with the editor's blanks around `=`, or the name alone
 abbrev pub entry_made : Spacing → (key : List ℕ) → (value : Option (List ℕ)) → Item
@@ -127,17 +131,23 @@ abbrev pub kept_line_end : Option Assigned → (behind : List Item) → List Ite
 kept_line_end None behind = []
 kept_line_end (Some a) behind = elim a.value.last [ [] ↦ if is_before_comment behind then line_end_item (last_line_end a.value.pieces) else [] | b ∷ last ↦ [] ]
 
--- what stays of the entry at the front when its value is rewritten: its last line ending or nothing; and then the items after it
-abbrev pub behind_old : (keeps_line_end : Bool) → List Item → List Item
-behind_old keeps_line_end (EntryItem e ∷ behind) = (if keeps_line_end then kept_line_end e.assigned behind else []) ++ behind
-behind_old keeps_line_end behind = behind
+-- What an entry is written in place of: nothing, where one was removed; the entry that is there; or that entry without the line ending
+-- that keeps a comment off its value.
+pub data InsteadOf : Type 0 where
+  OfNothing : InsteadOf
+  OfEntry : InsteadOf
+  OfEntryButLineEnd : InsteadOf
 
--- An entry is written at a place, with this name and the editor's blanks: in place of the one that is there (`stands`), or
--- where one was removed.
-abbrev pub written_at : Editor → (place : ℕ) → (stands keeps_line_end : Bool) → (key value : List ℕ) → List Item → List Item
-written_at editor place stands keeps_line_end key value items =
-    take place items ++ entry_made editor.spacing key (Some value)
-    ∷ (if stands then behind_old keeps_line_end (drop place items) else drop place items)
+-- the items from the place on, as they come after what is written there
+abbrev pub behind_written : InsteadOf → List Item → List Item
+behind_written OfNothing items = items
+behind_written OfEntry (EntryItem e ∷ behind) = behind
+behind_written OfEntryButLineEnd (EntryItem e ∷ behind) = kept_line_end e.assigned behind ++ behind
+behind_written instead items = items
+
+-- an entry is written at a place, with this name and the editor's blanks
+abbrev pub written_at : Editor → (place : ℕ) → InsteadOf → (key value : List ℕ) → List Item → List Item
+written_at editor place instead key value items = take place items ++ entry_made editor.spacing key (Some value) ∷ behind_written instead (drop place items)
 
 -- only the entry at a place is removed
 abbrev pub deleted_at : (place : ℕ) → List Item → List Item

@@ -12,12 +12,14 @@ use Rattle.gitconf_text.specs.Header.{spelled_header}
 use Rattle.gitconf_text.specs.Token.{Token, item_tokens}
 use Rattle.gitconf_base.specs.Metadata.{Meta}
 use Rattle.gitconf_base.specs.declared.source.Trust.{Trust}
-use Rattle.gitconf_state.specs.State.{SectionState, State, HasSectionItems, HasItems, entries_of, is_entry}
+pub use Rattle.gitconf_state.specs.State.{with_last, with_sections}
+use Rattle.gitconf_state.specs.State.{SectionState, State, HasSectionItems, HasItems, entries_of, is_entry, with_items}
 use Rattle.gitconf_state.specs.Lookup.{is_named, listing}
 use Rattle.gitconf_state.specs.LineEnds.{file_line_end, ends_line}
 use Rattle.gitconf_state.specs.Clean.{is_nameless, IsClean, IsCleanSection}
-use Rattle.gitconf_state.specs.Edit.{made_header, new_section, is_target, is_entry_of, set_raw_value, set_raw_value_tokens, replaced_value, old_value, token_bytes, value_tokens_of}
-use Rattle.gitconf_state.specs.Editors.{Editor, entry_made, pushed, line_made, line_end_pushed, value_set, removed, popped, popped_entry, written_at, deleted_at}
+pub use Rattle.gitconf_state.specs.Edit.{value_set_tokens}
+use Rattle.gitconf_state.specs.Edit.{made_header, new_section, is_target, is_entry_of, set_raw_value, set_raw_value_tokens, replaced_value, old_value, token_bytes}
+use Rattle.gitconf_state.specs.Editors.{Editor, InsteadOf, entry_made, pushed, line_made, line_end_pushed, value_set, removed, popped, popped_entry, written_at, deleted_at}
 
 -- a section that is in no file, and how many bytes its buffer has
 pub record Detached : Type 0 where
@@ -26,46 +28,19 @@ pub record Detached : Type 0 where
 
 -- the state with a change of the section of a number
 abbrev pub change_numbered : (number : ℕ) → (SectionState → SectionState) → State → State
-change_numbered number change state = record {
-  front = state.front;
-  meta = state.meta;
-  next = state.next;
-  used = state.used;
-  sections = map (λ s. if s.number == number then change s else s) state.sections;
-}
+change_numbered number change state = with_sections (map (λ s. if s.number == number then change s else s) state.sections) state
 
 -- the state with a change of the items of the section of a number
 abbrev pub change_items : (number : ℕ) → (List Item → List Item) → State → State
-change_items number change =
-    change_numbered number (λ s. record { number = s.number; header = s.header; meta = s.meta; items = change s.items; held = s.held })
+change_items number change = change_numbered number (with_items change)
 
 -- a section with another header, made of these names
 abbrev pub renamed : (name : List ℕ) → (subsection : Option (List ℕ)) → SectionState → SectionState
-renamed name subsection s = record { number = s.number; header = made_header name subsection; meta = s.meta; items = s.items; held = s.held }
+renamed name subsection s = record s { header = made_header name subsection }
 
 -- a section with another trust
 abbrev pub with_trust : Trust → SectionState → SectionState
-with_trust trust s = record {
-  number = s.number;
-  header = s.header;
-  meta = record { path = s.meta.path; source = s.meta.source; level = s.meta.level; trust = trust };
-  items = s.items;
-  held = s.held;
-}
-
--- the state with these sections
-abbrev pub with_sections : List SectionState → State → State
-with_sections sections state = record { front = state.front; meta = state.meta; next = state.next; used = state.used; sections = sections }
-
--- the state with one more section after all others, under the next number
-abbrev pub with_last : SectionState → State → State
-with_last s state = record {
-  front = state.front;
-  meta = state.meta;
-  next = state.next + 1;
-  used = state.used;
-  sections = state.sections ++ record { number = state.next; header = s.header; meta = s.meta; items = s.items; held = s.held } ∷ [];
-}
+with_trust trust s = record s { meta = record s.meta { trust = trust } }
 
 -- the number of the last section of the name and subsection that passes
 abbrev pub picked : (name : List ℕ) → (subsection : Option (List ℕ)) → (keeps : Meta → Bool) → State → Option ℕ
@@ -97,23 +72,19 @@ joined line_end items others = items ++ (between line_end items others ++ others
 -- the items are held after the last section
 abbrev pub held_behind_last : (line_end : List ℕ) → (others : List Item) → List SectionState → List SectionState
 held_behind_last line_end others [] = []
-held_behind_last line_end others (s ∷ []) =
-    record { number = s.number; header = s.header; meta = s.meta; items = s.items; held = joined line_end s.held others } ∷ []
+held_behind_last line_end others (s ∷ []) = record s { held = joined line_end s.held others } ∷ []
 held_behind_last line_end others (s ∷ t ∷ sections) = s ∷ held_behind_last line_end others (t ∷ sections)
 
 -- the same sections, numbered from `first` on
 abbrev pub numbered_from : (first : ℕ) → List SectionState → List SectionState
 numbered_from first [] = []
-numbered_from first (s ∷ sections) =
-    record { number = first; header = s.header; meta = s.meta; items = s.items; held = s.held } ∷ numbered_from (first + 1) sections
+numbered_from first (s ∷ sections) = record s { number = first } ∷ numbered_from (first + 1) sections
 
 -- The other's sections come last, under new numbers. Its front is held after our last section, or joins our front if we have no section.
 abbrev pub appended : (other : State) → State → State
-appended other state = record {
+appended other state = record state {
   front = elim state.sections [ [] ↦ joined (file_line_end state) state.front other.front | s ∷ sections ↦ state.front ];
-  meta = state.meta;
   next = state.next + length other.sections;
-  used = state.used;
   sections = held_behind_last (file_line_end state) other.front state.sections ++ numbered_from state.next other.sections;
 }
 
@@ -125,7 +96,7 @@ pub data Edit : Type 0 where
   SetValue : (number : ℕ) (editor : Editor) (key value : List ℕ) → Edit
   Remove : (number : ℕ) (key : List ℕ) → Edit
   Pop : (number : ℕ) → Edit
-  WriteAt : (number : ℕ) (editor : Editor) (place : ℕ) (stands keeps_line_end : Bool) (key value : List ℕ) → Edit
+  WriteAt : (number : ℕ) (editor : Editor) (place : ℕ) (instead : InsteadOf) (key value : List ℕ) → Edit
   DeleteAt : (number place : ℕ) → Edit
   Rename : (number : ℕ) (name : List ℕ) (subsection : Option (List ℕ)) → Edit
   RenameAll : (name : List ℕ) (subsection : Option (List ℕ)) (keeps : Meta → Bool) (new_name : List ℕ) (new_subsection : Option (List ℕ)) → Edit
@@ -145,7 +116,7 @@ apply (PushLineEnd number editor) state = change_items number (line_end_pushed e
 apply (SetValue number editor key value) state = change_items number (value_set editor key value) state
 apply (Remove number key) state = change_items number (removed key) state
 apply (Pop number) state = change_items number popped state
-apply (WriteAt number editor place stands keeps_line_end key value) state = change_items number (written_at editor place stands keeps_line_end key value) state
+apply (WriteAt number editor place instead key value) state = change_items number (written_at editor place instead key value) state
 apply (DeleteAt number place) state = change_items number (deleted_at place) state
 apply (Rename number name subsection) state = change_numbered number (renamed name subsection) state
 apply (RenameAll name subsection keeps new_name new_subsection) state =
@@ -156,7 +127,7 @@ apply (RemoveSection name subsection keeps) state = elim (picked name subsection
 apply (RemoveNumbered number) state = without_numbered number state
 apply (Append other) state = appended other state
 apply (SetTrust number trust) state = change_numbered number (with_trust trust) state
-apply (SetMeta meta) state = record { front = state.front; meta = meta; next = state.next; used = state.used; sections = state.sections }
+apply (SetMeta meta) state = record state { meta = meta }
 
 -- the state that edits leave, done one after the other
 abbrev pub apply_all : List Edit → State → State
@@ -190,13 +161,6 @@ answer (RemoveSection name subsection keeps) state = Gone (last_or None (filter 
 answer (RemoveNumbered number) state = Gone (numbered number state)
 answer _ state = Done
 
--- the tokens that setting a value with an editor adds: also those of `=` and its blanks, if the entry has none
-abbrev pub value_set_tokens : Editor → (key value : List ℕ) → List Item → List Token
-value_set_tokens editor key value items = elim (last_or None (filter (is_entry_of key) items)) [
-  | None ↦ flat_map item_tokens (line_made editor key (Some value) None)
-  | Some i ↦ value_tokens_of editor.spacing value i
-]
-
 -- the items of the section of a number
 abbrev pub items_of_numbered : (number : ℕ) → State → List Item
 items_of_numbered number state = elim (numbered number state) [ None ↦ [] | Some s ↦ s.items ]
@@ -207,7 +171,7 @@ new_bytes (SetRawValue name subsection key keeps value) state = token_bytes (set
 new_bytes (Push number editor key value comment) state = token_bytes (flat_map item_tokens (line_made editor key value comment))
 new_bytes (PushLineEnd number editor) state = length editor.line_end
 new_bytes (SetValue number editor key value) state = token_bytes (value_set_tokens editor key value (items_of_numbered number state))
-new_bytes (WriteAt number editor place stands keeps_line_end key value) state = token_bytes (item_tokens (entry_made editor.spacing key (Some value)))
+new_bytes (WriteAt number editor place instead key value) state = token_bytes (item_tokens (entry_made editor.spacing key (Some value)))
 new_bytes (Rename number name subsection) state = length (spelled_header (made_header name subsection))
 new_bytes (RenameAll name subsection keeps new_name new_subsection) state =
     length (flat_map (λ (s : SectionState). spelled_header (made_header new_name new_subsection)) (filter (is_target name subsection keeps) state.sections))
@@ -232,7 +196,7 @@ IsEdit (SetRawValue name subsection key keeps value) state = (is_value_name key 
 IsEdit (Push number editor key value comment) state = IsEditor editor × (is_value_name key ≡ true)
 IsEdit (PushLineEnd number editor) state = IsEditor editor
 IsEdit (SetValue number editor key value) state = IsEditor editor × (is_value_name key ≡ true)
-IsEdit (WriteAt number editor place stands keeps_line_end key value) state = IsEditor editor × (is_value_name key ≡ true)
+IsEdit (WriteAt number editor place instead key value) state = IsEditor editor × (is_value_name key ≡ true)
 IsEdit (Rename number name subsection) state = (is_made_name name && is_valid_or_none subsection) ≡ true
 IsEdit (RenameAll name subsection keeps new_name new_subsection) state = (is_made_name new_name && is_valid_or_none new_subsection) ≡ true
 IsEdit (NewSection name subsection) state = (is_made_name name && is_valid_or_none subsection) ≡ true
@@ -274,7 +238,7 @@ edited_number (PushLineEnd number editor) = Some number
 edited_number (SetValue number editor key value) = Some number
 edited_number (Remove number key) = Some number
 edited_number (Pop number) = Some number
-edited_number (WriteAt number editor place stands keeps_line_end key value) = Some number
+edited_number (WriteAt number editor place instead key value) = Some number
 edited_number (DeleteAt number place) = Some number
 edited_number (Rename number name subsection) = Some number
 edited_number (SetTrust number trust) = Some number
@@ -314,7 +278,7 @@ is_about (PushLineEnd number editor) name subsection key state = false
 is_about (SetValue number editor edited_key value) name subsection key state = is_there number name subsection (λ items. is_same_name edited_key key) state
 is_about (Remove number edited_key) name subsection key state = is_there number name subsection (λ items. is_same_name edited_key key) state
 is_about (Pop number) name subsection key state = is_there number name subsection (is_last_of key) state
-is_about (WriteAt number editor place stands keeps_line_end edited_key value) name subsection key state =
+is_about (WriteAt number editor place instead edited_key value) name subsection key state =
     is_there number name subsection (λ items. is_same_name edited_key key || is_one_at place key items) state
 is_about (DeleteAt number place) name subsection key state = is_there number name subsection (is_one_at place key) state
 is_about (Rename number new_name new_subsection) name subsection key state =

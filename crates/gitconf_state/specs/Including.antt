@@ -6,11 +6,8 @@ use Rattle.gitconf_table.specs.Sections.{no_number}
 use Rattle.gitconf_state.specs.Appending.{items_before, line_bytes}
 use Rattle.gitconf_state.specs.Edits.{between, held_behind_last, numbered_from}
 use Rattle.gitconf_state.specs.LineEnds.{file_line_end}
+pub use Rattle.gitconf_state.specs.State.{with_sections}
 use Rattle.gitconf_state.specs.State.{SectionState, State}
-
--- a file with other sections
-abbrev pub with_sections : List SectionState → State → State
-with_sections sections state = record { front = state.front; meta = state.meta; next = state.next; used = state.used; sections = sections }
 
 -- the whole file, as it is: what is done, and after it what is still to be visited
 abbrev pub whole : (done : State) → (rest : List SectionState) → State
@@ -31,9 +28,7 @@ has_room other rest done = ltb (done.used + spliced_bytes other rest done) (2 ^ 
 
 -- the included file's sections come after everything that is done, under new numbers; its front is held after the last section that is done
 abbrev pub spliced : (other : State) → (rest : List SectionState) → (done : State) → State
-spliced other rest done = record {
-  front = done.front;
-  meta = done.meta;
+spliced other rest done = record done {
   next = done.next + length other.sections;
   used = done.used + spliced_bytes other rest done;
   sections = held_behind_last (file_line_end (whole done rest)) other.front done.sections ++ numbered_from done.next other.sections;

@@ -8,6 +8,7 @@ pub mod Clean
 pub mod Comments
 pub mod Loads
 pub mod Inserted
+pub mod Entries
 pub mod Edit
 pub mod Editors
 pub mod Edits

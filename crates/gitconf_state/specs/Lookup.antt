@@ -36,18 +36,6 @@ is_named name subsection s = has_name name s && option_eq bytes_eq s.document.su
 abbrev pub named : (name : List ℕ) → (subsection : Option (List ℕ)) → List Listed → List Listed
 named name subsection sections = filter (is_named name subsection) sections
 
--- the numbers of the sections of a name and subsection, in file order
-abbrev pub ids : (name : List ℕ) → (subsection : Option (List ℕ)) → List Listed → List ℕ
-ids name subsection sections = map (λ s. s.number) (named name subsection sections)
-
--- the sections of a name and subsection whose metadata passes, in file order
-abbrev pub passing : (name : List ℕ) → (subsection : Option (List ℕ)) → (keeps : Meta → Bool) → List Listed → List Listed
-passing name subsection keeps sections = filter (λ s. keeps s.meta) (named name subsection sections)
-
--- the last of these sections
-abbrev pub pick : (name : List ℕ) → (subsection : Option (List ℕ)) → (keeps : Meta → Bool) → List Listed → Option Listed
-pick name subsection keeps sections = last_or None (passing name subsection keeps sections)
-
 -- the entries of a key in a section, in order
 abbrev pub entries_of_key : (key : List ℕ) → Listed → List DocumentEntry
 entries_of_key key s = filter (λ e. is_same_name key e.name) s.document.entries

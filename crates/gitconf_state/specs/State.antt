@@ -1,5 +1,5 @@
 -- The state of a file: what comes before its first section, and its sections, as spelled; and the document that it has.
-use Rattle.std.specs.Prelude.{◌≡◌, ◌<◌, ◌≤◌, ℕ, Bool, true, false, not, List, [], ◌∷◌, ◌&&◌, ◌==◌, map, filter, flat_map, Option, Some, None}
+use Rattle.std.specs.Prelude.{◌≡◌, ◌<◌, ◌≤◌, ◌+◌, ◌++◌, ℕ, Bool, true, false, not, List, [], ◌∷◌, ◌&&◌, ◌==◌, map, filter, flat_map, Option, Some, None}
 use Rattle.std.specs.List.{list_all, AllByRecursion}
 use Rattle.gitconf_text.specs.Bytes.{is_blank, is_name_byte, is_header_byte}
 use Rattle.gitconf_text.specs.Text.{begins, ends, are_line_ends, is_line_end}
@@ -28,6 +28,18 @@ pub record State : Type 0 where
   pub next : ℕ
   pub used : ℕ
   pub sections : List SectionState
+
+-- a section with a change of its items
+abbrev pub with_items : (List Item → List Item) → SectionState → SectionState
+with_items change s = record s { items = change s.items }
+
+-- the state with these sections
+abbrev pub with_sections : List SectionState → State → State
+with_sections sections state = record state { sections = sections }
+
+-- the state with one more section after all others, under the next number
+abbrev pub with_last : SectionState → State → State
+with_last s state = record state { next = state.next + 1; sections = state.sections ++ record s { number = state.next } ∷ [] }
 
 -- the item is an entry
 abbrev pub is_entry : Item → Bool

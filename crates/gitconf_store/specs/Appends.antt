@@ -46,13 +46,11 @@ bytes_at at line_end other state = length (line_at at line_end other state) + ot
 -- a section that holds these items too
 abbrev pub holding : (line_end : List ℕ) → (others : List parts.Item) → SectionState → SectionState
 holding line_end others s =
-    record { number = s.number; header = s.header; meta = s.meta; items = s.items; held = joined line_end s.held others }
+    record s { held = joined line_end s.held others }
 
 -- The other's sections come last, under the next numbers. Its front is held after the section at a place.
 abbrev pub included : (at : ℕ) → (line_end : List ℕ) → (other state : State) → State
-included at line_end other state = record {
-  front = state.front;
-  meta = state.meta;
+included at line_end other state = record state {
   next = state.next + length other.sections;
   used = state.used + bytes_at at line_end other state;
   sections = update_at at (holding line_end other.front) state.sections ++ numbered_from state.next other.sections;

@@ -11,7 +11,7 @@ use Rattle.gitconf_state.specs.Edit.{is_target, new_section, replaced_value, sec
 use Rattle.gitconf_state.specs.Edits.{SetRawValue, apply}
 use Rattle.gitconf_state.specs.LineEnds.{file_line_end}
 use Rattle.gitconf_state.specs.Lookup.{is_named, listing}
-use Rattle.gitconf_state.specs.State.{State}
+use Rattle.gitconf_state.specs.State.{State, with_last}
 use Rattle.gitconf_text.specs.declared.parse.section.header.Error.TheVariants.{InvalidName, InvalidSubSection}
 use Rattle.gitconf_store.specs.declared.set_raw_value.Error.{Error}
 use Rattle.gitconf_store.specs.declared.set_raw_value.Error.TheVariants.{Header}
@@ -26,23 +26,11 @@ update_at (suc at) change (x ∷ xs) = x ∷ update_at at change xs
 
 -- the state after the value was set in the section at the place
 abbrev pub set_at : (at : ℕ) → (key value : List ℕ) → State → State
-set_at at key value state = record {
-  front = state.front;
-  meta = state.meta;
-  next = state.next;
-  used = state.used;
-  sections = update_at at (section_with (file_line_end state) key value) state.sections;
-}
+set_at at key value state = record state { sections = update_at at (section_with (file_line_end state) key value) state.sections }
 
 -- the state with one more section, which has the value
 abbrev pub set_new : (name : List ℕ) → (subsection : Option (List ℕ)) → (key value : List ℕ) → State → State
-set_new name subsection key value state = record {
-  front = state.front;
-  meta = state.meta;
-  next = state.next + 1;
-  used = state.used;
-  sections = state.sections ++ section_with (file_line_end state) key value (new_section name subsection state) ∷ [];
-}
+set_new name subsection key value state = with_last (section_with (file_line_end state) key value (new_section name subsection state)) state
 
 -- At most that many more bytes are used; refusal 3 comes only if they would pass the limit, or no number is left.
 pub record EditGrows {T E : Type 0} (result : Result T E) (number : E → ℕ) (count : ℕ) (old new : State) : Type 0 where

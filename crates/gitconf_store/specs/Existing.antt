@@ -5,6 +5,7 @@ use Rattle.gitconf_text.specs.Names.{is_value_name}
 use Rattle.gitconf_base.specs.Key.{Key}
 use Rattle.gitconf_state.specs.Edit.{with_used}
 use Rattle.gitconf_state.specs.Edits.{Edit, WriteAt, apply, items_of_numbered}
+use Rattle.gitconf_state.specs.Editors.{OfEntryButLineEnd}
 use Rattle.gitconf_state.specs.State.{State}
 use Rattle.gitconf_body.specs.ValuesAt.{rewritten_put}
 use Rattle.gitconf_store.specs.declared.set_raw_value.Error.{Error}
@@ -16,7 +17,7 @@ use Rattle.gitconf_finding.specs.ValuePlaces.{editor_of_numbered, refusal_of, va
 -- the entry at a place is rewritten, with this name and the blanks of its section; the line ending of its value that keeps a
 -- comment off it stays
 abbrev pub rewriting : (place : ℕ × ℕ) → (key value : List ℕ) → State → Edit
-rewriting place key value state = WriteAt place.0 (editor_of_numbered place.0 state) place.1 true true key value
+rewriting place key value state = WriteAt place.0 (editor_of_numbered place.0 state) place.1 OfEntryButLineEnd key value
 
 -- how many bytes that adds to the buffer
 abbrev pub rewriting_bytes : (place : ℕ × ℕ) → (key value : List ℕ) → State → ℕ

@@ -4,6 +4,7 @@ use Rattle.gitconf_text.specs.Names.{is_value_name}
 use Rattle.gitconf_base.specs.Key.{Key}
 use Rattle.gitconf_state.specs.Edit.{with_used}
 use Rattle.gitconf_state.specs.Edits.{Edit, DeleteAt, WriteAt, apply, numbered, said_in_section}
+use Rattle.gitconf_state.specs.Editors.{OfEntry}
 use Rattle.gitconf_state.specs.State.{State}
 use Rattle.gitconf_body.specs.ValuesAt.{rewritten_put}
 use Rattle.gitconf_finding.specs.declared.existing.Error.{Error as ExistingError}
@@ -14,7 +15,7 @@ use Rattle.gitconf_finding.specs.ValuePlaces.{AreInOrder, ArePlaces, editor_of_n
 -- one of several entries is rewritten, with this name and the blanks of its section as it then is; nothing stays of its
 -- old value
 abbrev pub one_rewriting : (key : List ℕ) → (place : ℕ × ℕ) → (value : List ℕ) → State → Edit
-one_rewriting key place value state = WriteAt place.0 (editor_of_numbered place.0 state) place.1 true false key value
+one_rewriting key place value state = WriteAt place.0 (editor_of_numbered place.0 state) place.1 OfEntry key value
 
 -- the state after the entries at these places get these values, one after the other, up to the end of the shorter list
 abbrev pub all_rewritten : (key : List ℕ) → List (ℕ × ℕ) → List (List ℕ) → State → State

@@ -10,7 +10,7 @@ ghost use Rattle.gitconf_items.specs.declared.items.Item.{Item};
 ghost use Rattle.gitconf_items.specs.Events.{header_of, HeaderFits};
 ghost use Rattle.gitconf_items.specs.ItemsFit.{AreItemsWithin};
 ghost use Rattle.gitconf_state.specs.Editors as states;
-ghost use Rattle.gitconf_state.specs.Editors.{written_at};
+ghost use Rattle.gitconf_state.specs.Editors.{InsteadOf, written_at};
 ghost use Rattle.gitconf_state.specs.Edit.{header_bytes, is_target, set_raw_value_bytes};
 ghost use Rattle.gitconf_base.specs.declared.source.Trust.{Trust};
 ghost use Rattle.gitconf_state.specs.Edits.{Append, DeleteAt, Detached, Push, PushSection, Rename, RenameAll, SetRawValue, SetTrust, SetValue, WriteAt, apply, change_items, items_of_numbered, new_bytes, renamed, with_trust};
@@ -51,17 +51,17 @@ pub fn editors_put_no_more_than_their_tokens()
         → line_put editor key value comment ≤ new_bytes (Push number (given_editor editor) key value comment) state }
     ensures set { (number : ℕ) (editor : Editor) (key value : List ℕ) (state : State)
         → set_put editor key value (items_of_numbered number state) ≤ new_bytes (SetValue number (given_editor editor) key value) state }
-    ensures written { (number place : ℕ) (editor : Editor) (stands keeps_line_end : Bool) (key value : List ℕ) (state : State)
-        → written_put editor key value ≤ new_bytes (WriteAt number (given_editor editor) place stands keeps_line_end key value) state }
-    ensures rewritten { (number place : ℕ) (stands keeps_line_end : Bool) (key value : List ℕ) (state : State)
+    ensures written { (number place : ℕ) (editor : Editor) (instead : InsteadOf) (key value : List ℕ) (state : State)
+        → written_put editor key value ≤ new_bytes (WriteAt number (given_editor editor) place instead key value) state }
+    ensures rewritten { (number place : ℕ) (instead : InsteadOf) (key value : List ℕ) (state : State)
         → rewritten_put key value (items_of_numbered number state)
-        ≤ new_bytes (WriteAt number (editor_of_numbered number state) place stands keeps_line_end key value) state }
+        ≤ new_bytes (WriteAt number (editor_of_numbered number state) place instead key value) state }
 {}
 
 /// The value that was written at a place, whatever its bytes, is what the entry there then means.
 pub fn written_values_are_read()
-    ensures { (editor : states.Editor) (place : ℕ) (stands keeps_line_end : Bool) (key value : List ℕ) (items : List parts.Item) → place ≤ length items
-        → meaning_at place (written_at editor place stands keeps_line_end key value items) ≡ Some value }
+    ensures { (editor : states.Editor) (place : ℕ) (instead : InsteadOf) (key value : List ℕ) (items : List parts.Item) → place ≤ length items
+        → meaning_at place (written_at editor place instead key value items) ≡ Some value }
 {}
 
 /// The entries that are left when another one is deleted mean what they did, at the places where they then are.

@@ -12,6 +12,7 @@ use Rattle.gitconf_items.specs.ItemsFit.{AreItemsWithin}
 use Rattle.gitconf_items.specs.ShownEvents.{IsShown}
 use Rattle.gitconf_state.specs.Edit.{made_header}
 use Rattle.gitconf_state.specs.Edits.{Detached}
+pub use Rattle.gitconf_state.specs.State.{with_items}
 use Rattle.gitconf_state.specs.State.{SectionState, is_header, is_item}
 use Rattle.gitconf_items.specs.Items.{items_of}
 use Rattle.gitconf_copying.specs.Copies.{header_size, items_size}
@@ -22,7 +23,7 @@ use Rattle.gitconf_views.specs.Store.{section_under}
 
 -- a section without what is held after it
 abbrev pub alone : SectionState → SectionState
-alone s = record { number = s.number; header = s.header; meta = s.meta; items = s.items; held = [] }
+alone s = record s { held = [] }
 
 -- how many bytes a section has for itself: those of its header and of its items, as a copy of them puts them
 abbrev pub section_size : SectionState → ℕ
@@ -31,10 +32,6 @@ section_size s = items_size s.items + header_size s.header
 -- a section without what is held after it, with just these bytes
 abbrev pub copied_alone : SectionState → Detached
 copied_alone s = record { section = alone s; used = section_size s }
-
--- a section with a change of its items
-abbrev pub with_items : (List parts.Item → List parts.Item) → SectionState → SectionState
-with_items change s = record { number = s.number; header = s.header; meta = s.meta; items = change s.items; held = s.held }
 
 -- a section that is made: its body is empty, and its number is the one that no file gives
 abbrev pub made_alone : (name : List ℕ) → (subsection : Option (List ℕ)) → Meta → Detached

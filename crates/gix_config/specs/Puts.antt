@@ -12,7 +12,7 @@ abbrev pub put_bytes : Edit → State → ℕ
 put_bytes (Push number editor key value comment) state = line_bytes editor key value comment
 put_bytes (PushLineEnd number editor) state = length editor.line_end
 put_bytes (SetValue number editor key value) state = value_set_bytes editor key value (items_of_numbered number state)
-put_bytes (WriteAt number editor place stands keeps_line_end key value) state = length key + assigned_bytes editor.spacing (Some value)
+put_bytes (WriteAt number editor place instead key value) state = length key + assigned_bytes editor.spacing (Some value)
 put_bytes (Rename number name subsection) state = header_bytes name subsection
 put_bytes (NewSection name subsection) state = length (file_line_end state) + header_bytes name subsection
 put_bytes _ state = 0

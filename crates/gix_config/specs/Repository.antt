@@ -16,7 +16,7 @@ use Rattle.gitconf_expansion.specs.Outcomes.{IsCause}
 use Rattle.gitconf_finding.specs.Lookups.{implicit_at}
 use Rattle.gitconf_resolving.specs.Resolving.{MakesOf}
 use Rattle.gitconf_loaders.specs.Causes.{IsFileCause}
-use Rattle.gitconf_loaders.specs.Globals.{IsGlobal, IsGlobalCause}
+use Rattle.gitconf_loaders.specs.Globals.{home_rules, IsGlobal, IsGlobalCause}
 use Rattle.gitconf_loaders.specs.Paths.{has_room_behind, IsBehind, IsLoadedFrom, Then}
 use Rattle.gitconf_loaders.specs.declared.from_git_dir.Error.{Error}
 use Rattle.gitconf_loaders.specs.declared.from_git_dir.Error.TheVariants as git
@@ -60,18 +60,7 @@ IsWorktree table folder local r = elim (has_worktree local) [
 
 -- the rules of the includes: the user's home folder and the folder of the repository are known, and no branch
 abbrev pub repository_rules : Places → (folder : List ℕ) → (real : Option (List ℕ)) → Rules
-repository_rules places folder real = record {
-  max_depth = 10;
-  refuses_depth = true;
-  refuses_shorthand = false;
-  refuses_no_path = true;
-  install = None;
-  home = option_map string_bytes places.home;
-  homes = None;
-  git_dir = Some (record { path = folder; real = real });
-  branch = None;
-  lossy = false;
-}
+repository_rules places folder real = record (home_rules places) { homes = None; git_dir = Some (record { path = folder; real = real }) }
 
 -- a file with what it includes
 abbrev pub IsExpanded : Asks → (file : State) → Result State ℕ → Type 0

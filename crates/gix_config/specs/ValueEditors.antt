@@ -4,7 +4,7 @@ use Rattle.std.specs.Borrow.{GName}
 use Rattle.gitconf_base.specs.Key.{Key}
 use Rattle.gitconf_base.specs.Metadata.{Meta}
 use Rattle.gitconf_state.specs.Edits.{Edit, DeleteAt, WriteAt, apply, said_in_section}
-use Rattle.gitconf_state.specs.Editors.{Editor}
+use Rattle.gitconf_state.specs.Editors.{Editor, OfNothing, OfEntryButLineEnd}
 use Rattle.gitconf_state.specs.State.{State}
 use Rattle.gitconf_lines.specs.Blanks.{editor_with}
 use Rattle.gitconf_finding.specs.declared.existing.Error.{Error}
@@ -40,7 +40,7 @@ editor e = editor_with e.spelling.spacing e.line_end true
 
 -- setting the value: in place of the entry there, or where it was deleted
 abbrev pub writing : ValueMut Spelled → (value : List ℕ) → Edit
-writing e value = WriteAt e.id (editor e) e.place e.stands e.stands (key_of e) value
+writing e value = WriteAt e.id (editor e) e.place (if e.stands then OfEntryButLineEnd else OfNothing) (key_of e) value
 
 -- the file without the entry
 abbrev pub without_entry : {S : Type 0} → ValueMut S → State

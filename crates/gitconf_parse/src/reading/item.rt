@@ -24,8 +24,6 @@ use gitconf_items::stripping::kept_entry;
 use smallvec::SmallVec;
 use std::alloc::Global;
 
-const NOTHING: Span = Span { start: 0, len: 0 };
-
 /// The value that begins at an offset, and the offset after it.
 fn value(alloc: Global, input: &[u8], first: usize) -> Result<(Value, usize), ReadError>
     requires within { first ≤ length input.now }
@@ -61,7 +59,7 @@ fn value(alloc: Global, input: &[u8], first: usize) -> Result<(Value, usize), Re
             PieceEnd::Unended(at) => {
                 pieces.push(Piece {
                     text: Span::between(from, at),
-                    line_end: NOTHING,
+                    line_end: Span::NOTHING,
                 })?;
                 let last = Span::between(at + 1, at + 1);
                 return Ok((Value { pieces, last }, at + 1));

@@ -23,7 +23,7 @@ impl Store {
     ghost use Rattle.gitconf_base.specs.Metadata.{Meta};
     ghost use Rattle.gitconf_state.specs.Edit.{with_used};
     ghost use Rattle.gitconf_state.specs.Edits.{apply, items_of_numbered, numbered, said_in_section, DeleteAt, IsEditor, WriteAt};
-    ghost use Rattle.gitconf_body.specs.ValuesAt.{keeps_line_end, rewritten_put, stands, written_put};
+    ghost use Rattle.gitconf_body.specs.ValuesAt.{instead_of, rewritten_put, written_put};
     ghost use Rattle.gitconf_store.specs.Editors.{given_editor, IsGiven, PutsIn};
     ghost use Rattle.gitconf_finding.specs.Lookups.{IsFound, key_at};
     ghost use Rattle.gitconf_finding.specs.ValuePlaces.{all_stand, editor_of_numbered, meaning_at, AreSomeValuePlaces, AreValuePlaces, IsSomeValuePlace, IsValuePlace};
@@ -144,7 +144,7 @@ impl Store {
         requires editor { IsEditor (given_editor editor.now) }
         requires key { is_value_name key.now ≡ true }
         ensures ok { OnOk result (self.new ≡ with_used self.new.used
-            (apply (WriteAt id (given_editor editor.now) place (stands in_place_of) (keeps_line_end in_place_of) key.now value.now) self.old)) }
+            (apply (WriteAt id (given_editor editor.now) place (instead_of in_place_of) key.now value.now) self.old)) }
         ensures err { OnErr result (self.new ≡ with_used self.new.used self.old) }
         ensures used { PutsIn id result (written_put editor.now key.now value.now) self.old self.new }
     {
@@ -184,7 +184,7 @@ impl Store {
     ) -> Result<(), span::Error>
         requires key { is_value_name key.now ≡ true }
         ensures ok { OnOk result (self.new ≡ with_used self.new.used
-            (apply (WriteAt id (editor_of_numbered id self.old) place (stands in_place_of) (keeps_line_end in_place_of) key.now value.now) self.old)) }
+            (apply (WriteAt id (editor_of_numbered id self.old) place (instead_of in_place_of) key.now value.now) self.old)) }
         ensures err { OnErr result (self.new ≡ with_used self.new.used self.old) }
         ensures used { PutsIn id result (rewritten_put key.now value.now (items_of_numbered id self.old)) self.old self.new }
         // If no section has the number, it can't fail.

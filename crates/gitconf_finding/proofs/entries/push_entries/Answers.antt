@@ -23,5 +23,5 @@ loop-item-preserved-in_ok-put c =
     let is : c.loop-item.rest.now ≡ kinds.Entry e ∷ c.in-Some.behind.now = search rules in
     let same : is_same_name key (entry_of b e).name ≡ true = search rules in
     let put : more ≡ found ++ place ∷ [] =
-    ap (map place_of) c.in_ok-put.ensures.ok ∙ map-append place_of c.loop-item.found.items _ ∙ ap (λ (v : SectionRef). found ++ (shown v, document_entry (entry_of v.buffer.now e)) ∷ []) c.same_view-section.ensures in
+    ap (map place_of) c.in_ok-put.ensures.ok ∙ map-append place_of c.loop-item.found.items _ ∙ ap (λ (v : SectionRef). found ++ (shown v, document_entry (entry_of v.buffer.now e)) ∷ []) c.copied.ensures in
     taken_more before found more _ _ (places_in key (shown s)) place c.loop-item.invariant (first_entry b key (shown s) c.loop-item.rest.now c.in-Some.behind.now e is same) put

@@ -10,7 +10,7 @@ pub returns-clause-set : goal.returns-clause-set
 returns-clause-set c = λ number editor key value state. set_within [] editor key value (items_of_numbered number state)
 
 pub returns-clause-written : goal.returns-clause-written
-returns-clause-written c = λ number place editor stands keeps_line_end key value state. written_within [] editor key value
+returns-clause-written c = λ number place editor instead key value state. written_within [] editor key value
 
 pub returns-clause-rewritten : goal.returns-clause-rewritten
-returns-clause-rewritten c = λ number place stands keeps_line_end key value state. rewritten_within key value (items_of_numbered number state)
+returns-clause-rewritten c = λ number place instead key value state. rewritten_within key value (items_of_numbered number state)

@@ -18,7 +18,7 @@ impl File {
     ghost use Rattle.gitconf_state.specs.Edit.{spacing_of};
     ghost use Rattle.gitconf_state.specs.Edits.{apply, items_of_numbered, said_in_section, DeleteAt, IsEditor, WriteAt};
     ghost use Rattle.gitconf_lines.specs.Blanks.{PutsAround};
-    ghost use Rattle.gitconf_body.specs.ValuesAt.{keeps_line_end, stands};
+    ghost use Rattle.gitconf_body.specs.ValuesAt.{instead_of};
     ghost use Rattle.gitconf_store.specs.Editors.{given_editor, IsGiven};
     ghost use Rattle.gitconf_finding.specs.Lookups.{IsFound, key_at};
     ghost use Rattle.gitconf_finding.specs.ValuePlaces.{meaning_at, IsSomeValuePlace, IsValuePlace};
@@ -69,7 +69,7 @@ impl File {
         requires puts { PutsAround editor.now }
         requires editor { IsEditor (given_editor editor.now) }
         requires key { is_value_name key.now ≡ true }
-        ensures done { IsEdited (WriteAt id (given_editor editor.now) place (stands in_place_of) (keeps_line_end in_place_of) key.now value.now)
+        ensures done { IsEdited (WriteAt id (given_editor editor.now) place (instead_of in_place_of) key.now value.now)
             (λ e. e) result self.old self.new }
         ensures stands { has_number id self.new ≡ true }
     {

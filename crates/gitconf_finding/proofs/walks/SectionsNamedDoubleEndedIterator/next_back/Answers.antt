@@ -10,9 +10,9 @@ invariant_of-self c =
     let it = c.args.self.now in
     record { viewed = left_viewed it.buffer.now it.copies.now (named_left it.sections) (named_left c.next_back.new.self) c.next_back.result c.next_back.ensures.steps it.viewed }
 
-pub invariant_of-result : goal.invariant_of-result
-invariant_of-result c =
+pub of_row-requires : goal.of_row-requires
+of_row-requires c =
     let it = c.args.self.now in
     let viewed : IsViewed it.buffer.now it.copies.now (viewed c.in-Some.section) =
     (last_viewed it.buffer.now it.copies.now (named_left it.sections) (named_left c.next_back.new.self) (c.in-Some.id, viewed c.in-Some.section) c.in-Some.ensures.steps it.viewed).0 in
-    record { viewed = search (rules, viewed) }
+    search (rules, viewed)

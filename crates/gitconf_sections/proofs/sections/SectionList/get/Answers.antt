@@ -1,18 +1,9 @@
-use Rattle.std.proofs.Common.{rules, ◌≡◌, ◌∙◌, Some, None, ap, sym}
-use Rattle.gitconf_sections.specs.Section.{read}
-use Rattle.std.specs.Option.{option_map}
-use Rattle.gitconf_table.specs.Sections.{section_of}
-use Rattle.gitconf_sections.proofs.Mapped.{section_of_mapped}
+use Rattle.std.proofs.Common.{sym, ◌∙◌}
+use Rattle.gitconf_table.proofs.SectionLemmas.{absent_section, section_of-place}
 use Rattle.gitconf_sections.proofs.sections.SectionList.get.Goals as goal
 
-pub returns-in-Some : goal.returns-in-Some
-returns-in-Some c =
-    let list = c.self.inside.list.items in
-    let found : section_of c.args.id c.self.inside.table ≡ Some c.in-Some.row.now = search rules in
-    rw (← c.self.view_is) (ap (λ s. Some s) c.read.ensures ∙ sym (section_of_mapped (read list) c.args.id c.self.inside.table ∙ ap (option_map (read list)) found))
+pub returns-in_err-at-clause-section : goal.returns-in_err-at-clause-section
+returns-in_err-at-clause-section c = rw c.from_residual.ensures (sym (absent_section c.args.id c.args.self.now.entries (sym c.in_err-at.ensures.place)))
 
-pub returns-in-None : goal.returns-in-None
-returns-in-None c =
-    let list = c.self.inside.list.items in
-    let none : section_of c.args.id c.self.inside.table ≡ None = search rules in
-    rw (← c.self.view_is) (sym (section_of_mapped (read list) c.args.id c.self.inside.table ∙ ap (option_map (read list)) none))
+pub returns-clause-section : goal.returns-clause-section
+returns-clause-section c = sym c.at.ensures ∙ sym (section_of-place c.args.id c.args.self.now c.in_ok-at.at (sym c.in_ok-at.ensures.place))

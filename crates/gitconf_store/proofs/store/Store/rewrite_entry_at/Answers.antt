@@ -9,7 +9,7 @@ use Rattle.gitconf_state.specs.Edits.{items_of_numbered, WriteAt, apply}
 use Rattle.gitconf_state.specs.State.{State}
 use Rattle.gitconf_state.specs.LineEnds.{file_line_end}
 use Rattle.gitconf_items.specs.Items.{items_of}
-use Rattle.gitconf_body.specs.ValuesAt.{keeps_line_end, rewritten_put, stands}
+use Rattle.gitconf_body.specs.ValuesAt.{instead_of, rewritten_put}
 use Rattle.gitconf_sections.specs.Section.{Section, with_items, viewed}
 use Rattle.gitconf_sections.proofs.Edits.{is_taken, taken_within}
 use Rattle.gitconf_store.specs.Edits.{UsedGrows}
@@ -31,9 +31,9 @@ pub returns-in_default-clause-ok : goal.returns-in_default-clause-ok
 returns-in_default-clause-ok c =
     let state = state_of c.self.inside.buffer.items c.self.inside.front.items c.self.inside.meta.value c.self.inside.sections in
     let none : place_of c.args.id c.self.inside.sections ≡ None = search rules in
-    subst (λ (st : State). st ≡ with_used st.used (apply (WriteAt c.args.id (editor_of_numbered c.args.id st) c.args.place (stands c.args.in_place_of) (keeps_line_end c.args.in_place_of) c.args.key.now c.args.value.now) st))
+    subst (λ (st : State). st ≡ with_used st.used (apply (WriteAt c.args.id (editor_of_numbered c.args.id st) c.args.place (instead_of c.args.in_place_of) c.args.key.now c.args.value.now) st))
     c.self.view_is (sym (ap (with_used (length c.self.inside.buffer.items)) (missing_stays c.self.inside.buffer.items c.self.inside.front.items c.self.inside.meta.value c.self.inside.sections c.args.id
-    (written_at (editor_of_numbered c.args.id state) c.args.place (stands c.args.in_place_of) (keeps_line_end c.args.in_place_of) c.args.key.now c.args.value.now) none)))
+    (written_at (editor_of_numbered c.args.id state) c.args.place (instead_of c.args.in_place_of) c.args.key.now c.args.value.now) none)))
 
 pub returns-in_default-clause-used : goal.returns-in_default-clause-used
 returns-in_default-clause-used c =
@@ -56,13 +56,13 @@ returns-clause-ok c =
     let others : HasOthers (length new) s t = record { header = refl; meta = refl; held = refl; within = c.rewrite_at-written.ensures.within } in
     let same = numbered_items_at b c.self.inside.front.items c.self.inside.meta.value c.self.inside.sections c.args.id c.in-Some.at s c.next_id.ensures.numbered.once here number in
     let ok = subst (λ (is : List parts.Item). OnOk c.rewrite_at-written.result (items_of new c.rewrite_at-written.new.items.items
-    ≡ written_at (record { spacing = spacing_of is; line_end = file_line_end state; ends = true }) c.args.place (stands c.args.in_place_of) (keeps_line_end c.args.in_place_of) c.args.key.now c.args.value.now (items_of b s.items.items)))
+    ≡ written_at (record { spacing = spacing_of is; line_end = file_line_end state; ends = true }) c.args.place (instead_of c.args.in_place_of) c.args.key.now c.args.value.now (items_of b s.items.items)))
     (sym same) (c.rewrite_at-written.ensures.ok (file_line_end state)) in
     subst (λ (st : State). OnOk c.rewrite_at-written.result (state_of new c.self.inside.front.items c.self.inside.meta.value c.put_items.new.self
-    ≡ with_used (length new) (apply (WriteAt c.args.id (editor_of_numbered c.args.id st) c.args.place (stands c.args.in_place_of) (keeps_line_end c.args.in_place_of) c.args.key.now c.args.value.now) st)))
+    ≡ with_used (length new) (apply (WriteAt c.args.id (editor_of_numbered c.args.id st) c.args.place (instead_of c.args.in_place_of) c.args.key.now c.args.value.now) st)))
     c.self.view_is (on_ok c.rewrite_at-written.result
     (λ set. whole ∙ numbered_view b new c.self.inside.copies.items c.self.inside.front.items c.self.inside.meta.value c.self.inside.sections c.args.id c.in-Some.at s t
-    (written_at (editor_of_numbered c.args.id state) c.args.place (stands c.args.in_place_of) (keeps_line_end c.args.in_place_of) c.args.key.now c.args.value.now)
+    (written_at (editor_of_numbered c.args.id state) c.args.place (instead_of c.args.in_place_of) c.args.key.now c.args.value.now)
     c.rewrite_at-written.ensures.grows.extended others c.self.invariant.front_within c.self.invariant.sections_within c.next_id.ensures.numbered.once here number set) ok)
 
 pub returns-clause-err : goal.returns-clause-err
@@ -116,12 +116,12 @@ invariant_of-self-2 c =
     let others : HasOthers (length new) s t = record { header = refl; meta = refl; held = refl; within = c.rewrite_at-written.ensures.within } in
     let same = numbered_items_at b c.self.inside.front.items c.self.inside.meta.value c.self.inside.sections c.args.id c.in-Some.at s c.next_id.ensures.numbered.once here number in
     let ok = subst (λ (is : List parts.Item). OnOk c.rewrite_at-written.result (items_of new c.rewrite_at-written.new.items.items
-    ≡ written_at (record { spacing = spacing_of is; line_end = file_line_end state; ends = true }) c.args.place (stands c.args.in_place_of) (keeps_line_end c.args.in_place_of) c.args.key.now c.args.value.now (items_of b s.items.items)))
+    ≡ written_at (record { spacing = spacing_of is; line_end = file_line_end state; ends = true }) c.args.place (instead_of c.args.in_place_of) c.args.key.now c.args.value.now (items_of b s.items.items)))
     (sym same) (c.rewrite_at-written.ensures.ok (file_line_end state)) in
     subst (StoreFits c.rewrite_at-written.new.buffer.items c.self.inside.copies.items c.self.inside.front.items c.self.inside.meta.value) (sym back) (numbered_kept b new c.self.inside.copies.items c.self.inside.front.items c.self.inside.meta.value c.self.inside.sections c.args.id c.in-Some.at s t
-    (written_at (editor_of_numbered c.args.id state) c.args.place (stands c.args.in_place_of) (keeps_line_end c.args.in_place_of) c.args.key.now c.args.value.now)
+    (written_at (editor_of_numbered c.args.id state) c.args.place (instead_of c.args.in_place_of) c.args.key.now c.args.value.now)
     c.rewrite_at-written.ensures.grows.extended c.rewrite_at-written.ensures.grows.room others c.self.invariant c.next_id.ensures.numbered.once here number
-    (rewritten_items c.args.id c.args.place (stands c.args.in_place_of) (keeps_line_end c.args.in_place_of) c.args.key.now c.args.value.now state c.requires.key c.self.invariant.items)
+    (rewritten_items c.args.id c.args.place (instead_of c.args.in_place_of) c.args.key.now c.args.value.now state c.requires.key c.self.invariant.items)
     (either_way c.rewrite_at-written.result ok c.rewrite_at-written.ensures.err))
 
 pub invariant_of-self : goal.invariant_of-self

@@ -7,7 +7,7 @@ use Rattle.gitconf_state.specs.Editors.{written_at}
 use Rattle.gitconf_state.specs.Edits.{WriteAt}
 use Rattle.gitconf_state.proofs.EditsKeep.{apply_items}
 use Rattle.gitconf_items.specs.Items.{items_of}
-use Rattle.gitconf_body.specs.ValuesAt.{keeps_line_end, stands, written_put}
+use Rattle.gitconf_body.specs.ValuesAt.{instead_of, written_put}
 use Rattle.gitconf_sections.specs.Section.{Section, with_items}
 use Rattle.gitconf_sections.proofs.Edits.{is_taken, taken_within}
 use Rattle.gitconf_store.specs.Editors.{given_editor, PutsIn}
@@ -30,7 +30,7 @@ pub returns-in_default-clause-ok : goal.returns-in_default-clause-ok
 returns-in_default-clause-ok c =
     let none : place_of c.args.id c.self.inside.sections ≡ None = search rules in
     rw (← c.self.view_is) (sym (ap (with_used (length c.self.inside.buffer.items)) (missing_stays c.self.inside.buffer.items c.self.inside.front.items c.self.inside.meta.value c.self.inside.sections c.args.id
-    (written_at (given_editor c.args.editor.now) c.args.place (stands c.args.in_place_of) (keeps_line_end c.args.in_place_of) c.args.key.now c.args.value.now) none)))
+    (written_at (given_editor c.args.editor.now) c.args.place (instead_of c.args.in_place_of) c.args.key.now c.args.value.now) none)))
 
 pub returns-in_default-clause-used : goal.returns-in_default-clause-used
 returns-in_default-clause-used c =
@@ -51,11 +51,11 @@ returns-clause-ok c =
     let place : place_of c.args.id c.self.inside.sections ≡ Some c.in-Some.at = search rules in
     let number = number_at-place c.args.id c.self.inside.sections c.in-Some.at place in
     let others : HasOthers (length new) s t = record { header = refl; meta = refl; held = refl; within = c.write_at-written.ensures.within } in
-    let ok = subst (λ e. OnOk c.write_at-written.result (items_of new c.write_at-written.new.items.items ≡ written_at e c.args.place (stands c.args.in_place_of) (keeps_line_end c.args.in_place_of) c.args.key.now c.args.value.now (items_of b s.items.items)))
+    let ok = subst (λ e. OnOk c.write_at-written.result (items_of new c.write_at-written.new.items.items ≡ written_at e c.args.place (instead_of c.args.in_place_of) c.args.key.now c.args.value.now (items_of b s.items.items)))
     (given_same b c.args.editor.now c.requires.given) c.write_at-written.ensures.ok in
     rw (← c.self.view_is) (on_ok c.write_at-written.result
     (λ set. whole ∙ numbered_view b new c.self.inside.copies.items c.self.inside.front.items c.self.inside.meta.value c.self.inside.sections c.args.id c.in-Some.at s t
-    (written_at (given_editor c.args.editor.now) c.args.place (stands c.args.in_place_of) (keeps_line_end c.args.in_place_of) c.args.key.now c.args.value.now)
+    (written_at (given_editor c.args.editor.now) c.args.place (instead_of c.args.in_place_of) c.args.key.now c.args.value.now)
     c.write_at-written.ensures.grows.extended others c.self.invariant.front_within c.self.invariant.sections_within c.next_id.ensures.numbered.once here number set) ok)
 
 pub returns-clause-err : goal.returns-clause-err
@@ -96,12 +96,12 @@ invariant_of-self-2 c =
     let place : place_of c.args.id c.self.inside.sections ≡ Some c.in-Some.at = search rules in
     let number = number_at-place c.args.id c.self.inside.sections c.in-Some.at place in
     let others : HasOthers (length new) s t = record { header = refl; meta = refl; held = refl; within = c.write_at-written.ensures.within } in
-    let ok = subst (λ e. OnOk c.write_at-written.result (items_of new c.write_at-written.new.items.items ≡ written_at e c.args.place (stands c.args.in_place_of) (keeps_line_end c.args.in_place_of) c.args.key.now c.args.value.now (items_of b s.items.items)))
+    let ok = subst (λ e. OnOk c.write_at-written.result (items_of new c.write_at-written.new.items.items ≡ written_at e c.args.place (instead_of c.args.in_place_of) c.args.key.now c.args.value.now (items_of b s.items.items)))
     (given_same b c.args.editor.now c.requires.given) c.write_at-written.ensures.ok in
     subst (StoreFits c.write_at-written.new.buffer.items c.self.inside.copies.items c.self.inside.front.items c.self.inside.meta.value) (sym back) (numbered_kept b new c.self.inside.copies.items c.self.inside.front.items c.self.inside.meta.value c.self.inside.sections c.args.id c.in-Some.at s t
-    (written_at (given_editor c.args.editor.now) c.args.place (stands c.args.in_place_of) (keeps_line_end c.args.in_place_of) c.args.key.now c.args.value.now)
+    (written_at (given_editor c.args.editor.now) c.args.place (instead_of c.args.in_place_of) c.args.key.now c.args.value.now)
     c.write_at-written.ensures.grows.extended c.write_at-written.ensures.grows.room others c.self.invariant c.next_id.ensures.numbered.once here number
-    (apply_items (WriteAt c.args.id (given_editor c.args.editor.now) c.args.place (stands c.args.in_place_of) (keeps_line_end c.args.in_place_of) c.args.key.now c.args.value.now)
+    (apply_items (WriteAt c.args.id (given_editor c.args.editor.now) c.args.place (instead_of c.args.in_place_of) c.args.key.now c.args.value.now)
     (state_of b c.self.inside.front.items c.self.inside.meta.value c.self.inside.sections) (c.requires.editor, c.requires.key) c.self.invariant.items)
     (either_way c.write_at-written.result ok c.write_at-written.ensures.err))
 
