@@ -106,7 +106,7 @@ inclusion_alike s t same = ap included_listed same
 -- and so is whether it is followed
 has_url_alike : (one other : State) → SayTheSame one other → has_url one ≡ has_url other
 has_url_alike one other same =
-    ap (λ (l : List Listed). λ (pattern : List ℕ). list_any (matches false 0 true pattern) (map meaning (flat_map (entries_of_key (codes "url")) (filter (has_name (codes "remote")) l)))) same.sections
+    ap (λ (l : List Listed). λ (pattern : List ℕ). list_any (matches false pattern) (map meaning (flat_map (entries_of_key (codes "url")) (filter (has_name (codes "remote")) l)))) same.sections
 
 followed_alike : (rules : Rules) (from : Meta) (one other : State) (inclusion : Inclusion) → SayTheSame one other → followed rules from one inclusion ≡ followed rules from other inclusion
 followed_alike rules from one other NoInclude same = refl

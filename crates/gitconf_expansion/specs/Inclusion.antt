@@ -36,7 +36,7 @@ urls state = map meaning (flat_map (entries_of_key (codes "url")) (filter (has_n
 
 -- whether some remote's url matches a pattern
 abbrev pub has_url : State → (pattern : List ℕ) → Bool
-has_url state pattern = list_any (matches false 0 true pattern) (urls state)
+has_url state pattern = list_any (matches false pattern) (urls state)
 
 -- whether a section's paths are followed: without a condition, or if the condition holds, by where the section comes from and by the file
 -- that is searched

@@ -3,7 +3,7 @@ use Rattle.std.proofs.Common.{◌≡◌, ◌≢◌, ℕ, zero, suc, ◌+◌, ◌
 use Rattle.std.specs.Prelude.{◌==◌}
 use Rattle.std.specs.Option.{option_map}
 use Rattle.std.proofs.lemmas.Bool.{eqb-true}
-use Rattle.gitconf_glob.specs.Bracket.{close_from}
+use Rattle.gitconf_glob.specs.Counted.{close_from}
 
 -- a byte that isn't another one
 pub other_byte : (b k : ℕ) → b ≢ k → (b == k) ≡ false

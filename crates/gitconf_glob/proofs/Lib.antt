@@ -3,5 +3,7 @@ pub mod Members
 pub mod Filling
 pub mod RowLemmas
 pub mod Telling
+pub mod MembersLeft
+pub mod Cutting
 pub mod Passing
 pub mod PatternRows

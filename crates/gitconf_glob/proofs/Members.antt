@@ -3,7 +3,8 @@ use Rattle.std.proofs.Common.{◌≡◌, ℕ, zero, suc, ◌+◌, Bool, true, fa
 use Rattle.gitconf_glob.specs.declared.bracket.Member.{Member}
 use Rattle.std.specs.Prelude.{◌&&◌, ◌||◌, ◌==◌}
 use Rattle.std.specs.Option.{option_map}
-use Rattle.gitconf_glob.specs.Bracket.{has, is_of_any, member, members, among}
+use Rattle.gitconf_glob.specs.Bracket.{has, is_of_any}
+use Rattle.gitconf_glob.specs.Counted.{member, members, among}
 
 -- the bytes of a member that are left are passed
 -- more bytes are counted
@@ -14,17 +15,17 @@ counted k r = (r.0, r.1 + k)
 abbrev pub behind_member : (m : Member) (k : ℕ) → List Member × ℕ → List Member × ℕ
 behind_member m k r = (m ∷ r.0, r.1 + k)
 
-pub skipping : (first : Bool) (skip : ℕ) (p : List ℕ) → skip ≤ length p
+pub skipping : (first : Bool) (skip : ℕ) (p : List ℕ)
     → members first skip p ≡ option_map (counted skip) (members first 0 (drop skip p))
 unfolding members
-skipping first zero p within = nothing_added (members first 0 p)
+skipping first zero p = nothing_added (members first 0 p)
   where
     nothing_added : (r : Option (List Member × ℕ)) → r ≡ option_map (counted 0) r
     nothing_added None = refl
     nothing_added (Some r) = ap (λ n. Some (r.0, n)) (omega arith)
-skipping first (suc skip) [] within = absurd (let h = within in omega arith)
-skipping first (suc skip) (b ∷ p) within =
-    ap (λ (o : Option (List Member × ℕ)). option_map (counted 1) o) (skipping first skip p (omega arith)) ∙ one_more (members first 0 (drop skip p))
+skipping first (suc skip) [] = refl
+skipping first (suc skip) (b ∷ p) =
+    ap (λ (o : Option (List Member × ℕ)). option_map (counted 1) o) (skipping first skip p) ∙ one_more (members first 0 (drop skip p))
   where
     one_more : (r : Option (List Member × ℕ))
         → option_map (counted 1) (option_map (counted skip) r) ≡ option_map (counted (suc skip)) r
@@ -32,12 +33,12 @@ skipping first (suc skip) (b ∷ p) within =
     one_more (Some r) = ap (λ n. Some (r.0, n)) (omega arith)
 
 -- a member is passed
-pub member_passed : (first : Bool) (p : List ℕ) (m : Member) (more : ℕ) → 0 < length p → (get_or p 0 0 == 93 && not first) ≡ false → member p ≡ Some (m, more) → more < length p
+pub member_passed : (first : Bool) (p : List ℕ) (m : Member) (more : ℕ) → 0 < length p → (get_or p 0 0 == 93 && not first) ≡ false → member p ≡ Some (m, more)
     → members first 0 p ≡ option_map (behind_member m (more + 1)) (members false 0 (drop (more + 1) p))
 unfolding members
-member_passed first [] m more some open_still is fits = absurd (let h = some in omega arith)
-member_passed first (b ∷ p) m more some open_still is fits = rw (open_still, is, members)
-    (ap (λ (o : Option (List Member × ℕ)). option_map (behind_member m 1) o) (skipping false more p (omega (arith, fits)))
+member_passed first [] m more some open_still is = absurd (let h = some in omega arith)
+member_passed first (b ∷ p) m more some open_still is = rw (open_still, is, members)
+    (ap (λ (o : Option (List Member × ℕ)). option_map (behind_member m 1) o) (skipping false more p)
     ∙ joined_counts (members false 0 (drop more p))
     ∙ ap (λ q. option_map (behind_member m (more + 1)) (members false 0 q)) behind)
   where
@@ -98,10 +99,10 @@ none_so_far (Some t) = ap (λ n. Some (t.0, n)) (omega arith)
 
 -- one member more is told of
 pub one_so_far : (ignore_case so_far more_so_far : Bool) (b n k more : ℕ) (first : Bool) (p : List ℕ) (m : Member) → 0 < length p → (get_or p 0 0 == 93 && not first) ≡ false
-    → member p ≡ Some (m, more) → more < length p → more_so_far ≡ (so_far || has ignore_case m b) → k ≡ n + (more + 1)
+    → member p ≡ Some (m, more) → more_so_far ≡ (so_far || has ignore_case m b) → k ≡ n + (more + 1)
     → among_so_far more_so_far k (among ignore_case b (members false 0 (drop (more + 1) p))) ≡ among_so_far so_far n (among ignore_case b (members first 0 p))
-one_so_far ignore_case so_far more_so_far b n k more first p m some open_still is fits more_is behind =
-    told (members false 0 (drop (more + 1) p)) ∙ sym (ap (λ r. among_so_far so_far n (among ignore_case b r)) (member_passed first p m more some open_still is fits))
+one_so_far ignore_case so_far more_so_far b n k more first p m some open_still is more_is behind =
+    told (members false 0 (drop (more + 1) p)) ∙ sym (ap (λ r. among_so_far so_far n (among ignore_case b r)) (member_passed first p m more some open_still is))
   where
     or_assoc : (x y z : Bool) → ((x || y) || z) ≡ (x || (y || z))
     or_assoc true y z = refl

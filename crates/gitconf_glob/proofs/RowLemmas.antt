@@ -4,8 +4,9 @@ use Rattle.std.specs.Prelude.{◌&&◌, ◌||◌, ◌==◌}
 use Rattle.std.proofs.lemmas.List.{drop_all, drop_more, drop-set, length-drop, length-map, take_all}
 use Rattle.std.proofs.lemmas.Bool.{eqb-true, eqb-false}
 use Rattle.std.proofs.Math.Seq.{drop-length}
-use Rattle.gitconf_glob.specs.Pattern.{Front, Nothing, One, Run, Rest, Folders, front, takes, one, run, is_empty, matches}
-use Rattle.gitconf_glob.specs.Rows.{tails, cells, rows_of, is_fresh_at, IsTable}
+use Rattle.gitconf_glob.specs.Pattern.{takes, one, run}
+use Rattle.gitconf_glob.specs.Cursor.{Front, Nothing, One, Run, Rest, Folders, front, is_empty, matches_after}
+use Rattle.gitconf_glob.specs.Rows.{tails, cells, rows_of, is_fresh_at}
 use Rattle.gitconf_glob.specs.Cells.{one_cells, run_cells, folder_cells, last_cells, cells_at, AreLong}
 use Rattle.gitconf_glob.specs.Shapes.{FitsIn}
 
@@ -16,7 +17,7 @@ first_tail f [] = refl
 first_tail f (b ∷ text) = refl
 
 -- the end at a place
-nth_tail : (f : List ℕ → Bool) (text : List ℕ) (j : ℕ) → j ≤ length text → get_or (map f (tails text)) j false ≡ f (drop j text)
+pub nth_tail : (f : List ℕ → Bool) (text : List ℕ) (j : ℕ) → j ≤ length text → get_or (map f (tails text)) j false ≡ f (drop j text)
 unfolding tails
 nth_tail f [] zero within = refl
 nth_tail f [] (suc j) within = absurd (let h = within in omega arith)
@@ -70,8 +71,8 @@ same_is cell (b ∷ text) = ap (λ n. replicate n cell) (more (length text)) ∙
     more n = omega arith
 
 -- a row of a pattern, with its front's bytes passed
-nth_row : (ignore_case fresh : Bool) (k : ℕ) (p text : List ℕ) → k ≤ length p → get_or (rows_of ignore_case fresh p text) k [] ≡ map (matches ignore_case k fresh p) (tails text)
-unfolding rows_of matches
+pub nth_row : (ignore_case fresh : Bool) (k : ℕ) (p text : List ℕ) → k ≤ length p → get_or (rows_of ignore_case fresh p text) k [] ≡ map (matches_after ignore_case k fresh p) (tails text)
+unfolding rows_of matches_after
 nth_row ignore_case fresh zero [] text within = refl
 nth_row ignore_case fresh zero (b ∷ p) text within = refl
 nth_row ignore_case fresh (suc k) [] text within = absurd (let h = within in omega arith)
@@ -81,15 +82,15 @@ nth_row ignore_case fresh (suc k) (b ∷ p) text within = nth_row ignore_case (b
 abbrev pub matched : (ignore_case : Bool) → Front → (slash : Bool) (p text : List ℕ) → Bool
 matched ignore_case f slash p text = elim f [
   | Nothing ↦ false
-  | One element more ↦ one (takes ignore_case element) (matches ignore_case more slash p) text
-  | Run slashes more ↦ run slashes (matches ignore_case more slash p) text
+  | One element more ↦ one (takes ignore_case element) (matches_after ignore_case more slash p) text
+  | Run slashes more ↦ run slashes (matches_after ignore_case more slash p) text
   | Rest ↦ true
-  | Folders more ↦ matches ignore_case (more + 1) slash p text || run true (matches ignore_case more slash p) text
+  | Folders more ↦ matches_after ignore_case (more + 1) slash p text || run true (matches_after ignore_case more slash p) text
 ]
 
 -- a pattern matches what its front does
-pub matched_is : (ignore_case fresh : Bool) (b : ℕ) (p text : List ℕ) → matched ignore_case (front fresh b p) (b == 47) p text ≡ matches ignore_case 0 fresh (b ∷ p) text
-unfolding matches
+pub matched_is : (ignore_case fresh : Bool) (b : ℕ) (p text : List ℕ) → matched ignore_case (front fresh b p) (b == 47) p text ≡ matches_after ignore_case 0 fresh (b ∷ p) text
+unfolding matches_after
 matched_is ignore_case fresh b p text = refl
 
 -- the row of a front
@@ -97,13 +98,13 @@ filled_is : (ignore_case : Bool) (f : Front) (slash : Bool) (p text : List ℕ) 
     → cells_at ignore_case f text (rows_of ignore_case slash p text) ≡ map (matched ignore_case f slash p) (tails text)
 filled_is ignore_case Nothing slash p text fits = same_is false text
 filled_is ignore_case (One element more) slash p text fits =
-    ap (one_cells (takes ignore_case element) text) (nth_row ignore_case slash more p text (omega (arith, fits))) ∙ one_is (takes ignore_case element) (matches ignore_case more slash p) text
+    ap (one_cells (takes ignore_case element) text) (nth_row ignore_case slash more p text (omega (arith, fits))) ∙ one_is (takes ignore_case element) (matches_after ignore_case more slash p) text
 filled_is ignore_case (Run slashes more) slash p text fits =
-    ap (run_cells slashes text) (nth_row ignore_case slash more p text (omega (arith, fits))) ∙ run_is slashes (matches ignore_case more slash p) text
+    ap (run_cells slashes text) (nth_row ignore_case slash more p text (omega (arith, fits))) ∙ run_is slashes (matches_after ignore_case more slash p) text
 filled_is ignore_case Rest slash p text fits = same_is true text
 filled_is ignore_case (Folders more) slash p text fits =
     (λ i. folder_cells text (nth_row ignore_case slash more p text (omega (arith, fits)) i) (nth_row ignore_case slash (more + 1) p text (omega (arith, fits)) i))
-    ∙ folders_is (matches ignore_case more slash p) (matches ignore_case (more + 1) slash p) text
+    ∙ folders_is (matches_after ignore_case more slash p) (matches_after ignore_case (more + 1) slash p) text
 
 -- the row of a pattern, from the rows below it
 pub row_is : (ignore_case fresh : Bool) (b : ℕ) (p text : List ℕ) → FitsIn (length p + 1) (front fresh b p)
@@ -113,7 +114,7 @@ row_is ignore_case fresh b p text fits =
 
 -- the row of the empty pattern
 pub last_row_is : (ignore_case fresh : Bool) (text : List ℕ) → last_cells text ≡ cells ignore_case fresh [] text
-unfolding last_cells tails matches
+unfolding last_cells tails matches_after
 last_row_is ignore_case fresh [] = refl
 last_row_is ignore_case fresh (b ∷ text) = ap (λ cs. false ∷ cs) (last_row_is ignore_case fresh text)
 
@@ -136,16 +137,16 @@ get_or_same (x ∷ xs) (suc k) d e within = get_or_same xs k d e (omega arith)
 pub rows_long : (ignore_case fresh : Bool) (p text : List ℕ) → AreLong text (rows_of ignore_case fresh p text)
 rows_long ignore_case fresh p text k d within =
     ap (λ row. length row) (get_or_same (rows_of ignore_case fresh p text) k d [] within ∙ nth_row ignore_case fresh k p text (let h = rows_count ignore_case fresh p text in omega (arith, h, within)))
-    ∙ length-map (tails text) (matches ignore_case k fresh p) ∙ tails_count text
+    ∙ length-map (tails text) (matches_after ignore_case k fresh p) ∙ tails_count text
 
 -- the bytes of the front are passed
-pub skipped : (ignore_case fresh : Bool) (i : ℕ) (p text : List ℕ) → i ≤ length p
-    → matches ignore_case i fresh p text ≡ matches ignore_case 0 (is_fresh_at fresh i p) (drop i p) text
-unfolding matches
-skipped ignore_case fresh zero p text within = refl
-skipped ignore_case fresh (suc i) [] text within = absurd (let h = within in omega arith)
-skipped ignore_case fresh (suc zero) (b ∷ p) text within = refl
-skipped ignore_case fresh (suc (suc i)) (b ∷ p) text within = skipped ignore_case (b == 47) (suc i) p text (omega arith)
+pub skipped : (ignore_case fresh : Bool) (i : ℕ) (p text : List ℕ)
+    → matches_after ignore_case i fresh p text ≡ matches_after ignore_case 0 (is_fresh_at fresh i p) (drop i p) text
+unfolding matches_after
+skipped ignore_case fresh zero p text = refl
+skipped ignore_case fresh (suc i) [] text = refl
+skipped ignore_case fresh (suc zero) (b ∷ p) text = refl
+skipped ignore_case fresh (suc (suc i)) (b ∷ p) text = skipped ignore_case (b == 47) (suc i) p text
 
 -- the first row and the rows below it
 pub rows_step : (ignore_case fresh : Bool) (p text : List ℕ) (i : ℕ) → i < length p
@@ -154,20 +155,11 @@ pub rows_step : (ignore_case fresh : Bool) (p text : List ℕ) (i : ℕ) → i <
 unfolding rows_of
 rows_step ignore_case fresh p text i within = ap (λ q. rows_of ignore_case (is_fresh_at fresh i p) q text) (drop_more p i 0 within)
 
--- what the definition says of the table that is filled
-pub table_is : (ignore_case : Bool) (p text : List ℕ) (rows : List (List Bool)) → rows ≡ rows_of ignore_case true p text → IsTable ignore_case p text rows
-table_is ignore_case p text rows is = rw is (record {
-  rows_count = rows_count ignore_case true p text;
-  cells_count = rows_long ignore_case true p text;
-  cell = λ i j within_p within_t. ap (λ row. get_or row j false) (nth_row ignore_case true i p text within_p)
-      ∙ nth_tail (matches ignore_case i true p) text j within_t ∙ skipped ignore_case true i p (drop j text) within_p;
-})
-
 -- the first cell of the first row
 pub first_cell : (ignore_case fresh : Bool) (p text : List ℕ) (rows : List (List Bool)) → rows ≡ rows_of ignore_case fresh p text
-    → get_or (get_or rows 0 []) 0 false ≡ matches ignore_case 0 fresh p text
+    → get_or (get_or rows 0 []) 0 false ≡ matches_after ignore_case 0 fresh p text
 first_cell ignore_case fresh p text rows is =
-    ap (λ rs. get_or (get_or rs 0 []) 0 false) is ∙ ap (λ row. get_or row 0 false) (nth_row ignore_case fresh 0 p text (omega arith)) ∙ first_tail (matches ignore_case 0 fresh p) text
+    ap (λ rs. get_or (get_or rs 0 []) 0 false) is ∙ ap (λ row. get_or row 0 false) (nth_row ignore_case fresh 0 p text (omega arith)) ∙ first_tail (matches_after ignore_case 0 fresh p) text
 
 -- as many rows below as places in the rest of the pattern, and one more
 pub below_count : {X : Type 0} (shown : X → List Bool) (below : List X) (ignore_case slash : Bool) (p text : List ℕ)
@@ -212,10 +204,10 @@ row_filled shown rows row ignore_case fresh here p rest text k j next within cou
 
 -- after the whole pattern the text has to end
 pub at_end : (ignore_case : Bool) (p text : List ℕ) (i j : ℕ) → length p ≤ i → i ≤ length p → j ≤ length text
-    → (j == length text) ≡ matches ignore_case 0 (is_fresh_at true i p) (drop i p) (drop j text)
-unfolding matches
+    → (j == length text) ≡ matches_after ignore_case 0 (is_fresh_at true i p) (drop i p) (drop j text)
+unfolding matches_after
 at_end ignore_case p text i j past within text_within =
-    ends text j text_within ∙ sym (ap (λ q. matches ignore_case 0 (is_fresh_at true i p) q (drop j text)) (drop_all i p past))
+    ends text j text_within ∙ sym (ap (λ q. matches_after ignore_case 0 (is_fresh_at true i p) q (drop j text)) (drop_all i p past))
   where
     ends : (text : List ℕ) (j : ℕ) → j ≤ length text → (j == length text) ≡ is_empty (drop j text)
     ends text j within = go (j == length text) refl

@@ -5,8 +5,10 @@ use Rattle.std.specs.Borrow.{Bor}
 use Rattle.std.specs.Option.{option_map}
 use Rattle.std.proofs.lemmas.List.{drop_more, drop-drop, drop-set, length-drop, length-map}
 use Rattle.gitconf_glob.specs.declared.bracket.Member.{Member}
-use Rattle.gitconf_glob.specs.Bracket.{has, is_of_any, member, members, members_begin, negates, lets_in}
-use Rattle.gitconf_glob.specs.Pattern.{Front, Nothing, One, OneOf, one_of, front, takes}
+use Rattle.gitconf_glob.specs.Bracket.{has, is_of_any, negates, lets_in}
+use Rattle.gitconf_glob.specs.Counted.{member, members, members_begin}
+use Rattle.gitconf_glob.specs.Pattern.{OneOf, takes}
+use Rattle.gitconf_glob.specs.Cursor.{Front, Nothing, One, one_of, front}
 use Rattle.gitconf_glob.specs.Shapes.{FitsIn}
 use Rattle.gitconf_glob.specs.Cells.{one_cells, taken_cells, cells_at}
 use Rattle.gitconf_glob.specs.Rows.{tails}
@@ -45,7 +47,7 @@ member_told ignore_case text p (c ∷ q) m more is = go (c == 93) refl
 pub place_told : (ignore_case : Bool) (text p : List ℕ) (m : Member) (more : ℕ) → member p ≡ Some (m, more) → more < length p
     → told ignore_case text p ≡ with_member ignore_case text m more (told_behind ignore_case text (drop (more + 1) p))
 place_told ignore_case text p m more is fits =
-    member_told ignore_case text p (drop (more + 1) p) m more (member_passed true p m more (omega (arith, fits)) (never_closes (get_or p 0 0 == 93)) is fits)
+    member_told ignore_case text p (drop (more + 1) p) m more (member_passed true p m more (omega (arith, fits)) (never_closes (get_or p 0 0 == 93)) is)
   where
     never_closes : (x : Bool) → (x && false) ≡ false
     never_closes true = refl

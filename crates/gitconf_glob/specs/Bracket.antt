@@ -1,6 +1,6 @@
 -- What follows a `[` of a pattern: members up to a `]`, and the bytes that they take.
 -- Source: Git's wildmatch; which texts are members is this project's own rule.
-use Rattle.std.specs.Prelude.{ℕ, zero, suc, pred, leb, ltb, ◌+◌, Bool, true, false, not, if◌then◌else◌, List, [], ◌∷◌, ◌&&◌, ◌||◌, ◌==◌, Option, Some, None, take, drop, get_or, codes}
+use Rattle.std.specs.Prelude.{ℕ, zero, suc, pred, leb, ◌+◌, Bool, true, false, not, if◌then◌else◌, List, [], ◌∷◌, ◌&&◌, ◌||◌, ◌==◌, Option, Some, None, length, position, take, drop, get_or, codes}
 use Rattle.std.specs.List.{list_any}
 use Rattle.std.specs.Option.{option_map}
 use Rattle.std.specs.Str.{bytes_eq}
@@ -47,10 +47,6 @@ is_of_any ignore_case members b = list_any (λ m. has ignore_case m b) members
 abbrev pub lets_in : (negated among : Bool) (b : ℕ) → Bool
 lets_in negated among b = not (b == 47) && (if negated then not among else among)
 
--- A bracket takes a byte of its members, a negated one any other; neither takes `/`.
-abbrev pub is_taken : (ignore_case negated : Bool) → List Member → ℕ → Bool
-is_taken ignore_case negated members b = lets_in negated (is_of_any ignore_case members b) b
-
 -- the class of a name
 abbrev pub class_named : List ℕ → Option Class
 class_named name =
@@ -67,82 +63,55 @@ class_named name =
     if bytes_eq name (codes "upper") then Some class.Upper else
     if bytes_eq name (codes "xdigit") then Some class.Xdigit else None
 
--- `]` comes first
-abbrev pub begins_close : List ℕ → Bool
-begins_close [] = false
-begins_close (b ∷ p) = b == 93
-
--- the offset of the first `]`, counted from n
-unfoldable pub close_from : (n : ℕ) → List ℕ → Option ℕ
-close_from n [] = None
-close_from n (b ∷ p) = elim (b == 93) [ true ↦ Some n | false ↦ close_from (n + 1) p ]
-
--- how many bytes the name between `[:` and `:]` has, read after `[:`; a `:` directly before the first `]` is needed
-abbrev pub name_length : List ℕ → Option ℕ
-name_length p = elim (close_from 0 p) [
-  | None ↦ None
-  | Some n ↦ if ltb 0 n && get_or p (pred n) 0 == 58 then Some (pred n) else None
-]
-
--- the byte that comes first, or the one after a backslash; and how many bytes it has after its first one
-abbrev pub literal : List ℕ → Option (ℕ × ℕ)
-literal [] = None
-literal (b ∷ p) = if b == 92 then elim p [ [] ↦ None | c ∷ q ↦ Some (c, 1) ] else Some (b, 0)
-
--- a `-` and a byte other than `]`: a range continues
-abbrev pub goes_on : List ℕ → Bool
-goes_on [] = false
-goes_on (b ∷ []) = false
-goes_on (b ∷ c ∷ p) = b == 45 && not (c == 93)
-
--- a byte or a range
-abbrev pub byte_or_range : List ℕ → Option (Member × ℕ)
-byte_or_range p = elim (literal p) [
-  | None ↦ None
-  | Some low ↦ if goes_on (drop (low.1 + 1) p)
-      then option_map (λ (high : ℕ × ℕ). (Range low.0 high.0, low.1 + 2 + high.1)) (literal (drop (low.1 + 2) p))
-      else Some (Byte low.0, low.1)
-]
-
--- how many bytes the name of a class has, if a class comes first
-abbrev pub class_length : List ℕ → Option ℕ
-class_length [] = None
-class_length (b ∷ []) = None
-class_length (b ∷ c ∷ p) = if b == 91 && c == 58 then name_length p else None
-
--- A member, and how many bytes it has after its first one. There is none if a byte is missing, or for an unknown class.
-unfoldable pub member : List ℕ → Option (Member × ℕ)
-member p = elim (class_length p) [
-  | None ↦ byte_or_range p
-  | Some n ↦ option_map (λ (c : Class). (Named c, n + 3)) (class_named (take n (drop 2 p)))
-]
-
--- Members up to the `]`, and how many bytes they have with it, after the first `skip` bytes. While the first member is looked for,
--- a `]` is a member.
-unfoldable pub members : (first : Bool) (skip : ℕ) → List ℕ → Option (List Member × ℕ)
-members first skip [] = None
-members first (suc skip) (b ∷ p) = option_map (λ (r : List Member × ℕ). (r.0, r.1 + 1)) (members first skip p)
-members first zero (b ∷ p) = elim (b == 93 && not first) [
-  | true ↦ Some ([], 1)
-  | false ↦ elim (member (b ∷ p)) [
-    | None ↦ None
-    | Some m ↦ option_map (λ (r : List Member × ℕ). (m.0 ∷ r.0, r.1 + 1)) (members false m.1 p)
-  ]
-]
-
 -- `!` or `^`
 abbrev pub negates : List ℕ → Bool
 negates [] = false
 negates (b ∷ p) = b == 33 || b == 94
 
--- how many bytes come before the members: 1 after `!` or `^`, otherwise 0
-abbrev pub members_begin : List ℕ → ℕ
-members_begin p = if negates p then 1 else 0
+-- The byte that comes first, or the one after a backslash; and what is left. There is none if a byte is missing.
+abbrev pub literal : List ℕ → Option (ℕ × List ℕ)
+literal [] = None
+literal (b ∷ p) = if b == 92 then elim p [ [] ↦ None | c ∷ q ↦ Some (c, q) ] else Some (b, p)
 
--- the members of a bracket, read after its `[`, and how many bytes it has there; none if it takes nothing
-abbrev pub bracket : List ℕ → Option (List Member × ℕ)
-bracket p = option_map (λ (r : List Member × ℕ). (r.0, members_begin p + r.1)) (members true 0 (drop (members_begin p) p))
+-- a `-` and a byte other than `]`: a range continues
+abbrev pub goes_on : List ℕ → Bool
+goes_on p = get_or p 0 0 == 45 && not (get_or p 1 93 == 93)
 
--- whether the byte is one of the members that were read, and how many bytes they have
-abbrev pub among : (ignore_case : Bool) (b : ℕ) → Option (List Member × ℕ) → Option (Bool × ℕ)
-among ignore_case b read = option_map (λ (r : List Member × ℕ). (is_of_any ignore_case r.0 b, r.1)) read
+-- a byte or a range, and what is left
+abbrev pub byte_or_range : List ℕ → Option (Member × List ℕ)
+byte_or_range p = elim (literal p) [
+  | None ↦ None
+  | Some low ↦ if goes_on low.1
+      then option_map (λ (high : ℕ × List ℕ). (Range low.0 high.0, high.1)) (literal (drop 1 low.1))
+      else Some (Byte low.0, low.1)
+]
+
+-- what comes before the first `]`, without the `:` that has to come directly before it; and what is left after the `]`
+abbrev pub cut_name : List ℕ → Option (List ℕ × List ℕ)
+cut_name p = elim (position (λ b. b == 93) p) [ None ↦ None | Some n ↦ if get_or p (pred n) 0 == 58 then Some (take (pred n) p, drop (n + 1) p) else None ]
+
+-- the name of a class that comes first, between `[:` and `:]`, and what is left
+abbrev pub class_name : List ℕ → Option (List ℕ × List ℕ)
+class_name p = if get_or p 0 0 == 91 && get_or p 1 0 == 58 then cut_name (drop 2 p) else None
+
+-- A member, and what is left. There is none if a byte is missing, or for an unknown class.
+abbrev pub member : List ℕ → Option (Member × List ℕ)
+member p = elim (class_name p) [
+  | None ↦ byte_or_range p
+  | Some c ↦ option_map (λ (k : Class). (Named k, c.1)) (class_named c.0)
+]
+
+-- The members up to a `]`, and what is left after it; as the first of them, a `]` is a member. There are fewer than n.
+unfoldable pub members : (n : ℕ) (first : Bool) → List ℕ → Option (List Member × List ℕ)
+members zero first p = None
+members (suc n) first p = elim (get_or p 0 0 == 93 && not first) [
+  | true ↦ Some ([], drop 1 p)
+  | false ↦ elim (member p) [
+    | None ↦ None
+    | Some m ↦ option_map (λ (r : List Member × List ℕ). (m.0 ∷ r.0, r.1)) (members n false m.1)
+  ]
+]
+
+-- the members of a bracket, read after its `[`, and what is left after its `]`; none if it takes nothing
+abbrev pub bracket : List ℕ → Option (List Member × List ℕ)
+bracket p = members (length p) true (drop (if negates p then 1 else 0) p)

@@ -1,7 +1,8 @@
 -- A row of the table, made of the rows below it: what the code fills.
 use Rattle.std.specs.Prelude.{◌≡◌, ℕ, ◌+◌, Bool, true, false, not, List, [], ◌∷◌, ◌&&◌, ◌||◌, ◌==◌, All, length, get_or, drop, replicate}
 use Rattle.gitconf_glob.specs.Bracket.{lets_in}
-use Rattle.gitconf_glob.specs.Pattern.{Front, Nothing, One, Run, Rest, Folders, takes}
+use Rattle.gitconf_glob.specs.Pattern.{takes}
+use Rattle.gitconf_glob.specs.Cursor.{Front, Nothing, One, Run, Rest, Folders}
 
 -- the row of an element, which takes one byte
 unfoldable pub one_cells : (test : ℕ → Bool) (text : List ℕ) (below : List Bool) → List Bool

@@ -4,7 +4,8 @@ use Rattle.std.specs.Option.{option_map}
 use Rattle.std.specs.Borrow.{Bor}
 use Rattle.gitconf_glob.specs.declared.bracket.Member.{Member}
 use Rattle.gitconf_glob.specs.declared.places.Place.{Place}
-use Rattle.gitconf_glob.specs.Bracket.{has, is_of_any, members, begins_close}
+use Rattle.gitconf_glob.specs.Bracket.{has, is_of_any}
+use Rattle.gitconf_glob.specs.Counted.{members, begins_close}
 use Rattle.gitconf_glob.specs.Rows.{tails}
 
 -- Which bytes of the text the members at the front of a pattern take, as those after a `[`, and how many bytes they have with

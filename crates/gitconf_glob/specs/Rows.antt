@@ -1,6 +1,7 @@
 -- The table of a matcher: which cells its rows have.
 use Rattle.std.specs.Prelude.{◌≡◌, ℕ, zero, suc, ◌+◌, ◌≤◌, Bool, true, false, List, [], ◌∷◌, ◌==◌, All, map, length, get_or, drop}
-use Rattle.gitconf_glob.specs.Pattern.{matches}
+use Rattle.gitconf_glob.specs.Pattern.{fronts, fit}
+use Rattle.gitconf_glob.specs.Cursor.{matches_after}
 
 -- the suffixes of a text, the whole text first and the empty one last
 unfoldable pub tails : List ℕ → List (List ℕ)
@@ -9,7 +10,7 @@ tails (b ∷ text) = (b ∷ text) ∷ tails text
 
 -- a pattern's row: for each suffix of the text, whether the pattern matches it
 abbrev pub cells : (ignore_case fresh : Bool) (pattern text : List ℕ) → List Bool
-cells ignore_case fresh pattern text = map (matches ignore_case 0 fresh pattern) (tails text)
+cells ignore_case fresh pattern text = map (matches_after ignore_case 0 fresh pattern) (tails text)
 
 -- the rows of a pattern's suffixes, the whole pattern's first
 unfoldable pub rows_of : (ignore_case fresh : Bool) (pattern text : List ℕ) → List (List Bool)
@@ -27,4 +28,4 @@ pub record IsTable (ignore_case : Bool) (pattern text : List ℕ) (rows : List (
   pub rows_count : length rows ≡ length pattern + 1
   pub cells_count : All (λ row. length row ≡ length text + 1) rows
   pub cell : (i j : ℕ) → i ≤ length pattern → j ≤ length text
-      → get_or (get_or rows i []) j false ≡ matches ignore_case 0 (is_fresh_at true i pattern) (drop i pattern) (drop j text)
+      → get_or (get_or rows i []) j false ≡ fit ignore_case (fronts (length pattern) (is_fresh_at true i pattern) (drop i pattern)) (drop j text)

@@ -4,7 +4,8 @@ use Rattle.gitconf_glob.specs.declared.front.Element.{Element as Taker}
 use Rattle.gitconf_glob.specs.declared.front.Element.TheVariants as taker
 use Rattle.gitconf_glob.specs.declared.front.Front.{Front as Shape}
 use Rattle.gitconf_glob.specs.declared.front.Front.TheVariants as shape
-use Rattle.gitconf_glob.specs.Pattern.{Element, Literal, AnyByte, Front, Nothing, One, Run, Rest, Folders}
+use Rattle.gitconf_glob.specs.Pattern.{Element, Literal, AnyByte}
+use Rattle.gitconf_glob.specs.Cursor.{Front, Nothing, One, Run, Rest, Folders}
 
 -- the element that the code has read
 abbrev pub element_of : Taker → Element

@@ -1,8 +1,9 @@
 //! Brackets of patterns: members up to a `]`.
 ghost use Rattle.std.specs.Prelude.{◌≡◌, ◌+◌, ◌<◌, ◌≤◌, ◌==◌, ◌&&◌, ◌||◌, ◌∷◌, not, true, length, drop, IfSome};
 ghost use Rattle.gitconf_glob.specs.Bracket as spec;
-ghost use Rattle.gitconf_glob.specs.Bracket.{among};
-ghost use Rattle.gitconf_glob.specs.Pattern.{passed, one_of};
+ghost use Rattle.gitconf_glob.specs.Counted as counted;
+ghost use Rattle.gitconf_glob.specs.Counted.{among};
+ghost use Rattle.gitconf_glob.specs.Cursor.{passed, one_of};
 
 /// A class of bytes that a bracket names, such as `[:alpha:]`.
 #[derive(Clone, Copy, Debug, PartialEq, Eq)]
@@ -136,9 +137,9 @@ pub fn lets_in(negated: bool, among: bool, b: u8) -> bool
 }
 
 /// The offset of the first `]`.
-#[tactic(auto, unfolding(crate::specs::Bracket::close_from))]
+#[tactic(auto, unfolding(crate::specs::Counted::close_from))]
 fn find_close(text: &[u8]) -> Option<usize>
-    ensures { result ≡ spec.close_from 0 text.now }
+    ensures { result ≡ counted.close_from 0 text.now }
 {
     let mut i = 0;
     while i < text.len() {
@@ -152,8 +153,8 @@ fn find_close(text: &[u8]) -> Option<usize>
 
 /// The offset of the first `]`, given its offset when `passed` bytes come before the text.
 fn count_anew(passed: usize, text: &[u8], close: Option<usize>) -> Option<usize>
-    requires { close ≡ spec.close_from passed text.now }
-    ensures { result ≡ spec.close_from 0 text.now }
+    requires { close ≡ counted.close_from passed text.now }
+    ensures { result ≡ counted.close_from 0 text.now }
 {
     match close {
         Some(n) => Some(n - passed),
@@ -163,8 +164,8 @@ fn count_anew(passed: usize, text: &[u8], close: Option<usize>) -> Option<usize>
 
 /// The offset of the first `]` of a byte and a text, given its offset in the text alone.
 pub fn close_with(first: u8, rest: &[u8], behind: Option<usize>) -> Option<usize>
-    requires { behind ≡ spec.close_from 0 rest.now }
-    ensures { result ≡ spec.close_from 0 (first ∷ rest.now) }
+    requires { behind ≡ counted.close_from 0 rest.now }
+    ensures { result ≡ counted.close_from 0 (first ∷ rest.now) }
 {
     if first == b']' {
         return Some(0);
@@ -179,8 +180,8 @@ pub fn close_with(first: u8, rest: &[u8], behind: Option<usize>) -> Option<usize
 /// only if that one is among those bytes.
 fn close_past(text: &[u8], more: usize, close: Option<usize>) -> Option<usize>
     requires within { more ≤ length text.now }
-    requires close { close ≡ spec.close_from 0 text.now }
-    ensures { result ≡ spec.close_from 0 (drop more text.now) }
+    requires close { close ≡ counted.close_from 0 text.now }
+    ensures { result ≡ counted.close_from 0 (drop more text.now) }
 {
     let rest = &text[more..];
     match close {
@@ -197,8 +198,8 @@ fn close_past(text: &[u8], more: usize, close: Option<usize>) -> Option<usize>
 
 /// How many bytes the name between `[:` and `:]` has, read after `[:`; a `:` directly before the first `]` is needed.
 fn name_length(text: &[u8], close: Option<usize>) -> Option<usize>
-    requires { close ≡ spec.close_from 0 text.now }
-    ensures value { result ≡ spec.name_length text.now }
+    requires { close ≡ counted.close_from 0 text.now }
+    ensures value { result ≡ counted.name_length text.now }
     ensures within { IfSome result (λ n. n + 2 ≤ length text.now) }
 {
     match close {
@@ -215,7 +216,7 @@ fn name_length(text: &[u8], close: Option<usize>) -> Option<usize>
 
 /// The byte that comes first, or the one after a backslash; and how many bytes it has after its first one.
 fn literal(text: &[u8]) -> Option<(u8, usize)>
-    ensures value { result ≡ spec.literal text.now }
+    ensures value { result ≡ counted.literal text.now }
     ensures within { IfSome result (λ r. r.1 < length text.now) }
 {
     match text {
@@ -227,7 +228,7 @@ fn literal(text: &[u8]) -> Option<(u8, usize)>
 
 /// Whether a `-` comes first, and after it a byte other than `]`.
 fn goes_on(text: &[u8]) -> bool
-    ensures value { result ≡ spec.goes_on text.now }
+    ensures value { result ≡ counted.goes_on text.now }
 {
     match text {
         [b'-', b, ..] => *b != b']',
@@ -237,7 +238,7 @@ fn goes_on(text: &[u8]) -> bool
 
 /// A byte or a range, and how many bytes it has after its first one.
 fn byte_or_range(text: &[u8]) -> Option<(Member, usize)>
-    ensures value { result ≡ spec.byte_or_range text.now }
+    ensures value { result ≡ counted.byte_or_range text.now }
     ensures within { IfSome result (λ r. r.1 < length text.now) }
 {
     let (low, more) = literal(text)?;
@@ -250,8 +251,8 @@ fn byte_or_range(text: &[u8]) -> Option<(Member, usize)>
 
 /// How many bytes the name of a class has, if a class comes first.
 fn class_length(text: &[u8], close: Option<usize>) -> Option<usize>
-    requires { close ≡ spec.close_from 0 text.now }
-    ensures value { result ≡ spec.class_length text.now }
+    requires { close ≡ counted.close_from 0 text.now }
+    ensures value { result ≡ counted.class_length text.now }
     ensures within { IfSome result (λ n. n + 4 ≤ length text.now) }
 {
     match text {
@@ -262,10 +263,10 @@ fn class_length(text: &[u8], close: Option<usize>) -> Option<usize>
 
 /// The member that comes first, and how many bytes it has after its first one. There is none if a byte is missing, or
 /// for an unknown class. `close` is the offset of the first `]`. It takes a step for each byte of the member.
-#[tactic(auto, unfolding(crate::specs::Bracket::member))]
+#[tactic(auto, unfolding(crate::specs::Counted::member))]
 pub fn read_member(text: &[u8], close: Option<usize>) -> Option<(Member, usize)>
-    requires { close ≡ spec.close_from 0 text.now }
-    ensures value { result ≡ spec.member text.now }
+    requires { close ≡ counted.close_from 0 text.now }
+    ensures value { result ≡ counted.member text.now }
     ensures within { IfSome result (λ r. r.1 < length text.now) }
 {
     match class_length(text, close) {
@@ -279,7 +280,7 @@ pub fn read_member(text: &[u8], close: Option<usize>) -> Option<(Member, usize)>
 
 /// Whether `]` comes first.
 pub fn begins_close(text: &[u8]) -> bool
-    ensures { result ≡ spec.begins_close text.now }
+    ensures { result ≡ counted.begins_close text.now }
 {
     match text {
         [b, ..] => *b == b']',
@@ -296,9 +297,9 @@ fn closes(b: u8, first: bool) -> bool
 
 /// Whether the byte is one of the members that come first, and how many bytes they have with their `]`. There are none
 /// if the bracket takes nothing. Each byte is read once, and once more in the search for the `]` after a class.
-#[tactic(auto, unfolding(crate::specs::Bracket::members))]
+#[tactic(auto, unfolding(crate::specs::Counted::members))]
 fn find_among(ignore_case: bool, text: &[u8], b: u8) -> Option<(bool, usize)>
-    ensures value { result ≡ among ignore_case b (spec.members true 0 text.now) }
+    ensures value { result ≡ among ignore_case b (counted.members true 0 text.now) }
     ensures within { IfSome result (λ r. r.1 ≤ length text.now) }
 {
     let mut close = find_close(text);
@@ -329,7 +330,7 @@ pub fn negates(text: &[u8]) -> bool
 
 /// How many bytes come before the members of a bracket: 1 after `!` or `^`, otherwise 0.
 pub fn members_begin(text: &[u8]) -> usize
-    ensures value { result ≡ spec.members_begin text.now }
+    ensures value { result ≡ counted.members_begin text.now }
     ensures within { result ≤ length text.now }
 {
     if negates(text) { 1 } else { 0 }

@@ -1,6 +1,6 @@
 //! What is at a pattern's front.
 ghost use Rattle.std.specs.Prelude.{◌≡◌, ◌+◌, ◌≤◌, ◌==◌, false, length, IfSome};
-ghost use Rattle.gitconf_glob.specs.Pattern as spec;
+ghost use Rattle.gitconf_glob.specs.Cursor as cursor;
 ghost use Rattle.gitconf_glob.specs.Shapes.{element_of, front_of, FitsIn};
 
 use crate::bracket::bracket_passed;
@@ -50,9 +50,9 @@ impl Element {
 }
 
 /// How many stars come first.
-#[tactic(auto, unfolding(crate::specs::Pattern::stars_from))]
+#[tactic(auto, unfolding(crate::specs::Cursor::stars_from))]
 fn count_stars(text: &[u8]) -> usize
-    ensures value { result ≡ spec.stars_from 0 text.now }
+    ensures value { result ≡ cursor.stars_from 0 text.now }
     ensures within { result ≤ length text.now }
 {
     let mut i = 0;
@@ -64,7 +64,7 @@ fn count_stars(text: &[u8]) -> usize
 
 /// Several stars at the pattern's start or after `/`, with `more` of them after the first one, before `text`.
 fn wide(more: usize, text: &[u8]) -> Front
-    ensures { front_of result ≡ spec.wide more text.now }
+    ensures { front_of result ≡ cursor.wide more text.now }
 {
     match text {
         [] => Front::Rest,
@@ -76,7 +76,7 @@ fn wide(more: usize, text: &[u8]) -> Front
 
 /// Stars, with `text` after the first one.
 fn stars(fresh: bool, text: &[u8]) -> Front
-    ensures value { front_of result ≡ spec.stars fresh text.now }
+    ensures value { front_of result ≡ cursor.stars fresh text.now }
     ensures within { FitsIn (length text.now + 1) (front_of result) }
 {
     let more = count_stars(text);
@@ -89,7 +89,7 @@ fn stars(fresh: bool, text: &[u8]) -> Front
 
 /// What a backslash makes of the text after it: the next byte stands for itself.
 fn escape(text: &[u8]) -> Front
-    ensures value { front_of result ≡ spec.escape text.now }
+    ensures value { front_of result ≡ cursor.escape text.now }
     ensures within { FitsIn (length text.now + 1) (front_of result) }
 {
     match text {
@@ -100,10 +100,10 @@ fn escape(text: &[u8]) -> Front
 
 /// What is at the front of a pattern, unless that is a bracket. The pattern is its first byte and the rest; `fresh` says that it is at the
 /// start of the whole pattern or after `/`.
-#[tactic(auto, unfolding(crate::specs::Pattern::front))]
+#[tactic(auto, unfolding(crate::specs::Cursor::front))]
 pub fn read_front(fresh: bool, first: u8, rest: &[u8]) -> Front
     requires { (first == 91) ≡ false }
-    ensures value { front_of result ≡ spec.front fresh first rest.now }
+    ensures value { front_of result ≡ cursor.front fresh first rest.now }
     ensures within { FitsIn (length rest.now + 1) (front_of result) }
 {
     match first {
@@ -116,9 +116,9 @@ pub fn read_front(fresh: bool, first: u8, rest: &[u8]) -> Front
 
 /// How many bytes the front of a pattern has after its first one, if it takes this one byte of the text. It takes
 /// no memory.
-#[tactic(auto, unfolding(crate::specs::Pattern::front))]
+#[tactic(auto, unfolding(crate::specs::Cursor::front))]
 pub fn front_passed(ignore_case: bool, first: u8, rest: &[u8], b: u8) -> Option<usize>
-    ensures value { result ≡ spec.passed ignore_case (spec.front false first rest.now) b }
+    ensures value { result ≡ cursor.passed ignore_case (cursor.front false first rest.now) b }
     ensures within { IfSome result (λ n. n ≤ length rest.now) }
 {
     if first == b'[' {

@@ -1,6 +1,7 @@
 //! Whether a text matches a pattern.
 ghost use Rattle.std.specs.Prelude.{◌≡◌, true, IfOk};
 ghost use Rattle.gitconf_glob.specs.Pattern.{matches};
+ghost use Rattle.gitconf_glob.specs.Cursor.{matches_after};
 
 use crate::front::front_passed;
 use crate::table::{first_cell, is_fresh_at, rows_of};
@@ -15,7 +16,7 @@ fn matches_by_rows(
     text: &[u8],
     ignore_case: bool,
 ) -> Result<bool, NoMemory>
-    ensures { IfOk result (λ it. it ≡ matches ignore_case 0 fresh pattern.now text.now) }
+    ensures { IfOk result (λ it. it ≡ matches_after ignore_case 0 fresh pattern.now text.now) }
 {
     let rows = rows_of(alloc, fresh, pattern, text, ignore_case)?;
     Ok(first_cell(&rows))
@@ -37,7 +38,7 @@ pub fn wildmatch(
     text: &[u8],
     ignore_case: bool,
 ) -> Result<bool, NoMemory>
-    ensures { IfOk result (λ it. it ≡ matches ignore_case 0 true pattern.now text.now) }
+    ensures { IfOk result (λ it. it ≡ matches ignore_case pattern.now text.now) }
 {
     let mut i = 0;
     let mut j = 0;

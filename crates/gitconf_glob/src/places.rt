@@ -1,6 +1,6 @@
 //! What brackets take of a text, for each place of a pattern, from the last place to the first.
 ghost use Rattle.std.specs.Prelude.{◌≡◌, ◌+◌, ◌<◌, ◌^◌, ℕ, Bool, List, false, None, length, drop, get_or, map, replicate, IfOk, IfSome};
-ghost use Rattle.gitconf_glob.specs.Bracket as spec;
+ghost use Rattle.gitconf_glob.specs.Counted as counted;
 ghost use Rattle.gitconf_glob.specs.Places.{told, all_known, told_behind, with_member, joined, shown, lent};
 
 use crate::bracket::{Member, begins_close, close_with, either, read_member};
@@ -100,7 +100,7 @@ fn tell_place(
     close: Option<usize>,
     below: &[Option<Place>],
 ) -> Result<Option<Place>, NoMemory>
-    requires close { close ≡ spec.close_from 0 pattern.now }
+    requires close { close ≡ counted.close_from 0 pattern.now }
     requires below { map shown below.now ≡ all_known ignore_case text.now (drop 1 pattern.now) }
     ensures { IfOk result (λ place. shown place ≡ told ignore_case text.now pattern.now) }
 {

@@ -1,6 +1,7 @@
 //! The table of a matcher: for each suffix of a pattern and each suffix of a text, whether the one matches the other.
 ghost use Rattle.std.specs.Prelude.{◌≡◌, ◌+◌, ◌≤◌, ◌<◌, ◌==◌, ◌&&◌, ◌||◌, not, false, [], ◌∷◌, length, replicate, map, vec_items, get_or, IfOk};
 ghost use Rattle.gitconf_glob.specs.Pattern as spec;
+ghost use Rattle.gitconf_glob.specs.Cursor as cursor;
 ghost use Rattle.gitconf_glob.specs.Rows.{cells, rows_of, is_fresh_at, IsTable};
 ghost use Rattle.gitconf_glob.specs.Bracket.{lets_in};
 ghost use Rattle.gitconf_glob.specs.Places.{all_known, shown};
@@ -193,7 +194,7 @@ fn bracket_row(
     requires places { map shown places.now ≡ all_known ignore_case text.now rest.now }
     requires count { length below.now ≡ length rest.now + 1 }
     requires long { AreLong text.now (map vec_items below.now) }
-    ensures { IfOk result (λ row. row.items ≡ cells_at ignore_case (spec.one_of rest.now) text.now (map vec_items below.now)) }
+    ensures { IfOk result (λ row. row.items ≡ cells_at ignore_case (cursor.one_of rest.now) text.now (map vec_items below.now)) }
 {
     let begin = members_begin(rest);
     match place_at(places, begin) {

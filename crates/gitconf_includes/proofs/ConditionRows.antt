@@ -4,7 +4,7 @@ use lib.Utf8.{encode}
 use Rattle.std.specs.Prelude.{codes}
 use Rattle.std.specs.Str.{is_utf8, chars, bytes_eq}
 use Rattle.gitconf_base.specs.Metadata.{Meta}
-use Rattle.gitconf_glob.specs.Pattern.{stars_from, front, run, matches}
+use Rattle.gitconf_glob.specs.Pattern.{front, fronts, run, fit, matches}
 use Rattle.gitconf_values.specs.Paths.{trimmed_length, last_slash}
 use Rattle.gitconf_includes.specs.Conditions.{holds}
 use Rattle.gitconf_includes.specs.Rules.{Rules}
@@ -18,14 +18,14 @@ abbrev held : Rules → Meta → List ℕ → Result Bool ℕ
 held rules from condition = holds rules from has_url condition
 
 pub branch_below : held (on_branch (codes "refs/heads/feat/a")) of_none (codes "onbranch:feat/") ≡ Ok true
-unfolding stars_from front run matches
+unfolding front fronts run fit matches
 branch_below = refl
 
 pub no_head : held (on_branch (codes "refs/tags/feat/a")) of_none (codes "onbranch:feat/") ≡ Ok false
 no_head = refl
 
 pub full_name : held (on_branch (codes "refs/heads/main")) of_none (codes "onbranch:refs/heads/main") ≡ Ok false
-unfolding front matches
+unfolding front fronts fit matches
 full_name = refl
 
 pub no_branch : held strict of_none (codes "onbranch:**") ≡ Ok false
@@ -35,19 +35,19 @@ pub kind_in_upper_case : held (on_branch (codes "refs/heads/main")) of_none (cod
 kind_in_upper_case = refl
 
 pub anywhere_below : held (in_repository loose (codes "/a/work/r/.git") None) of_none (codes "gitdir:work/") ≡ Ok true
-unfolding is_utf8 chars encode stars_from front run matches
+unfolding is_utf8 chars encode front fronts run fit matches
 anywhere_below = refl
 
 pub in_this_folder : held (in_repository loose (codes "/d/r/.git") None) (of_file (codes "/d/m")) (codes "gitdir:./r/") ≡ Ok true
-unfolding is_utf8 chars encode trimmed_length last_slash stars_from front run matches
+unfolding is_utf8 chars encode trimmed_length last_slash front fronts run fit matches
 in_this_folder = refl
 
 pub in_another_folder : held (in_repository loose (codes "/e/r/.git") (Some (codes "/e/r/.git"))) (of_file (codes "/d/m")) (codes "gitdir:./r/") ≡ Ok false
-unfolding is_utf8 chars encode trimmed_length last_slash stars_from front run matches
+unfolding is_utf8 chars encode trimmed_length last_slash front fronts run fit matches
 in_another_folder = refl
 
 pub below_a_bare_name : held (in_repository loose (codes "/r") None) (of_file (codes "m")) (codes "gitdir:./r") ≡ Ok true
-unfolding is_utf8 chars encode trimmed_length last_slash stars_from front run matches
+unfolding is_utf8 chars encode trimmed_length last_slash front fronts run fit matches
 below_a_bare_name = refl
 
 pub below_no_file : held (in_repository loose (codes "/d/r") None) of_none (codes "gitdir:./r") ≡ Err 16
@@ -59,23 +59,23 @@ unfolding is_utf8 chars encode
 below_no_file_left_out = refl
 
 pub below_the_home_folder : held (in_repository loose (codes "/h/work/r") None) of_none (codes "gitdir:~/work/") ≡ Ok true
-unfolding is_utf8 chars encode trimmed_length stars_from front run matches
+unfolding is_utf8 chars encode trimmed_length front fronts run fit matches
 below_the_home_folder = refl
 
 pub with_case : held (in_repository loose (codes "/A") (Some (codes "/A"))) of_none (codes "gitdir:/a") ≡ Ok false
-unfolding is_utf8 chars encode front matches
+unfolding is_utf8 chars encode front fronts fit matches
 with_case = refl
 
 pub without_case : held (in_repository loose (codes "/A") None) of_none (codes "gitdir/i:/a") ≡ Ok true
-unfolding is_utf8 chars encode front matches
+unfolding is_utf8 chars encode front fronts fit matches
 without_case = refl
 
 pub resolved : held (in_repository loose (codes "/link") (Some (codes "/r"))) of_none (codes "gitdir:/r") ≡ Ok true
-unfolding is_utf8 chars encode front matches
+unfolding is_utf8 chars encode front fronts fit matches
 resolved = refl
 
 pub not_resolved : held (in_repository loose (codes "/link") None) of_none (codes "gitdir:/r") ≡ Err 18
-unfolding is_utf8 chars encode front matches
+unfolding is_utf8 chars encode front fronts fit matches
 not_resolved = refl
 
 pub no_git_folder : held loose of_none (codes "gitdir:/r") ≡ Ok false

@@ -53,8 +53,8 @@ IsPattern = Tells (λ pattern. pattern.items)
 
 -- the folder matches as it is given, or else with its symbolic links resolved
 abbrev pub matches_folder : (ignore_case : Bool) → (pattern : List ℕ) → GitFolder → Result Bool ℕ
-matches_folder ignore_case pattern git = if matches ignore_case 0 true pattern git.path then Ok true else
-    elim git.real [ None ↦ Err 18 | Some real ↦ Ok (matches ignore_case 0 true pattern real) ]
+matches_folder ignore_case pattern git = if matches ignore_case pattern git.path then Ok true else
+    elim git.real [ None ↦ Err 18 | Some real ↦ Ok (matches ignore_case pattern real) ]
 
 -- whether the folder matches, unless the pattern is left out
 abbrev pub holds_in : (ignore_case : Bool) → GitFolder → Result (Option (List ℕ)) ℕ → Result Bool ℕ
@@ -73,7 +73,7 @@ holds_gitdir ignore_case rules from pattern = elim rules.git_dir [
 abbrev pub holds_branch : Rules → (pattern : List ℕ) → Bool
 holds_branch rules pattern = elim (option_and_then (behind (codes "refs/heads/")) rules.branch) [
   | None ↦ false
-  | Some short ↦ matches false 0 true (deep pattern) short
+  | Some short ↦ matches false (deep pattern) short
 ]
 
 -- the condition on the urls of remotes; `has_url` says whether some url matches a pattern

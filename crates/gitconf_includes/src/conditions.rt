@@ -208,7 +208,7 @@ fn holds_gitdir(
 
 /// Whether a branch matches, by its name after `refs/heads/`.
 fn matches_branch(alloc: Global, pattern: &[u8], short: &[u8]) -> Result<bool, NoMemory>
-    ensures { IfOk result (λ it. it ≡ matches false 0 true (spec.deep pattern.now) short.now) }
+    ensures { IfOk result (λ it. it ≡ matches false (spec.deep pattern.now) short.now) }
 {
     if !ends_slash(pattern) {
         return wildmatch(alloc, pattern, short, false);

@@ -16,24 +16,24 @@ pub any_remote : (pattern : List ℕ) (state : State) → list_any (has_url_in p
 any_remote pattern state = go state.sections
   where
     p : List ℕ → Bool
-    p = matches false 0 true pattern
+    p = matches false pattern
 
     go : (ss : List SectionState) → list_any (has_url_in pattern) (with_name (codes "remote") ss)
-        ≡ list_any (matches false 0 true pattern) (map meaning (flat_map (entries_of_key (codes "url")) (filter (has_name (codes "remote")) (map listing ss))))
+        ≡ list_any (matches false pattern) (map meaning (flat_map (entries_of_key (codes "url")) (filter (has_name (codes "remote")) (map listing ss))))
     go [] = refl
     go (s ∷ ss) = one (has_name (codes "remote") (listing s)) refl (go ss)
       where
         one : (b : Bool) → has_name (codes "remote") (listing s) ≡ b
             → list_any (has_url_in pattern) (with_name (codes "remote") ss)
-            ≡ list_any (matches false 0 true pattern) (map meaning (flat_map (entries_of_key (codes "url")) (filter (has_name (codes "remote")) (map listing ss))))
+            ≡ list_any (matches false pattern) (map meaning (flat_map (entries_of_key (codes "url")) (filter (has_name (codes "remote")) (map listing ss))))
             → list_any (has_url_in pattern) (with_name (codes "remote") (s ∷ ss))
-            ≡ list_any (matches false 0 true pattern) (map meaning (flat_map (entries_of_key (codes "url")) (filter (has_name (codes "remote")) (map listing (s ∷ ss)))))
+            ≡ list_any (matches false pattern) (map meaning (flat_map (entries_of_key (codes "url")) (filter (has_name (codes "remote")) (map listing (s ∷ ss)))))
         one false is later = rw is later
         one true is later = rw is
             (ap (λ b. has_url_in pattern s || b) later
-            ∙ sym (list_any-append (matches false 0 true pattern) (map meaning (entries_of_key (codes "url") (listing s)))
+            ∙ sym (list_any-append (matches false pattern) (map meaning (entries_of_key (codes "url") (listing s)))
             (map meaning (flat_map (entries_of_key (codes "url")) (filter (has_name (codes "remote")) (map listing ss)))))
-            ∙ sym (ap (list_any (matches false 0 true pattern)) (map-append meaning (entries_of_key (codes "url") (listing s)) (flat_map (entries_of_key (codes "url")) (filter (has_name (codes "remote")) (map listing ss))))))
+            ∙ sym (ap (list_any (matches false pattern)) (map-append meaning (entries_of_key (codes "url") (listing s)) (flat_map (entries_of_key (codes "url")) (filter (has_name (codes "remote")) (map listing ss))))))
 
 -- a list without a first element is empty
 pub none_left : {A : Type 0} (xs : List A) → slice_get xs 0 ≡ None → xs ≡ []

@@ -7,4 +7,4 @@ use Rattle.gitconf_state.specs.State.{SectionState}
 
 -- whether a value of `url` matches a pattern
 abbrev pub has_url_in : (pattern : List ℕ) → SectionState → Bool
-has_url_in pattern s = list_any (matches false 0 true pattern) (map meaning (entries_of_key (codes "url") (listing s)))
+has_url_in pattern s = list_any (matches false pattern) (map meaning (entries_of_key (codes "url") (listing s)))

@@ -22,19 +22,8 @@ impl Store {
     pub fn section_by_id(&self, id: SectionId) -> Option<SectionRef<'_>>
         ensures { option_map shown result ≡ numbered id self.now }
     {
-        // The contract of `next_id` says that no number was given twice.
-        prove!(self.sections.next_id() == self.sections.next_id());
         match self.sections.get(id) {
-            Some(section) => Some(SectionRef {
-                alloc: section.alloc,
-                buffer: &self.buffer,
-                copies: &self.copies,
-                id,
-                header: section.header,
-                meta: section.meta,
-                items: section.items,
-                held: section.held,
-            }),
+            Some(section) => Some(SectionRef::of_row(&self.buffer, &self.copies, id, section)),
             None => None,
         }
     }

@@ -1,5 +1,5 @@
 use Rattle.std.proofs.Common.{◌∙◌, sym, ap, rules}
-use Rattle.gitconf_glob.specs.Bracket.{close_from}
+use Rattle.gitconf_glob.specs.Counted.{close_from}
 use Rattle.gitconf_glob.proofs.Closing.{close_of_name}
 use Rattle.gitconf_glob.proofs.RowLemmas.{rest_is}
 use Rattle.gitconf_glob.proofs.bracket.class_length.Goals as goal

@@ -1,5 +1,5 @@
 use Rattle.std.proofs.Common.{◌≡◌, ℕ, ◌+◌, drop, ◌∙◌, sym, ap, arith}
-use Rattle.gitconf_glob.specs.Bracket.{close_from}
+use Rattle.gitconf_glob.specs.Counted.{close_from}
 use Rattle.gitconf_glob.proofs.Closing.{close_behind, none_behind}
 use Rattle.gitconf_glob.proofs.RowLemmas.{rest_is}
 use Rattle.gitconf_glob.proofs.bracket.close_past.Goals as goal

@@ -1,7 +1,7 @@
 use Rattle.std.proofs.Common.{◌≡◌, ℕ, ◌+◌, ◌<◌, ◌∙◌, false, get_or, refl, sym, ap, subst, arith, length, drop, rules}
 use Rattle.std.specs.Prelude.{◌&&◌, ◌==◌, not}
 use Rattle.std.proofs.lemmas.List.{length-drop, drop-drop, get_or-drop}
-use Rattle.gitconf_glob.specs.Bracket.{close_from, member, members, among}
+use Rattle.gitconf_glob.specs.Counted.{close_from, member, members, among}
 use Rattle.gitconf_glob.proofs.RowLemmas.{rest_is}
 use Rattle.gitconf_glob.proofs.Members.{among_so_far, one_so_far}
 use Rattle.gitconf_glob.proofs.bracket.find_among.Goals as goal
@@ -21,7 +21,7 @@ loop-i-preserved c =
           ∙ one_so_far c.args.ignore_case c.loop-i.has c.either-has.result c.args.b c.loop-i.i (c.loop-i.i + (more + 1)) more (c.loop-i.i == 0) (drop c.loop-i.i c.args.text.now) c.in_ok-member.member
           (omega (arith, long, c.loop-i-test.true))
           (ap (λ x. x == 93 && not (c.loop-i.i == 0)) (get_or-drop c.loop-i.i c.args.text.now 0 0 ∙ ap (λ k. get_or c.args.text.now k 0) (omega arith)) ∙ sym c.closes.ensures ∙ c.if-closes.false)
-          (ap member (sym rest) ∙ sym c.in_ok-member.ensures.value) small (c.either-has.ensures ∙ search rules) refl
+          (ap member (sym rest) ∙ sym c.in_ok-member.ensures.value) (c.either-has.ensures ∙ search rules) refl
           ∙ c.loop-i.invariant.same;
     }
   where

@@ -1,6 +1,6 @@
 use Rattle.std.proofs.Common.{◌≡◌, ◌≤◌, ◌-◌, true, drop, length}
 use Rattle.std.specs.Prelude.{◌==◌}
-use Rattle.gitconf_glob.specs.Bracket.{close_from, members, among}
+use Rattle.gitconf_glob.specs.Counted.{close_from, members, among}
 use Rattle.gitconf_glob.proofs.Members.{among_so_far}
 use Rattle.gitconf_glob.proofs.bracket.find_among.Given as goal
 

@@ -1,5 +1,5 @@
 use Rattle.std.proofs.Common.{◌≡◌, ◌≤◌, ◌-◌, drop, length}
-use Rattle.gitconf_glob.specs.Bracket.{close_from}
+use Rattle.gitconf_glob.specs.Counted.{close_from}
 use Rattle.gitconf_glob.proofs.bracket.find_close.Given as goal
 
 abbrev pub invariant-loop-i : goal.invariant-loop-i

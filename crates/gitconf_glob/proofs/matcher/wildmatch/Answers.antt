@@ -3,7 +3,15 @@ use Rattle.std.proofs.lemmas.List.{length-drop, drop_all}
 use Rattle.gitconf_glob.proofs.Closing.{other_byte}
 use Rattle.gitconf_glob.proofs.RowLemmas.{rest_is, at_end}
 use Rattle.gitconf_glob.proofs.Passing.{text_ends, front_stops, front_goes_on}
+use Rattle.gitconf_glob.proofs.Cutting.{matches_is}
 use Rattle.gitconf_glob.proofs.matcher.wildmatch.Goals as goal
+
+pub loop-i-init : goal.loop-i-init
+loop-i-init c = record {
+  pattern_within = omega arith;
+  text_within = omega arith;
+  same = matches_is c.args.ignore_case c.args.pattern.now c.args.text.now;
+}
 
 pub returns-then-j-text : goal.returns-then-j-text
 returns-then-j-text c =
@@ -26,7 +34,7 @@ loop-i-preserved c =
       pattern_within = omega (arith, small, c.loop-i-test.true, length-drop (c.loop-i.i + 1) c.args.pattern.now);
       text_within = omega (arith, text_within);
       same = sym (front_goes_on c.args.ignore_case c.args.pattern.now c.args.text.now _ c.loop-i.i c.loop-i.j c.in-Some.more c.loop-i-test.true text_within
-          (other_byte _ 42 c.if-pattern-i-eq42.false) rest (sym c.in-Some.ensures.value) c.in-Some.ensures.within)
+          (other_byte _ 42 c.if-pattern-i-eq42.false) rest (sym c.in-Some.ensures.value))
           ∙ c.loop-i.invariant.same;
     }
 

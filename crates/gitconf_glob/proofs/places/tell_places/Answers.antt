@@ -1,7 +1,7 @@
 use Rattle.std.proofs.Common.{◌+◌, ◌-◌, ◌∷◌, ◌∙◌, get_or, ap, sym, refl, arith, length, drop, length-set, map}
 use Rattle.std.proofs.Math.Seq.{drop-length}
 use Rattle.std.proofs.lemmas.List.{drop_more, length-replicate}
-use Rattle.gitconf_glob.specs.Bracket.{close_from}
+use Rattle.gitconf_glob.specs.Counted.{close_from}
 use Rattle.gitconf_glob.specs.Places.{told, shown}
 use Rattle.gitconf_glob.proofs.RowLemmas.{rest_is}
 use Rattle.gitconf_glob.proofs.Telling.{last_told, told_filled}

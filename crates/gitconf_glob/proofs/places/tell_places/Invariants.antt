@@ -1,5 +1,5 @@
 use Rattle.std.proofs.Common.{◌≡◌, ◌≤◌, ◌+◌, drop, length, map}
-use Rattle.gitconf_glob.specs.Bracket.{close_from}
+use Rattle.gitconf_glob.specs.Counted.{close_from}
 use Rattle.gitconf_glob.specs.Places.{all_known, shown}
 use Rattle.gitconf_glob.proofs.places.tell_places.Given as goal
 

@@ -2,7 +2,7 @@ use Rattle.std.proofs.Common.{◌≡◌, sym, subst}
 use Rattle.std.specs.Prelude.{IfOk, map, vec_items}
 use Rattle.gitconf_glob.specs.Shapes.{front_of, FitsIn}
 use Rattle.gitconf_glob.specs.Cells.{AreLong}
-use Rattle.gitconf_glob.specs.Pattern.{one_of}
+use Rattle.gitconf_glob.specs.Cursor.{one_of}
 use Rattle.gitconf_glob.proofs.RowLemmas.{below_count, rows_long, row_from}
 use Rattle.gitconf_glob.proofs.Telling.{bracket_front, bracket_fits}
 use Rattle.gitconf_glob.proofs.table.pattern_row.Goals as goal

@@ -11,5 +11,5 @@ abbrev pub invariant-loop-url : goal.invariant-loop-url
 invariant-loop-url l = record {
   can_next : (goal.iterator-loop-url).can_next l.url-iterator;
   is_finite : (goal.iterator-loop-url).is_finite l.url-iterator;
-  found : list_any (matches false 0 true l.pattern) (map bstring_bytes (into_iter_items l.url-iterator)) ≡ has_url_in l.pattern (shown l.section);
+  found : list_any (matches false l.pattern) (map bstring_bytes (into_iter_items l.url-iterator)) ≡ has_url_in l.pattern (shown l.section);
 }

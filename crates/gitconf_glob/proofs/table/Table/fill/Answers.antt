@@ -1,4 +1,4 @@
-use Rattle.gitconf_glob.proofs.RowLemmas.{table_is}
+use Rattle.gitconf_glob.proofs.Cutting.{table_is}
 use Rattle.gitconf_glob.proofs.table.Table.fill.Goals as goal
 
 pub returns : goal.returns
