@@ -14,10 +14,9 @@ returns-clause-filtered g c = record {
     c.last_passing.ensures.exact keeps h ∙ ap (λ ss. last_or None (passing keeps ss)) c.sections_named-sections.ensures,
   );
   some =
-      let found = c.last_passing.ensures.some in (
-        c.in_ok-check_named.ensures,
-        with_some_named c.args.name.now (option_copied c.args.subsection_name) c.args.self.now
-            (λ sections. option_map shown c.last_passing.result ≡ last_or None (passing (λ _. true) sections))
-            (found.0, subst (λ sections. AreSome sections found.0) c.sections_named-sections.ensures found.1, found.2),
-      );
+      let found = c.last_passing.ensures.some in
+      let told = with_some_named c.args.name.now (option_copied c.args.subsection_name) c.args.self.now
+      (λ sections. option_map shown c.last_passing.result ≡ last_or None (passing (λ _. true) sections))
+      (found.0, subst (λ sections. AreSome sections found.0) c.sections_named-sections.ensures found.1, found.2) in
+      (told.0, told.1, (c.in_ok-check_named.ensures, told.2));
 }
