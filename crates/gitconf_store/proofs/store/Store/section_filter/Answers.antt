@@ -24,8 +24,11 @@ returns-in_err-check_named-clause-filtered g c =
     let m : IfErr c.from_residual.result (IsMissing c.args.name.now (option_copied c.args.subsection_name) c.args.self.now) = search rules in
     record {
       exact = λ keeps h. missing c.args.name.now (option_copied c.args.subsection_name) c.args.self.now c.args.self.now keeps c.from_residual.result c.from_residual.ensures.0 m;
-      some = ([], none_of c.args.self.now.sections, 
-        missing c.args.name.now (option_copied c.args.subsection_name) c.args.self.now (with_sections [] c.args.self.now) (λ _. true) c.from_residual.result c.from_residual.ensures.0 m);
+      some = (
+        [],
+        none_of c.args.self.now.sections,
+        missing c.args.name.now (option_copied c.args.subsection_name) c.args.self.now (with_sections [] c.args.self.now) (λ _. true) c.from_residual.result c.from_residual.ensures.0 m,
+      );
     }
 
 pub returns-clause-filtered : goal.returns-clause-filtered
