@@ -31,8 +31,8 @@ use Rattle.gitconf_finding.specs.declared.existing.Error.TheVariants as errors
 use Rattle.gitconf_finding.specs.Lookups.{miss_at, sections_named}
 use Rattle.gitconf_finding.specs.Misses.{missing}
 use Rattle.gitconf_finding.specs.Picks.{HasSection, IsMissing}
-use Rattle.gitconf_finding.specs.SomeSections.{AreSome}
-use Rattle.gitconf_finding.specs.ValuePlaces.{AreAll, AreInOrder, ArePlaces, AreSomeValuePlaces, AreValuePlaces, IsPlace, IsRefused, IsSomeValuePlace, all_stand, all_value_places, key_places, editor_of_numbered, item_meaning, last_value_place, meaning_at, places_among, refusal_of, value_place, value_places}
+use Rattle.gitconf_finding.specs.SomeSections.{AreSome, WithSome}
+use Rattle.gitconf_finding.specs.ValuePlaces.{AreAll, AreInOrder, ArePlaces, AreValuePlaces, IsPlace, IsRefused, all_stand, all_value_places, key_places, editor_of_numbered, item_meaning, last_value_place, meaning_at, places_among, refusal_of, value_place, value_places}
 use Rattle.gitconf_finding.specs.Walks.{passing}
 use Rattle.gitconf_finding.proofs.Placing.{IsTaken}
 use Rattle.gitconf_finding.proofs.SectionsKept.{any_listed, none_kept}
@@ -314,7 +314,7 @@ refused_placed key keeps state (Ok place) fault m = absurd (cc)
 refused_placed key keeps state (Err refusal) fault m = missing_placed key keeps state state refusal m.0 m
 
 pub refused_anyway : (key : Key) (state : State) (result : Result (ℕ × ℕ) Error) → IsErr result → IfErr result (IsMissing key.section key.subsection state)
-    → IsSomeValuePlace key state result
+    → WithSome (λ s. IsPlace key state (value_place key (λ _. true) s) result) state
 refused_anyway key state (Ok place) fault m = absurd (cc)
 refused_anyway key state (Err refusal) fault m = ([], none_of state.sections, missing_placed key (λ _. true) (with_sections [] state) state refusal refl m)
 
@@ -347,7 +347,7 @@ missing_places {Z} key keeps state (Err refusal) fault m =
     (inr (none_placed key keeps state m.0), m.1 ∙ missing_refusal key.section key.subsection (listed state) (is_value_name key.name) m.0)
 
 pub missing_anyway : {Z : Type 0} (key : Key) (state : State) (result : Result (Vec (ℕ × ℕ) Z) Error) → IsErr result
-    → IfErr result (IsMissing key.section key.subsection state) → AreSomeValuePlaces key state result
+    → IfErr result (IsMissing key.section key.subsection state) → WithSome (λ s. ArePlaces key state (key_places key (λ _. true) s) result) state
 missing_anyway {Z} key state (Ok places) fault m = absurd (cc)
 missing_anyway {Z} key state (Err refusal) fault m = (
   [],

@@ -31,10 +31,10 @@ abbrev pub IsSection : (name : List ℕ) → (subsection : Option (List ℕ)) �
 IsSection name subsection state (Ok found) = picked name subsection (λ _. true) state ≡ Some (shown found)
 IsSection name subsection state (Err refusal) = IsMissing name subsection state refusal
 
--- the last section that passes, nothing if there are some and none passes, or what is missing
-abbrev pub IsPassingSection : (name : List ℕ) → (subsection : Option (List ℕ)) → (keeps : Meta → Bool) → State → Result (Option SectionRef) Error → Type 0
-IsPassingSection name subsection keeps state (Ok found) = HasSection name subsection state × (option_map shown found ≡ picked name subsection keeps state)
-IsPassingSection name subsection keeps state (Err refusal) = IsMissing name subsection state refusal
+-- the last of some sections that passes, nothing if none passes, or what is missing in the whole state
+abbrev pub IsPassingSection : (name : List ℕ) → (subsection : Option (List ℕ)) → (whole : State) → (keeps : Meta → Bool) → (some : State) → Result (Option SectionRef) Error → Type 0
+IsPassingSection name subsection whole keeps some (Ok found) = HasSection name subsection whole × (option_map shown found ≡ picked name subsection keeps some)
+IsPassingSection name subsection whole keeps some (Err refusal) = IsMissing name subsection whole refusal
 
 -- the same by a section's key; refusal 9 for a text that is not a key
 abbrev pub IsSectionOfKey : Option SectionKey → State → Result SectionRef Error → Type 0
@@ -42,6 +42,6 @@ IsSectionOfKey None state result = result ≡ Err KeyMissing
 IsSectionOfKey (Some key) state result = IsSection key.section key.subsection state result
 
 -- the same with a filter; refusal 9 for a text that is not a key
-abbrev pub IsPassingSectionOfKey : Option SectionKey → (keeps : Meta → Bool) → State → Result (Option SectionRef) Error → Type 0
-IsPassingSectionOfKey None keeps state result = result ≡ Err KeyMissing
-IsPassingSectionOfKey (Some key) keeps state result = IsPassingSection key.section key.subsection keeps state result
+abbrev pub IsPassingSectionOfKey : Option SectionKey → (whole : State) → (keeps : Meta → Bool) → (some : State) → Result (Option SectionRef) Error → Type 0
+IsPassingSectionOfKey None whole keeps some result = result ≡ Err KeyMissing
+IsPassingSectionOfKey (Some key) whole keeps some result = IsPassingSection key.section key.subsection whole keeps some result

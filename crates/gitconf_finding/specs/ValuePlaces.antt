@@ -18,7 +18,6 @@ use Rattle.gitconf_state.specs.State.{SectionState, State}
 use Rattle.gitconf_finding.specs.declared.existing.Error.{Error}
 use Rattle.gitconf_finding.specs.declared.existing.Error.TheVariants.{SectionMissing, SubSectionMissing, KeyMissing, ValueName, Memory}
 use Rattle.gitconf_finding.specs.Lookups.{miss_at, sections_named}
-use Rattle.gitconf_finding.specs.SomeSections.{WithSome}
 use Rattle.gitconf_finding.specs.Walks.{passing}
 pub use Rattle.gitconf_views.specs.ItemMeanings.{item_meaning, meaning_at}
 
@@ -68,10 +67,6 @@ IsPlace key state place (Err refusal) = IsRefused key state (place ≡ None) ref
 abbrev pub IsValuePlace : Key → (keeps : Meta → Bool) → State → Result (ℕ × ℕ) Error → Type 0
 IsValuePlace key keeps state result = IsPlace key state (value_place key keeps state) result
 
--- the same, for any filter: it is the place in a state with some of the sections
-abbrev pub IsSomeValuePlace : Key → State → Result (ℕ × ℕ) Error → Type 0
-IsSomeValuePlace key state result = WithSome (λ s. IsPlace key state (value_place key (λ _. true) s) result) state
-
 -- the order of an editor of several values: by the number of the section, then by the place in it
 abbrev pub by_number : ℕ × ℕ → ℕ × ℕ → Ordering
 by_number p q = ordering_then (nat_cmp p.0 q.0) (nat_cmp p.1 q.1)
@@ -96,10 +91,6 @@ ArePlaces key state places (Err refusal) = IsRefused key state (places ≡ []) r
 -- the results are the places of an editor of several values, or why there are none
 abbrev pub AreValuePlaces : {Z : Type 0} → Key → (keeps : Meta → Bool) → State → Result (Vec (ℕ × ℕ) Z) Error → Type 0
 AreValuePlaces key keeps state result = ArePlaces key state (key_places key keeps state) result
-
--- the same, for any filter: they are the places in a state with some of the sections
-abbrev pub AreSomeValuePlaces : {Z : Type 0} → Key → State → Result (Vec (ℕ × ℕ) Z) Error → Type 0
-AreSomeValuePlaces key state result = WithSome (λ s. ArePlaces key state (key_places key (λ _. true) s) result) state
 
 -- the section of each place exists
 abbrev pub all_stand : List (ℕ × ℕ) → State → Bool

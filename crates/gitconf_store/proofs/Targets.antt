@@ -1,5 +1,5 @@
 -- The last section of a name and subsection that passes: its place is that of its number.
-use Rattle.std.proofs.Common.{◌≡◌, ◌⊎◌, inl, inr, ℕ, ◌+◌, ◌==◌, ◌<◌, Bool, true, false, nat_lt, List, [], ◌∷◌, ◌++◌, length, map, Option, Some, None, refl, ap, sym, subst, ◌∙◌, arith}
+use Rattle.std.proofs.Common.{◌≡◌, ◌⊎◌, inl, inr, ℕ, ◌+◌, ◌==◌, Bool, true, false, nat_lt, List, [], ◌∷◌, ◌++◌, length, map, Option, Some, None, refl, ap, sym, subst, ◌∙◌, arith}
 use Rattle.std.specs.List.{list_any, last_or, position_or_len, AllByRecursion}
 use Rattle.std.specs.Option.{option_map}
 use Rattle.std.specs.Prelude.{filter, position, slice_get, IfSome}
@@ -23,12 +23,7 @@ parts_fit : {A : Type 0} (P : A → Type 0) (before : List A) (x : A) (behind : 
 parts_fit P [] x behind all = all
 parts_fit P (y ∷ before) x behind all = parts_fit P before x behind all.1
 
--- a number is below the next one, and has one place
-number_below : (next : ℕ) (before : List (SectionEntry Section)) (found : SectionEntry Section) (behind : List (SectionEntry Section)) → AreNumbered next (before ++ found ∷ behind)
-    → found.number < next
-number_below next [] found behind once = once.0
-number_below next (e ∷ before) found behind once = number_below next before found behind once.2
-
+-- a number has one place
 place_before : (next : ℕ) (before : List (SectionEntry Section)) (found : SectionEntry Section) (behind : List (SectionEntry Section)) → AreNumbered next (before ++ found ∷ behind)
     → position_or_len (has_number found.number) (before ++ found ∷ behind) ≡ length before
 place_before next [] found behind once = rw (eq-eqb found.number found.number refl) refl
@@ -106,11 +101,6 @@ module _ (b name : List ℕ) (subsection : Option (List ℕ)) (next : ℕ) (es :
     | inl none ↦ absurd (cc)
     | inr has ↦ (in_kept (λ _. true) some s has).0
   ]))
-
-  pub target_below : AreNumbered next es → AreSome (filter named (map (section_state b) es)) some → Some s ≡ last_or None (passing (λ _. true) some) → s.number < next
-  target_below once are is =
-      let h = held b es s (in_names are is).0 in
-      subst (λ (t : SectionState). t.number < next) h.shown (number_below next h.before h.found h.behind (subst (AreNumbered next) h.is once))
 
   pub target_named : (place : Option ℕ) → AreNumbered next es → AreSome (filter named (map (section_state b) es)) some → Some s ≡ last_or None (passing (λ _. true) some)
       → place ≡ position (has_number s.number) es → IfSome place (λ at. option_map named (slice_get (map (section_state b) es) at) ≡ Some true)

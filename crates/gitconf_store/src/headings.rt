@@ -4,7 +4,7 @@ ghost use Rattle.std.specs.List.{list_any, AllByRecursion};
 ghost use Rattle.std.specs.Option.{option_copied};
 ghost use Rattle.std.specs.Prelude.{◌≡◌, ◌&&◌, ◌<◌, [], ◌∷◌, ◌++◌, true, Bool, List, length, map, IfOk, IfSome, OnErr, OnOk};
 ghost use Rattle.gitconf_base.specs.Metadata.{Meta};
-ghost use Rattle.gitconf_table.specs.Sections.{is_named, place_of};
+ghost use Rattle.gitconf_table.specs.Sections.{is_named, place_of, IsNumbered};
 ghost use Rattle.gitconf_store.specs.Renamings.{marked_places, with_headers, AreMarks};
 
 use gitconf_base::meta::Metadata;
@@ -24,6 +24,7 @@ use std::alloc::Global;
 fn put_place(table: &SectionList, id: SectionId, places: &mut Vec<usize>) -> Result<(), NoMemory>
     ensures ok { OnOk result (IfSome (place_of id table.now) (λ at. places.new.items ≡ places.old.items ++ at ∷ [])) }
     ensures err { OnErr result (places.new.items ≡ places.old.items) }
+    ensures numbered { IsNumbered table.now }
 {
     match table.position(id) {
         Some(at) => put(places, at),
@@ -55,8 +56,6 @@ pub(crate) fn passing_places<F: FnMut(&Metadata) -> bool>(
 {
     let mut filter = filter;
     let mut places = Vec::new(alloc);
-    // The contract of `next_id` says that no number was given twice, so the place of each is that of its section.
-    prove!(table.next_id() == table.next_id());
     let mut left = table.named(name, subsection);
     while let Some(found) = left.next() {
         if passes(&mut filter, found.1.meta) {

@@ -456,8 +456,6 @@ impl Store {
         let Some(section) = last_passing(sections, filter) else {
             return None;
         };
-        // The contract of `next_id` says that no number was given twice, so its place is that of the section.
-        prove!(section.id < self.sections.next_id());
         self.sections.position(section.id)
     }
 

@@ -15,7 +15,6 @@ use Rattle.gitconf_finding.specs.declared.existing.Error.TheVariants.{KeyMissing
 use Rattle.gitconf_store.specs.Editors.{PutsIn}
 use Rattle.gitconf_finding.specs.Lookups.{texts_of}
 use Rattle.gitconf_store.specs.Several.{all_meanings, one_rewriting}
-use Rattle.gitconf_finding.specs.SomeSections.{WithSome}
 use Rattle.gitconf_finding.specs.ValuePlaces.{AreInOrder, ArePlaces, key_places}
 use Rattle.gix_config.specs.Targeted.{Targeted, place_at}
 use Rattle.gix_config.specs.declared.file.multi_value_mut.MultiValueMut.{MultiValueMut}
@@ -80,7 +79,3 @@ AreFoundTargets shown key state places (Err refusal) = AreMissed key state place
 -- the result is an editor of all values of the key in the passing sections, or why there is none
 abbrev pub IsEditorOfValues : Key → (keeps : Meta → Bool) → State → Result (MultiValueMut Targeted) Error → Type 0
 IsEditorOfValues key keeps state result = AreFoundTargets targets_of key state (key_places key keeps state) result
-
--- the same, for any filter: of the values in some of the sections
-abbrev pub IsEditorOfSomeValues : Key → State → Result (MultiValueMut Targeted) Error → Type 0
-IsEditorOfSomeValues key state result = WithSome (λ s. AreFoundTargets targets_of key state (key_places key (λ _. true) s) result) state

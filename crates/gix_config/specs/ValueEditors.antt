@@ -9,7 +9,6 @@ use Rattle.gitconf_state.specs.State.{State}
 use Rattle.gitconf_lines.specs.Blanks.{editor_with}
 use Rattle.gitconf_finding.specs.declared.existing.Error.{Error}
 use Rattle.gitconf_finding.specs.declared.existing.Error.TheVariants.{Memory}
-use Rattle.gitconf_finding.specs.SomeSections.{WithSome}
 use Rattle.gitconf_finding.specs.ValuePlaces.{IsPlace, editor_of_numbered, meaning_at, value_place}
 use Rattle.gix_config.specs.Spelled.{Spelled}
 use Rattle.gix_config.specs.declared.file.value_mut.ValueMut.{ValueMut}
@@ -68,7 +67,3 @@ IsValueEditor key state place (Err refusal) = IsPlace key state place (Err refus
 -- the result is an editor of the key's last entry in the passing sections, or why there is none
 abbrev pub IsEditorOfValue : Key → (keeps : Meta → Bool) → State → Result (ValueMut Spelled) Error → Type 0
 IsEditorOfValue key keeps state result = IsValueEditor key state (value_place key keeps state) result
-
--- the same, for any filter: of an entry in some of the sections
-abbrev pub IsEditorOfSomeValue : Key → State → Result (ValueMut Spelled) Error → Type 0
-IsEditorOfSomeValue key state result = WithSome (λ s. IsValueEditor key state (value_place key (λ _. true) s) result) state

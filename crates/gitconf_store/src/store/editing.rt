@@ -44,8 +44,6 @@ impl Store {
         ensures err { OnErr result (self.new ≡ with_used self.new.used self.old) }
         ensures used { PutsIn id result (line_put editor.now key.now (option_copied value.entry) (option_copied comment.entry)) self.old self.new }
     {
-        // The contract of `next_id` says that no number was given twice.
-        prove!(self.sections.next_id() == self.sections.next_id());
         let Some(at) = self.sections.position(id) else {
             return Ok(());
         };
@@ -70,8 +68,6 @@ impl Store {
         ensures err { OnErr result (self.new ≡ with_used self.new.used self.old) }
         ensures used { PutsIn id result (length (bytes_of_line_end editor.now.line_end)) self.old self.new }
     {
-        // The contract of `next_id` says that no number was given twice.
-        prove!(self.sections.next_id() == self.sections.next_id());
         let Some(at) = self.sections.position(id) else {
             return Ok(());
         };
@@ -108,8 +104,6 @@ impl Store {
         ensures err { OnErr result (self.new ≡ with_used self.new.used self.old) }
         ensures used { PutsIn id result (set_put editor.now key.now value.now (items_of_numbered id self.old)) self.old self.new }
     {
-        // The contract of `next_id` says that no number was given twice.
-        prove!(self.sections.next_id() == self.sections.next_id());
         let Some(at) = self.sections.position(id) else {
             return Ok(None);
         };
@@ -137,8 +131,6 @@ impl Store {
         ensures none { answer (Remove id key.now) self.old ≡ Raw None → IsOk result }
         ensures err { OnErr result (self.new ≡ self.old) }
     {
-        // The contract of `next_id` says that no number was given twice.
-        prove!(self.sections.next_id() == self.sections.next_id());
         let Some(at) = self.sections.position(id) else {
             return Ok(None);
         };
@@ -170,8 +162,6 @@ impl Store {
         ensures name { IfOk result (λ o. IfSome o (λ t. is_value_name t.0.items ≡ true)) }
         ensures err { OnErr result (self.new ≡ self.old) }
     {
-        // The contract of `next_id` says that no number was given twice.
-        prove!(self.sections.next_id() == self.sections.next_id());
         let Some(at) = self.sections.position(id) else {
             return Ok(None);
         };

@@ -1,12 +1,12 @@
 //! Setting the value of an existing entry.
 use crate::set_raw_value;
 use crate::store::Store;
+use gitconf_base::key::KeyRef;
 use gitconf_body::value_at::InPlaceOf;
 
 impl Store {
-    ghost use Rattle.std.specs.Option.{option_copied};
     ghost use Rattle.gitconf_store.specs.Existing.{IsSetExisting};
-    ghost use Rattle.gitconf_finding.specs.Lookups.{key_at};
+    ghost use Rattle.gitconf_base.specs.Key.{key_of};
 
     /// Gives the last entry of a key another value, with `=` or without it, in the last section that has one, of those that have the name,
     /// without ASCII case, and exactly the subsection: the entry is rewritten, with the name that is given, the blanks around `=`
@@ -21,26 +21,19 @@ impl Store {
     /// Refusal 7 if no section has the name, 8 if none of these has the subsection; otherwise 6 for an invalid value name; otherwise 9
     /// if none of these has such an entry; 3 if the buffer would be longer than 4294967295 bytes, which is checked before any growth;
     /// 27 when out of memory. The file is then as it was, except that its buffer may have grown.
-    pub fn set_existing_raw_value_by(
+    pub fn set_existing_raw_value(
         &mut self,
-        section_name: &str,
-        subsection_name: Option<&[u8]>,
-        value_name: &str,
+        key: KeyRef<'_>,
         new_value: &[u8],
     ) -> Result<(), set_raw_value::Error>
-        ensures { IsSetExisting (key_at section_name.now (option_copied subsection_name.entry) value_name.now) new_value.now result self.old self.new }
+        ensures { IsSetExisting (key_of key.entry) new_value.now result self.old self.new }
     {
-        let place = self.value_place_filter_by(
-            section_name,
-            subsection_name,
-            value_name,
-            |_| true,
-        )?;
+        let place = self.value_place_filter(key, |_| true)?;
         self.rewrite_entry_at(
             place.0,
             place.1,
             InPlaceOf::EntryButLineEnd,
-            value_name.as_bytes(),
+            key.value_name.as_bytes(),
             new_value,
         )?;
         Ok(())

@@ -29,16 +29,8 @@ impl Store {
         ensures { slice_get self.now.sections position ≡ Some (shown result) }
     {
         let section = self.sections.at(position);
-        SectionRef {
-            alloc: section.alloc,
-            buffer: &self.buffer,
-            copies: &self.copies,
-            id: self.sections.id_at(position),
-            header: section.header,
-            meta: section.meta,
-            items: section.items,
-            held: section.held,
-        }
+        let id = self.sections.id_at(position);
+        SectionRef::of_row(&self.buffer, &self.copies, id, section)
     }
 
     /// Whether the front has a newline.

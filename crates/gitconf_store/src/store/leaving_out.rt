@@ -35,8 +35,6 @@ impl Store {
         requires are_in { AreIn id places.now }
         ensures { self.new ≡ all_deleted places.now self.old }
     {
-        // The contract of `next_id` says that no number was given twice.
-        prove!(self.sections.next_id() == self.sections.next_id());
         let Some(at) = self.sections.position(id) else {
             return;
         };

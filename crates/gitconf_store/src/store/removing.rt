@@ -6,7 +6,7 @@ ghost use Rattle.gitconf_base.specs.Metadata.{Meta};
 ghost use Rattle.gitconf_state.specs.Edits.{RemoveNumbered, RemoveSection, apply, numbered};
 ghost use Rattle.gitconf_finding.specs.Picks.{picked};
 ghost use Rattle.gitconf_store.specs.Removals.{IsTakenOut};
-ghost use Rattle.gitconf_finding.specs.SomeSections.{WithSome};
+ghost use Rattle.gitconf_finding.specs.SomeSections.{Filtered};
 ghost use Rattle.gitconf_views.specs.Views.{shown};
 
 use crate::store::Store;
@@ -22,19 +22,8 @@ impl Store {
     pub fn section_by_id(&self, id: SectionId) -> Option<SectionRef<'_>>
         ensures { option_map shown result ≡ numbered id self.now }
     {
-        // The contract of `next_id` says that no number was given twice.
-        prove!(self.sections.next_id() == self.sections.next_id());
         match self.sections.get(id) {
-            Some(section) => Some(SectionRef {
-                alloc: section.alloc,
-                buffer: &self.buffer,
-                copies: &self.copies,
-                id,
-                header: section.header,
-                meta: section.meta,
-                items: section.items,
-                held: section.held,
-            }),
+            Some(section) => Some(SectionRef::of_row(&self.buffer, &self.copies, id, section)),
             None => None,
         }
     }
@@ -87,10 +76,8 @@ impl Store {
         // For a filter whose result depends only on what it is shown.
         ensures ok { (keeps : Meta → Bool) → ComputesKey F.FnMut keeps filter
             → OnOk result (self.new ≡ apply (RemoveSection name.now (option_copied subsection_name.entry) keeps) self.old) }
-        ensures taken { (keeps : Meta → Bool) → ComputesKey F.FnMut keeps filter
-            → IsTakenOut (picked name.now (option_copied subsection_name.entry) keeps self.old) result self.old self.new }
-        // For any filter.
-        ensures some { WithSome (λ s. IsTakenOut (picked name.now (option_copied subsection_name.entry) (λ _. true) s) result self.old self.new) self.old }
+        ensures filtered { Filtered (λ keeps. ComputesKey F.FnMut keeps filter)
+            (λ keeps s. IsTakenOut (picked name.now (option_copied subsection_name.entry) keeps s) result self.old self.new) self.old }
         ensures err { OnErr result (self.new ≡ self.old) }
     {
         match last_passing(self.sections_named(name, subsection_name), filter) {

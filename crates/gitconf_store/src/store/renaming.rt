@@ -80,8 +80,6 @@ impl Store {
         ensures known { IfErr result (λ e. list_any (λ number. number == header_number e) header_numbers ≡ true) }
     {
         validate(name.as_bytes(), subsection_name)?;
-        // The contract of `next_id` says that no number was given twice.
-        prove!(self.sections.next_id() == self.sections.next_id());
         let Some(at) = self.sections.position(id) else {
             return Ok(());
         };

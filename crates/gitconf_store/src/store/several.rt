@@ -3,17 +3,18 @@ use crate::set_raw_value;
 use crate::store::Store;
 use crate::store::leaving_out::before_run;
 use bstr::BString;
+use gitconf_base::key::KeyRef;
 use gitconf_body::value_at::InPlaceOf;
 use gitconf_table::table::SectionId;
 use gitconf_text::NoMemory;
 use gitconf_text::parse::span;
 
 impl Store {
-    ghost use Rattle.std.specs.Option.{option_copied};
     ghost use Rattle.std.specs.Prelude.{◌≡◌, map, true, IfOk};
     ghost use Rattle.bstr.specs.Owned.{bstring_bytes};
     ghost use Rattle.gitconf_text.specs.Names.{is_value_name};
-    ghost use Rattle.gitconf_finding.specs.Lookups.{key_at, texts_of};
+    ghost use Rattle.gitconf_base.specs.Key.{key_of};
+    ghost use Rattle.gitconf_finding.specs.Lookups.{texts_of};
     ghost use Rattle.gitconf_store.specs.Several.{all_deleted, all_meanings, meaning_of_place, AreRewritten, AreSetExisting};
 
     /// Writes the entries at places again, the first one with the first value and so on, up to the end of the shorter list. A place is the
@@ -116,7 +117,7 @@ impl Store {
 
     /// Gives the entries of a key other values, whether they have `=` or not, in the sections that have the name, without ASCII case, and
     /// exactly the subsection: the first entry gets the first value and so on, up to the end of the shorter list, in the order of
-    /// [`Store::value_places_filter_by`]. Each is rewritten, with the name that is given, the blanks around `=` that its section then uses,
+    /// [`Store::value_places_filter`]. Each is rewritten, with the name that is given, the blanks around `=` that its section then uses,
     /// and the value as a file spells it. All else stays as it is; no entry is made, and none removed.
     ///
     /// It walks over the sections of the names and over their items, puts the places in order, and walks over a section once more for each
@@ -127,23 +128,16 @@ impl Store {
     /// Refusal 7 if no section has the name, 8 if none of these has the subsection; otherwise 6 for an invalid value name; otherwise 9 if
     /// none of these has such an entry; 3 if the buffer would be longer than 4294967295 bytes; 27 when out of memory. After 3 or 27 the
     /// entries before the one that was refused have their values; all else is as it was, except that the buffer may have grown.
-    pub fn set_existing_raw_multi_value_by(
+    pub fn set_existing_raw_multi_value(
         &mut self,
-        section_name: &str,
-        subsection_name: Option<&[u8]>,
-        value_name: &str,
+        key: KeyRef<'_>,
         new_values: &[&[u8]],
     ) -> Result<(), set_raw_value::Error>
-        ensures { AreSetExisting (key_at section_name.now (option_copied subsection_name.entry) value_name.now) (map (λ v. v.now) new_values.now)
+        ensures { AreSetExisting (key_of key.entry) (map (λ v. v.now) new_values.now)
             result self.old self.new }
     {
-        let places = self.value_places_filter_by(
-            section_name,
-            subsection_name,
-            value_name,
-            |_| true,
-        )?;
-        self.rewrite_entries_at(&places, value_name.as_bytes(), new_values)?;
+        let places = self.value_places_filter(key, |_| true)?;
+        self.rewrite_entries_at(&places, key.value_name.as_bytes(), new_values)?;
         Ok(())
     }
 }

@@ -22,8 +22,6 @@ impl Store {
         ensures none { numbered id self.old ≡ None → IsOk result }
         ensures err { OnErr result (self.new ≡ self.old) }
     {
-        // The contract of `next_id` says that no number was given twice.
-        prove!(self.sections.next_id() == self.sections.next_id());
         let Some(at) = self.sections.position(id) else {
             return Ok(());
         };

@@ -1,6 +1,7 @@
 //! Entries at a place in the section of a number, for the editors of values.
 use crate::store::Store;
 use bstr::BString;
+use gitconf_base::key::KeyRef;
 use gitconf_base::meta::Metadata;
 use gitconf_body::value_at;
 use gitconf_body::value_at::InPlaceOf;
@@ -25,8 +26,10 @@ impl Store {
     ghost use Rattle.gitconf_state.specs.Edits.{apply, items_of_numbered, numbered, said_in_section, DeleteAt, IsEditor, WriteAt};
     ghost use Rattle.gitconf_body.specs.ValuesAt.{instead_of, rewritten_put, written_put};
     ghost use Rattle.gitconf_store.specs.Editors.{given_editor, IsGiven, PutsIn};
-    ghost use Rattle.gitconf_finding.specs.Lookups.{IsFound, key_at};
-    ghost use Rattle.gitconf_finding.specs.ValuePlaces.{all_stand, editor_of_numbered, meaning_at, AreSomeValuePlaces, AreValuePlaces, IsSomeValuePlace, IsValuePlace};
+    ghost use Rattle.gitconf_base.specs.Key.{key_of};
+    ghost use Rattle.gitconf_finding.specs.Lookups.{IsFound};
+    ghost use Rattle.gitconf_finding.specs.SomeSections.{Filtered};
+    ghost use Rattle.gitconf_finding.specs.ValuePlaces.{all_stand, editor_of_numbered, key_places, meaning_at, value_place, ArePlaces, IsPlace};
 
     /// The place of the last entry of a key, with `=` or without it, in the last section that has one, of those that have the name,
     /// without ASCII case, and exactly the subsection, and whose metadata passes the filter: the number of the section, and the entry's
@@ -38,28 +41,23 @@ impl Store {
     ///
     /// Refusal 7 if no section has the name, 8 if none of these has the subsection; otherwise 6 for an invalid value name; otherwise 9
     /// if none of these that pass has such an entry.
-    pub fn value_place_filter_by<F: FnMut(&Metadata) -> bool>(
+    pub fn value_place_filter<F: FnMut(&Metadata) -> bool>(
         &self,
-        section_name: &str,
-        subsection_name: Option<&[u8]>,
-        value_name: &str,
+        key: KeyRef<'_>,
         filter: F,
     ) -> Result<(SectionId, usize), existing::Error>
         requires { F.IsAlwaysCallable filter }
-        // For a filter whose result depends only on what it is shown.
-        ensures exact { (keeps : Meta → Bool) → ComputesKey F.FnMut keeps filter
-            → IsValuePlace (key_at section_name.now (option_copied subsection_name.entry) value_name.now) keeps self.now result }
+        ensures filtered { Filtered (λ keeps. ComputesKey F.FnMut keeps filter)
+            (λ keeps s. IsPlace (key_of key.entry) self.now (value_place (key_of key.entry) keeps s) result) self.now }
         ensures stands { IfOk result (λ place. list_any (λ s. s.number == place.0) self.now.sections ≡ true) }
-        // For any filter.
-        ensures some { IsSomeValuePlace (key_at section_name.now (option_copied subsection_name.entry) value_name.now) self.now result }
     {
-        self.check_named(section_name, subsection_name)?;
-        let key = value_name.as_bytes();
-        if !is_value_name(key) {
+        self.check_named(key.section_name, key.subsection_name)?;
+        let name = key.value_name.as_bytes();
+        if !is_value_name(name) {
             return Err(existing::Error::ValueName(ValueNameError::invalid()));
         }
-        let sections = self.sections_named(section_name, subsection_name);
-        match last_value_place(sections, key, filter) {
+        let sections = self.sections_named(key.section_name, key.subsection_name);
+        match last_value_place(sections, name, filter) {
             Some(place) => Ok(place),
             None => Err(existing::Error::KeyMissing),
         }
@@ -75,30 +73,25 @@ impl Store {
     ///
     /// Refusal 7 if no section has the name, 8 if none of these has the subsection; otherwise 6 for an invalid value name; otherwise 9
     /// if none of these that pass has such an entry; otherwise 27 when out of memory.
-    pub fn value_places_filter_by<F: FnMut(&Metadata) -> bool>(
+    pub fn value_places_filter<F: FnMut(&Metadata) -> bool>(
         &self,
-        section_name: &str,
-        subsection_name: Option<&[u8]>,
-        value_name: &str,
+        key: KeyRef<'_>,
         filter: F,
     ) -> Result<Vec<(SectionId, usize)>, existing::Error>
         requires { F.IsAlwaysCallable filter }
-        // For a filter whose result depends only on what it is shown.
-        ensures exact { (keeps : Meta → Bool) → ComputesKey F.FnMut keeps filter
-            → AreValuePlaces (key_at section_name.now (option_copied subsection_name.entry) value_name.now) keeps self.now result }
+        ensures filtered { Filtered (λ keeps. ComputesKey F.FnMut keeps filter)
+            (λ keeps s. ArePlaces (key_of key.entry) self.now (key_places (key_of key.entry) keeps s) result) self.now }
         ensures stand { IfOk result (λ places. all_stand places.items self.now ≡ true) }
-        ensures name { IfOk result (λ _. is_value_name value_name.now ≡ true) }
-        // For any filter.
-        ensures some { AreSomeValuePlaces (key_at section_name.now (option_copied subsection_name.entry) value_name.now) self.now result }
+        ensures name { IfOk result (λ _. is_value_name key.entry.value_name.now ≡ true) }
     {
-        self.check_named(section_name, subsection_name)?;
-        let key = value_name.as_bytes();
-        if !is_value_name(key) {
+        self.check_named(key.section_name, key.subsection_name)?;
+        let name = key.value_name.as_bytes();
+        if !is_value_name(name) {
             return Err(existing::Error::ValueName(ValueNameError::invalid()));
         }
         let alloc = *self.buffer.allocator();
-        let sections = self.sections_named(section_name, subsection_name);
-        let mut places = all_value_places(alloc, sections, key, filter)?;
+        let sections = self.sections_named(key.section_name, key.subsection_name);
+        let mut places = all_value_places(alloc, sections, name, filter)?;
         if places.is_empty() {
             return Err(existing::Error::KeyMissing);
         }
@@ -148,8 +141,6 @@ impl Store {
         ensures err { OnErr result (self.new ≡ with_used self.new.used self.old) }
         ensures used { PutsIn id result (written_put editor.now key.now value.now) self.old self.new }
     {
-        // The contract of `next_id` says that no number was given twice.
-        prove!(self.sections.next_id() == self.sections.next_id());
         let Some(at) = self.sections.position(id) else {
             return Ok(());
         };
@@ -190,8 +181,6 @@ impl Store {
         // If no section has the number, it can't fail.
         ensures missing { numbered id self.old ≡ None → IsOk result }
     {
-        // The contract of `next_id` says that no number was given twice.
-        prove!(self.sections.next_id() == self.sections.next_id());
         let Some(at) = self.sections.position(id) else {
             return Ok(());
         };

@@ -18,7 +18,7 @@ impl Store {
     ghost use Rattle.gitconf_base.specs.Metadata.{Meta};
     ghost use Rattle.gitconf_finding.specs.Lookups.{sections_named};
     ghost use Rattle.gitconf_finding.specs.Picks.{HasSection, IsMissing, IsPassingSection, IsSection};
-    ghost use Rattle.gitconf_finding.specs.SomeSections.{IsSomeSection};
+    ghost use Rattle.gitconf_finding.specs.SomeSections.{Filtered};
     ghost use Rattle.gitconf_finding.specs.Walks.{named_left, and_held_left, and_ids_by_name_left, and_ids_left, by_name_left, section_ids_left, with_held, with_id, with_name};
 
     /// The sections that have the name, without ASCII case, and any subsection, in file order; `None` if there is none.
@@ -148,11 +148,8 @@ impl Store {
         requires { F.IsAlwaysCallable filter }
         ensures refused { IfErr result (IsMissing name.now (option_copied subsection_name.entry) self.now) }
         ensures found { IfOk result (λ _. HasSection name.now (option_copied subsection_name.entry) self.now) }
-        // For a filter whose result depends only on what it is shown.
-        ensures exact { (keeps : Meta → Bool) → ComputesKey F.FnMut keeps filter
-            → IsPassingSection name.now (option_copied subsection_name.entry) keeps self.now result }
-        // For any filter.
-        ensures some { IsSomeSection name.now (option_copied subsection_name.entry) self.now result }
+        ensures filtered { Filtered (λ keeps. ComputesKey F.FnMut keeps filter)
+            (λ keeps s. IsPassingSection name.now (option_copied subsection_name.entry) self.now keeps s result) self.now }
     {
         self.check_named(name, subsection_name)?;
         let sections = self.sections_named(name, subsection_name);

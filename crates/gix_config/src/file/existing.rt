@@ -7,7 +7,7 @@ ghost use Rattle.gitconf_finding.specs.Lookups.{key_at};
 ghost use Rattle.gitconf_store.specs.Several.{AreSetExisting};
 
 use crate::file::{File, set_raw_value};
-use gitconf_base::key::AsKey;
+use gitconf_base::key::{AsKey, KeyRef};
 
 impl File {
     /// Gives the last entry of a key such as `remote.origin.url` another value, whether it has `=` or not, in the last section of the key's
@@ -55,8 +55,12 @@ impl File {
     ) -> Result<(), set_raw_value::Error>
         ensures { IsSetExisting (key_at section_name.now (option_copied subsection_name.entry) value_name.now) new_value.now result self.old self.new }
     {
-        self.store
-            .set_existing_raw_value_by(section_name, subsection_name, value_name, new_value)
+        let key = KeyRef {
+            section_name,
+            subsection_name,
+            value_name,
+        };
+        self.store.set_existing_raw_value(key, new_value)
     }
 
     /// Gives the entries of a key other values, whether they have `=` or not, in all sections of the key's name and subsection: the first
@@ -100,7 +104,11 @@ impl File {
         ensures { AreSetExisting (key_at section_name.now (option_copied subsection_name.entry) value_name.now) (map (λ v. v.now) new_values.now)
             result self.old self.new }
     {
-        self.store
-            .set_existing_raw_multi_value_by(section_name, subsection_name, value_name, new_values)
+        let key = KeyRef {
+            section_name,
+            subsection_name,
+            value_name,
+        };
+        self.store.set_existing_raw_multi_value(key, new_values)
     }
 }

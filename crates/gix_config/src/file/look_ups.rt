@@ -1,17 +1,18 @@
 //! Lookups of values as they are: texts, alone or with their sections.
 ghost use Rattle.std.specs.Fn.{ComputesKey};
 ghost use Rattle.std.specs.Option.{option_copied};
-ghost use Rattle.std.specs.Prelude.{◌≡◌, Bool, true, IsSome};
+ghost use Rattle.std.specs.Prelude.{◌≡◌, map, true, IsSome};
+ghost use Rattle.bstr.specs.Owned.{bstring_bytes};
 ghost use Rattle.gitconf_base.specs.Key.{the_key};
-ghost use Rattle.gitconf_base.specs.Metadata.{Meta};
-ghost use Rattle.gitconf_finding.specs.Lookups.{AreRawValues, AreRawValuesWithSections, AreStrings, IsRawValue, IsRawValueWithSection, IsString, key_at};
-ghost use Rattle.gitconf_finding.specs.SomeSections.{AreSomeRawValues, AreSomeRawValuesWithSections, IsSomeRawValue, IsSomeRawValueWithSection, WithSome};
+ghost use Rattle.gitconf_finding.specs.Lookups.{AreRawValues, AreRawValuesWithSections, AreStrings, IsRawValue, IsRawValueWithSection, IsString, if_any, key_at, miss_at, shown_with, texts_of, value_at, value_in, values_at, values_in};
+ghost use Rattle.gitconf_finding.specs.Misses.{IsExisting};
+ghost use Rattle.gitconf_finding.specs.SomeSections.{Filtered};
 ghost use Rattle.gix_config.specs.Keys.{OfKey};
 
 use crate::file::{File, Metadata, SectionRef};
 use crate::lookup::existing;
 use bstr::BString;
-use gitconf_base::key::AsKey;
+use gitconf_base::key::{AsKey, KeyRef};
 use gitconf_text::NoMemory;
 
 impl File {
@@ -59,10 +60,8 @@ impl File {
         filter: F,
     ) -> Result<Option<BString>, NoMemory>
         requires { F.IsAlwaysCallable filter }
-        // For a filter whose result depends only on what it is shown.
-        ensures exact { (keeps : Meta → Bool) → ComputesKey F.FnMut keeps filter → OfKey (K.key key) (λ key. IsString key keeps self.now result) result }
-        // For any filter.
-        ensures some { OfKey (K.key key) (λ key. WithSome (λ s. IsString key (λ _. true) s result) self.now) result }
+        ensures { OfKey (K.key key) (λ key. Filtered (λ keeps. ComputesKey F.FnMut keeps filter)
+            (λ keeps s. IsString key keeps s result) self.now) result }
     {
         match key.try_as_key() {
             Some(key) => self.string_filter_by(
@@ -88,14 +87,15 @@ impl File {
         filter: F,
     ) -> Result<Option<BString>, NoMemory>
         requires { F.IsAlwaysCallable filter }
-        // For a filter whose result depends only on what it is shown.
-        ensures exact { (keeps : Meta → Bool) → ComputesKey F.FnMut keeps filter
-            → IsString (key_at section_name.now (option_copied subsection_name.entry) value_name.now) keeps self.now result }
-        // For any filter.
-        ensures some { WithSome (λ s. IsString (key_at section_name.now (option_copied subsection_name.entry) value_name.now) (λ _. true) s result) self.now }
+        ensures { Filtered (λ keeps. ComputesKey F.FnMut keeps filter)
+            (λ keeps s. IsString (key_at section_name.now (option_copied subsection_name.entry) value_name.now) keeps s result) self.now }
     {
-        self.store
-            .string_filter_by(section_name, subsection_name, value_name, filter)
+        let key = KeyRef {
+            section_name,
+            subsection_name,
+            value_name,
+        };
+        self.store.string_filter(key, filter)
     }
 
     /// The meanings of all values of a key, in file order, or `None` if there are none or the key can't be parsed. An entry
@@ -141,10 +141,8 @@ impl File {
         filter: F,
     ) -> Result<Option<Vec<BString>>, NoMemory>
         requires { F.IsAlwaysCallable filter }
-        // For a filter whose result depends only on what it is shown.
-        ensures exact { (keeps : Meta → Bool) → ComputesKey F.FnMut keeps filter → OfKey (K.key key) (λ key. AreStrings key keeps self.now result) result }
-        // For any filter.
-        ensures some { OfKey (K.key key) (λ key. WithSome (λ s. AreStrings key (λ _. true) s result) self.now) result }
+        ensures { OfKey (K.key key) (λ key. Filtered (λ keeps. ComputesKey F.FnMut keeps filter)
+            (λ keeps s. AreStrings key keeps s result) self.now) result }
     {
         match key.try_as_key() {
             Some(key) => self.strings_filter_by(
@@ -170,14 +168,15 @@ impl File {
         filter: F,
     ) -> Result<Option<Vec<BString>>, NoMemory>
         requires { F.IsAlwaysCallable filter }
-        // For a filter whose result depends only on what it is shown.
-        ensures exact { (keeps : Meta → Bool) → ComputesKey F.FnMut keeps filter
-            → AreStrings (key_at section_name.now (option_copied subsection_name.entry) value_name.now) keeps self.now result }
-        // For any filter.
-        ensures some { WithSome (λ s. AreStrings (key_at section_name.now (option_copied subsection_name.entry) value_name.now) (λ _. true) s result) self.now }
+        ensures { Filtered (λ keeps. ComputesKey F.FnMut keeps filter)
+            (λ keeps s. AreStrings (key_at section_name.now (option_copied subsection_name.entry) value_name.now) keeps s result) self.now }
     {
-        self.store
-            .strings_filter_by(section_name, subsection_name, value_name, filter)
+        let key = KeyRef {
+            section_name,
+            subsection_name,
+            value_name,
+        };
+        self.store.strings_filter(key, filter)
     }
 
     /// The meaning of the last value of a key, found as by [`File::string`]. The key has to be valid, as
@@ -224,10 +223,8 @@ impl File {
     ) -> Result<BString, existing::Error>
         requires known { IsSome (K.key key) }
         requires callable { F.IsAlwaysCallable filter }
-        // For a filter whose result depends only on what it is shown.
-        ensures exact { (keeps : Meta → Bool) → ComputesKey F.FnMut keeps filter → IsRawValue (the_key (K.key key)) keeps self.now result }
-        // For any filter.
-        ensures some { IsSomeRawValue (the_key (K.key key)) self.now result }
+        ensures { Filtered (λ keeps. ComputesKey F.FnMut keeps filter)
+            (λ keeps s. IsExisting bstring_bytes result (value_at (the_key (K.key key)) keeps s) (miss_at (the_key (K.key key)) self.now)) self.now }
     {
         let key = key.as_key();
         self.raw_value_filter_by(
@@ -251,14 +248,15 @@ impl File {
         filter: F,
     ) -> Result<BString, existing::Error>
         requires { F.IsAlwaysCallable filter }
-        // For a filter whose result depends only on what it is shown.
-        ensures exact { (keeps : Meta → Bool) → ComputesKey F.FnMut keeps filter
-            → IsRawValue (key_at section_name.now (option_copied subsection_name.entry) value_name.now) keeps self.now result }
-        // For any filter.
-        ensures some { IsSomeRawValue (key_at section_name.now (option_copied subsection_name.entry) value_name.now) self.now result }
+        ensures { Filtered (λ keeps. ComputesKey F.FnMut keeps filter)
+            (λ keeps s. IsExisting bstring_bytes result (value_at (key_at section_name.now (option_copied subsection_name.entry) value_name.now) keeps s) (miss_at (key_at section_name.now (option_copied subsection_name.entry) value_name.now) self.now)) self.now }
     {
-        self.store
-            .raw_value_filter_by(section_name, subsection_name, value_name, filter)
+        let key = KeyRef {
+            section_name,
+            subsection_name,
+            value_name,
+        };
+        self.store.raw_value_filter(key, filter)
     }
 
     /// The meaning of the last value of a key, and its section, found as by [`File::string`]. The key has to be
@@ -308,10 +306,8 @@ impl File {
     ) -> Result<(BString, SectionRef<'_>), existing::Error>
         requires known { IsSome (K.key key) }
         requires callable { F.IsAlwaysCallable filter }
-        // For a filter whose result depends only on what it is shown.
-        ensures exact { (keeps : Meta → Bool) → ComputesKey F.FnMut keeps filter → IsRawValueWithSection (the_key (K.key key)) keeps self.now result }
-        // For any filter.
-        ensures some { IsSomeRawValueWithSection (the_key (K.key key)) self.now result }
+        ensures { Filtered (λ keeps. ComputesKey F.FnMut keeps filter)
+            (λ keeps s. IsExisting shown_with result (value_in (the_key (K.key key)) keeps s) (miss_at (the_key (K.key key)) self.now)) self.now }
     {
         let key = key.as_key();
         self.raw_value_with_section_filter_by(
@@ -335,14 +331,15 @@ impl File {
         filter: F,
     ) -> Result<(BString, SectionRef<'_>), existing::Error>
         requires { F.IsAlwaysCallable filter }
-        // For a filter whose result depends only on what it is shown.
-        ensures exact { (keeps : Meta → Bool) → ComputesKey F.FnMut keeps filter
-            → IsRawValueWithSection (key_at section_name.now (option_copied subsection_name.entry) value_name.now) keeps self.now result }
-        // For any filter.
-        ensures some { IsSomeRawValueWithSection (key_at section_name.now (option_copied subsection_name.entry) value_name.now) self.now result }
+        ensures { Filtered (λ keeps. ComputesKey F.FnMut keeps filter)
+            (λ keeps s. IsExisting shown_with result (value_in (key_at section_name.now (option_copied subsection_name.entry) value_name.now) keeps s) (miss_at (key_at section_name.now (option_copied subsection_name.entry) value_name.now) self.now)) self.now }
     {
-        self.store
-            .raw_value_with_section_filter_by(section_name, subsection_name, value_name, filter)
+        let key = KeyRef {
+            section_name,
+            subsection_name,
+            value_name,
+        };
+        self.store.raw_value_with_section_filter(key, filter)
     }
 
     /// The meanings of all values of a key, found as by [`File::strings`]: one or more. The key has to be valid, as
@@ -389,10 +386,8 @@ impl File {
     ) -> Result<Vec<BString>, existing::Error>
         requires known { IsSome (K.key key) }
         requires callable { F.IsAlwaysCallable filter }
-        // For a filter whose result depends only on what it is shown.
-        ensures exact { (keeps : Meta → Bool) → ComputesKey F.FnMut keeps filter → AreRawValues (the_key (K.key key)) keeps self.now result }
-        // For any filter.
-        ensures some { AreSomeRawValues (the_key (K.key key)) self.now result }
+        ensures { Filtered (λ keeps. ComputesKey F.FnMut keeps filter)
+            (λ keeps s. IsExisting texts_of result (if_any (values_at (the_key (K.key key)) keeps s)) (miss_at (the_key (K.key key)) self.now)) self.now }
     {
         let key = key.as_key();
         self.raw_values_filter_by(
@@ -416,14 +411,15 @@ impl File {
         filter: F,
     ) -> Result<Vec<BString>, existing::Error>
         requires { F.IsAlwaysCallable filter }
-        // For a filter whose result depends only on what it is shown.
-        ensures exact { (keeps : Meta → Bool) → ComputesKey F.FnMut keeps filter
-            → AreRawValues (key_at section_name.now (option_copied subsection_name.entry) value_name.now) keeps self.now result }
-        // For any filter.
-        ensures some { AreSomeRawValues (key_at section_name.now (option_copied subsection_name.entry) value_name.now) self.now result }
+        ensures { Filtered (λ keeps. ComputesKey F.FnMut keeps filter)
+            (λ keeps s. IsExisting texts_of result (if_any (values_at (key_at section_name.now (option_copied subsection_name.entry) value_name.now) keeps s)) (miss_at (key_at section_name.now (option_copied subsection_name.entry) value_name.now) self.now)) self.now }
     {
-        self.store
-            .raw_values_filter_by(section_name, subsection_name, value_name, filter)
+        let key = KeyRef {
+            section_name,
+            subsection_name,
+            value_name,
+        };
+        self.store.raw_values_filter(key, filter)
     }
 
     /// The meanings of all values of a key, each with its section, found as by [`File::strings`]: one or more. The
@@ -473,10 +469,8 @@ impl File {
     ) -> Result<Vec<(BString, SectionRef<'_>)>, existing::Error>
         requires known { IsSome (K.key key) }
         requires callable { F.IsAlwaysCallable filter }
-        // For a filter whose result depends only on what it is shown.
-        ensures exact { (keeps : Meta → Bool) → ComputesKey F.FnMut keeps filter → AreRawValuesWithSections (the_key (K.key key)) keeps self.now result }
-        // For any filter.
-        ensures some { AreSomeRawValuesWithSections (the_key (K.key key)) self.now result }
+        ensures { Filtered (λ keeps. ComputesKey F.FnMut keeps filter)
+            (λ keeps s. IsExisting (λ found. map shown_with found.items) result (if_any (values_in (the_key (K.key key)) keeps s)) (miss_at (the_key (K.key key)) self.now)) self.now }
     {
         let key = key.as_key();
         self.raw_values_with_sections_filter_by(
@@ -500,13 +494,14 @@ impl File {
         filter: F,
     ) -> Result<Vec<(BString, SectionRef<'_>)>, existing::Error>
         requires { F.IsAlwaysCallable filter }
-        // For a filter whose result depends only on what it is shown.
-        ensures exact { (keeps : Meta → Bool) → ComputesKey F.FnMut keeps filter
-            → AreRawValuesWithSections (key_at section_name.now (option_copied subsection_name.entry) value_name.now) keeps self.now result }
-        // For any filter.
-        ensures some { AreSomeRawValuesWithSections (key_at section_name.now (option_copied subsection_name.entry) value_name.now) self.now result }
+        ensures { Filtered (λ keeps. ComputesKey F.FnMut keeps filter)
+            (λ keeps s. IsExisting (λ found. map shown_with found.items) result (if_any (values_in (key_at section_name.now (option_copied subsection_name.entry) value_name.now) keeps s)) (miss_at (key_at section_name.now (option_copied subsection_name.entry) value_name.now) self.now)) self.now }
     {
-        self.store
-            .raw_values_with_sections_filter_by(section_name, subsection_name, value_name, filter)
+        let key = KeyRef {
+            section_name,
+            subsection_name,
+            value_name,
+        };
+        self.store.raw_values_with_sections_filter(key, filter)
     }
 }

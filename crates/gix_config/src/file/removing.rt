@@ -6,7 +6,7 @@ ghost use Rattle.gitconf_base.specs.Metadata.{Meta};
 ghost use Rattle.gitconf_state.specs.Edits.{RemoveNumbered, RemoveSection, apply, numbered};
 ghost use Rattle.gitconf_finding.specs.Picks.{picked};
 ghost use Rattle.gitconf_store.specs.Removals.{IsTakenOut};
-ghost use Rattle.gitconf_finding.specs.SomeSections.{WithSome};
+ghost use Rattle.gitconf_finding.specs.SomeSections.{Filtered};
 
 use crate::file::{File, Metadata, Section, SectionId};
 use gitconf_text::NoMemory;
@@ -61,10 +61,8 @@ impl File {
         // For a filter whose result depends only on what it is shown.
         ensures ok { (keeps : Meta → Bool) → ComputesKey F.FnMut keeps filter
             → OnOk result (self.new ≡ apply (RemoveSection name.now (option_copied subsection_name.entry) keeps) self.old) }
-        ensures taken { (keeps : Meta → Bool) → ComputesKey F.FnMut keeps filter
-            → IsTakenOut (picked name.now (option_copied subsection_name.entry) keeps self.old) result self.old self.new }
-        // For any filter.
-        ensures some { WithSome (λ s. IsTakenOut (picked name.now (option_copied subsection_name.entry) (λ _. true) s) result self.old self.new) self.old }
+        ensures filtered { Filtered (λ keeps. ComputesKey F.FnMut keeps filter)
+            (λ keeps s. IsTakenOut (picked name.now (option_copied subsection_name.entry) keeps s) result self.old self.new) self.old }
         ensures err { OnErr result (self.new ≡ self.old) }
     {
         self.store

@@ -14,7 +14,7 @@ impl File {
     ghost use Rattle.gitconf_text.specs.SectionKeys.{parsed_section_key};
     ghost use Rattle.gitconf_base.specs.Metadata.{Meta};
     ghost use Rattle.gitconf_finding.specs.Picks.{IsMissing, IsPassingSection, IsPassingSectionOfKey, IsSection, IsSectionOfKey};
-    ghost use Rattle.gitconf_finding.specs.SomeSections.{IsSomeSection, IsSomeSectionOfKey};
+    ghost use Rattle.gitconf_finding.specs.SomeSections.{Filtered};
     ghost use Rattle.gitconf_finding.specs.Walks.{and_held_left, and_ids_by_name_left, and_ids_left, by_name_left, section_ids_left, with_held, with_id, with_name};
 
     /// The sections that have the name, without ASCII case, and any subsection, in file order; `None` if there is none.
@@ -117,11 +117,8 @@ impl File {
     ) -> Result<Option<SectionRef<'_>>, Error>
         requires { F.IsAlwaysCallable filter }
         ensures refused { IfErr result (IsMissing name.now (option_copied subsection_name.entry) self.now) }
-        // For a filter whose result depends only on what it is shown.
-        ensures exact { (keeps : Meta → Bool) → ComputesKey F.FnMut keeps filter
-            → IsPassingSection name.now (option_copied subsection_name.entry) keeps self.now result }
-        // For any filter.
-        ensures some { IsSomeSection name.now (option_copied subsection_name.entry) self.now result }
+        ensures filtered { Filtered (λ keeps. ComputesKey F.FnMut keeps filter)
+            (λ keeps s. IsPassingSection name.now (option_copied subsection_name.entry) self.now keeps s result) self.now }
     {
         self.store.section_filter(name, subsection_name, filter)
     }
@@ -137,11 +134,8 @@ impl File {
         filter: F,
     ) -> Result<Option<SectionRef<'_>>, Error>
         requires { F.IsAlwaysCallable filter }
-        // For a filter whose result depends only on what it is shown.
-        ensures exact { (keeps : Meta → Bool) → ComputesKey F.FnMut keeps filter
-            → IsPassingSectionOfKey (parsed_section_key section_key.now) keeps self.now result }
-        // For any filter.
-        ensures some { IsSomeSectionOfKey (parsed_section_key section_key.now) self.now result }
+        ensures { Filtered (λ keeps. ComputesKey F.FnMut keeps filter)
+            (λ keeps s. IsPassingSectionOfKey (parsed_section_key section_key.now) self.now keeps s result) self.now }
     {
         match KeyRef::parse(section_key) {
             Some(key) => self.section_filter(key.section_name, key.subsection_name, filter),

@@ -10,14 +10,14 @@ ghost use Rattle.bstr.specs.Owned.{bstring_bytes};
 ghost use Rattle.gitconf_text.specs.ValueErrors.{wanting};
 ghost use Rattle.gitconf_values.specs.Integers.{integer_or_refusal};
 ghost use Rattle.gitconf_finding.specs.Lookups.{IsFound, if_any, key_at, texts_of};
-ghost use Rattle.gitconf_finding.specs.SomeSections.{WithSome};
+ghost use Rattle.gitconf_finding.specs.SomeSections.{Filtered};
 ghost use Rattle.gix_config.specs.Keys.{OfKey};
 ghost use Rattle.gix_config.specs.Typed.{AreIntegers, IsBoolean, IsInteger, IsPath, IsTyped, boolean_or_refusal, integers_or_refusal};
 
 use crate::file::{File, Metadata};
 use crate::values::{Boolean, Path};
 use bstr::BString;
-use gitconf_base::key::AsKey;
+use gitconf_base::key::{AsKey, KeyRef};
 use gitconf_text::{NoMemory, value};
 use gitconf_values::integer;
 use gitconf_views::lists::{put, with_room};
@@ -131,10 +131,8 @@ impl File {
         filter: F,
     ) -> Result<Option<Path>, NoMemory>
         requires { F.IsAlwaysCallable filter }
-        // For a filter whose result depends only on what it is shown.
-        ensures exact { (keeps : Meta → Bool) → ComputesKey F.FnMut keeps filter → OfKey (K.key key) (λ key. IsPath key keeps self.now result) result }
-        // For any filter.
-        ensures some { OfKey (K.key key) (λ key. WithSome (λ s. IsPath key (λ _. true) s result) self.now) result }
+        ensures { OfKey (K.key key) (λ key. Filtered (λ keeps. ComputesKey F.FnMut keeps filter)
+            (λ keeps s. IsPath key keeps s result) self.now) result }
     {
         match key.try_as_key() {
             Some(key) => self.path_filter_by(
@@ -160,15 +158,15 @@ impl File {
         filter: F,
     ) -> Result<Option<Path>, NoMemory>
         requires { F.IsAlwaysCallable filter }
-        // For a filter whose result depends only on what it is shown.
-        ensures exact { (keeps : Meta → Bool) → ComputesKey F.FnMut keeps filter
-            → IsPath (key_at section_name.now (option_copied subsection_name.entry) value_name.now) keeps self.now result }
-        // For any filter.
-        ensures some { WithSome (λ s. IsPath (key_at section_name.now (option_copied subsection_name.entry) value_name.now) (λ _. true) s result) self.now }
+        ensures { Filtered (λ keeps. ComputesKey F.FnMut keeps filter)
+            (λ keeps s. IsPath (key_at section_name.now (option_copied subsection_name.entry) value_name.now) keeps s result) self.now }
     {
-        let found = self
-            .store
-            .string_filter_by(section_name, subsection_name, value_name, filter);
+        let key = KeyRef {
+            section_name,
+            subsection_name,
+            value_name,
+        };
+        let found = self.store.string_filter(key, filter);
         found_path(found)
     }
 
@@ -215,10 +213,8 @@ impl File {
         filter: F,
     ) -> Result<Option<bool>, value::Error>
         requires { F.IsAlwaysCallable filter }
-        // For a filter whose result depends only on what it is shown.
-        ensures exact { (keeps : Meta → Bool) → ComputesKey F.FnMut keeps filter → OfKey (K.key key) (λ key. IsBoolean key keeps self.now result) result }
-        // For any filter.
-        ensures some { OfKey (K.key key) (λ key. WithSome (λ s. IsBoolean key (λ _. true) s result) self.now) result }
+        ensures { OfKey (K.key key) (λ key. Filtered (λ keeps. ComputesKey F.FnMut keeps filter)
+            (λ keeps s. IsBoolean key keeps s result) self.now) result }
     {
         match key.try_as_key() {
             Some(key) => self.boolean_filter_by(
@@ -244,15 +240,15 @@ impl File {
         filter: F,
     ) -> Result<Option<bool>, value::Error>
         requires { F.IsAlwaysCallable filter }
-        // For a filter whose result depends only on what it is shown.
-        ensures exact { (keeps : Meta → Bool) → ComputesKey F.FnMut keeps filter
-            → IsBoolean (key_at section_name.now (option_copied subsection_name.entry) value_name.now) keeps self.now result }
-        // For any filter.
-        ensures some { WithSome (λ s. IsBoolean (key_at section_name.now (option_copied subsection_name.entry) value_name.now) (λ _. true) s result) self.now }
+        ensures { Filtered (λ keeps. ComputesKey F.FnMut keeps filter)
+            (λ keeps s. IsBoolean (key_at section_name.now (option_copied subsection_name.entry) value_name.now) keeps s result) self.now }
     {
-        let found = self
-            .store
-            .value_implicit_filter_by(section_name, subsection_name, value_name, filter);
+        let key = KeyRef {
+            section_name,
+            subsection_name,
+            value_name,
+        };
+        let found = self.store.value_implicit_filter(key, filter);
         found_boolean(found)
     }
 
@@ -299,10 +295,8 @@ impl File {
         filter: F,
     ) -> Result<Option<i64>, value::Error>
         requires { F.IsAlwaysCallable filter }
-        // For a filter whose result depends only on what it is shown.
-        ensures exact { (keeps : Meta → Bool) → ComputesKey F.FnMut keeps filter → OfKey (K.key key) (λ key. IsInteger key keeps self.now result) result }
-        // For any filter.
-        ensures some { OfKey (K.key key) (λ key. WithSome (λ s. IsInteger key (λ _. true) s result) self.now) result }
+        ensures { OfKey (K.key key) (λ key. Filtered (λ keeps. ComputesKey F.FnMut keeps filter)
+            (λ keeps s. IsInteger key keeps s result) self.now) result }
     {
         match key.try_as_key() {
             Some(key) => self.integer_filter_by(
@@ -328,15 +322,15 @@ impl File {
         filter: F,
     ) -> Result<Option<i64>, value::Error>
         requires { F.IsAlwaysCallable filter }
-        // For a filter whose result depends only on what it is shown.
-        ensures exact { (keeps : Meta → Bool) → ComputesKey F.FnMut keeps filter
-            → IsInteger (key_at section_name.now (option_copied subsection_name.entry) value_name.now) keeps self.now result }
-        // For any filter.
-        ensures some { WithSome (λ s. IsInteger (key_at section_name.now (option_copied subsection_name.entry) value_name.now) (λ _. true) s result) self.now }
+        ensures { Filtered (λ keeps. ComputesKey F.FnMut keeps filter)
+            (λ keeps s. IsInteger (key_at section_name.now (option_copied subsection_name.entry) value_name.now) keeps s result) self.now }
     {
-        let found = self
-            .store
-            .string_filter_by(section_name, subsection_name, value_name, filter);
+        let key = KeyRef {
+            section_name,
+            subsection_name,
+            value_name,
+        };
+        let found = self.store.string_filter(key, filter);
         found_integer(found)
     }
 
@@ -384,10 +378,8 @@ impl File {
         filter: F,
     ) -> Result<Option<Vec<i64>>, value::Error>
         requires { F.IsAlwaysCallable filter }
-        // For a filter whose result depends only on what it is shown.
-        ensures exact { (keeps : Meta → Bool) → ComputesKey F.FnMut keeps filter → OfKey (K.key key) (λ key. AreIntegers key keeps self.now result) result }
-        // For any filter.
-        ensures some { OfKey (K.key key) (λ key. WithSome (λ s. AreIntegers key (λ _. true) s result) self.now) result }
+        ensures { OfKey (K.key key) (λ key. Filtered (λ keeps. ComputesKey F.FnMut keeps filter)
+            (λ keeps s. AreIntegers key keeps s result) self.now) result }
     {
         match key.try_as_key() {
             Some(key) => self.integers_filter_by(
@@ -413,16 +405,15 @@ impl File {
         filter: F,
     ) -> Result<Option<Vec<i64>>, value::Error>
         requires { F.IsAlwaysCallable filter }
-        // For a filter whose result depends only on what it is shown.
-        ensures exact { (keeps : Meta → Bool) → ComputesKey F.FnMut keeps filter
-            → AreIntegers (key_at section_name.now (option_copied subsection_name.entry) value_name.now) keeps self.now result }
-        // For any filter.
-        ensures some { WithSome (λ s. AreIntegers (key_at section_name.now (option_copied subsection_name.entry) value_name.now) (λ _. true) s
-            result) self.now }
+        ensures { Filtered (λ keeps. ComputesKey F.FnMut keeps filter)
+            (λ keeps s. AreIntegers (key_at section_name.now (option_copied subsection_name.entry) value_name.now) keeps s result) self.now }
     {
-        let found = self
-            .store
-            .strings_filter_by(section_name, subsection_name, value_name, filter);
+        let key = KeyRef {
+            section_name,
+            subsection_name,
+            value_name,
+        };
+        let found = self.store.strings_filter(key, filter);
         found_integers(found)
     }
 }

@@ -14,7 +14,6 @@ loop-found-init g c =
       es,
       record {
         callable = c.requires;
-        once = c.next_id.ensures.numbered;
         left = c.named-left.ensures.left;
         so_far = rw c.new-places.ensures.items (begun named es);
         told = λ keeps h. (h, rw c.new-places.ensures.items refl);
@@ -30,13 +29,12 @@ loop-found-preserved-in-Continue-1 g c =
     let it : ℕ × Section = (c.in-Some.found.0, viewed c.in-Some.found.1) in
     let is : named_left c.loop-found.left ≡ it ∷ named_left c.next.new.self = search rules in
     let r = reached named es c.loop-found.invariant.0 c.loop-found.invariant.1 places it.0 it.1 (named_left c.next.new.self) inv.so_far (sym inv.left ∙ is) in
-    let place = place_found c.args.table.now named r.before r.later r.found places it.0 inv.once r.number r.so_far in
+    let place = place_found c.args.table.now named r.before r.later r.found places it.0 c.put_place.ensures.numbered r.number r.so_far in
     let put : c.put_place.new.places.items ≡ places ++ length r.before ∷ [] = rw place at c.in_ok-put_place.ensures.ok in (
       r.before ++ r.found ∷ [],
       r.later,
       record {
         callable = c.passes.ensures.callable;
-        once = inv.once;
         left = sym r.left;
         so_far = put_by named es r.before r.later r.found places c.put_place.new.places.items r.has put r.so_far;
         told = λ keeps h.
@@ -83,7 +81,6 @@ loop-found-preserved g c =
       r.later,
       record {
         callable = c.passes.ensures.callable;
-        once = inv.once;
         left = sym r.left;
         so_far = pass_by named es r.before r.later r.found places r.so_far;
         told = λ keeps h.

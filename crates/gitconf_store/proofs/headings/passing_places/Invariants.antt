@@ -2,7 +2,7 @@ use Rattle.std.proofs.Common.{◌≡◌, ◌&&◌, ◌++◌, Bool, List, length,
 use Rattle.std.specs.Fn.{ComputesKey}
 use Rattle.std.specs.Option.{option_copied}
 use Rattle.gitconf_base.specs.Metadata.{Meta}
-use Rattle.gitconf_table.specs.Sections.{SectionEntry, is_named, IsNumbered}
+use Rattle.gitconf_table.specs.Sections.{SectionEntry, is_named}
 use Rattle.gitconf_sections.specs.Walks.{named_left}
 use Rattle.gitconf_sections.specs.Section.{Section}
 use Rattle.gitconf_store.specs.Renamings.{marked_places}
@@ -13,7 +13,6 @@ use Rattle.gitconf_store.proofs.headings.passing_places.Given as goal
 abbrev pub invariant-loop-found : goal.invariant-loop-found
 invariant-loop-found g l = (done : List (SectionEntry Section)) × (rest : List (SectionEntry Section)) × record {
   callable : goal.F-IsAlwaysCallable g l.filter;
-  once : IsNumbered l.table;
   left : named_left l.left ≡ walked (is_named l.name (option_copied l.subsection)) rest;
   so_far : IsWalked (is_named l.name (option_copied l.subsection)) l.table.entries done rest l.places.items;
   told : (keeps : Meta → Bool) → ComputesKey g.F.FnMut keeps l.fn.filter

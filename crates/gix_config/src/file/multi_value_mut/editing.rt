@@ -3,45 +3,38 @@ use crate::file::multi_value_mut::targets::Targets;
 use crate::file::{File, Metadata, SectionId};
 use crate::lookup::existing;
 use bstr::BString;
+use gitconf_base::key::KeyRef;
 use gitconf_body::value_at::InPlaceOf;
 use gitconf_text::NoMemory;
 use gitconf_text::parse::span;
 
 impl File {
     ghost use Rattle.std.specs.Fn.{ComputesKey};
-    ghost use Rattle.std.specs.Option.{option_copied};
     ghost use Rattle.std.specs.Prelude.{◌≡◌, Bool, map, true, IfOk, IsOk, None, OnErr, OnOk};
     ghost use Rattle.gitconf_text.specs.Names.{is_value_name};
-    ghost use Rattle.gitconf_base.specs.Metadata.{Meta};
+    ghost use Rattle.gitconf_base.specs.Key.{key_of};
     ghost use Rattle.gitconf_state.specs.Edit.{with_used};
     ghost use Rattle.gitconf_state.specs.Edits.{apply, items_of_numbered, numbered};
     ghost use Rattle.gitconf_body.specs.ValuesAt.{rewritten_put};
     ghost use Rattle.gitconf_store.specs.Editors.{PutsIn};
-    ghost use Rattle.gitconf_finding.specs.Lookups.{key_at, texts_of};
+    ghost use Rattle.gitconf_finding.specs.Lookups.{texts_of};
     ghost use Rattle.gitconf_store.specs.Several.{all_deleted, all_meanings, one_rewriting, AreRewritten};
-    ghost use Rattle.gitconf_finding.specs.SomeSections.{WithSome};
+    ghost use Rattle.gitconf_finding.specs.SomeSections.{Filtered};
     ghost use Rattle.gitconf_finding.specs.ValuePlaces.{key_places};
     ghost use Rattle.gix_config.specs.MultiValueEditors.{AreFoundTargets};
 
-    /// The entries of a key, by [`Store::value_places_filter_by`](gitconf_store::store::Store::value_places_filter_by).
+    /// The entries of a key, by [`Store::value_places_filter`](gitconf_store::store::Store::value_places_filter).
     pub(crate) fn value_targets<F: FnMut(&Metadata) -> bool>(
         &self,
-        section_name: &str,
-        subsection_name: Option<&[u8]>,
-        value_name: &str,
+        key: KeyRef<'_>,
         filter: F,
     ) -> Result<Targets, existing::Error>
         requires { F.IsAlwaysCallable filter }
-        ensures exact { (keeps : Meta → Bool) → ComputesKey F.FnMut keeps filter
-            → AreFoundTargets (λ t. t) (key_at section_name.now (option_copied subsection_name.entry) value_name.now) self.now
-            (key_places (key_at section_name.now (option_copied subsection_name.entry) value_name.now) keeps self.now) result }
-        ensures some { WithSome (λ s. AreFoundTargets (λ t. t) (key_at section_name.now (option_copied subsection_name.entry) value_name.now) self.now
-            (key_places (key_at section_name.now (option_copied subsection_name.entry) value_name.now) (λ _. true) s) result) self.now }
+        ensures { Filtered (λ keeps. ComputesKey F.FnMut keeps filter)
+            (λ keeps s. AreFoundTargets (λ t. t) (key_of key.entry) self.now (key_places (key_of key.entry) keeps s) result) self.now }
     {
-        let places = self
-            .store
-            .value_places_filter_by(section_name, subsection_name, value_name, filter)?;
-        Ok(Targets::new(value_name.as_bytes(), places)?)
+        let places = self.store.value_places_filter(key, filter)?;
+        Ok(Targets::new(key.value_name.as_bytes(), places)?)
     }
 
     /// [`Store::meanings_at`](gitconf_store::store::Store::meanings_at).

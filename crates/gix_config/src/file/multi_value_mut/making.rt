@@ -2,18 +2,19 @@
 use crate::file::multi_value_mut::MultiValueMut;
 use crate::file::{File, Metadata};
 use crate::lookup::existing;
-use gitconf_base::key::AsKey;
+use gitconf_base::key::{AsKey, KeyRef};
 
 impl File {
     ghost use Rattle.std.specs.Borrow.{sem, RestsIfErr};
     ghost use Rattle.std.specs.Fn.{ComputesKey};
     ghost use Rattle.std.specs.Option.{option_copied};
-    ghost use Rattle.std.specs.Prelude.{◌≡◌, Bool, true, IfOk, IsSome};
+    ghost use Rattle.std.specs.Prelude.{◌≡◌, true, IfOk, IsSome};
     ghost use Rattle.gitconf_base.specs.Key.{the_key};
-    ghost use Rattle.gitconf_base.specs.Metadata.{Meta};
     ghost use Rattle.gitconf_finding.specs.Lookups.{key_at};
+    ghost use Rattle.gitconf_finding.specs.SomeSections.{Filtered};
+    ghost use Rattle.gitconf_finding.specs.ValuePlaces.{key_places};
     ghost use Rattle.gix_config.specs.contracts.file.File.{the_row};
-    ghost use Rattle.gix_config.specs.MultiValueEditors.{edited, lent, IsEditorOfSomeValues, IsEditorOfValues};
+    ghost use Rattle.gix_config.specs.MultiValueEditors.{edited, lent, targets_of, AreFoundTargets, IsEditorOfValues};
 
     /// An editor of all entries of a key such as `remote.origin.fetch`, with `=` or without it, in the sections of the key's name and
     /// subsection. They are in the order of the sections' numbers, and in each section in the order of its entries.
@@ -70,10 +71,8 @@ impl File {
         requires callable { F.IsAlwaysCallable filter }
         ensures same_file { IfOk result (λ e. lent e ≡ self.entry.ghost_name) }
         ensures same_state { IfOk result (λ e. edited e ≡ self.old) }
-        // For a filter whose result depends only on what it is shown.
-        ensures found { (keeps : Meta → Bool) → ComputesKey F.FnMut keeps filter → IsEditorOfValues (the_key (K.key key)) keeps self.old result }
-        // For any filter.
-        ensures some { IsEditorOfSomeValues (the_key (K.key key)) self.old result }
+        ensures found { Filtered (λ keeps. ComputesKey F.FnMut keeps filter)
+            (λ keeps s. AreFoundTargets targets_of (the_key (K.key key)) self.old (key_places (the_key (K.key key)) keeps s) result) self.old }
         ensures* refused { sem 𝓛 (RestsIfErr the_row self.entry lent result (λ n. n ≡ self.old)) }
     {
         let key = key.as_key();
@@ -100,14 +99,16 @@ impl File {
         requires { F.IsAlwaysCallable filter }
         ensures same_file { IfOk result (λ e. lent e ≡ self.entry.ghost_name) }
         ensures same_state { IfOk result (λ e. edited e ≡ self.old) }
-        // For a filter whose result depends only on what it is shown.
-        ensures found { (keeps : Meta → Bool) → ComputesKey F.FnMut keeps filter
-            → IsEditorOfValues (key_at section_name.now (option_copied subsection_name.entry) value_name.now) keeps self.old result }
-        // For any filter.
-        ensures some { IsEditorOfSomeValues (key_at section_name.now (option_copied subsection_name.entry) value_name.now) self.old result }
+        ensures found { Filtered (λ keeps. ComputesKey F.FnMut keeps filter)
+            (λ keeps s. AreFoundTargets targets_of (key_at section_name.now (option_copied subsection_name.entry) value_name.now) self.old (key_places (key_at section_name.now (option_copied subsection_name.entry) value_name.now) keeps s) result) self.old }
         ensures* refused { sem 𝓛 (RestsIfErr the_row self.entry lent result (λ n. n ≡ self.old)) }
     {
-        let targets = self.value_targets(section_name, subsection_name, value_name, filter)?;
+        let key = KeyRef {
+            section_name,
+            subsection_name,
+            value_name,
+        };
+        let targets = self.value_targets(key, filter)?;
         Ok(MultiValueMut {
             file: self,
             targets,

@@ -68,9 +68,8 @@ impl Targets {
         requires { is_value_name key.now ≡ true }
         ensures { IfOk result (λ t. t ≡ record { key = key.now; places = places.items }) }
     {
-        let mut copy = Vec::new(*places.allocator());
-        copy.extend_from_slice(key)?;
-        Ok(Targets { key: copy, places })
+        let key = Vec::from_slice(*places.allocator(), key)?;
+        Ok(Targets { key, places })
     }
 
     /// The name.

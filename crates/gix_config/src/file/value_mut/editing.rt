@@ -3,6 +3,7 @@ use crate::file::value_mut::spelling::Spelling;
 use crate::file::{File, Metadata, SectionId};
 use crate::lookup::existing;
 use bstr::BString;
+use gitconf_base::key::KeyRef;
 use gitconf_body::value_at::InPlaceOf;
 use gitconf_lines::editor::Editor;
 use gitconf_text::NoMemory;
@@ -10,37 +11,33 @@ use gitconf_text::parse::span;
 
 impl File {
     ghost use Rattle.std.specs.Fn.{ComputesKey};
-    ghost use Rattle.std.specs.Option.{option_copied};
     ghost use Rattle.std.specs.Prelude.{◌≡◌, Bool, true, IfOk};
     ghost use Rattle.bstr.specs.Owned.{bstring_bytes};
     ghost use Rattle.gitconf_text.specs.Names.{is_value_name};
-    ghost use Rattle.gitconf_base.specs.Metadata.{Meta};
+    ghost use Rattle.gitconf_base.specs.Key.{key_of};
     ghost use Rattle.gitconf_state.specs.Edit.{spacing_of};
     ghost use Rattle.gitconf_state.specs.Edits.{apply, items_of_numbered, said_in_section, DeleteAt, IsEditor, WriteAt};
     ghost use Rattle.gitconf_lines.specs.Blanks.{PutsAround};
     ghost use Rattle.gitconf_body.specs.ValuesAt.{instead_of};
     ghost use Rattle.gitconf_store.specs.Editors.{given_editor, IsGiven};
-    ghost use Rattle.gitconf_finding.specs.Lookups.{IsFound, key_at};
-    ghost use Rattle.gitconf_finding.specs.ValuePlaces.{meaning_at, IsSomeValuePlace, IsValuePlace};
+    ghost use Rattle.gitconf_finding.specs.Lookups.{IsFound};
+    ghost use Rattle.gitconf_finding.specs.SomeSections.{Filtered};
+    ghost use Rattle.gitconf_finding.specs.ValuePlaces.{meaning_at, value_place, IsPlace};
     ghost use Rattle.gix_config.specs.Edited.{has_number, IsEdited};
 
-    /// [`Store::value_place_filter_by`](gitconf_store::store::Store::value_place_filter_by).
+    /// [`Store::value_place_filter`](gitconf_store::store::Store::value_place_filter).
     pub(crate) fn value_place<F: FnMut(&Metadata) -> bool>(
         &self,
-        section_name: &str,
-        subsection_name: Option<&[u8]>,
-        value_name: &str,
+        key: KeyRef<'_>,
         filter: F,
     ) -> Result<(SectionId, usize), existing::Error>
         requires { F.IsAlwaysCallable filter }
-        ensures exact { (keeps : Meta → Bool) → ComputesKey F.FnMut keeps filter
-            → IsValuePlace (key_at section_name.now (option_copied subsection_name.entry) value_name.now) keeps self.now result }
+        ensures filtered { Filtered (λ keeps. ComputesKey F.FnMut keeps filter)
+            (λ keeps s. IsPlace (key_of key.entry) self.now (value_place (key_of key.entry) keeps s) result) self.now }
         ensures stands { IfOk result (λ place. has_number place.0 self.now ≡ true) }
-        ensures name { IfOk result (λ _. is_value_name value_name.now ≡ true) }
-        ensures some { IsSomeValuePlace (key_at section_name.now (option_copied subsection_name.entry) value_name.now) self.now result }
+        ensures name { IfOk result (λ _. is_value_name key.entry.value_name.now ≡ true) }
     {
-        self.store
-            .value_place_filter_by(section_name, subsection_name, value_name, filter)
+        self.store.value_place_filter(key, filter)
     }
 
     /// [`Store::meaning_at`](gitconf_store::store::Store::meaning_at).

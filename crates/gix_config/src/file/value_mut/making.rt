@@ -2,18 +2,19 @@
 use crate::file::value_mut::ValueMut;
 use crate::file::{File, Metadata};
 use crate::lookup::existing;
-use gitconf_base::key::AsKey;
+use gitconf_base::key::{AsKey, KeyRef};
 
 impl File {
     ghost use Rattle.std.specs.Borrow.{sem, RestsIfErr};
     ghost use Rattle.std.specs.Fn.{ComputesKey};
     ghost use Rattle.std.specs.Option.{option_copied};
-    ghost use Rattle.std.specs.Prelude.{◌≡◌, Bool, true, IfOk, IsSome};
+    ghost use Rattle.std.specs.Prelude.{◌≡◌, true, IfOk, IsSome};
     ghost use Rattle.gitconf_base.specs.Key.{the_key};
-    ghost use Rattle.gitconf_base.specs.Metadata.{Meta};
     ghost use Rattle.gitconf_finding.specs.Lookups.{key_at};
+    ghost use Rattle.gitconf_finding.specs.SomeSections.{Filtered};
+    ghost use Rattle.gitconf_finding.specs.ValuePlaces.{value_place};
     ghost use Rattle.gix_config.specs.contracts.file.File.{the_row};
-    ghost use Rattle.gix_config.specs.ValueEditors.{edited, lent, IsEditorOfValue, IsEditorOfSomeValue};
+    ghost use Rattle.gix_config.specs.ValueEditors.{edited, lent, IsEditorOfValue, IsValueEditor};
 
     /// An editor of the last entry of a key such as `remote.origin.url`, with `=` or without it, in the last section of the key's name and
     /// subsection that has one. The key has to be valid, as [`AsKey::try_as_key`] says.
@@ -71,10 +72,8 @@ impl File {
         requires callable { F.IsAlwaysCallable filter }
         ensures same_file { IfOk result (λ e. lent e ≡ self.entry.ghost_name) }
         ensures same_state { IfOk result (λ e. edited e ≡ self.old) }
-        // For a filter whose result depends only on what it is shown.
-        ensures found { (keeps : Meta → Bool) → ComputesKey F.FnMut keeps filter → IsEditorOfValue (the_key (K.key key)) keeps self.old result }
-        // For any filter.
-        ensures some { IsEditorOfSomeValue (the_key (K.key key)) self.old result }
+        ensures found { Filtered (λ keeps. ComputesKey F.FnMut keeps filter)
+            (λ keeps s. IsValueEditor (the_key (K.key key)) self.old (value_place (the_key (K.key key)) keeps s) result) self.old }
         ensures* refused { sem 𝓛 (RestsIfErr the_row self.entry lent result (λ n. n ≡ self.old)) }
     {
         let key = key.as_key();
@@ -101,14 +100,16 @@ impl File {
         requires { F.IsAlwaysCallable filter }
         ensures same_file { IfOk result (λ e. lent e ≡ self.entry.ghost_name) }
         ensures same_state { IfOk result (λ e. edited e ≡ self.old) }
-        // For a filter whose result depends only on what it is shown.
-        ensures found { (keeps : Meta → Bool) → ComputesKey F.FnMut keeps filter
-            → IsEditorOfValue (key_at section_name.now (option_copied subsection_name.entry) value_name.now) keeps self.old result }
-        // For any filter.
-        ensures some { IsEditorOfSomeValue (key_at section_name.now (option_copied subsection_name.entry) value_name.now) self.old result }
+        ensures found { Filtered (λ keeps. ComputesKey F.FnMut keeps filter)
+            (λ keeps s. IsValueEditor (key_at section_name.now (option_copied subsection_name.entry) value_name.now) self.old (value_place (key_at section_name.now (option_copied subsection_name.entry) value_name.now) keeps s) result) self.old }
         ensures* refused { sem 𝓛 (RestsIfErr the_row self.entry lent result (λ n. n ≡ self.old)) }
     {
-        let place = self.value_place(section_name, subsection_name, value_name, filter)?;
+        let key = KeyRef {
+            section_name,
+            subsection_name,
+            value_name,
+        };
+        let place = self.value_place(key, filter)?;
         let spelling = self.spelling_at(place.0, value_name.as_bytes())?;
         let line_end = self.line_end();
         Ok(ValueMut {

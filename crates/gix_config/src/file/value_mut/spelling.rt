@@ -44,9 +44,8 @@ impl Spelling {
         requires { is_value_name key.now ≡ true }
         ensures { IfOk result (λ s. s ≡ record { key = key.now; spacing = blanks }) }
     {
-        let mut copy = Vec::new(blanks.allocator());
-        copy.extend_from_slice(key)?;
-        Ok(Spelling { key: copy, blanks })
+        let key = Vec::from_slice(blanks.allocator(), key)?;
+        Ok(Spelling { key, blanks })
     }
 
     /// The name.

@@ -34,7 +34,7 @@ returns c =
     let set = left_shown b c.args.places.now s.items.items in
     let others : HasOthers (length b) s t = record { header = refl; meta = refl; held = refl; within = stays } in
     rw (← c.self.view_is) (ap (state_of b c.self.inside.front.items c.self.inside.meta.value) back ∙ numbered_view b b c.self.inside.copies.items c.self.inside.front.items c.self.inside.meta.value c.self.inside.sections c.args.id c.in-Some.at s t (without_all c.args.places.now)
-    (same_extended b b refl) others c.self.invariant.front_within c.self.invariant.sections_within c.next_id.ensures.numbered.once here number set
+    (same_extended b b refl) others c.self.invariant.front_within c.self.invariant.sections_within c.position.ensures.numbered.once here number set
     ∙ sym (run_deleted c.args.id c.args.places.now (state_of b c.self.inside.front.items c.self.inside.meta.value c.self.inside.sections) c.requires.are_in))
 
 pub invariant_of-self : goal.invariant_of-self
@@ -53,6 +53,6 @@ invariant_of-self c =
     let set = left_shown b c.args.places.now s.items.items in
     let others : HasOthers (length b) s t = record { header = refl; meta = refl; held = refl; within = stays } in
     subst (StoreFits b c.self.inside.copies.items c.self.inside.front.items c.self.inside.meta.value) (sym back) (numbered_kept b b c.self.inside.copies.items c.self.inside.front.items c.self.inside.meta.value c.self.inside.sections c.args.id c.in-Some.at s t (without_all c.args.places.now)
-    (same_extended b b refl) c.self.invariant.room others c.self.invariant c.next_id.ensures.numbered.once here number
+    (same_extended b b refl) c.self.invariant.room others c.self.invariant c.position.ensures.numbered.once here number
     (run_keeps c.args.id c.args.places.now (state_of b c.self.inside.front.items c.self.inside.meta.value c.self.inside.sections) c.requires.are_in c.self.invariant.items)
     (inl set))

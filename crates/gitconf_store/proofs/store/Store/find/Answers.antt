@@ -7,18 +7,18 @@ use Rattle.gitconf_finding.specs.Walks.{named_left}
 use Rattle.gitconf_finding.proofs.SomeSections.{with_some_named}
 use Rattle.gitconf_store.proofs.store.Store.find.Goals as goal
 
-pub returns-clause-exact : goal.returns-clause-exact
-returns-clause-exact g c = λ keeps h.
-    c.last_found.ensures.exact keeps h
-    ∙ ap (λ k. last_place c.args.deciding k keeps (named_left c.sections_named-sections.result)) c.as_bytes.ensures.value
-    ∙ ap (last_place c.args.deciding c.args.value_name.now keeps) c.sections_named-sections.ensures
-
-pub returns-clause-some : goal.returns-clause-some
-returns-clause-some g c =
-    let found = c.last_found.ensures.some in
-    with_some_named c.args.section_name.now (option_copied c.args.subsection_name) c.args.self.now
-    (λ sections. option_map place_of c.last_found.result ≡ last_place c.args.deciding c.args.value_name.now (λ _. true) sections) (
-      found.0,
-      subst (λ sections. AreSome sections found.0) c.sections_named-sections.ensures found.1,
-      found.2 ∙ ap (λ k. last_place c.args.deciding k (λ _. true) found.0) c.as_bytes.ensures.value,
-    )
+pub returns : goal.returns
+returns g c = record {
+  exact = λ keeps h.
+      c.last_found.ensures.exact keeps h
+      ∙ ap (λ k. last_place c.args.deciding k keeps (named_left c.sections_named-sections.result)) c.as_bytes.ensures.value
+      ∙ ap (last_place c.args.deciding c.args.key.value_name.now keeps) c.sections_named-sections.ensures;
+  some =
+      let found = c.last_found.ensures.some in
+      with_some_named c.args.key.section_name.now (option_copied c.args.key.subsection_name) c.args.self.now
+      (λ sections. option_map place_of c.last_found.result ≡ last_place c.args.deciding c.args.key.value_name.now (λ _. true) sections) (
+        found.0,
+        subst (λ sections. AreSome sections found.0) c.sections_named-sections.ensures found.1,
+        found.2 ∙ ap (λ k. last_place c.args.deciding k (λ _. true) found.0) c.as_bytes.ensures.value,
+      );
+}

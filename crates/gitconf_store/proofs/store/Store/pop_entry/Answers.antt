@@ -43,7 +43,7 @@ returns-clause-ok c =
     c.deref.ensures.value c.pop-popped.ensures.ok in
     rw (← c.self.view_is) (on_ok c.pop-popped.result
     (λ set. whole ∙ numbered_view b b c.self.inside.copies.items c.self.inside.front.items c.self.inside.meta.value c.self.inside.sections c.args.id c.in-Some.at s t popped
-    (same_extended b b refl) others c.self.invariant.front_within c.self.invariant.sections_within c.next_id.ensures.numbered.once here number set) ok)
+    (same_extended b b refl) others c.self.invariant.front_within c.self.invariant.sections_within c.position.ensures.numbered.once here number set) ok)
 
 pub returns-clause-err : goal.returns-clause-err
 returns-clause-err c =
@@ -68,7 +68,7 @@ returns-clause-answer c =
     let here = l.here in
     let place : place_of c.args.id c.self.inside.sections ≡ Some c.in-Some.at = search rules in
     let number = number_at-place c.args.id c.self.inside.sections c.in-Some.at place in
-    let told = numbered_told b c.self.inside.front.items c.self.inside.meta.value c.self.inside.sections c.args.id c.in-Some.at s popped_entry c.next_id.ensures.numbered.once here number in
+    let told = numbered_told b c.self.inside.front.items c.self.inside.meta.value c.self.inside.sections c.args.id c.in-Some.at s popped_entry c.position.ensures.numbered.once here number in
     let answer = subst (λ buffer. IfOk c.pop-popped.result (λ o. option_map (λ t. (t.0.items, t.1.items)) o ≡ popped_entry (items_of buffer s.items.items)))
     c.deref.ensures.value c.pop-popped.ensures.answer in
     rw (← c.self.view_is) (if_ok c.pop-popped.result (λ o is. ap Entry (is ∙ sym told)) answer)
@@ -81,7 +81,7 @@ returns-clause-none c =
     let here = l.here in
     let place : place_of c.args.id c.self.inside.sections ≡ Some c.in-Some.at = search rules in
     let number = number_at-place c.args.id c.self.inside.sections c.in-Some.at place in
-    let told = numbered_told b c.self.inside.front.items c.self.inside.meta.value c.self.inside.sections c.args.id c.in-Some.at s popped_entry c.next_id.ensures.numbered.once here number in
+    let told = numbered_told b c.self.inside.front.items c.self.inside.meta.value c.self.inside.sections c.args.id c.in-Some.at s popped_entry c.position.ensures.numbered.once here number in
     let fine = subst (λ buffer. popped_entry (items_of buffer s.items.items) ≡ None → IsOk c.pop-popped.result) c.deref.ensures.value c.pop-popped.ensures.none in
     rw (← c.self.view_is) (λ none. fine (sym told ∙ entry_inside none))
 
@@ -110,7 +110,7 @@ invariant_of-self-2 c =
     let ok = subst (λ buffer. OnOk c.pop-popped.result (items_of buffer c.pop-popped.new.items.items ≡ popped (items_of buffer s.items.items)))
     c.deref.ensures.value c.pop-popped.ensures.ok in
     subst (StoreFits c.self.inside.buffer.items c.self.inside.copies.items c.self.inside.front.items c.self.inside.meta.value) (sym back) (numbered_kept b b c.self.inside.copies.items c.self.inside.front.items c.self.inside.meta.value c.self.inside.sections c.args.id c.in-Some.at s t popped
-    (same_extended b b refl) c.self.invariant.room others c.self.invariant c.next_id.ensures.numbered.once here number
+    (same_extended b b refl) c.self.invariant.room others c.self.invariant c.position.ensures.numbered.once here number
     (apply_items (Pop c.args.id) (state_of b c.self.inside.front.items c.self.inside.meta.value c.self.inside.sections) tt c.self.invariant.items)
     (either_way c.pop-popped.result ok c.pop-popped.ensures.err))
 
@@ -137,7 +137,7 @@ returns-then-not-has_entries-clause-ok c =
     let back = c.clear.ensures ∙ sym (section_edited (with_items []) c.self.inside.sections c.in-Some.at s t c.at-section.ensures refl) in
     rw (← c.self.view_is) (ap (state_of b c.self.inside.front.items c.self.inside.meta.value) back
     ∙ numbered_view b b c.self.inside.copies.items c.self.inside.front.items c.self.inside.meta.value c.self.inside.sections c.args.id c.in-Some.at s t popped
-    (same_extended b b refl) others c.self.invariant.front_within c.self.invariant.sections_within c.next_id.ensures.numbered.once c.at-section.ensures number (sym emptied))
+    (same_extended b b refl) others c.self.invariant.front_within c.self.invariant.sections_within c.position.ensures.numbered.once c.at-section.ensures number (sym emptied))
 
 pub returns-then-not-has_entries-clause-answer : goal.returns-then-not-has_entries-clause-answer
 returns-then-not-has_entries-clause-answer c =
@@ -146,7 +146,7 @@ returns-then-not-has_entries-clause-answer c =
     let place : place_of c.args.id c.self.inside.sections ≡ Some c.in-Some.at = search rules in
     let number = number_at-place c.args.id c.self.inside.sections c.in-Some.at place in
     let not : c.has_entries.result ≡ false = search rules in
-    let told = numbered_told b c.self.inside.front.items c.self.inside.meta.value c.self.inside.sections c.args.id c.in-Some.at s popped_entry c.next_id.ensures.numbered.once c.at-section.ensures number in
+    let told = numbered_told b c.self.inside.front.items c.self.inside.meta.value c.self.inside.sections c.args.id c.in-Some.at s popped_entry c.position.ensures.numbered.once c.at-section.ensures number in
     rw (← c.self.view_is) (ap Entry (sym (told ∙ c.has_entries.ensures.none b not)))
 
 pub invariant_of-self : goal.invariant_of-self
@@ -162,7 +162,7 @@ invariant_of-self c =
     let back = c.clear.ensures ∙ sym (section_edited (with_items []) c.self.inside.sections c.in-Some.at s t c.at-section.ensures refl) in
     subst (StoreFits b c.self.inside.copies.items c.self.inside.front.items c.self.inside.meta.value) (sym back)
     (numbered_kept b b c.self.inside.copies.items c.self.inside.front.items c.self.inside.meta.value c.self.inside.sections c.args.id c.in-Some.at s t popped
-    (same_extended b b refl) c.self.invariant.room others c.self.invariant c.next_id.ensures.numbered.once c.at-section.ensures number
+    (same_extended b b refl) c.self.invariant.room others c.self.invariant c.position.ensures.numbered.once c.at-section.ensures number
     (apply_items (Pop c.args.id) (state_of b c.self.inside.front.items c.self.inside.meta.value c.self.inside.sections) tt c.self.invariant.items)
     (inl (sym emptied)))
 
@@ -172,6 +172,6 @@ returns-in_err-items-clause-none c =
     let s = viewed c.at-section.result in
     let place : place_of c.args.id c.self.inside.sections ≡ Some c.in-Some.at = search rules in
     let number = number_at-place c.args.id c.self.inside.sections c.in-Some.at place in
-    let told = numbered_told b c.self.inside.front.items c.self.inside.meta.value c.self.inside.sections c.args.id c.in-Some.at s popped_entry c.next_id.ensures.numbered.once c.at-section.ensures number in
+    let told = numbered_told b c.self.inside.front.items c.self.inside.meta.value c.self.inside.sections c.args.id c.in-Some.at s popped_entry c.position.ensures.numbered.once c.at-section.ensures number in
     let found : c.has_entries.result ≡ true = search rules in
     rw (← c.self.view_is) (λ none. absurd (let no = c.has_entries.ensures.some b (sym told ∙ entry_inside none) in cc))

@@ -57,7 +57,7 @@ returns-clause-ok c =
     rw (← c.self.view_is) (on_ok c.push-pushed.result
     (λ set. whole ∙ numbered_view b new c.self.inside.copies.items c.self.inside.front.items c.self.inside.meta.value c.self.inside.sections c.args.id c.in-Some.at s t
     (pushed (given_editor c.args.editor.now) c.args.key.now (option_copied c.args.value) (option_copied c.args.comment))
-    c.push-pushed.ensures.grows.extended others c.self.invariant.front_within c.self.invariant.sections_within c.next_id.ensures.numbered.once here number set) ok)
+    c.push-pushed.ensures.grows.extended others c.self.invariant.front_within c.self.invariant.sections_within c.position.ensures.numbered.once here number set) ok)
 
 pub returns-clause-err : goal.returns-clause-err
 returns-clause-err c =
@@ -82,7 +82,7 @@ returns-clause-used c =
     let place : place_of c.args.id c.self.inside.sections ≡ Some c.in-Some.at = search rules in
     let number = number_at-place c.args.id c.self.inside.sections c.in-Some.at place in
     rw (← c.self.view_is) (puts_at b c.self.inside.front.items c.self.inside.meta.value c.self.inside.sections c.args.id c.in-Some.at (with_items c.deref_mut.result.now.items l.kept) c.push-pushed.result
-    (line_put c.args.editor.now c.args.key.now (option_copied c.args.value) (option_copied c.args.comment)) _ c.next_id.ensures.numbered.once here number
+    (line_put c.args.editor.now c.args.key.now (option_copied c.args.value) (option_copied c.args.comment)) _ c.position.ensures.numbered.once here number
     (record { put = c.push-pushed.ensures.grows.put; grown = c.push-pushed.ensures.grows.grown; too_large = c.push-pushed.ensures.grows.too_large; refused = c.push-pushed.ensures.refused; known = c.push-pushed.ensures.grows.known }))
 
 pub invariant_of-self-2 : goal.invariant_of-self-2
@@ -101,7 +101,7 @@ invariant_of-self-2 c =
     (given_same b c.args.editor.now c.requires.given) c.push-pushed.ensures.ok in
     subst (StoreFits c.push-pushed.new.buffer.items c.self.inside.copies.items c.self.inside.front.items c.self.inside.meta.value) (sym back) (numbered_kept b new c.self.inside.copies.items c.self.inside.front.items c.self.inside.meta.value c.self.inside.sections c.args.id c.in-Some.at s t
     (pushed (given_editor c.args.editor.now) c.args.key.now (option_copied c.args.value) (option_copied c.args.comment))
-    c.push-pushed.ensures.grows.extended c.push-pushed.ensures.grows.room others c.self.invariant c.next_id.ensures.numbered.once here number
+    c.push-pushed.ensures.grows.extended c.push-pushed.ensures.grows.room others c.self.invariant c.position.ensures.numbered.once here number
     (apply_items (Push c.args.id (given_editor c.args.editor.now) c.args.key.now (option_copied c.args.value) (option_copied c.args.comment))
     (state_of b c.self.inside.front.items c.self.inside.meta.value c.self.inside.sections) (c.requires.editor, c.requires.key) c.self.invariant.items)
     (either_way c.push-pushed.result ok c.push-pushed.ensures.err))

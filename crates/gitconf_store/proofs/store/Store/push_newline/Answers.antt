@@ -50,7 +50,7 @@ returns-clause-ok c =
     rw (← c.self.view_is) (on_ok c.push_newline-pushed.result
     (λ set. whole ∙ numbered_view b new c.self.inside.copies.items c.self.inside.front.items c.self.inside.meta.value c.self.inside.sections c.args.id c.in-Some.at s t
     (line_end_pushed (given_editor c.args.editor.now))
-    c.push_newline-pushed.ensures.grows.extended others c.self.invariant.front_within c.self.invariant.sections_within c.next_id.ensures.numbered.once here number set) ok)
+    c.push_newline-pushed.ensures.grows.extended others c.self.invariant.front_within c.self.invariant.sections_within c.position.ensures.numbered.once here number set) ok)
 
 pub returns-clause-err : goal.returns-clause-err
 returns-clause-err c =
@@ -75,7 +75,7 @@ returns-clause-used c =
     let place : place_of c.args.id c.self.inside.sections ≡ Some c.in-Some.at = search rules in
     let number = number_at-place c.args.id c.self.inside.sections c.in-Some.at place in
     rw (← c.self.view_is) (puts_at b c.self.inside.front.items c.self.inside.meta.value c.self.inside.sections c.args.id c.in-Some.at (with_items c.deref_mut.result.now.items l.kept) c.push_newline-pushed.result
-    (length (bytes_of_line_end c.args.editor.now.line_end)) _ c.next_id.ensures.numbered.once here number
+    (length (bytes_of_line_end c.args.editor.now.line_end)) _ c.position.ensures.numbered.once here number
     (record { put = c.push_newline-pushed.ensures.grows.put; grown = c.push_newline-pushed.ensures.grows.grown; too_large = c.push_newline-pushed.ensures.grows.too_large; refused = c.push_newline-pushed.ensures.refused; known = c.push_newline-pushed.ensures.grows.known }))
 
 pub invariant_of-self-2 : goal.invariant_of-self-2
@@ -93,7 +93,7 @@ invariant_of-self-2 c =
     let ok = c.push_newline-pushed.ensures.ok in
     subst (StoreFits c.push_newline-pushed.new.buffer.items c.self.inside.copies.items c.self.inside.front.items c.self.inside.meta.value) (sym back) (numbered_kept b new c.self.inside.copies.items c.self.inside.front.items c.self.inside.meta.value c.self.inside.sections c.args.id c.in-Some.at s t
     (line_end_pushed (given_editor c.args.editor.now))
-    c.push_newline-pushed.ensures.grows.extended c.push_newline-pushed.ensures.grows.room others c.self.invariant c.next_id.ensures.numbered.once here number
+    c.push_newline-pushed.ensures.grows.extended c.push_newline-pushed.ensures.grows.room others c.self.invariant c.position.ensures.numbered.once here number
     (apply_items (PushLineEnd c.args.id (given_editor c.args.editor.now))
     (state_of b c.self.inside.front.items c.self.inside.meta.value c.self.inside.sections) c.requires.editor c.self.invariant.items)
     (either_way c.push_newline-pushed.result ok c.push_newline-pushed.ensures.err))

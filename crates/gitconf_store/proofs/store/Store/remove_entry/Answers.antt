@@ -43,7 +43,7 @@ returns-clause-ok c =
     c.deref-2.ensures.value c.remove-removed.ensures.ok in
     rw (← c.self.view_is) (on_ok c.remove-removed.result
     (λ set. whole ∙ numbered_view b b c.self.inside.copies.items c.self.inside.front.items c.self.inside.meta.value c.self.inside.sections c.args.id c.in-Some.at s t (removed c.args.key.now)
-    (same_extended b b refl) others c.self.invariant.front_within c.self.invariant.sections_within c.next_id.ensures.numbered.once here number set) ok)
+    (same_extended b b refl) others c.self.invariant.front_within c.self.invariant.sections_within c.position.ensures.numbered.once here number set) ok)
 
 pub returns-clause-err : goal.returns-clause-err
 returns-clause-err c =
@@ -68,7 +68,7 @@ returns-clause-answer c =
     let here = l.here in
     let place : place_of c.args.id c.self.inside.sections ≡ Some c.in-Some.at = search rules in
     let number = number_at-place c.args.id c.self.inside.sections c.in-Some.at place in
-    let told = numbered_told b c.self.inside.front.items c.self.inside.meta.value c.self.inside.sections c.args.id c.in-Some.at s (old_value c.args.key.now) c.next_id.ensures.numbered.once here number in
+    let told = numbered_told b c.self.inside.front.items c.self.inside.meta.value c.self.inside.sections c.args.id c.in-Some.at s (old_value c.args.key.now) c.position.ensures.numbered.once here number in
     let answer = subst (λ buffer. IfOk c.remove-removed.result (λ o. option_map (λ v. v.items) o ≡ old_value c.args.key.now (items_of buffer s.items.items)))
     c.deref-2.ensures.value c.remove-removed.ensures.answer in
     rw (← c.self.view_is) (if_ok c.remove-removed.result (λ o is. ap Raw (is ∙ sym told)) answer)
@@ -81,7 +81,7 @@ returns-clause-none c =
     let here = l.here in
     let place : place_of c.args.id c.self.inside.sections ≡ Some c.in-Some.at = search rules in
     let number = number_at-place c.args.id c.self.inside.sections c.in-Some.at place in
-    let told = numbered_told b c.self.inside.front.items c.self.inside.meta.value c.self.inside.sections c.args.id c.in-Some.at s (old_value c.args.key.now) c.next_id.ensures.numbered.once here number in
+    let told = numbered_told b c.self.inside.front.items c.self.inside.meta.value c.self.inside.sections c.args.id c.in-Some.at s (old_value c.args.key.now) c.position.ensures.numbered.once here number in
     let fine = subst (λ buffer. old_value c.args.key.now (items_of buffer s.items.items) ≡ None → IsOk c.remove-removed.result) c.deref-2.ensures.value c.remove-removed.ensures.none in
     rw (← c.self.view_is) (λ none. fine (sym told ∙ raw_inside none))
 
@@ -100,7 +100,7 @@ invariant_of-self-2 c =
     let ok = subst (λ buffer. OnOk c.remove-removed.result (items_of buffer c.remove-removed.new.items.items ≡ removed c.args.key.now (items_of buffer s.items.items)))
     c.deref-2.ensures.value c.remove-removed.ensures.ok in
     subst (StoreFits c.self.inside.buffer.items c.self.inside.copies.items c.self.inside.front.items c.self.inside.meta.value) (sym back) (numbered_kept b b c.self.inside.copies.items c.self.inside.front.items c.self.inside.meta.value c.self.inside.sections c.args.id c.in-Some.at s t (removed c.args.key.now)
-    (same_extended b b refl) c.self.invariant.room others c.self.invariant c.next_id.ensures.numbered.once here number
+    (same_extended b b refl) c.self.invariant.room others c.self.invariant c.position.ensures.numbered.once here number
     (apply_items (Remove c.args.id c.args.key.now) (state_of b c.self.inside.front.items c.self.inside.meta.value c.self.inside.sections) tt c.self.invariant.items)
     (either_way c.remove-removed.result ok c.remove-removed.ensures.err))
 
@@ -123,7 +123,7 @@ returns-then-not-has_entry-clause-ok c =
     let not : c.has_entry.result ≡ false = search rules in
     let stays = subst (λ x. removed c.args.key.now (items_of x s.items.items) ≡ items_of x s.items.items) c.deref.ensures.value (c.has_entry.ensures.kept not) in
     rw (← c.self.view_is) (unchanged_view b c.self.inside.copies.items c.self.inside.front.items c.self.inside.meta.value c.self.inside.sections c.args.id c.in-Some.at s (removed c.args.key.now)
-    c.self.invariant c.next_id.ensures.numbered.once c.at-section.ensures number stays)
+    c.self.invariant c.position.ensures.numbered.once c.at-section.ensures number stays)
 
 pub returns-then-not-has_entry-clause-answer : goal.returns-then-not-has_entry-clause-answer
 returns-then-not-has_entry-clause-answer c =
@@ -133,7 +133,7 @@ returns-then-not-has_entry-clause-answer c =
     let number = number_at-place c.args.id c.self.inside.sections c.in-Some.at place in
     let not : c.has_entry.result ≡ false = search rules in
     let none = subst (λ x. old_value c.args.key.now (items_of x s.items.items) ≡ None) c.deref.ensures.value (c.has_entry.ensures.none not) in
-    let told = numbered_told b c.self.inside.front.items c.self.inside.meta.value c.self.inside.sections c.args.id c.in-Some.at s (old_value c.args.key.now) c.next_id.ensures.numbered.once c.at-section.ensures number in
+    let told = numbered_told b c.self.inside.front.items c.self.inside.meta.value c.self.inside.sections c.args.id c.in-Some.at s (old_value c.args.key.now) c.position.ensures.numbered.once c.at-section.ensures number in
     rw (← c.self.view_is) (ap Raw (sym (told ∙ none)))
 
 pub returns-in_err-items-clause-none : goal.returns-in_err-items-clause-none
@@ -142,6 +142,6 @@ returns-in_err-items-clause-none c =
     let s = viewed c.at-section.result in
     let place : place_of c.args.id c.self.inside.sections ≡ Some c.in-Some.at = search rules in
     let number = number_at-place c.args.id c.self.inside.sections c.in-Some.at place in
-    let told = numbered_told b c.self.inside.front.items c.self.inside.meta.value c.self.inside.sections c.args.id c.in-Some.at s (old_value c.args.key.now) c.next_id.ensures.numbered.once c.at-section.ensures number in
+    let told = numbered_told b c.self.inside.front.items c.self.inside.meta.value c.self.inside.sections c.args.id c.in-Some.at s (old_value c.args.key.now) c.position.ensures.numbered.once c.at-section.ensures number in
     let found : c.has_entry.result ≡ true = search rules in
     rw (← c.self.view_is) (λ none. absurd (let no = c.has_entry.ensures.some (subst (λ x. old_value c.args.key.now (items_of x s.items.items) ≡ None) (sym c.deref.ensures.value) (sym told ∙ raw_inside none)) in cc))

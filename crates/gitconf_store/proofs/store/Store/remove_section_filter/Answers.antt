@@ -20,27 +20,38 @@ returns-in_ok-section-in-Some-clause-ok g c = λ keeps h.
     (taken_some {E = NoMemory} _ (shown c.in-Some.section) c.in_ok-section-in-Some.section old c.take_out.new.self found c.in_ok-section-in-Some.ensures (c.take_out.ensures ∙ ap (λ id. without_numbered id old) c.id-id.ensures)).ok
     ∙ named_out name subsection keeps old
 
-pub returns-in_ok-section-in-Some-clause-some : goal.returns-in_ok-section-in-Some-clause-some
-returns-in_ok-section-in-Some-clause-some g c =
-    let found = c.in-Some.ensures.some in
-    let old = c.args.self.now in
-    with_some_named c.args.name.now (option_copied c.args.subsection_name) old
-    (λ sections. IsTakenOut {E = NoMemory} (last_or None (passing (λ _. true) sections)) (Ok (Some c.in_ok-section-in-Some.section)) old c.take_out.new.self) (
-      found.0,
-      subst (λ sections. AreSome sections found.0) c.sections_named.ensures found.1,
-      taken_some _ (shown c.in-Some.section) c.in_ok-section-in-Some.section old c.take_out.new.self found.2 c.in_ok-section-in-Some.ensures (c.take_out.ensures ∙ ap (λ id. without_numbered id old) c.id-id.ensures),
-    )
+pub returns-in_ok-section-in-Some-clause-filtered : goal.returns-in_ok-section-in-Some-clause-filtered
+returns-in_ok-section-in-Some-clause-filtered g c = record {
+  exact = λ keeps h.
+      let old = c.args.self.now in
+      let found = c.in-Some.ensures.exact keeps h ∙ ap (λ ss. last_or None (passing keeps ss)) c.sections_named.ensures in
+      taken_some {E = NoMemory} _ (shown c.in-Some.section) c.in_ok-section-in-Some.section old c.take_out.new.self found c.in_ok-section-in-Some.ensures (c.take_out.ensures ∙ ap (λ id. without_numbered id old) c.id-id.ensures);
+  some =
+      let found = c.in-Some.ensures.some in
+      let old = c.args.self.now in
+      with_some_named c.args.name.now (option_copied c.args.subsection_name) old
+      (λ sections. IsTakenOut {E = NoMemory} (last_or None (passing (λ _. true) sections)) (Ok (Some c.in_ok-section-in-Some.section)) old c.take_out.new.self) (
+        found.0,
+        subst (λ sections. AreSome sections found.0) c.sections_named.ensures found.1,
+        taken_some _ (shown c.in-Some.section) c.in_ok-section-in-Some.section old c.take_out.new.self found.2 c.in_ok-section-in-Some.ensures (c.take_out.ensures ∙ ap (λ id. without_numbered id old) c.id-id.ensures),
+      );
+}
 
-pub returns-in_err-section-in-Some-clause-some : goal.returns-in_err-section-in-Some-clause-some
-returns-in_err-section-in-Some-clause-some g c =
-    let found = c.in-Some.ensures.some in
-    let old = c.args.self.now in
-    with_some_named c.args.name.now (option_copied c.args.subsection_name) old
-    (λ sections. IsTakenOut {E = NoMemory} (last_or None (passing (λ _. true) sections)) c.from_residual.result old old) (
-      found.0,
-      subst (λ sections. AreSome sections found.0) c.sections_named.ensures found.1,
-      taken_refused _ (shown c.in-Some.section) c.from_residual.result old found.2 c.from_residual.ensures.0,
-    )
+pub returns-in_err-section-in-Some-clause-filtered : goal.returns-in_err-section-in-Some-clause-filtered
+returns-in_err-section-in-Some-clause-filtered g c = record {
+  exact = λ keeps h.
+      let found = c.in-Some.ensures.exact keeps h ∙ ap (λ ss. last_or None (passing keeps ss)) c.sections_named.ensures in
+      taken_refused _ (shown c.in-Some.section) c.from_residual.result c.args.self.now found c.from_residual.ensures.0;
+  some =
+      let found = c.in-Some.ensures.some in
+      let old = c.args.self.now in
+      with_some_named c.args.name.now (option_copied c.args.subsection_name) old
+      (λ sections. IsTakenOut {E = NoMemory} (last_or None (passing (λ _. true) sections)) c.from_residual.result old old) (
+        found.0,
+        subst (λ sections. AreSome sections found.0) c.sections_named.ensures found.1,
+        taken_refused _ (shown c.in-Some.section) c.from_residual.result old found.2 c.from_residual.ensures.0,
+      );
+}
 
 pub returns-in-None-clause-ok : goal.returns-in-None-clause-ok
 returns-in-None-clause-ok g c = λ keeps h.
@@ -49,10 +60,15 @@ returns-in-None-clause-ok g c = λ keeps h.
     ap (λ o. without_section o old) found
     ∙ named_out c.args.name.now (option_copied c.args.subsection_name) keeps old
 
-pub returns-in-None-clause-some : goal.returns-in-None-clause-some
-returns-in-None-clause-some g c =
-    let found = c.in-None.ensures.some in
-    let old = c.args.self.now in
-    with_some_named c.args.name.now (option_copied c.args.subsection_name) old
-    (λ sections. IsTakenOut {E = NoMemory} (last_or None (passing (λ _. true) sections)) (Ok None) old old)
-    (found.0, subst (λ sections. AreSome sections found.0) c.sections_named.ensures found.1, taken_none {E = NoMemory} _ old found.2)
+pub returns-in-None-clause-filtered : goal.returns-in-None-clause-filtered
+returns-in-None-clause-filtered g c = record {
+  exact = λ keeps h.
+      let found = c.in-None.ensures.exact keeps h ∙ ap (λ ss. last_or None (passing keeps ss)) c.sections_named.ensures in
+      taken_none {E = NoMemory} _ c.args.self.now found;
+  some =
+      let found = c.in-None.ensures.some in
+      let old = c.args.self.now in
+      with_some_named c.args.name.now (option_copied c.args.subsection_name) old
+      (λ sections. IsTakenOut {E = NoMemory} (last_or None (passing (λ _. true) sections)) (Ok None) old old)
+      (found.0, subst (λ sections. AreSome sections found.0) c.sections_named.ensures found.1, taken_none {E = NoMemory} _ old found.2);
+}

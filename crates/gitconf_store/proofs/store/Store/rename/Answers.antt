@@ -54,4 +54,4 @@ returns-clause-ok c =
     let first : at ≡ 0 + at = omega arith in
     c.in_ok-put_header.ensures.ok (marks_of at) ((λ i. first i ∷ []) ∙ one_place 0 at)
     ∙ ap (with_used c.put_header.new.self.used) (numbered_renamed inside.buffer.items inside.front.items inside.meta.value inside.sections c.args.self.now c.args.id at c.args.name.now (option_copied c.args.subsection_name)
-    c.next_id.ensures.numbered.once (number_at-place c.args.id inside.sections at place) c.self.view_is)
+    c.position.ensures.numbered.once (number_at-place c.args.id inside.sections at place) c.self.view_is)

@@ -54,7 +54,7 @@ returns-clause-ok c =
     let place : place_of c.args.id c.self.inside.sections ≡ Some c.in-Some.at = search rules in
     let number = number_at-place c.args.id c.self.inside.sections c.in-Some.at place in
     let others : HasOthers (length new) s t = record { header = refl; meta = refl; held = refl; within = c.rewrite_at-written.ensures.within } in
-    let same = numbered_items_at b c.self.inside.front.items c.self.inside.meta.value c.self.inside.sections c.args.id c.in-Some.at s c.next_id.ensures.numbered.once here number in
+    let same = numbered_items_at b c.self.inside.front.items c.self.inside.meta.value c.self.inside.sections c.args.id c.in-Some.at s c.position.ensures.numbered.once here number in
     let ok = subst (λ (is : List parts.Item). OnOk c.rewrite_at-written.result (items_of new c.rewrite_at-written.new.items.items
     ≡ written_at (record { spacing = spacing_of is; line_end = file_line_end state; ends = true }) c.args.place (instead_of c.args.in_place_of) c.args.key.now c.args.value.now (items_of b s.items.items)))
     (sym same) (c.rewrite_at-written.ensures.ok (file_line_end state)) in
@@ -63,7 +63,7 @@ returns-clause-ok c =
     c.self.view_is (on_ok c.rewrite_at-written.result
     (λ set. whole ∙ numbered_view b new c.self.inside.copies.items c.self.inside.front.items c.self.inside.meta.value c.self.inside.sections c.args.id c.in-Some.at s t
     (written_at (editor_of_numbered c.args.id state) c.args.place (instead_of c.args.in_place_of) c.args.key.now c.args.value.now)
-    c.rewrite_at-written.ensures.grows.extended others c.self.invariant.front_within c.self.invariant.sections_within c.next_id.ensures.numbered.once here number set) ok)
+    c.rewrite_at-written.ensures.grows.extended others c.self.invariant.front_within c.self.invariant.sections_within c.position.ensures.numbered.once here number set) ok)
 
 pub returns-clause-err : goal.returns-clause-err
 returns-clause-err c =
@@ -87,9 +87,9 @@ returns-clause-used c =
     let here = l.here in
     let place : place_of c.args.id c.self.inside.sections ≡ Some c.in-Some.at = search rules in
     let number = number_at-place c.args.id c.self.inside.sections c.in-Some.at place in
-    let same = numbered_items_at b c.self.inside.front.items c.self.inside.meta.value c.self.inside.sections c.args.id c.in-Some.at (with_items c.deref_mut.result.now.items l.kept) c.next_id.ensures.numbered.once here number in
+    let same = numbered_items_at b c.self.inside.front.items c.self.inside.meta.value c.self.inside.sections c.args.id c.in-Some.at (with_items c.deref_mut.result.now.items l.kept) c.position.ensures.numbered.once here number in
     rw (← c.self.view_is) (puts_at b c.self.inside.front.items c.self.inside.meta.value c.self.inside.sections c.args.id c.in-Some.at (with_items c.deref_mut.result.now.items l.kept) c.rewrite_at-written.result _ _
-    c.next_id.ensures.numbered.once here number
+    c.position.ensures.numbered.once here number
     (subst (λ items. UsedGrows c.rewrite_at-written.result (rewritten_put c.args.key.now c.args.value.now items) (length b) (length c.rewrite_at-written.new.buffer.items)) (sym same)
     (record { put = c.rewrite_at-written.ensures.grows.put; grown = c.rewrite_at-written.ensures.grows.grown; too_large = c.rewrite_at-written.ensures.grows.too_large; refused = c.rewrite_at-written.ensures.refused; known = c.rewrite_at-written.ensures.grows.known })))
 
@@ -99,7 +99,7 @@ returns-clause-missing c =
     let place : place_of c.args.id c.self.inside.sections ≡ Some c.in-Some.at = search rules in
     let number = number_at-place c.args.id c.self.inside.sections c.in-Some.at place in
     rw (← c.self.view_is) (λ none. absurd (never_missing c.self.inside.buffer.items c.self.inside.front.items c.self.inside.meta.value c.self.inside.sections c.args.id c.in-Some.at
-    (with_items c.deref_mut.result.now.items l.kept) c.next_id.ensures.numbered.once l.here number none))
+    (with_items c.deref_mut.result.now.items l.kept) c.position.ensures.numbered.once l.here number none))
 
 pub invariant_of-self-2 : goal.invariant_of-self-2
 invariant_of-self-2 c =
@@ -114,13 +114,13 @@ invariant_of-self-2 c =
     let place : place_of c.args.id c.self.inside.sections ≡ Some c.in-Some.at = search rules in
     let number = number_at-place c.args.id c.self.inside.sections c.in-Some.at place in
     let others : HasOthers (length new) s t = record { header = refl; meta = refl; held = refl; within = c.rewrite_at-written.ensures.within } in
-    let same = numbered_items_at b c.self.inside.front.items c.self.inside.meta.value c.self.inside.sections c.args.id c.in-Some.at s c.next_id.ensures.numbered.once here number in
+    let same = numbered_items_at b c.self.inside.front.items c.self.inside.meta.value c.self.inside.sections c.args.id c.in-Some.at s c.position.ensures.numbered.once here number in
     let ok = subst (λ (is : List parts.Item). OnOk c.rewrite_at-written.result (items_of new c.rewrite_at-written.new.items.items
     ≡ written_at (record { spacing = spacing_of is; line_end = file_line_end state; ends = true }) c.args.place (instead_of c.args.in_place_of) c.args.key.now c.args.value.now (items_of b s.items.items)))
     (sym same) (c.rewrite_at-written.ensures.ok (file_line_end state)) in
     subst (StoreFits c.rewrite_at-written.new.buffer.items c.self.inside.copies.items c.self.inside.front.items c.self.inside.meta.value) (sym back) (numbered_kept b new c.self.inside.copies.items c.self.inside.front.items c.self.inside.meta.value c.self.inside.sections c.args.id c.in-Some.at s t
     (written_at (editor_of_numbered c.args.id state) c.args.place (instead_of c.args.in_place_of) c.args.key.now c.args.value.now)
-    c.rewrite_at-written.ensures.grows.extended c.rewrite_at-written.ensures.grows.room others c.self.invariant c.next_id.ensures.numbered.once here number
+    c.rewrite_at-written.ensures.grows.extended c.rewrite_at-written.ensures.grows.room others c.self.invariant c.position.ensures.numbered.once here number
     (rewritten_items c.args.id c.args.place (instead_of c.args.in_place_of) c.args.key.now c.args.value.now state c.requires.key c.self.invariant.items)
     (either_way c.rewrite_at-written.result ok c.rewrite_at-written.ensures.err))
 
@@ -140,7 +140,7 @@ returns-in_err-check_rewrite-clause-used c =
     let state = state_of c.self.inside.buffer.items c.self.inside.front.items c.self.inside.meta.value c.self.inside.sections in
     let place : place_of c.args.id c.self.inside.sections ≡ Some c.in-Some.at = search rules in
     let number = number_at-place c.args.id c.self.inside.sections c.in-Some.at place in
-    let items = numbered_items_at b c.self.inside.front.items c.self.inside.meta.value c.self.inside.sections c.args.id c.in-Some.at (viewed c.at-section.result) c.next_id.ensures.numbered.once c.at-section.ensures number in
+    let items = numbered_items_at b c.self.inside.front.items c.self.inside.meta.value c.self.inside.sections c.args.id c.in-Some.at (viewed c.at-section.result) c.position.ensures.numbered.once c.at-section.ensures number in
     let three : IsErrOf c.from_residual.result 3 = search rules in
     let due : 2 ^ 32 ≤ length b + rewritten_put c.args.key.now c.args.value.now (items_of c.self.inside.buffer.items c.at-section.result.items.now) = search rules in
     rw (← c.self.view_is) (puts_same c.args.id c.from_residual.result _ state (subst (λ is. UsedGrows c.from_residual.result (rewritten_put c.args.key.now c.args.value.now is) (length b) (length b)) (sym items) (used_refused c.from_residual.result _ (length b) three due)))
@@ -151,7 +151,7 @@ returns-in_err-items-clause-used c =
     let state = state_of c.self.inside.buffer.items c.self.inside.front.items c.self.inside.meta.value c.self.inside.sections in
     let place : place_of c.args.id c.self.inside.sections ≡ Some c.in-Some.at = search rules in
     let number = number_at-place c.args.id c.self.inside.sections c.in-Some.at place in
-    let items = numbered_items_at b c.self.inside.front.items c.self.inside.meta.value c.self.inside.sections c.args.id c.in-Some.at (viewed c.at-section.result) c.next_id.ensures.numbered.once c.at-section.ensures number in
+    let items = numbered_items_at b c.self.inside.front.items c.self.inside.meta.value c.self.inside.sections c.args.id c.in-Some.at (viewed c.at-section.result) c.position.ensures.numbered.once c.at-section.ensures number in
     let same : c.take_items.new.self ≡ c.self.inside.sections = search rules in
     let memory : IsErrOf c.from_residual-in_err-items.result 27 = search rules in
     let fits : 2 ^ 32 ≤ length b + rewritten_put c.args.key.now c.args.value.now (items_of c.self.inside.buffer.items c.at-section.result.items.now) → ⊥ = λ due. absurd (let no = subst (λ r. IsErrOf r 3) c.in_ok-check_rewrite.was (c.check_rewrite.ensures.too_large.1 (subst (λ x. 2 ^ 32 ≤ length x + rewritten_put c.args.key.now c.args.value.now (items_of x c.at-section.result.items.now)) (sym c.deref.ensures.value) due)) in cc) in
@@ -162,10 +162,10 @@ pub returns-in_err-check_rewrite-clause-missing : goal.returns-in_err-check_rewr
 returns-in_err-check_rewrite-clause-missing c =
     let place : place_of c.args.id c.self.inside.sections ≡ Some c.in-Some.at = search rules in
     let number = number_at-place c.args.id c.self.inside.sections c.in-Some.at place in
-    rw (← c.self.view_is) (λ none. absurd (never_missing c.self.inside.buffer.items c.self.inside.front.items c.self.inside.meta.value c.self.inside.sections c.args.id c.in-Some.at (viewed c.at-section.result) c.next_id.ensures.numbered.once c.at-section.ensures number none))
+    rw (← c.self.view_is) (λ none. absurd (never_missing c.self.inside.buffer.items c.self.inside.front.items c.self.inside.meta.value c.self.inside.sections c.args.id c.in-Some.at (viewed c.at-section.result) c.position.ensures.numbered.once c.at-section.ensures number none))
 
 pub returns-in_err-items-clause-missing : goal.returns-in_err-items-clause-missing
 returns-in_err-items-clause-missing c =
     let place : place_of c.args.id c.self.inside.sections ≡ Some c.in-Some.at = search rules in
     let number = number_at-place c.args.id c.self.inside.sections c.in-Some.at place in
-    rw (← c.self.view_is) (λ none. absurd (never_missing c.self.inside.buffer.items c.self.inside.front.items c.self.inside.meta.value c.self.inside.sections c.args.id c.in-Some.at (viewed c.at-section.result) c.next_id.ensures.numbered.once c.at-section.ensures number none))
+    rw (← c.self.view_is) (λ none. absurd (never_missing c.self.inside.buffer.items c.self.inside.front.items c.self.inside.meta.value c.self.inside.sections c.args.id c.in-Some.at (viewed c.at-section.result) c.position.ensures.numbered.once c.at-section.ensures number none))

@@ -51,7 +51,7 @@ returns-clause-answer c =
     let place : place_of c.args.id c.self.inside.sections ≡ Some c.in-Some.at = search rules in
     let number = number_at-place c.args.id c.self.inside.sections c.in-Some.at place in
     let told = numbered_told b c.self.inside.front.items c.self.inside.meta.value c.self.inside.sections c.args.id c.in-Some.at (with_items c.deref_mut.result.now.items l.kept) (old_value c.args.key.now)
-    c.next_id.ensures.numbered.once here number in
+    c.position.ensures.numbered.once here number in
     rw (← c.self.view_is) (if_ok c.set-set.result (λ o is. ap Raw (is ∙ sym told)) c.set-set.ensures.answer)
 
 pub returns-clause-ok : goal.returns-clause-ok
@@ -72,7 +72,7 @@ returns-clause-ok c =
     rw (← c.self.view_is) (on_ok c.set-set.result
     (λ set. whole ∙ numbered_view b new c.self.inside.copies.items c.self.inside.front.items c.self.inside.meta.value c.self.inside.sections c.args.id c.in-Some.at s t
     (value_set (given_editor c.args.editor.now) c.args.key.now c.args.value.now)
-    c.set-set.ensures.grows.extended others c.self.invariant.front_within c.self.invariant.sections_within c.next_id.ensures.numbered.once here number set) ok)
+    c.set-set.ensures.grows.extended others c.self.invariant.front_within c.self.invariant.sections_within c.position.ensures.numbered.once here number set) ok)
 
 pub returns-clause-err : goal.returns-clause-err
 returns-clause-err c =
@@ -96,9 +96,9 @@ returns-clause-used c =
     let here = l.here in
     let place : place_of c.args.id c.self.inside.sections ≡ Some c.in-Some.at = search rules in
     let number = number_at-place c.args.id c.self.inside.sections c.in-Some.at place in
-    let same = numbered_items_at b c.self.inside.front.items c.self.inside.meta.value c.self.inside.sections c.args.id c.in-Some.at (with_items c.deref_mut.result.now.items l.kept) c.next_id.ensures.numbered.once here number in
+    let same = numbered_items_at b c.self.inside.front.items c.self.inside.meta.value c.self.inside.sections c.args.id c.in-Some.at (with_items c.deref_mut.result.now.items l.kept) c.position.ensures.numbered.once here number in
     rw (← c.self.view_is) (puts_at b c.self.inside.front.items c.self.inside.meta.value c.self.inside.sections c.args.id c.in-Some.at (with_items c.deref_mut.result.now.items l.kept) c.set-set.result _ _
-    c.next_id.ensures.numbered.once here number
+    c.position.ensures.numbered.once here number
     (subst (λ items. UsedGrows c.set-set.result (set_put c.args.editor.now c.args.key.now c.args.value.now items) (length b) (length c.set-set.new.buffer.items)) (sym same)
     (record { put = c.set-set.ensures.grows.put; grown = c.set-set.ensures.grows.grown; too_large = c.set-set.ensures.grows.too_large; refused = c.set-set.ensures.refused; known = c.set-set.ensures.grows.known })))
 
@@ -118,7 +118,7 @@ invariant_of-self-2 c =
     (given_same b c.args.editor.now c.requires.given) c.set-set.ensures.ok in
     subst (StoreFits c.set-set.new.buffer.items c.self.inside.copies.items c.self.inside.front.items c.self.inside.meta.value) (sym back) (numbered_kept b new c.self.inside.copies.items c.self.inside.front.items c.self.inside.meta.value c.self.inside.sections c.args.id c.in-Some.at s t
     (value_set (given_editor c.args.editor.now) c.args.key.now c.args.value.now)
-    c.set-set.ensures.grows.extended c.set-set.ensures.grows.room others c.self.invariant c.next_id.ensures.numbered.once here number
+    c.set-set.ensures.grows.extended c.set-set.ensures.grows.room others c.self.invariant c.position.ensures.numbered.once here number
     (apply_items (SetValue c.args.id (given_editor c.args.editor.now) c.args.key.now c.args.value.now)
     (state_of b c.self.inside.front.items c.self.inside.meta.value c.self.inside.sections) (c.requires.editor, c.requires.key) c.self.invariant.items)
     (either_way c.set-set.result ok c.set-set.ensures.err))
@@ -139,7 +139,7 @@ returns-in_err-check_set-clause-used c =
     let state = state_of c.self.inside.buffer.items c.self.inside.front.items c.self.inside.meta.value c.self.inside.sections in
     let place : place_of c.args.id c.self.inside.sections ≡ Some c.in-Some.at = search rules in
     let number = number_at-place c.args.id c.self.inside.sections c.in-Some.at place in
-    let items = numbered_items_at b c.self.inside.front.items c.self.inside.meta.value c.self.inside.sections c.args.id c.in-Some.at (viewed c.at-section.result) c.next_id.ensures.numbered.once c.at-section.ensures number in
+    let items = numbered_items_at b c.self.inside.front.items c.self.inside.meta.value c.self.inside.sections c.args.id c.in-Some.at (viewed c.at-section.result) c.position.ensures.numbered.once c.at-section.ensures number in
     let three : IsErrOf c.from_residual.result 3 = search rules in
     let asked : IsErrOf c.check_set.result 3 = search rules in
     let due = subst (λ x. 2 ^ 32 ≤ length x + set_put c.args.editor.now c.args.key.now c.args.value.now (items_of x c.at-section.result.items.now)) c.deref.ensures.value (c.check_set.ensures.too_large.0 asked) in
@@ -151,7 +151,7 @@ returns-in_err-items-clause-used c =
     let state = state_of c.self.inside.buffer.items c.self.inside.front.items c.self.inside.meta.value c.self.inside.sections in
     let place : place_of c.args.id c.self.inside.sections ≡ Some c.in-Some.at = search rules in
     let number = number_at-place c.args.id c.self.inside.sections c.in-Some.at place in
-    let items = numbered_items_at b c.self.inside.front.items c.self.inside.meta.value c.self.inside.sections c.args.id c.in-Some.at (viewed c.at-section.result) c.next_id.ensures.numbered.once c.at-section.ensures number in
+    let items = numbered_items_at b c.self.inside.front.items c.self.inside.meta.value c.self.inside.sections c.args.id c.in-Some.at (viewed c.at-section.result) c.position.ensures.numbered.once c.at-section.ensures number in
     let same : c.take_items.new.self ≡ c.self.inside.sections = search rules in
     let memory : IsErrOf c.from_residual-in_err-items.result 27 = search rules in
     let fits : 2 ^ 32 ≤ length b + set_put c.args.editor.now c.args.key.now c.args.value.now (items_of c.self.inside.buffer.items c.at-section.result.items.now) → ⊥ = λ due. absurd (let no = subst (λ r. IsErrOf r 3) c.in_ok-check_set.was (c.check_set.ensures.too_large.1 (subst (λ x. 2 ^ 32 ≤ length x + set_put c.args.editor.now c.args.key.now c.args.value.now (items_of x c.at-section.result.items.now)) (sym c.deref.ensures.value) due)) in cc) in

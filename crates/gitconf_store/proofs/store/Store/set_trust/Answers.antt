@@ -42,5 +42,5 @@ returns-clause-ok c =
     let meta : t.meta.value ≡ record s.meta.value { trust = c.args.trust } = c.in_ok-meta.ensures ∙ ap (λ (m : Meta). record m { trust = c.args.trust }) c.deref.ensures in
     let back : c.set_meta.new.self ≡ with_section inside.sections c.in-Some.at t = c.set_meta.ensures ∙ sym (section_edited (λ s. record s { meta = c.in_ok-meta.meta }) inside.sections c.in-Some.at s t c.at-section.ensures refl) in
     let is : IsTrusted c.args.trust s t = record { header = refl; meta = meta; items = refl; held = refl } in
-    rw (← c.self.view_is) (ap (state_of inside.buffer.items inside.front.items inside.meta.value) back ∙ trusted_state inside.buffer.items inside.front.items inside.meta.value inside.sections c.args.id c.in-Some.at c.args.trust s t c.next_id.ensures.numbered.once is
+    rw (← c.self.view_is) (ap (state_of inside.buffer.items inside.front.items inside.meta.value) back ∙ trusted_state inside.buffer.items inside.front.items inside.meta.value inside.sections c.args.id c.in-Some.at c.args.trust s t c.position.ensures.numbered.once is
     c.at-section.ensures (number_at-place c.args.id inside.sections c.in-Some.at place))

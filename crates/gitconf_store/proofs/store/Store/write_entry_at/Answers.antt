@@ -56,7 +56,7 @@ returns-clause-ok c =
     rw (← c.self.view_is) (on_ok c.write_at-written.result
     (λ set. whole ∙ numbered_view b new c.self.inside.copies.items c.self.inside.front.items c.self.inside.meta.value c.self.inside.sections c.args.id c.in-Some.at s t
     (written_at (given_editor c.args.editor.now) c.args.place (instead_of c.args.in_place_of) c.args.key.now c.args.value.now)
-    c.write_at-written.ensures.grows.extended others c.self.invariant.front_within c.self.invariant.sections_within c.next_id.ensures.numbered.once here number set) ok)
+    c.write_at-written.ensures.grows.extended others c.self.invariant.front_within c.self.invariant.sections_within c.position.ensures.numbered.once here number set) ok)
 
 pub returns-clause-err : goal.returns-clause-err
 returns-clause-err c =
@@ -81,7 +81,7 @@ returns-clause-used c =
     let place : place_of c.args.id c.self.inside.sections ≡ Some c.in-Some.at = search rules in
     let number = number_at-place c.args.id c.self.inside.sections c.in-Some.at place in
     rw (← c.self.view_is) (puts_at b c.self.inside.front.items c.self.inside.meta.value c.self.inside.sections c.args.id c.in-Some.at (with_items c.deref_mut.result.now.items l.kept) c.write_at-written.result
-    (written_put c.args.editor.now c.args.key.now c.args.value.now) _ c.next_id.ensures.numbered.once here number
+    (written_put c.args.editor.now c.args.key.now c.args.value.now) _ c.position.ensures.numbered.once here number
     (record { put = c.write_at-written.ensures.grows.put; grown = c.write_at-written.ensures.grows.grown; too_large = c.write_at-written.ensures.grows.too_large; refused = c.write_at-written.ensures.refused; known = c.write_at-written.ensures.grows.known }))
 
 pub invariant_of-self-2 : goal.invariant_of-self-2
@@ -100,7 +100,7 @@ invariant_of-self-2 c =
     (given_same b c.args.editor.now c.requires.given) c.write_at-written.ensures.ok in
     subst (StoreFits c.write_at-written.new.buffer.items c.self.inside.copies.items c.self.inside.front.items c.self.inside.meta.value) (sym back) (numbered_kept b new c.self.inside.copies.items c.self.inside.front.items c.self.inside.meta.value c.self.inside.sections c.args.id c.in-Some.at s t
     (written_at (given_editor c.args.editor.now) c.args.place (instead_of c.args.in_place_of) c.args.key.now c.args.value.now)
-    c.write_at-written.ensures.grows.extended c.write_at-written.ensures.grows.room others c.self.invariant c.next_id.ensures.numbered.once here number
+    c.write_at-written.ensures.grows.extended c.write_at-written.ensures.grows.room others c.self.invariant c.position.ensures.numbered.once here number
     (apply_items (WriteAt c.args.id (given_editor c.args.editor.now) c.args.place (instead_of c.args.in_place_of) c.args.key.now c.args.value.now)
     (state_of b c.self.inside.front.items c.self.inside.meta.value c.self.inside.sections) (c.requires.editor, c.requires.key) c.self.invariant.items)
     (either_way c.write_at-written.result ok c.write_at-written.ensures.err))

@@ -5,15 +5,15 @@ use Rattle.gitconf_finding.specs.SomeSections.{WithSome}
 use Rattle.gix_config.specs.Typed.{IsBoolean}
 use Rattle.gix_config.proofs.file.File.boolean_filter_by.Goals as goal
 
-pub returns-clause-exact : goal.returns-clause-exact
-returns-clause-exact g c = λ keeps h.
-    let key = key_at c.args.section_name.now (option_copied c.args.subsection_name) c.args.value_name.now in
-    subst (λ s. IsBoolean key keeps s c.found_boolean.result) c.self.view_is
-    (c.found_boolean.ensures _ (c.value_implicit_filter_by-found.ensures.exact keeps h))
-
-pub returns-clause-some : goal.returns-clause-some
-returns-clause-some g c =
-    let key = key_at c.args.section_name.now (option_copied c.args.subsection_name) c.args.value_name.now in
-    let found = c.value_implicit_filter_by-found.ensures.some in
-    subst (WithSome (λ s. IsBoolean key (λ _. true) s c.found_boolean.result)) c.self.view_is
-    (found.0, found.1, c.found_boolean.ensures _ found.2)
+pub returns : goal.returns
+returns g c = record {
+  exact = λ keeps h.
+      let key = key_at c.args.section_name.now (option_copied c.args.subsection_name) c.args.value_name.now in
+      subst (λ s. IsBoolean key keeps s c.found_boolean.result) c.self.view_is
+      (c.found_boolean.ensures _ (c.value_implicit_filter-found.ensures.exact keeps h));
+  some =
+      let key = key_at c.args.section_name.now (option_copied c.args.subsection_name) c.args.value_name.now in
+      let found = c.value_implicit_filter-found.ensures.some in
+      subst (WithSome (λ s. IsBoolean key (λ _. true) s c.found_boolean.result)) c.self.view_is
+      (found.0, found.1, c.found_boolean.ensures _ found.2);
+}

@@ -18,4 +18,4 @@ pub returns-clause-stands : goal.returns-clause-stands
 returns-clause-stands g c =
     subst (λ n. has_number n c.args.self.now ≡ true) (sym c.id.ensures)
     (some_stands c.args.name.now (option_copied c.args.subsection_name) c.args.self.now
-    (option_map shown c.in-Ok-Some.field-0) (shown c.in-Ok-Some.section) (ap (option_map shown) c.in-Ok-Some.field-0-is) c.in-Ok-Some.ensures.some.1)
+    (option_map shown c.in-Ok-Some.field-0) (shown c.in-Ok-Some.section) (ap (option_map shown) c.in-Ok-Some.field-0-is) (let some = c.in-Ok-Some.ensures.filtered.some in (some.0, some.1, some.2.1)))

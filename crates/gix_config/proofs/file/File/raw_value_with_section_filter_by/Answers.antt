@@ -1,15 +1,16 @@
-use Rattle.std.proofs.Common.{subst}
+use Rattle.std.proofs.Common.{true, subst}
 use Rattle.std.specs.Option.{option_copied}
-use Rattle.gitconf_finding.specs.Lookups.{IsRawValueWithSection, key_at}
-use Rattle.gitconf_finding.specs.SomeSections.{IsSomeRawValueWithSection}
+use Rattle.gitconf_finding.specs.Lookups.{IsRawValueWithSection, key_at, value_in, miss_at, shown_with}
+use Rattle.gitconf_finding.specs.Misses.{IsExisting}
+use Rattle.gitconf_finding.specs.SomeSections.{WithSome}
 use Rattle.gix_config.proofs.file.File.raw_value_with_section_filter_by.Goals as goal
 
-pub returns-clause-exact : goal.returns-clause-exact
-returns-clause-exact g c = λ keeps h.
-    subst (λ s. IsRawValueWithSection (key_at c.args.section_name.now (option_copied c.args.subsection_name) c.args.value_name.now) keeps s c.raw_value_with_section_filter_by.result)
-    c.self.view_is (c.raw_value_with_section_filter_by.ensures.exact keeps h)
-
-pub returns-clause-some : goal.returns-clause-some
-returns-clause-some g c =
-    subst (λ s. IsSomeRawValueWithSection (key_at c.args.section_name.now (option_copied c.args.subsection_name) c.args.value_name.now) s c.raw_value_with_section_filter_by.result)
-    c.self.view_is c.raw_value_with_section_filter_by.ensures.some
+pub returns : goal.returns
+returns g c = record {
+  exact = λ keeps h.
+      subst (λ s. IsRawValueWithSection (key_at c.args.section_name.now (option_copied c.args.subsection_name) c.args.value_name.now) keeps s c.raw_value_with_section_filter.result)
+      c.self.view_is (c.raw_value_with_section_filter.ensures.exact keeps h);
+  some =
+      subst (λ st. WithSome (λ s. IsExisting shown_with c.raw_value_with_section_filter.result (value_in (key_at c.args.section_name.now (option_copied c.args.subsection_name) c.args.value_name.now) (λ _. true) s) (miss_at (key_at c.args.section_name.now (option_copied c.args.subsection_name) c.args.value_name.now) st)) st)
+      c.self.view_is c.raw_value_with_section_filter.ensures.some;
+}

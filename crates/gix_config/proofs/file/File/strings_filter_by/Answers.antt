@@ -4,12 +4,12 @@ use Rattle.gitconf_finding.specs.Lookups.{AreStrings, key_at}
 use Rattle.gitconf_finding.specs.SomeSections.{WithSome}
 use Rattle.gix_config.proofs.file.File.strings_filter_by.Goals as goal
 
-pub returns-clause-exact : goal.returns-clause-exact
-returns-clause-exact g c = λ keeps h.
-    subst (λ s. AreStrings (key_at c.args.section_name.now (option_copied c.args.subsection_name) c.args.value_name.now) keeps s c.strings_filter_by.result)
-    c.self.view_is (c.strings_filter_by.ensures.exact keeps h)
-
-pub returns-clause-some : goal.returns-clause-some
-returns-clause-some g c =
-    subst (WithSome (λ s. AreStrings (key_at c.args.section_name.now (option_copied c.args.subsection_name) c.args.value_name.now) (λ _. true) s c.strings_filter_by.result))
-    c.self.view_is c.strings_filter_by.ensures.some
+pub returns : goal.returns
+returns g c = record {
+  exact = λ keeps h.
+      subst (λ s. AreStrings (key_at c.args.section_name.now (option_copied c.args.subsection_name) c.args.value_name.now) keeps s c.strings_filter.result)
+      c.self.view_is (c.strings_filter.ensures.exact keeps h);
+  some =
+      subst (WithSome (λ s. AreStrings (key_at c.args.section_name.now (option_copied c.args.subsection_name) c.args.value_name.now) (λ _. true) s c.strings_filter.result))
+      c.self.view_is c.strings_filter.ensures.some;
+}

@@ -1,10 +1,14 @@
-use Rattle.std.proofs.Common.{subst}
-use Rattle.std.specs.Option.{option_copied}
-use Rattle.gitconf_finding.specs.Lookups.{key_at}
-use Rattle.gitconf_finding.specs.ValuePlaces.{IsValuePlace}
+use Rattle.std.proofs.Common.{true, subst}
+use Rattle.gitconf_base.specs.Key.{key_of}
+use Rattle.gitconf_finding.specs.SomeSections.{WithSome}
+use Rattle.gitconf_finding.specs.ValuePlaces.{IsPlace, value_place}
 use Rattle.gix_config.proofs.file.File.value_place.Goals as goal
 
-pub returns-clause-exact : goal.returns-clause-exact
-returns-clause-exact g c = λ keeps h.
-    subst (λ s. IsValuePlace (key_at c.args.section_name.now (option_copied c.args.subsection_name) c.args.value_name.now) keeps s c.value_place_filter_by.result)
-    c.self.view_is (c.value_place_filter_by.ensures.exact keeps h)
+pub returns-clause-filtered : goal.returns-clause-filtered
+returns-clause-filtered g c =
+    let key = key_of c.args.key in
+    let told = c.value_place_filter.ensures.filtered in
+    record {
+      exact = λ keeps h. subst (λ s. IsPlace key s (value_place key keeps s) c.value_place_filter.result) c.self.view_is (told.exact keeps h);
+      some = subst (λ state. WithSome (λ s. IsPlace key state (value_place key (λ _. true) s) c.value_place_filter.result) state) c.self.view_is told.some;
+    }

@@ -1,0 +1,21 @@
+use Rattle.std.proofs.Common.{true}
+use Rattle.std.specs.Option.{option_copied, option_map}
+use Rattle.gitconf_state.specs.Edits.{with_sections}
+use Rattle.gitconf_finding.specs.Finding.{place_of}
+use Rattle.gitconf_base.specs.Key.{key_of}
+use Rattle.gitconf_finding.proofs.Answering.{reported_text}
+use Rattle.gitconf_store.proofs.store.Store.string_filter.Goals as goal
+
+pub returns : goal.returns
+returns g c = record {
+  exact = λ keeps h.
+      reported_text (key_of c.args.key) keeps c.args.self.now (option_map place_of c.find-found.result) c.text.result
+      c.text.ensures (c.find-found.ensures.exact keeps h);
+  some =
+      let found = c.find-found.ensures.some in (
+        found.0,
+        found.1,
+        reported_text (key_of c.args.key) (λ _. true) (with_sections found.0 c.args.self.now) (option_map place_of c.find-found.result) c.text.result
+            c.text.ensures found.2,
+      );
+}
