@@ -83,12 +83,6 @@ fn no_places(alloc: Global) -> Places {
 }
 
 impl Loads for Machine<'_> {
-    ghost use Rattle.std.specs.Prelude.{None};
-
-    ghost table = { λ _. None };
-
-    ghost variables = { λ _. None };
-
     fn from_text(
         &self,
         text: Vec<u8>,
