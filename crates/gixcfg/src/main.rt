@@ -1,30 +1,13 @@
 //! The program `gixcfg`: words and standard input in, an answer and an exit status out.
 #![tactic(auto)]
 
-mod calls;
-mod checks;
-mod comments;
-mod differing;
-mod edits;
-mod effective;
-mod entries;
-mod including;
-mod loading;
-mod output;
-mod placing;
-mod program;
-mod reads;
-mod removals;
-mod worktrees;
-
-use calls::run_call;
-use gitconf_disk::{Disk, Process};
+use gitconf_disk::Process;
 use gix_config::NoMemory;
-use gix_config::host::{Env, EnvVar, Host};
+use gix_config::host::{Env, EnvVar};
 use gix_config::refusals::Refusal;
+use gixcfg_calls::{Outside, run_call};
+use gixcfg_filter::{MEMORY, home_of, run, understands};
 use gixcfg_words::call::has_options;
-use loading::{Outside, places_of};
-use program::{MEMORY, home_of, run, understands};
 use std::alloc::Global;
 use std::env;
 use std::io::{ErrorKind, IsTerminal};
@@ -73,19 +56,7 @@ fn run_process(rt: &HostRuntime) -> Result<u8, NoMemory> {
     if has_options(&args) && !understands(&args) {
         return run_with_options(rt, &args);
     }
-    let mut host = Host {
-        files: Box::new(rt.alloc(), Disk::new(*rt))?,
-        env: Box::new(rt.alloc(), Process::new(*rt))?,
-        places: places_of(rt.alloc(), None)?,
-    };
-    Ok(run(
-        rt.alloc(),
-        &args,
-        rt.reader(),
-        rt.stdout(),
-        rt.stderr(),
-        &mut host,
-    ))
+    Ok(run(rt, &args, rt.reader(), rt.stdout(), rt.stderr()))
 }
 
 fn main(rt: HostRuntime) -> ExitCode {

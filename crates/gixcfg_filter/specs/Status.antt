@@ -1,7 +1,7 @@
 -- Exit statuses.
 use Rattle.std.specs.Prelude.{◌==◌, ◌&&◌, ltb, if◌then◌else◌, ℕ}
-use Rattle.gixcfg.specs.declared.program.Fault.{Fault}
-use Rattle.gixcfg.specs.declared.program.Fault.TheVariants as kinds
+use Rattle.gixcfg_filter.specs.declared.fault.Fault.{Fault}
+use Rattle.gixcfg_filter.specs.declared.fault.Fault.TheVariants as kinds
 
 -- 1 for missing, 2 for usage, 3 for a refusal, 4 for a file or a stream that failed, 5 for memory
 abbrev pub status_of : Fault → ℕ

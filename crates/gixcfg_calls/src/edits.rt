@@ -2,7 +2,6 @@
 
 use crate::comments::commented;
 use crate::loading::{Outside, loaded, refused, text_of};
-use crate::program::{key_of, put};
 use crate::removals::{Names, count_of, holders_of, remove_entries, text_without};
 use bstr::BString;
 use gix_config::file::rename_section;
@@ -13,6 +12,7 @@ use gix_config::{File, KeyRef};
 use gixcfg_answers::trouble::{Trouble, of_number};
 use gixcfg_answers::typed::typed;
 use gixcfg_files::Lock;
+use gixcfg_filter::{key_of, put};
 use gixcfg_words::call::Call;
 use gixcfg_words::commands::Command;
 use gixcfg_words::options::{Indent, Kind, Newline, Options};

@@ -1,24 +1,19 @@
 //! What the program does with its words and its streams, whatever these are.
-ghost use Rattle.std.specs.Prelude.{◌≡◌, ◌≤◌};
-ghost use Rattle.gixcfg.specs.Status.{load_status, status_of};
+ghost use Rattle.std.specs.Prelude.{◌≤◌};
 
+use crate::fault::{Fault, tell};
 use crate::output::Output;
 use bstr::BString;
-use gix_config::file::init::{self, from_paths};
-use gix_config::file::{Metadata, SectionId, SectionRef, includes, section_mut, set_raw_value};
+use gitconf_disk::{Disk, Process};
+use gix_config::file::{Metadata, SectionId, SectionRef, includes, init, section_mut};
 use gix_config::format::{Options, normalize};
-use gix_config::host::{Env, EnvVar, Files, Host};
+use gix_config::host::{Env, EnvVar, Files};
 use gix_config::lookup::existing;
-use gix_config::parse::{Error, SinkFault};
-use gix_config::refusals::Refusal;
-use gix_config::{File, KeyRef, NoMemory, value};
+use gix_config::{File, KeyRef, NoMemory};
 use gixcfg_answers::names::add_names;
-use std::alloc::{AllocError, AllocFailed, Global};
-use std::io;
+use std::alloc::{AllocGlobal, Global};
 use std::io::{ErrorKind, Read, Write};
-
-/// The status if out of memory.
-pub const MEMORY: u8 = 5;
+use std::rt;
 
 /// What the program is asked to do.
 #[derive(Clone, Copy)]
@@ -59,128 +54,8 @@ enum Command<'a> {
     Fmt,
 }
 
-/// Why the program did not do it.
-#[derive(Drop)]
-pub enum Fault {
-    /// It was called in a way that isn't understood.
-    Usage,
-    /// What was looked for is not there.
-    Missing,
-    /// Standard input is refused, or too large.
-    Refused(Error),
-    /// The edit is refused.
-    RefusedEdit(set_raw_value::Error),
-    /// A value is refused by the type that it is to have.
-    RefusedValue(value::Error),
-    /// A file is refused, or what it includes.
-    RefusedFile(from_paths::Error),
-    /// A file can't be opened or read: the number of the refusal, 19 to 21.
-    UnreadFile(u8),
-    /// Standard input can't be read.
-    Input,
-    /// Standard output failed.
-    Output,
-    /// Out of memory.
-    Memory,
-}
-
-impl Fault {
-    ghost use Rattle.gixcfg.specs.Status.{status_of};
-
-    /// The exit status: 1 for missing, 2 for usage, 3 for a refusal, 4 for a file or a stream that failed, 5 for memory.
-    fn status(&self) -> u8
-        ensures { result ≡ status_of self.now }
-    {
-        match self {
-            Fault::Missing => 1,
-            Fault::Usage => 2,
-            Fault::Refused(_)
-            | Fault::RefusedEdit(_)
-            | Fault::RefusedValue(_)
-            | Fault::RefusedFile(_) => 3,
-            Fault::UnreadFile(_) | Fault::Input | Fault::Output => 4,
-            Fault::Memory => MEMORY,
-        }
-    }
-}
-
-impl From<NoMemory> for Fault {
-    fn from(_: NoMemory) -> Fault {
-        Fault::Memory
-    }
-}
-
-impl From<AllocError> for Fault {
-    fn from(_: AllocError) -> Fault {
-        Fault::Memory
-    }
-}
-
-impl<T> From<AllocFailed<T>> for Fault
-where
-    T: Drop,
-{
-    fn from(_: AllocFailed<T>) -> Fault {
-        Fault::Memory
-    }
-}
-
-impl From<SinkFault> for Fault {
-    fn from(_: SinkFault) -> Fault {
-        Fault::Output
-    }
-}
-
-impl From<Error> for Fault {
-    fn from(refusal: Error) -> Fault {
-        if refusal.is_memory() {
-            Fault::Memory
-        } else {
-            Fault::Refused(refusal)
-        }
-    }
-}
-
-impl From<set_raw_value::Error> for Fault {
-    fn from(refusal: set_raw_value::Error) -> Fault {
-        match refusal {
-            set_raw_value::Error::Memory => Fault::Memory,
-            refusal => Fault::RefusedEdit(refusal),
-        }
-    }
-}
-
-impl From<value::Error> for Fault {
-    fn from(refusal: value::Error) -> Fault {
-        match refusal.number() {
-            27 => Fault::Memory,
-            _ => Fault::RefusedValue(refusal),
-        }
-    }
-}
-
-impl From<from_paths::Error> for Fault {
-    fn from(refusal: from_paths::Error) -> Fault {
-        of_number(refusal.number(), refusal)
-    }
-}
-
-/// The fault that a refusal of a load is, by its number.
-fn of_number(number: u8, refusal: from_paths::Error) -> Fault
-    ensures { status_of result ≡ load_status number }
-{
-    if number == 27 {
-        Fault::Memory
-    } else if 18 < number && number < 22 {
-        Fault::UnreadFile(number)
-    } else {
-        Fault::RefusedFile(refusal)
-    }
-}
-
 /// Runs the program with the words after its name, standard input, standard output, standard error, and the files and
-/// variables that it may ask for, and answers its exit status: 0 done, 1 missing, 2 usage, 3 refused, 4 input or output,
-/// 5 memory.
+/// variables of its runtime, and returns its exit status: 0 done, 1 missing, 2 usage, 3 refused, 4 input or output, 5 memory.
 ///
 /// `get KEY` prints the last value of a key and a line feed, `all KEY` each of its values and a line feed, `bool KEY` and `int KEY` its
 /// boolean and its integer and a line feed, `set KEY VALUE` the file with that value, `unset KEY` the file without the
@@ -190,18 +65,16 @@ fn of_number(number: u8, refusal: from_paths::Error) -> Fault
 ///
 /// `load PATH get KEY` reads the file at a path and the files that it includes, and not standard input, and prints the last value of a key
 /// and a line feed. Home is what the variable `HOME` says.
-pub fn run<R: Read + Drop, W: Write + Drop, E: Write + Drop>(
-    alloc: Global,
-    args: &[&str],
-    mut input: R,
-    mut out: W,
-    mut err: E,
-    host: &mut Host,
-) -> u8
+pub fn run<
+    R: rt::Files + rt::Env + AllocGlobal + Copy,
+    I: Read + Drop,
+    W: Write + Drop,
+    E: Write + Drop,
+>(rt: &R, args: &[&str], mut input: I, mut out: W, mut err: E) -> u8
     ensures { result ≤ 5 }
 {
-    let Host { files, env, .. } = host;
-    match execute(alloc, args, &mut input, &mut out, files, env) {
+    let (mut files, mut env) = (Disk::new(*rt), Process::new(*rt));
+    match execute(rt.alloc(), args, &mut input, &mut out, &mut files, &mut env) {
         Ok(()) => 0,
         Err(fault) => {
             tell(&fault, &mut err);
@@ -210,7 +83,7 @@ pub fn run<R: Read + Drop, W: Write + Drop, E: Write + Drop>(
     }
 }
 
-/// Whether these are words of a call without options.
+/// Whether these are words of a call without options. Reads no file.
 pub fn understands(args: &[&str]) -> bool {
     task_of(args).is_ok()
 }
@@ -281,6 +154,10 @@ fn key_command<'a>(word: &str, key: &'a str) -> Result<Command<'a>, Fault> {
 }
 
 /// The key that a word is.
+///
+/// # Errors
+///
+/// [`Fault::Usage`] if the word has no dot.
 pub fn key_of(word: &str) -> Result<KeyRef<'_>, Fault> {
     match KeyRef::parse_unvalidated(word.as_bytes()) {
         Some(key) => Ok(key),
@@ -289,6 +166,10 @@ pub fn key_of(word: &str) -> Result<KeyRef<'_>, Fault> {
 }
 
 /// All of standard input.
+///
+/// # Errors
+///
+/// [`Fault::Input`] if it can't be read, [`Fault::Memory`] when out of memory.
 pub fn read_all<R: Read>(alloc: Global, input: &mut R) -> Result<Vec<u8>, Fault> {
     let mut text = Vec::new(alloc);
     match input.read_to_end(&mut text) {
@@ -308,7 +189,11 @@ fn load_entries(alloc: Global, text: Vec<u8>) -> Result<File, Fault> {
     Ok(File::try_from_bytes_owned_lossy(alloc, text)?)
 }
 
-/// The home folder that the variables tell, if there is one.
+/// The home folder that the variables tell, if there is one: `HOME`, which is asked once.
+///
+/// # Errors
+///
+/// Out of memory.
 pub fn home_of<V: Env>(env: &mut V) -> Result<Option<String>, NoMemory> {
     match env.var("HOME")? {
         EnvVar::Text(home) => Ok(Some(home)),
@@ -513,6 +398,10 @@ fn put_list<W: Write>(alloc: Global, file: &File, out: &mut W) -> Result<(), Fau
 }
 
 /// Writes an answer that is in memory.
+///
+/// # Errors
+///
+/// [`Fault::Output`] if the stream fails.
 pub fn put<W: Write>(answer: &[u8], out: &mut W) -> Result<(), Fault> {
     match out.write_all(answer) {
         Ok(()) => Ok(()),
@@ -573,38 +462,4 @@ fn put_all<W: Write + Drop>(file: &File, output: &mut Output<W>) -> Result<(), F
     file.write_to(output)?;
     output.flush()?;
     Ok(())
-}
-
-/// Reports a fault on standard error: how the program is called, or which refusal it was. Nothing is said of what is
-/// missing. A failed write changes no status, and no memory is taken.
-fn tell<E: Write>(fault: &Fault, err: &mut E) {
-    let _ = match fault {
-        Fault::Missing => Ok(()),
-        Fault::Usage => err.write_all(b"usage: gixcfg COMMAND [ARGS]\n"),
-        Fault::Input => err.write_all(b"gixcfg: input\n"),
-        Fault::Output => err.write_all(b"gixcfg: E28\n"),
-        Fault::Memory => err.write_all(b"gixcfg: E27\n"),
-        Fault::Refused(refusal) => {
-            let number = refusal.number();
-            writeln!(err, "gixcfg: E{number}: {refusal}")
-        }
-        Fault::RefusedEdit(refusal) => {
-            let number = refusal.number();
-            writeln!(err, "gixcfg: E{number}")
-        }
-        Fault::RefusedValue(refusal) => {
-            let number = refusal.number();
-            writeln!(err, "gixcfg: E{number}")
-        }
-        Fault::RefusedFile(refusal) => tell_file(refusal, err),
-        Fault::UnreadFile(number) => writeln!(err, "gixcfg: E{number}"),
-    };
-}
-
-/// Reports why a file is refused, with the parser's text if it was the parser.
-fn tell_file<E: Write>(refusal: &from_paths::Error, err: &mut E) -> io::Result<()> {
-    match refusal.number() {
-        number @ 1..=2 => writeln!(err, "gixcfg: E{number}: {refusal}"),
-        number => writeln!(err, "gixcfg: E{number}"),
-    }
 }

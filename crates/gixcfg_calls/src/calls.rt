@@ -5,28 +5,28 @@ use crate::checks::check;
 use crate::differing::diff;
 use crate::edits::edit;
 use crate::loading::{Outside, path_of};
-use crate::program::MEMORY;
 use crate::reads::{get, list};
 use gixcfg_answers::trouble::{Trouble, tell};
+use gixcfg_filter::MEMORY;
+use gixcfg_loads::Loads;
 use gixcfg_words::VERSION;
 use gixcfg_words::call::{Asked, Call, read};
 use gixcfg_words::commands::Command;
 use gixcfg_words::fault::{self, Fault};
 use gixcfg_words::help::help_on;
 use gixcfg_words::options::Options;
-use std::alloc::Global;
+use std::alloc::{AllocGlobal, Global};
 use std::io::{Read, Write};
+use std::rt::{Env, Files};
 
-/// Runs the program with words of which one is an option, or which are a command that has no other form, and answers its exit
+/// Runs the program with words of which one is an option, or which are a command that has no other form, and returns its exit
 /// status: 0 done, 1 missing, 2 usage, 3 refused, 4 input, output or a file, 5 several entries or none, or out of memory.
-pub fn run_call<I: Read + Drop, W: Write + Drop, E: Write + Drop>(
-    rt: &HostRuntime,
-    words: &[&str],
-    outside: Outside<'_>,
-    mut input: I,
-    mut out: W,
-    mut err: E,
-) -> u8
+pub fn run_call<
+    R: Files + Env + Loads + AllocGlobal,
+    I: Read + Drop,
+    W: Write + Drop,
+    E: Write + Drop,
+>(rt: &R, words: &[&str], outside: Outside<'_>, mut input: I, mut out: W, mut err: E) -> u8
     ensures { result ≤ 5 }
 {
     match read(rt.alloc(), words) {
@@ -69,8 +69,8 @@ fn tell_fault<E: Write>(alloc: Global, fault: Fault<'_>, err: &mut E) -> u8
 }
 
 /// Does a call, on a file of git's if it names one, and reports why if it isn't done.
-fn do_call<I: Read, W: Write, E: Write>(
-    rt: &HostRuntime,
+fn do_call<R: Files + Env + Loads + AllocGlobal, I: Read, W: Write, E: Write>(
+    rt: &R,
     call: Call<'_>,
     outside: Outside<'_>,
     input: &mut I,
@@ -86,8 +86,8 @@ fn do_call<I: Read, W: Write, E: Write>(
 }
 
 /// Does a command, and reports why if it isn't done.
-fn do_command<I: Read, W: Write, E: Write>(
-    rt: &HostRuntime,
+fn do_command<R: Files + Env + Loads + AllocGlobal, I: Read, W: Write, E: Write>(
+    rt: &R,
     call: &Call<'_>,
     outside: Outside<'_>,
     input: &mut I,
@@ -109,7 +109,7 @@ fn do_command<I: Read, W: Write, E: Write>(
     }
 }
 
-/// Tells why a call isn't done, and answers its status.
+/// Tells why a call isn't done, and returns its status.
 fn tell_trouble<E: Write>(trouble: &Trouble, options: &Options<'_>, err: &mut E) -> u8
     ensures { result ≤ 5 }
 {

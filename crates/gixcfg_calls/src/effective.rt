@@ -1,24 +1,30 @@
 //! All that git reads, from where the program is called.
 
 use crate::including::{here_from, options_of, trouble_of};
-use crate::loading::{Outside, places_of};
+use crate::loading::Outside;
 use crate::placing::{of_paths, placed};
 use crate::worktrees::has_worktree_file;
-use gitconf_disk::{Disk, Process};
+use gitconf_disk::Process;
 use gix_config::file::Metadata;
 use gix_config::file::init::{self, from_paths};
-use gix_config::host::{Host, StorageLocation};
+use gix_config::host::{Places, StorageLocation};
 use gix_config::refusals::Refusal;
 use gix_config::source::{Source, Trust};
 use gix_config::{File, NoMemory};
 use gixcfg_answers::trouble::Trouble;
 use gixcfg_files::{Repository, find_repository};
-use std::alloc::Global;
+use gixcfg_loads::Loads;
+use std::alloc::{AllocGlobal, Global};
 use std::rc::Rc;
+use std::rt::{Env, Files};
 
 /// All that git reads from here, in its order, with what is included or without: the files of the system, of the user, of the
 /// repository and of its working tree, then the variables.
-pub fn effective(rt: &HostRuntime, outside: Outside<'_>, follows: bool) -> Result<File, Trouble> {
+pub fn effective<R: Files + Env + Loads + AllocGlobal>(
+    rt: &R,
+    outside: Outside<'_>,
+    follows: bool,
+) -> Result<File, Trouble> {
     let home = outside.home;
     let found = find_repository(rt)?;
     let here = here_from(rt, found.as_ref())?;
@@ -29,10 +35,27 @@ pub fn effective(rt: &HostRuntime, outside: Outside<'_>, follows: bool) -> Resul
     load(rt, metas, outside, options_of(home, &here, follows))
 }
 
+/// The places of configuration on this system, with this home folder.
+fn places_of(alloc: Global, home: Option<&str>) -> Result<Places, NoMemory> {
+    let home = match home {
+        Some(home) => Some(String::from_str(alloc, home)?),
+        None => None,
+    };
+    Ok(Places {
+        installation_config: None,
+        system_prefix: String::from_str(alloc, "/")?,
+        home,
+        homes: None,
+    })
+}
+
 /// Where the files of the system and of the user are.
-fn metas_of_user(rt: &HostRuntime, home: Option<&str>) -> Result<Vec<Metadata>, NoMemory> {
+fn metas_of_user<R: Env + AllocGlobal>(
+    rt: &R,
+    home: Option<&str>,
+) -> Result<Vec<Metadata>, NoMemory> {
     let alloc = rt.alloc();
-    let (mut env, places) = (Process::new(*rt), places_of(alloc, home)?);
+    let (mut env, places) = (Process::new(rt), places_of(alloc, home)?);
     let mut metas = Vec::new(alloc);
     for source in [Source::System, Source::Git, Source::User] {
         if let Some(path) = source.storage_location(alloc, &mut env, &places)? {
@@ -43,8 +66,8 @@ fn metas_of_user(rt: &HostRuntime, home: Option<&str>) -> Result<Vec<Metadata>, 
 }
 
 /// Where all files that git reads are.
-fn metas_of(
-    rt: &HostRuntime,
+fn metas_of<R: Files + Env + AllocGlobal>(
+    rt: &R,
     home: Option<&str>,
     found: &Repository,
 ) -> Result<Vec<Metadata>, Trouble> {
@@ -70,27 +93,19 @@ fn add(metas: &mut Vec<Metadata>, path: String, source: Source) -> Result<(), No
 }
 
 /// The files of these places, and the variables, as the options have it.
-fn load(
-    rt: &HostRuntime,
+fn load<R: Files + Loads + AllocGlobal>(
+    rt: &R,
     metas: Vec<Metadata>,
     outside: Outside<'_>,
     options: init::Options<'_>,
 ) -> Result<File, Trouble> {
     let alloc = rt.alloc();
     let paths = paths_of(alloc, &metas)?;
-    let places = places_of(alloc, outside.home)?;
-    let (Ok(files), Ok(env)) = (
-        Box::new(alloc, Disk::new(*rt)),
-        Box::new(alloc, Process::new(*rt)),
-    ) else {
-        return Err(Trouble::Memory);
-    };
-    let mut host = Host { files, env, places };
-    let variables = match File::from_env(alloc, options, &mut host) {
+    let variables = match rt.from_variables(options) {
         Ok(file) => file,
         Err(refusal) => return Err(trouble_of(alloc, refusal.number(), &refusal)),
     };
-    match File::from_paths_metadata_buf(alloc, metas, false, options, &mut host) {
+    match rt.from_paths(metas, options) {
         Ok(Some(file)) => joined(file, variables),
         Ok(None) => Ok(or_empty(alloc, variables)?),
         Err(refusal) => Err(refused(rt, paths, &refusal, outside)),
@@ -109,8 +124,8 @@ fn paths_of(alloc: Global, metas: &[Metadata]) -> Result<Vec<String>, NoMemory> 
 }
 
 /// The trouble that a refusal of a load of these files is.
-fn refused(
-    rt: &HostRuntime,
+fn refused<R: Files + AllocGlobal>(
+    rt: &R,
     paths: Vec<String>,
     refusal: &from_paths::Error,
     outside: Outside<'_>,

@@ -1,12 +1,11 @@
 //! What a call with options works on.
 
-use crate::program::{Fault, read_all};
 use crate::worktrees::worktree_path;
-use gix_config::host::Places;
+use gix_config::File;
 use gix_config::parse::Error;
-use gix_config::{File, NoMemory};
 use gixcfg_answers::trouble::Trouble;
 use gixcfg_files::{read, repository_file, system_file, user_file};
+use gixcfg_filter::read_all;
 use gixcfg_messages::{Refused, message};
 use gixcfg_words::options::{Options, Place};
 use std::alloc::{AllocGlobal, Global};
@@ -22,18 +21,6 @@ pub struct Outside<'a> {
     pub home: Option<&'a str>,
 }
 
-impl From<Fault> for Trouble {
-    fn from(fault: Fault) -> Trouble {
-        match fault {
-            Fault::Memory => Trouble::Memory,
-            Fault::Missing => Trouble::Missing,
-            Fault::Input => Trouble::Input,
-            Fault::Usage => Trouble::NoKey,
-            _ => Trouble::Output,
-        }
-    }
-}
-
 /// The path of the file of git's that the options name, if they do.
 pub fn path_of<R: Files + Env + AllocGlobal>(
     rt: &R,
@@ -46,20 +33,6 @@ pub fn path_of<R: Files + Env + AllocGlobal>(
         Some(Place::Worktree) => Ok(Some(worktree_path(rt)?)),
         Some(Place::Effective) | None => Ok(None),
     }
-}
-
-/// The places of configuration on this system, with this home folder.
-pub fn places_of(alloc: Global, home: Option<&str>) -> Result<Places, NoMemory> {
-    let home = match home {
-        Some(home) => Some(String::from_str(alloc, home)?),
-        None => None,
-    };
-    Ok(Places {
-        installation_config: None,
-        system_prefix: String::from_str(alloc, "/")?,
-        home,
-        homes: None,
-    })
 }
 
 /// The text of a file, or without a path of standard input; none if there is no such file.

@@ -1,20 +1,20 @@
 //! Files with what they include.
 
-use crate::loading::{Outside, places_of, refused};
+use crate::loading::{Outside, refused};
 use crate::placing::{included_by, of_init, placed};
-use gitconf_disk::{Disk, Process};
 use gix_config::file::includes::{self, conditional};
 use gix_config::file::{Metadata, init};
-use gix_config::host::Host;
 use gix_config::path::interpolate;
 use gix_config::refusals::Refusal;
 use gix_config::{File, NoMemory};
 use gixcfg_answers::trouble::Trouble;
 use gixcfg_files::{Repository, find_repository};
+use gixcfg_loads::Loads;
 use gixcfg_words::options::Options;
-use std::alloc::Global;
+use std::alloc::{AllocGlobal, Global};
 use std::fmt::Display;
 use std::rc::Rc;
+use std::rt::{Env, Files};
 
 /// What conditions of includes are about.
 #[derive(Drop)]
@@ -26,7 +26,10 @@ pub struct Here {
 }
 
 /// What conditions are about in a repository, or outside of one.
-pub fn here_from(rt: &HostRuntime, found: Option<&Repository>) -> Result<Here, Trouble> {
+pub fn here_from<R: Files + AllocGlobal>(
+    rt: &R,
+    found: Option<&Repository>,
+) -> Result<Here, Trouble> {
     match found {
         Some(found) => Ok(Here {
             folder: Some(found.real_folder(rt)?),
@@ -75,8 +78,8 @@ fn git_dir(path: &str) -> conditional::GitDir<'_> {
 
 /// A text as a file, with what it includes; that of the file that the options name, or of standard input. The text is copied, for the
 /// message of a refusal.
-pub fn included(
-    rt: &HostRuntime,
+pub fn included<R: Files + Env + Loads + AllocGlobal>(
+    rt: &R,
     call: &Options<'_>,
     text: Vec<u8>,
     outside: Outside<'_>,
@@ -84,35 +87,16 @@ pub fn included(
     let found = find_repository(rt)?;
     let here = here_from(rt, found.as_ref())?;
     let copy = text.to_vec(rt.alloc())?;
-    match with_includes(rt, call.path(), text, options_of(outside.home, &here, true))? {
+    let meta = meta_of(rt.alloc(), call.path())?;
+    match rt.from_text(text, meta, options_of(outside.home, &here, true)) {
         Ok(file) => Ok(file),
         Err(refusal) => Err(refused_load(rt, call, &copy, &refusal, outside)?),
     }
 }
 
-/// A text as a file, with what it includes as the options have it, or why it is refused.
-fn with_includes(
-    rt: &HostRuntime,
-    path: Option<&str>,
-    text: Vec<u8>,
-    options: init::Options<'_>,
-) -> Result<Result<File, init::Error>, Trouble> {
-    let alloc = rt.alloc();
-    let meta = meta_of(alloc, path)?;
-    let places = places_of(alloc, None)?;
-    let (Ok(files), Ok(env)) = (
-        Box::new(alloc, Disk::new(*rt)),
-        Box::new(alloc, Process::new(*rt)),
-    ) else {
-        return Err(Trouble::Memory);
-    };
-    let mut host = Host { files, env, places };
-    Ok(File::from_bytes_owned(alloc, text, meta, options, &mut host))
-}
-
 /// The trouble that a refusal of a text with what it includes is: with its place, if a text is refused.
-fn refused_load(
-    rt: &HostRuntime,
+fn refused_load<R: Files + AllocGlobal>(
+    rt: &R,
     call: &Options<'_>,
     text: &[u8],
     refusal: &init::Error,

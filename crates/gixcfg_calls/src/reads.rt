@@ -4,18 +4,21 @@ use crate::effective::effective;
 use crate::entries::{all_entries, entries_of};
 use crate::including::included;
 use crate::loading::{Outside, loaded, text_of};
-use crate::program::{key_of, put};
 use gix_config::File;
 use gixcfg_answers::entries::Found;
 use gixcfg_answers::telling::{lines_of_all, lines_of_key};
 use gixcfg_answers::trouble::Trouble;
+use gixcfg_filter::{key_of, put};
+use gixcfg_loads::Loads;
 use gixcfg_words::call::Call;
 use gixcfg_words::options::Place;
+use std::alloc::AllocGlobal;
 use std::io::{Read, Write};
+use std::rt::{Env, Files};
 
 /// Prints the entries of a key, in a file that may be missing.
-pub fn get<I: Read, W: Write>(
-    rt: &HostRuntime,
+pub fn get<R: Files + Env + Loads + AllocGlobal, I: Read, W: Write>(
+    rt: &R,
     call: &Call<'_>,
     outside: Outside<'_>,
     input: &mut I,
@@ -27,8 +30,8 @@ pub fn get<I: Read, W: Write>(
 }
 
 /// Prints all entries, or those whose value is of a type.
-pub fn list<I: Read, W: Write>(
-    rt: &HostRuntime,
+pub fn list<R: Files + Env + Loads + AllocGlobal, I: Read, W: Write>(
+    rt: &R,
     call: &Call<'_>,
     outside: Outside<'_>,
     input: &mut I,
@@ -40,8 +43,8 @@ pub fn list<I: Read, W: Write>(
 }
 
 /// The entries of the key that a call names.
-fn values_found<I: Read>(
-    rt: &HostRuntime,
+fn values_found<R: Files + Env + Loads + AllocGlobal, I: Read>(
+    rt: &R,
     call: &Call<'_>,
     outside: Outside<'_>,
     input: &mut I,
@@ -57,8 +60,8 @@ fn values_found<I: Read>(
 }
 
 /// All entries.
-fn all_found<I: Read>(
-    rt: &HostRuntime,
+fn all_found<R: Files + Env + Loads + AllocGlobal, I: Read>(
+    rt: &R,
     call: &Call<'_>,
     outside: Outside<'_>,
     input: &mut I,
@@ -70,8 +73,8 @@ fn all_found<I: Read>(
 }
 
 /// What a call reads; none if there is no such file.
-fn file_of<I: Read>(
-    rt: &HostRuntime,
+fn file_of<R: Files + Env + Loads + AllocGlobal, I: Read>(
+    rt: &R,
     call: &Call<'_>,
     outside: Outside<'_>,
     input: &mut I,

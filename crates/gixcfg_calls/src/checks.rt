@@ -2,8 +2,8 @@
 ghost use Rattle.std.specs.Prelude.{◌≤◌};
 
 use crate::loading::{Outside, file_at};
-use crate::program::MEMORY;
 use gixcfg_answers::trouble::{Trouble, tell};
+use gixcfg_filter::MEMORY;
 use gixcfg_words::call::Call;
 use std::alloc::AllocGlobal;
 use std::io::{Read, Write};

@@ -1,0 +1,10 @@
+//! What `gixcfg` does without options: it works on standard input, or looks a key up in the file at a path. Which streams these are,
+//! and where files and variables come from, its caller says.
+#![tactic(auto)]
+
+mod fault;
+mod output;
+mod program;
+
+pub use fault::{Fault, MEMORY};
+pub use program::{home_of, key_of, put, read_all, run, understands};

@@ -1,0 +1,17 @@
+//! The program on a machine in memory: what calls print, what they leave in files, and what is left where a file operation fails.
+#![tactic(auto)]
+
+#[cfg(test)]
+mod edits;
+#[cfg(test)]
+mod failing;
+#[cfg(test)]
+mod loads;
+#[cfg(test)]
+mod machine;
+#[cfg(test)]
+mod reads;
+#[cfg(test)]
+mod tree;
+#[cfg(test)]
+mod world;

@@ -1,0 +1,133 @@
+//! The library's loads over a machine: its host has a copy of the machine's files and variables, since what is boxed holds no borrow.
+
+use crate::machine::Machine;
+use crate::tree::Tree;
+use gix_config::file::Metadata;
+use gix_config::file::init::{self, from_env, from_paths};
+use gix_config::host::{EnvVar, FileFault, Files, Host, MemEnv, Places, Stage};
+use gix_config::source::Trust;
+use gix_config::{File, NoMemory};
+use gixcfg_loads::Loads;
+use std::alloc::{AllocGlobal, Global};
+use std::rc::Rc;
+
+/// The files of a machine as they were.
+#[derive(Drop)]
+struct Copied {
+    alloc: Global,
+    tree: Tree,
+}
+
+impl Files for Copied {
+    ghost use Rattle.std.specs.Prelude.{None};
+
+    ghost table = { λ _. None };
+
+    ghost failures = { λ _. None };
+
+    fn is_file(&mut self, path: &str) -> bool {
+        self.tree.file(path).is_some()
+    }
+
+    fn read(&mut self, path: &str) -> Result<Vec<u8>, FileFault> {
+        let Some((text, _)) = self.tree.file(path) else {
+            return Err(FileFault {
+                stage: Stage::Open,
+                not_found: true,
+            });
+        };
+        match Vec::from_slice(self.alloc, text) {
+            Ok(text) => Ok(text),
+            Err(_) => Err(FileFault {
+                stage: Stage::Memory,
+                not_found: false,
+            }),
+        }
+    }
+
+    fn trust(&mut self, _path: &str) -> Result<Trust, FileFault> {
+        Ok(Trust::Full)
+    }
+}
+
+/// A copy of a machine's files.
+fn files_of(machine: &Machine<'_>) -> Result<Copied, NoMemory> {
+    let Ok(tree) = machine.tree() else {
+        return Err(NoMemory);
+    };
+    Ok(Copied {
+        alloc: machine.alloc(),
+        tree: tree.try_clone()?,
+    })
+}
+
+/// A copy of a machine's variables.
+fn variables_of(machine: &Machine<'_>) -> Result<MemEnv, NoMemory> {
+    let alloc = machine.alloc();
+    let mut variables = MemEnv::new(alloc);
+    for (name, value) in machine.state.variables {
+        let value = EnvVar::Text(String::from_str(alloc, value)?);
+        variables.insert(String::from_str(alloc, name)?, value)?;
+    }
+    Ok(variables)
+}
+
+/// No places, which no load here asks.
+fn no_places(alloc: Global) -> Places {
+    Places {
+        installation_config: None,
+        system_prefix: String::new(alloc),
+        home: None,
+        homes: None,
+    }
+}
+
+impl Loads for Machine<'_> {
+    ghost use Rattle.std.specs.Prelude.{None};
+
+    ghost table = { λ _. None };
+
+    ghost variables = { λ _. None };
+
+    fn from_text(
+        &self,
+        text: Vec<u8>,
+        meta: Rc<Metadata>,
+        options: init::Options<'_>,
+    ) -> Result<File, init::Error> {
+        let alloc = self.alloc();
+        let (files, env) = (files_of(self)?, variables_of(self)?);
+        let (Ok(files), Ok(env)) = (Box::new(alloc, files), Box::new(alloc, env)) else {
+            return Err(init::Error::Memory);
+        };
+        let places = no_places(alloc);
+        let mut host = Host { files, env, places };
+        File::from_bytes_owned(alloc, text, meta, options, &mut host)
+    }
+
+    fn from_paths(
+        &self,
+        metas: Vec<Metadata>,
+        options: init::Options<'_>,
+    ) -> Result<Option<File>, from_paths::Error> {
+        let alloc = self.alloc();
+        let (files, env) = (files_of(self)?, variables_of(self)?);
+        let (Ok(files), Ok(env)) = (Box::new(alloc, files), Box::new(alloc, env)) else {
+            return Err(from_paths::Error::Memory);
+        };
+        let places = no_places(alloc);
+        let mut host = Host { files, env, places };
+        File::from_paths_metadata_buf(alloc, metas, false, options, &mut host)
+    }
+
+    fn from_variables(&self, options: init::Options<'_>) -> Result<Option<File>, from_env::Error> {
+        let alloc = self.alloc();
+        let (files, env) = (files_of(self)?, variables_of(self)?);
+        let (Ok(files), Ok(env)) = (Box::new(alloc, files), Box::new(alloc, env)) else {
+            return Err(from_env::Error::Memory);
+        };
+        let places = no_places(alloc);
+        let mut host = Host { files, env, places };
+        File::from_env(alloc, options, &mut host)
+    }
+}

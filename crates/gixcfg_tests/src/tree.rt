@@ -1,0 +1,291 @@
+//! Files, folders and symbolic links in memory, by their paths.
+
+use std::alloc::{AllocError, Global};
+use std::fs::Metadata;
+use std::io;
+use std::io::ErrorKind;
+
+/// How many links in a row are followed.
+const MOST: usize = 8;
+
+/// The rights of a file that a program makes.
+pub const NEW: u32 = 0o600;
+
+/// What is at a path.
+#[derive(Drop)]
+pub enum Node {
+    /// A folder.
+    Folder,
+    /// A file of this text, with these rights.
+    File(Vec<u8>, u32),
+    /// A symbolic link to what is at this path.
+    Link(String),
+}
+
+/// Something at a path from the root, under a number that it keeps when it is renamed.
+#[derive(Drop)]
+struct Entry {
+    number: usize,
+    path: String,
+    node: Node,
+}
+
+/// All that is there, and the folder in which relative paths begin.
+#[derive(Drop)]
+pub struct Tree {
+    alloc: Global,
+    folder: String,
+    entries: Vec<Entry>,
+    made: usize,
+}
+
+/// A path from the root without `.`, `..` and further slashes; a relative one begins in a folder. The root has the empty path.
+fn absolute(alloc: Global, folder: &str, path: &str) -> Result<String, AllocError> {
+    let mut whole = match path.starts_with('/') {
+        true => String::new(alloc),
+        false => String::from_str(alloc, folder)?,
+    };
+    for part in path.split('/') {
+        whole = step(alloc, whole, part)?;
+    }
+    Ok(whole)
+}
+
+/// A path with one part more.
+fn step(alloc: Global, path: String, part: &str) -> Result<String, AllocError> {
+    match part {
+        "" | "." => Ok(path),
+        ".." => String::from_str(alloc, folder_of(&path)),
+        _ => format!(in alloc; "{path}/{part}"),
+    }
+}
+
+/// The folder that holds what is at a path.
+fn folder_of(path: &str) -> &str {
+    match path.rsplit_once('/') {
+        Some((folder, _)) => folder,
+        None => "",
+    }
+}
+
+impl Tree {
+    /// A tree with nothing in it.
+    pub fn new(alloc: Global, folder: &str) -> Result<Tree, AllocError> {
+        Ok(Tree {
+            alloc,
+            folder: String::from_str(alloc, folder)?,
+            entries: Vec::new(alloc),
+            made: 0,
+        })
+    }
+
+    /// Puts something at a path where nothing is, and returns its number.
+    pub fn put(&mut self, path: &str, node: Node) -> Result<usize, AllocError> {
+        let number = self.made.saturating_add(1);
+        let path = absolute(self.alloc, &self.folder, path)?;
+        self.entries.push(Entry { number, path, node })?;
+        self.made = number;
+        Ok(number)
+    }
+
+    /// A copy.
+    pub fn try_clone(&self) -> Result<Tree, AllocError> {
+        let mut copy = Tree::new(self.alloc, &self.folder)?;
+        for entry in &self.entries {
+            copy.put(&entry.path, copied(self.alloc, &entry.node)?)?;
+        }
+        Ok(copy)
+    }
+
+    /// How many things are there.
+    pub fn count(&self) -> usize {
+        self.entries.len()
+    }
+
+    /// What is at a path from the root.
+    fn at(&self, path: &str) -> Option<&Entry> {
+        self.entries
+            .iter()
+            .find(|entry| entry.path.as_str() == path)
+    }
+
+    /// What has a number.
+    fn numbered(&self, number: usize) -> Option<&Entry> {
+        self.entries.iter().find(|entry| entry.number == number)
+    }
+
+    /// The path from the root at which the links that begin at a path end.
+    fn end_of(&self, path: &str) -> io::Result<String> {
+        let mut path = absolute(self.alloc, &self.folder, path)?;
+        for _ in 0..MOST {
+            match self.at(&path) {
+                Some(
+                    Entry {
+                        node: Node::Link(to),
+                        ..
+                    },
+                ) => path = absolute(self.alloc, folder_of(&path), to)?,
+                _ => return Ok(path),
+            }
+        }
+        Err(io::Error::from(ErrorKind::Other))
+    }
+
+    /// What the links that begin at a path end at.
+    fn found(&self, path: &str) -> io::Result<&Entry> {
+        let path = self.end_of(path)?;
+        match self.at(&path) {
+            Some(entry) => Ok(entry),
+            None => Err(io::Error::from(ErrorKind::NotFound)),
+        }
+    }
+
+    /// The number of the file or folder that a path leads to.
+    pub fn open(&self, path: &str) -> io::Result<usize> {
+        Ok(self.found(path)?.number)
+    }
+
+    /// Makes an empty file at a path, in a folder that is there, and returns its number.
+    pub fn create(&mut self, path: &str) -> io::Result<usize> {
+        let whole = absolute(self.alloc, &self.folder, path)?;
+        if self.at(&whole).is_some() {
+            return Err(io::Error::from(ErrorKind::AlreadyExists));
+        }
+        match self.at(folder_of(&whole)) {
+            Some(
+                Entry {
+                    node: Node::Folder,
+                    ..
+                },
+            ) => Ok(self.put(path, Node::File(Vec::new(self.alloc), NEW))?),
+            _ => Err(io::Error::from(ErrorKind::NotFound)),
+        }
+    }
+
+    /// What is said of what a path leads to.
+    pub fn metadata(&self, path: &str) -> io::Result<Metadata> {
+        Ok(metadata_of(&self.found(path)?.node))
+    }
+
+    /// What is said of what is at a path, even a link.
+    pub fn symlink_metadata(&self, path: &str) -> io::Result<Metadata> {
+        match self.at(&absolute(self.alloc, &self.folder, path)?) {
+            Some(entry) => Ok(metadata_of(&entry.node)),
+            None => Err(io::Error::from(ErrorKind::NotFound)),
+        }
+    }
+
+    /// The path from the root of what a path leads to.
+    pub fn canonical(&self, path: &str) -> io::Result<String> {
+        Ok(String::from_str(self.alloc, &self.found(path)?.path)?)
+    }
+
+    /// What a link has.
+    pub fn link_at(&self, path: &str) -> io::Result<&str> {
+        match self.at(&absolute(self.alloc, &self.folder, path)?) {
+            Some(
+                Entry {
+                    node: Node::Link(to),
+                    ..
+                },
+            ) => Ok(to),
+            Some(_) => Err(io::Error::from(ErrorKind::InvalidInput)),
+            None => Err(io::Error::from(ErrorKind::NotFound)),
+        }
+    }
+
+    /// The text of the file of a number.
+    pub fn text_of(&self, number: usize) -> io::Result<&[u8]> {
+        match self.numbered(number) {
+            Some(
+                Entry {
+                    node: Node::File(text, _),
+                    ..
+                },
+            ) => Ok(text),
+            Some(_) => Err(io::Error::from(ErrorKind::IsADirectory)),
+            None => Err(io::Error::from(ErrorKind::NotFound)),
+        }
+    }
+
+    /// The text and the rights of the file that a path leads to, if there is one.
+    pub fn file(&self, path: &str) -> Option<(&[u8], u32)> {
+        match self.found(path) {
+            Ok(
+                Entry {
+                    node: Node::File(text, mode),
+                    ..
+                },
+            ) => Some((text, *mode)),
+            _ => None,
+        }
+    }
+
+    /// Writes behind what the file of a number has.
+    pub fn append(&mut self, number: usize, more: &[u8]) -> io::Result<()> {
+        for entry in &mut self.entries {
+            if entry.number == number {
+                return match &mut entry.node {
+                    Node::File(text, _) => Ok(text.extend_from_slice(more)?),
+                    _ => Err(io::Error::from(ErrorKind::IsADirectory)),
+                };
+            }
+        }
+        Err(io::Error::from(ErrorKind::NotFound))
+    }
+
+    /// Gives the file of a number these rights.
+    pub fn set_mode(&mut self, number: usize, new: u32) {
+        for entry in &mut self.entries {
+            if entry.number == number {
+                if let Node::File(_, mode) = &mut entry.node {
+                    *mode = new;
+                }
+            }
+        }
+    }
+
+    /// Removes what is at a path, even a link.
+    pub fn remove(&mut self, path: &str) -> io::Result<()> {
+        let path = absolute(self.alloc, &self.folder, path)?;
+        for at in 0..self.entries.len() {
+            if self.entries[at].path == path {
+                drop(self.entries.remove(at));
+                return Ok(());
+            }
+        }
+        Err(io::Error::from(ErrorKind::NotFound))
+    }
+
+    /// Gives what is at a path another one, in place of what is there.
+    pub fn rename(&mut self, from: &str, to: &str) -> io::Result<()> {
+        let number = self.open(from)?;
+        let path = absolute(self.alloc, &self.folder, to)?;
+        let _ = self.remove(to);
+        for entry in &mut self.entries {
+            if entry.number == number {
+                entry.path = path;
+                return Ok(());
+            }
+        }
+        Err(io::Error::from(ErrorKind::NotFound))
+    }
+}
+
+/// What is said of what is at a path.
+fn metadata_of(node: &Node) -> Metadata {
+    match node {
+        Node::Folder => Metadata::of_dir(),
+        Node::File(text, _) => Metadata::of_file(text.len() as u64),
+        Node::Link(to) => Metadata::of_symlink(to.len() as u64),
+    }
+}
+
+/// A copy of what is at a path.
+fn copied(alloc: Global, node: &Node) -> Result<Node, AllocError> {
+    Ok(match node {
+        Node::Folder => Node::Folder,
+        Node::File(text, mode) => Node::File(Vec::from_slice(alloc, text)?, *mode),
+        Node::Link(to) => Node::Link(String::from_str(alloc, to)?),
+    })
+}
