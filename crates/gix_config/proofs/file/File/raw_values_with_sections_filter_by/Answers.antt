@@ -1,4 +1,7 @@
-use Rattle.std.proofs.Common.{true, subst}
+use Rattle.std.proofs.Common.{true, map, subst}
+use Rattle.std.specs.declared.vec.Vec.{Vec}
+use Rattle.gitconf_views.specs.declared.section.SectionRef.{SectionRef}
+use Rattle.bstr.specs.declared.bstring.BString.{BString}
 use Rattle.std.specs.Option.{option_copied}
 use Rattle.gitconf_finding.specs.Lookups.{AreRawValuesWithSections, key_at, values_in, miss_at, shown_with, if_any}
 use Rattle.gitconf_finding.specs.Misses.{IsExisting}

@@ -6,4 +6,4 @@ pub returns-clause-ok : goal.returns-clause-ok
 returns-clause-ok c = c.remove_section_filter.ensures.ok (λ _. true) (always_returns_same _ _ _ (λ a r f' k. search rules))
 
 pub returns-clause-taken : goal.returns-clause-taken
-returns-clause-taken c = c.remove_section_filter.ensures.taken (λ _. true) (always_returns_same _ _ _ (λ a r f' k. search rules))
+returns-clause-taken c = c.remove_section_filter.ensures.filtered.exact (λ _. true) (always_returns_same _ _ _ (λ a r f' k. search rules))
