@@ -22,7 +22,6 @@ use Rattle.gitconf_finding.specs.Misses.{IsExisting}
 use Rattle.gitconf_store.specs.NewSections.{HasNoPlace}
 use Rattle.gitconf_finding.specs.Picks.{picked, HasSection, IsMissing}
 use Rattle.gitconf_store.specs.Renamings.{header_numbers}
-use Rattle.gitconf_finding.specs.SomeSections.{WithSome}
 use Rattle.gix_config.specs.Puts.{put_bytes}
 use Rattle.gix_config.specs.declared.file.section_mut.SectionMut.{SectionMut}
 use Rattle.gix_config.specs.declared.file.section_mut.making.Error.{Error}
@@ -73,12 +72,6 @@ abbrev pub IsPassing : {T A : Type 0} → (shown : T → A) → (give : SectionS
     → (name : List ℕ) → (subsection : Option (List ℕ)) → (keeps : Meta → Bool) → State → Result T Error → Type 0
 IsPassing shown give name subsection keeps state result = IsPickedOf shown give name subsection state (picked name subsection keeps state) result
 
--- the same, for any filter
-abbrev pub IsSomePassing : {T A : Type 0} → (shown : T → A) → (give : SectionState → A)
-    → (name : List ℕ) → (subsection : Option (List ℕ)) → State → Result T Error → Type 0
-IsSomePassing shown give name subsection state result =
-    WithSome (λ s. IsPickedOf shown give name subsection state (picked name subsection (λ _. true) s) result) state
-
 -- What was found of the section of the number, or that no section has it.
 abbrev pub IsNumbered : {T A : Type 0} → (shown : T → A) → (give : SectionState → A) → (number : ℕ) → State → Result T Error → Type 0
 IsNumbered shown give number state (Ok found) = option_map give (numbered number state) ≡ Some (shown found)
@@ -96,14 +89,10 @@ IsEditorOfKey None state result = result ≡ Err KeyMissing
 IsEditorOfKey (Some key) state result = IsEditorFound key.section key.subsection state result
 
 -- the same with a filter
-abbrev pub IsPassingEditorOfKey : Option SectionKey → (keeps : Meta → Bool) → State → Result (SectionMut Spacing) Error → Type 0
-IsPassingEditorOfKey None keeps state result = result ≡ Err (Lookup KeyMissing)
-IsPassingEditorOfKey (Some key) keeps state result = IsPassing told (editor_at state) key.section key.subsection keeps state result
-
--- the same, for any filter
-abbrev pub IsSomePassingEditorOfKey : Option SectionKey → State → Result (SectionMut Spacing) Error → Type 0
-IsSomePassingEditorOfKey None state result = result ≡ Err (Lookup KeyMissing)
-IsSomePassingEditorOfKey (Some key) state result = IsSomePassing told (editor_at state) key.section key.subsection state result
+abbrev pub IsPassingEditorOfKey : Option SectionKey → (whole : State) → (keeps : Meta → Bool) → (some : State) → Result (SectionMut Spacing) Error → Type 0
+IsPassingEditorOfKey None whole keeps some result = result ≡ Err (Lookup KeyMissing)
+IsPassingEditorOfKey (Some key) whole keeps some result =
+    IsPickedOf told (editor_at whole) key.section key.subsection whole (picked key.section key.subsection keeps some) result
 
 -- What was found, and the state stays; if nothing was, a section was made, and this is what was found of it.
 abbrev pub IsFoundOr : {A : Type 0} → (give : SectionState → A) → (name : List ℕ) → (subsection : Option (List ℕ)) → Option SectionState → (old new : State) → A → Type 0
@@ -126,12 +115,6 @@ abbrev pub IsFoundOrMade : {T A : Type 0} → (after : T → State) → (shown :
     → (name : List ℕ) → (subsection : Option (List ℕ)) → (keeps : Meta → Bool) → (old : State) → Result T HeaderError → Type 0
 IsFoundOrMade after shown give name subsection keeps old result =
     IsFoundOrMadeOf after shown give name subsection (picked name subsection keeps old) old result
-
--- the same, for any filter
-abbrev pub IsSomeFoundOrMade : {T A : Type 0} → (after : T → State) → (shown : T → A) → (give : SectionState → A)
-    → (name : List ℕ) → (subsection : Option (List ℕ)) → (old : State) → Result T HeaderError → Type 0
-IsSomeFoundOrMade after shown give name subsection old result =
-    WithSome (λ s. IsFoundOrMadeOf after shown give name subsection (picked name subsection (λ _. true) s) old result) old
 
 -- The file after a section was not put into it: as it was, except for the bytes of its buffer, to which at most these were added.
 abbrev pub IsUnput : (bytes : ℕ) → (old new : State) → Type 0

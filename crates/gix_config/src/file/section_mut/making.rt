@@ -69,11 +69,11 @@ impl File {
     ghost use Rattle.gitconf_store.specs.NewSections.{HasNoPlace};
     ghost use Rattle.gitconf_finding.specs.Picks.{picked};
     ghost use Rattle.gitconf_store.specs.Renamings.{header_numbers};
-    ghost use Rattle.gitconf_finding.specs.SomeSections.{WithSome};
+    ghost use Rattle.gitconf_finding.specs.SomeSections.{Filtered};
     ghost use Rattle.gix_config.specs.contracts.file.File.{the_row};
     ghost use Rattle.gix_config.specs.Edited.{has_number};
     ghost use Rattle.gix_config.specs.Puts.{put_bytes};
-    ghost use Rattle.gix_config.specs.SectionEditors.{blanks_at, edited, editor_at, lent, told, IsEditorOfKey, IsFoundOrMade, IsNumbered, IsPassing, IsPassingEditorOfKey, IsSomeFoundOrMade, IsSomePassing, IsSomePassingEditorOfKey, IsUnmade, IsUnput};
+    ghost use Rattle.gix_config.specs.SectionEditors.{blanks_at, edited, editor_at, lent, told, IsEditorOfKey, IsFoundOrMade, IsFoundOrMadeOf, IsNumbered, IsPassingEditorOfKey, IsPickedOf, IsUnmade, IsUnput};
 
     /// The number and the blanks of the last section that has the name and subsection.
     fn blanks_by_names(
@@ -102,9 +102,8 @@ impl File {
         filter: F,
     ) -> Result<(SectionId, Blanks), Error>
         requires { F.IsAlwaysCallable filter }
-        ensures exact { (keeps : Meta → Bool) → ComputesKey F.FnMut keeps filter
-            → IsPassing (λ f. f) blanks_at name.now (option_copied subsection_name.entry) keeps self.now result }
-        ensures some { IsSomePassing (λ f. f) blanks_at name.now (option_copied subsection_name.entry) self.now result }
+        ensures filtered { Filtered (λ keeps. ComputesKey F.FnMut keeps filter)
+            (λ keeps s. IsPickedOf (λ f. f) blanks_at name.now (option_copied subsection_name.entry) self.now (picked name.now (option_copied subsection_name.entry) keeps s) result) self.now }
         ensures stands { IfOk result (λ f. has_number f.0 self.now ≡ true) }
     {
         let (id, blanks) = match self.section_filter(name, subsection_name, filter) {
@@ -124,12 +123,8 @@ impl File {
         filter: F,
     ) -> Result<Option<(SectionId, Blanks)>, NoMemory>
         requires { F.IsAlwaysCallable filter }
-        ensures exact { (keeps : Meta → Bool) → ComputesKey F.FnMut keeps filter
-            → MatchResult result (λ found. found ≡ option_map blanks_at (picked name.now (option_copied subsection_name.entry) keeps self.now))
-            (λ _. picked name.now (option_copied subsection_name.entry) keeps self.now ≢ None) }
-        ensures some { WithSome (λ s. MatchResult result (λ found. found
-            ≡ option_map blanks_at (picked name.now (option_copied subsection_name.entry) (λ _. true) s))
-            (λ _. picked name.now (option_copied subsection_name.entry) (λ _. true) s ≢ None)) self.now }
+        ensures filtered { Filtered (λ keeps. ComputesKey F.FnMut keeps filter)
+            (λ keeps s. MatchResult result (λ found. found ≡ option_map blanks_at (picked name.now (option_copied subsection_name.entry) keeps s)) (λ _. picked name.now (option_copied subsection_name.entry) keeps s ≢ None)) self.now }
         ensures stands { IfOk result (λ found. IfSome found (λ f. has_number f.0 self.now ≡ true)) }
     {
         let (id, blanks) = match self.section_filter(name, subsection_name, filter) {
@@ -149,9 +144,8 @@ impl File {
         filter: F,
     ) -> Result<(SectionId, Blanks), header::Error>
         requires { F.IsAlwaysCallable filter }
-        ensures exact { (keeps : Meta → Bool) → ComputesKey F.FnMut keeps filter
-            → IsFoundOrMade (λ _. self.new) (λ f. f) blanks_at name.now (option_copied subsection_name.entry) keeps self.old result }
-        ensures some { IsSomeFoundOrMade (λ _. self.new) (λ f. f) blanks_at name.now (option_copied subsection_name.entry) self.old result }
+        ensures filtered { Filtered (λ keeps. ComputesKey F.FnMut keeps filter)
+            (λ keeps s. IsFoundOrMadeOf (λ _. self.new) (λ f. f) blanks_at name.now (option_copied subsection_name.entry) (picked name.now (option_copied subsection_name.entry) keeps s) self.old result) self.old }
         ensures stands { IfOk result (λ f. has_number f.0 self.new ≡ true) }
         ensures err { OnErr result (IsUnmade name.now (option_copied subsection_name.entry) self.old self.new) }
     {
@@ -262,11 +256,8 @@ impl File {
         requires { F.IsAlwaysCallable filter }
         ensures same_file { IfOk result (λ e. lent e ≡ self.entry.ghost_name) }
         ensures same_state { IfOk result (λ e. edited e ≡ self.old) }
-        // For a filter whose result depends only on what it is shown.
-        ensures exact { (keeps : Meta → Bool) → ComputesKey F.FnMut keeps filter
-            → IsPassing told (editor_at self.old) name.now (option_copied subsection_name.entry) keeps self.old result }
-        // For any filter.
-        ensures some { IsSomePassing told (editor_at self.old) name.now (option_copied subsection_name.entry) self.old result }
+        ensures filtered { Filtered (λ keeps. ComputesKey F.FnMut keeps filter)
+            (λ keeps s. IsPickedOf told (editor_at self.old) name.now (option_copied subsection_name.entry) self.old (picked name.now (option_copied subsection_name.entry) keeps s) result) self.old }
         ensures* refused { sem 𝓛 (RestsIfErr the_row self.entry lent result (λ n. n ≡ self.old)) }
     {
         let (id, blanks) = self.passing_section(name, subsection_name, filter)?;
@@ -287,11 +278,8 @@ impl File {
         requires { F.IsAlwaysCallable filter }
         ensures same_file { IfOk result (λ e. lent e ≡ self.entry.ghost_name) }
         ensures same_state { IfOk result (λ e. edited e ≡ self.old) }
-        // For a filter whose result depends only on what it is shown.
-        ensures exact { (keeps : Meta → Bool) → ComputesKey F.FnMut keeps filter
-            → IsPassingEditorOfKey (parsed_section_key section_key.now) keeps self.old result }
-        // For any filter.
-        ensures some { IsSomePassingEditorOfKey (parsed_section_key section_key.now) self.old result }
+        ensures filtered { Filtered (λ keeps. ComputesKey F.FnMut keeps filter)
+            (λ keeps s. IsPassingEditorOfKey (parsed_section_key section_key.now) self.old keeps s result) self.old }
         ensures* refused { sem 𝓛 (RestsIfErr the_row self.entry lent result (λ n. n ≡ self.old)) }
     {
         let Some(key) = KeyRef::parse(section_key) else {
@@ -410,11 +398,8 @@ impl File {
     ) -> Result<SectionMut<'_>, header::Error>
         requires { F.IsAlwaysCallable filter }
         ensures same_file { IfOk result (λ e. lent e ≡ self.entry.ghost_name) }
-        // For a filter whose result depends only on what it is shown.
-        ensures exact { (keeps : Meta → Bool) → ComputesKey F.FnMut keeps filter
-            → IsFoundOrMade edited told (editor_at self.old) name.now (option_copied subsection_name.entry) keeps self.old result }
-        // For any filter.
-        ensures some { IsSomeFoundOrMade edited told (editor_at self.old) name.now (option_copied subsection_name.entry) self.old result }
+        ensures filtered { Filtered (λ keeps. ComputesKey F.FnMut keeps filter)
+            (λ keeps s. IsFoundOrMadeOf edited told (editor_at self.old) name.now (option_copied subsection_name.entry) (picked name.now (option_copied subsection_name.entry) keeps s) self.old result) self.old }
         ensures* refused { sem 𝓛 (RestsIfErr the_row self.entry lent result (IsUnmade name.now (option_copied subsection_name.entry) self.old)) }
     {
         let line_end = self.line_end();

@@ -3,4 +3,4 @@ use Rattle.std.proofs.lemmas.Fn.{always_returns_same}
 use Rattle.gix_config.proofs.file.File.find_any_or_make.Goals as goal
 
 pub returns-clause-exact : goal.returns-clause-exact
-returns-clause-exact c = c.find_or_make.ensures.exact (λ _. true) (always_returns_same _ _ _ (λ a r f' k. search rules))
+returns-clause-exact c = c.find_or_make.ensures.filtered.exact (λ _. true) (always_returns_same _ _ _ (λ a r f' k. search rules))

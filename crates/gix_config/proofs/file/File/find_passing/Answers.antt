@@ -1,4 +1,4 @@
-use Rattle.std.proofs.Common.{◌≡◌, true, [], refl, ap, sym, subst}
+use Rattle.std.proofs.Common.{rules, ◌≡◌, true, [], refl, ap, sym, subst}
 use Rattle.std.specs.Option.{option_copied, option_map}
 use Rattle.gitconf_views.specs.Views.{shown}
 use Rattle.gitconf_finding.proofs.SomeSections.{none_of}
@@ -7,12 +7,38 @@ use Rattle.gix_config.specs.SectionEditors.{blanks_at}
 use Rattle.gix_config.proofs.Standing.{named_none, some_stands}
 use Rattle.gix_config.proofs.file.File.find_passing.Goals as goal
 
-pub returns-in-Err-clause-exact : goal.returns-in-Err-clause-exact
-returns-in-Err-clause-exact g c = λ keeps h.
-    sym (ap (option_map blanks_at) (named_none c.args.name.now (option_copied c.args.subsection_name) keeps c.args.self.now c.in-Err.ensures.refused.0))
+pub returns-in-Err-clause-filtered : goal.returns-in-Err-clause-filtered
+returns-in-Err-clause-filtered g c = record {
+  exact = λ keeps h. sym (ap (option_map blanks_at) (named_none c.args.name.now (option_copied c.args.subsection_name) keeps c.args.self.now c.in-Err.ensures.refused.0));
+  some = ([], none_of c.args.self.now.sections, refl);
+}
 
-pub returns-in-Err-clause-some : goal.returns-in-Err-clause-some
-returns-in-Err-clause-some g c = ([], none_of c.args.self.now.sections, refl)
+pub returns-in-Ok-None-clause-filtered : goal.returns-in-Ok-None-clause-filtered
+returns-in-Ok-None-clause-filtered g c =
+    let told = c.in-Ok-None.ensures.filtered in
+    let some = told.some in
+    record {
+      exact = λ keeps h. let is = told.exact keeps h in search (rules, is);
+      some = (some.0, some.1, search (rules, some.2));
+    }
+
+pub returns-in_err-blanks-clause-filtered : goal.returns-in_err-blanks-clause-filtered
+returns-in_err-blanks-clause-filtered g c =
+    let told = c.in-Ok-Some.ensures.filtered in
+    let some = told.some in
+    record {
+      exact = λ keeps h. let is = told.exact keeps h in search (rules, is);
+      some = (some.0, some.1, search (rules, some.2));
+    }
+
+pub returns-clause-filtered : goal.returns-clause-filtered
+returns-clause-filtered g c =
+    let told = c.in-Ok-Some.ensures.filtered in
+    let some = told.some in
+    record {
+      exact = λ keeps h. let is = told.exact keeps h in search (rules, is);
+      some = (some.0, some.1, search (rules, some.2));
+    }
 
 pub returns-clause-stands : goal.returns-clause-stands
 returns-clause-stands g c =

@@ -1,5 +1,6 @@
-use Rattle.std.proofs.Common.{◌≡◌, true, [], None, ap, sym, subst}
+use Rattle.std.proofs.Common.{rules, ◌≡◌, true, [], None, ap, sym, subst}
 use Rattle.std.specs.Option.{option_copied, option_map}
+use Rattle.gitconf_finding.specs.Picks.{picked}
 use Rattle.gitconf_views.specs.Views.{shown}
 use Rattle.gix_config.specs.Edited.{has_number}
 use Rattle.gitconf_finding.proofs.SomeSections.{none_of}
@@ -7,12 +8,43 @@ use Rattle.gix_config.specs.SectionEditors.{blanks_at}
 use Rattle.gix_config.proofs.Standing.{missing_picked, some_stands}
 use Rattle.gix_config.proofs.file.File.passing_section.Goals as goal
 
-pub returns-in-Err-clause-some : goal.returns-in-Err-clause-some
-returns-in-Err-clause-some g c = (
-  [],
-  none_of c.args.self.now.sections,
-  missing_picked (λ f. f) blanks_at c.args.name.now (option_copied c.args.subsection_name) c.args.self.now None c.in-Err.missing c.in-Err.ensures.refused,
-)
+pub returns-in-Err-clause-filtered : goal.returns-in-Err-clause-filtered
+returns-in-Err-clause-filtered g c = record {
+  exact = λ keeps h. missing_picked (λ f. f) blanks_at c.args.name.now (option_copied c.args.subsection_name) c.args.self.now
+      (picked c.args.name.now (option_copied c.args.subsection_name) keeps c.args.self.now) c.in-Err.missing c.in-Err.ensures.refused;
+  some = (
+    [],
+    none_of c.args.self.now.sections,
+    missing_picked (λ f. f) blanks_at c.args.name.now (option_copied c.args.subsection_name) c.args.self.now None c.in-Err.missing c.in-Err.ensures.refused,
+  );
+}
+
+pub returns-in-Ok-None-clause-filtered : goal.returns-in-Ok-None-clause-filtered
+returns-in-Ok-None-clause-filtered g c =
+    let told = c.in-Ok-None.ensures.filtered in
+    let some = told.some in
+    record {
+      exact = λ keeps h. let is = told.exact keeps h in search (rules, is);
+      some = (some.0, some.1, search (rules, some.2));
+    }
+
+pub returns-in_err-blanks-clause-filtered : goal.returns-in_err-blanks-clause-filtered
+returns-in_err-blanks-clause-filtered g c =
+    let told = c.in-Ok-Some.ensures.filtered in
+    let some = told.some in
+    record {
+      exact = λ keeps h. let is = told.exact keeps h in search (rules, is);
+      some = (some.0, some.1, search (rules, some.2));
+    }
+
+pub returns-clause-filtered : goal.returns-clause-filtered
+returns-clause-filtered g c =
+    let told = c.in-Ok-Some.ensures.filtered in
+    let some = told.some in
+    record {
+      exact = λ keeps h. let is = told.exact keeps h in search (rules, is);
+      some = (some.0, some.1, search (rules, some.2));
+    }
 
 pub returns-clause-stands : goal.returns-clause-stands
 returns-clause-stands g c =
