@@ -22,11 +22,6 @@ one_of (y ∷ before) behind x = inr (one_of before behind x)
 pub next_of : {A : Type 0} (x : A) (xs some : List A) → AreSome xs some → AreSome (x ∷ xs) (x ∷ some)
 next_of x xs some are = inl (some, refl, are)
 
--- all that pass no test are those that there are
-pub all_kept : {A : Type 0} (xs : List A) → filter (λ _. true) xs ≡ xs
-all_kept [] = refl
-all_kept (x ∷ xs) = ap (λ ys. x ∷ ys) (all_kept xs)
-
 -- some of those that pass a test are some of all, and pass it
 pub some_passing : {A : Type 0} (test : A → Bool) (xs some : List A) → AreSome (filter test xs) some → AreSome xs some × (filter test some ≡ some)
 some_passing test [] some are = (are, rw are refl)

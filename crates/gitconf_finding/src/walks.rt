@@ -8,6 +8,7 @@ use gitconf_items::events::ItemEvents;
 use gitconf_sections::sections::walks::{Named, WithName};
 use gitconf_table::table::SectionId;
 use gitconf_views::section::{SectionRef, Sections};
+use gitconf_views::tables::view_of;
 
 /// The sections of a name and subsection in file order, from either end.
 #[derive(Drop)]
@@ -34,7 +35,7 @@ impl<'a> Iterator for SectionsNamed<'a, '_, '_> {
 
     fn next(&mut self) -> Option<SectionRef<'a>> {
         match self.sections.next() {
-            Some((id, section)) => Some(SectionRef::of_row(self.buffer, self.copies, id, section)),
+            Some((id, section)) => Some(view_of(self.buffer, self.copies, id, section)),
             None => None,
         }
     }
@@ -49,7 +50,7 @@ impl<'a> DoubleEndedIterator for SectionsNamed<'a, '_, '_> {
 
     fn next_back(&mut self) -> Option<SectionRef<'a>> {
         match self.sections.next_back() {
-            Some((id, section)) => Some(SectionRef::of_row(self.buffer, self.copies, id, section)),
+            Some((id, section)) => Some(view_of(self.buffer, self.copies, id, section)),
             None => None,
         }
     }
@@ -81,7 +82,7 @@ impl<'a> Iterator for SectionsByName<'a, '_> {
 
     fn next(&mut self) -> Option<SectionRef<'a>> {
         match self.sections.next() {
-            Some((id, section)) => Some(SectionRef::of_row(self.buffer, self.copies, id, section)),
+            Some((id, section)) => Some(view_of(self.buffer, self.copies, id, section)),
             None => None,
         }
     }

@@ -1,5 +1,6 @@
 -- Sections of another table after those of a table, and items held after the last one.
 use Rattle.std.proofs.Common.{◌≡◌, ℕ, zero, suc, ◌+◌, ◌<◌, List, [], ◌∷◌, ◌++◌, length, map, take, drop, Some, refl, ap, sym, subst, ◌∙◌, arith, append-nil, length-append}
+use Rattle.std.proofs.lemmas.List.{map-append}
 use Rattle.std.specs.List.{AllByRecursion, slice_get}
 use Rattle.std.specs.Option.{option_map}
 use Rattle.gitconf_items.specs.declared.items.Item.{Item}
@@ -12,6 +13,7 @@ use Rattle.gitconf_text.specs.Header.{name_of, subsection_of}
 use Rattle.gitconf_table.specs.Sections.{SectionEntry, Sections, changed_at}
 use Rattle.gitconf_table.specs.Sections as table
 use Rattle.gitconf_state.specs.Edits.{numbered_from}
+use Rattle.gitconf_state.proofs.EditsKeep.{holds_appended}
 use Rattle.gitconf_items.specs.Items.{items_of}
 use Rattle.gitconf_table.proofs.SectionLemmas.{section_edited}
 use Rattle.gitconf_sections.specs.Section.{Section, holding}
@@ -41,14 +43,6 @@ items_both b (x ∷ xs) ys = λ i. Rattle.gitconf_items.specs.Items.item_of b x 
 pub within_both : (n : ℕ) (xs ys : List Item) → AreItemsWithin n xs → AreItemsWithin n ys → AreItemsWithin n (xs ++ ys)
 within_both n [] ys first second = second
 within_both n (x ∷ xs) ys first second = (first.0, within_both n xs ys first.1 second)
-
-all_both : {A : Type 0} (P : A → Type 0) (xs ys : List A) → AllByRecursion P xs → AllByRecursion P ys → AllByRecursion P (xs ++ ys)
-all_both P [] ys first second = second
-all_both P (x ∷ xs) ys first second = (first.0, all_both P xs ys first.1 second)
-
-pub map_both : {A B : Type 0} (f : A → B) (xs ys : List A) → map f (xs ++ ys) ≡ map f xs ++ map f ys
-map_both f [] ys = refl
-map_both f (x ∷ xs) ys = λ i. f x ∷ map_both f xs ys i
 
 -- under new numbers they say and fit as before
 pub numbered_states : (b : List ℕ) (next : ℕ) (es : List (SectionEntry Section)) → map (section_state b) (table.numbered_from next es) ≡ numbered_from next (map (section_state b) es)
@@ -109,7 +103,7 @@ pub held_states : (b : List ℕ) (more : List Item) (es others : List (SectionEn
     → map (section_state b) (changed_at (set_section v) (changed_at (set_section t) es at ++ others) at) ≡ held_at (items_of b more) at (map (section_state b) es) ++ map (section_state b) others
 held_states b more [] others at s t v here holds = absurd (cc)
 held_states b more (e ∷ es) others zero s t v here holds =
-    let is : e.section ≡ s = cc in (λ i. held_state b more e s v is holds i ∷ map_both (section_state b) es others i)
+    let is : e.section ≡ s = cc in (λ i. held_state b more e s v is holds i ∷ map-append (section_state b) es others i)
 held_states b more (e ∷ es) others (suc at) s t v here holds =
     ap (λ ss. section_state b e ∷ ss) (held_states b more es others at s t v here holds)
 
@@ -117,7 +111,7 @@ pub held_fit : (b copies : List ℕ) (more : List Item) (es others : List (Secti
     → AllByRecursion (SectionFits b copies) others → AreItemsWithin (length b) more → AllByRecursion (SectionFits b copies) (changed_at (set_section v) (changed_at (set_section t) es at ++ others) at)
 held_fit b copies more [] others at s t v here holds fits theirs within = absurd (cc)
 held_fit b copies more (e ∷ es) others zero s t v here holds fits theirs within =
-    let is : e.section ≡ s = cc in (held_fits b copies more e s v is holds fits.0 within, all_both (SectionFits b copies) es others fits.1 theirs)
+    let is : e.section ≡ s = cc in (held_fits b copies more e s v is holds fits.0 within, holds_appended (SectionFits b copies) es others fits.1 theirs)
 held_fit b copies more (e ∷ es) others (suc at) s t v here holds fits theirs within = (fits.0, held_fit b copies more es others at s t v here holds fits.1 theirs within)
 
 -- all put after all

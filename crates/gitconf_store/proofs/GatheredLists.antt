@@ -7,12 +7,9 @@ use Rattle.std.proofs.lemmas.List.Folds.{list_any-append}
 use Rattle.gitconf_table.specs.declared.runs.Run.{Run}
 use Rattle.gitconf_table.specs.Runs.{total, weave, woven, AreRuns}
 use Rattle.gitconf_state.specs.State.{SectionState}
+use Rattle.gitconf_finding.proofs.ValuePlaces.{none_long}
 use Rattle.gitconf_store.specs.Edits.{update_at}
 use Rattle.gitconf_store.specs.Gathering.{done_in, rest_in, update_last, IsLastDone}
-
-none_left : {A : Type 0} (xs : List A) → length xs ≡ 0 → xs ≡ []
-none_left [] is = refl
-none_left (x ∷ xs) is = absurd (omega (arith, is))
 
 -- runs of more first elements
 pub runs_later : (runs : List Run) (first more others : ℕ) → first ≤ more → AreRuns runs first others → AreRuns runs more others
@@ -53,7 +50,7 @@ module _ {A : Type 0} where
   -- more of the first stand behind all
   pub weave_first : (runs : List Run) (first more others : List A) → AreRuns runs (length first) (length others) → weave runs (first ++ more) others ≡ weave runs first others ++ more
   weave_first [] first more others are =
-      let none = none_left others are in
+      let none = none_long others are in
       rw none (append-nil (first ++ more) ∙ ap (λ xs. xs ++ more) (sym (append-nil first)))
   weave_first (r ∷ runs) first more others are =
       let a = are.0 in
@@ -67,7 +64,7 @@ module _ {A : Type 0} where
   pub weave_run : (runs : List Run) (first others more : List A) (ahead : ℕ) → (total runs).ahead + ahead ≡ length first → AreRuns runs (length first) (length others)
       → weave (runs ++ run ahead (length more) ∷ []) first (others ++ more) ≡ weave runs first others ++ more
   weave_run [] first others more ahead sum are =
-      let none = none_left others are in
+      let none = none_long others are in
       rw none (
       (λ i. take_all ahead first (omega (arith, sum)) i ++ (take_all (length more) more (omega arith) i ++ (drop_all ahead first (omega (arith, sum)) i ++ drop_all (length more) more (omega arith) i)))
       ∙ ap (λ xs. first ++ xs) (append-nil more)

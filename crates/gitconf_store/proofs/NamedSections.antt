@@ -3,10 +3,6 @@ use Rattle.std.proofs.Common.{◌≡◌, ℕ, Bool, true, false, List, [], ◌�
 use Rattle.std.specs.Prelude.{filter, is_some, ◌||◌}
 use Rattle.std.specs.List.{AllByRecursion, list_any}
 use Rattle.std.specs.Iterator.{YieldsFirstBy}
-use Rattle.gitconf_text.specs.Header.{name_of}
-use Rattle.gitconf_text.specs.Names.{is_same_name}
-use Rattle.gitconf_table.proofs.SectionLemmas.{has_name-new}
-use Rattle.gitconf_items.specs.Events.{header_of}
 use Rattle.gitconf_table.specs.Sections.{SectionEntry}
 use Rattle.gitconf_table.specs.Sections as table
 use Rattle.gitconf_base.specs.Metadata.{Meta}
@@ -15,6 +11,7 @@ use Rattle.gitconf_state.specs.State.{State}
 use Rattle.gitconf_state.specs.Lookup as state
 use Rattle.gitconf_sections.specs.Section.{Section}
 use Rattle.gitconf_views.specs.Store.{section_state, state_of, SectionFits, AllSectionsFit}
+use Rattle.gitconf_finding.proofs.SectionsKept.{name_so}
 use Rattle.gitconf_store.proofs.Named.{named_so}
 
 -- none of the sections passes
@@ -48,9 +45,6 @@ any_shown : (buffer copies : List ℕ) (p : SectionEntry Section → Bool) (q : 
 any_shown buffer copies p q same [] fits = refl
 any_shown buffer copies p q same (e ∷ es) fits = λ i. same e fits.0 i || any_shown buffer copies p q same es fits.1 i
 
-has_so : (buffer copies name : List ℕ) (e : SectionEntry Section) → SectionFits buffer copies e → table.has_name name e ≡ state.has_name name (state.listing (section_state buffer e))
-has_so buffer copies name e fits = ap (is_same_name name) fits.name ∙ has_name-new name (name_of (header_of buffer e.section.header)) 0 None e.section
-
 -- whether there is a section of a name
 pub any_with_name : {S R : Type 0} (buffer copies : List ℕ) (front : List Item) (meta : Meta) (sections : table.Sections Section) (all : State) (name : List ℕ)
     (view : R → ℕ × Section) (rest : S → List (ℕ × Section)) (s t : S) (r : Option R) (b : Bool)
@@ -58,7 +52,7 @@ pub any_with_name : {S R : Type 0} (buffer copies : List ℕ) (front : List Item
     → b ≡ list_any (state.has_name name) (state.listed all)
 any_with_name buffer copies front meta sections all name view rest s t r b fits is yields left told =
     told ∙ first_is view rest (table.has_name name) (λ e. (e.number, e.section)) s t r sections.entries yields left
-    ∙ any_shown buffer copies (table.has_name name) (state.has_name name) (has_so buffer copies name) sections.entries fits
+    ∙ any_shown buffer copies (table.has_name name) (state.has_name name) (name_so buffer copies name) sections.entries fits
     ∙ ap (λ (s : State). list_any (state.has_name name) (state.listed s)) is
 
 -- and of a subsection

@@ -23,6 +23,7 @@ use Rattle.gitconf_store.specs.declared.set_raw_value.Error.{Error}
 use Rattle.gitconf_store.specs.declared.set_raw_value.Error.TheVariants.{Header, Memory, Span}
 use Rattle.gitconf_store.specs.Edits.{update_at, set_at, set_new, EditGrows, IsSet, UsedGrows, set_numbers}
 use Rattle.gitconf_store.specs.SetErrors.{of_header, of_span, set_number}
+use Rattle.gitconf_store.proofs.Targets.{stands_at}
 
 -- a refusal's number stays what it was
 number_of_header : (e : HeaderError) → set_number (of_header e) ≡ header_number e
@@ -155,17 +156,12 @@ made_err name subsection key keeps value old new r e result fault is keyed none 
   known = subst Known (sym (number_of_header e)) (subst (λ r. IfErr r (λ e. Known (header_number e))) fault is_known);
 })
 
--- what stands at the place
-there : {A : Type 0} (before : List A) (x : A) (behind : List A) → slice_get (before ++ x ∷ behind) (length before) ≡ Some x
-there [] x behind = refl
-there (y ∷ before) x behind = there before x behind
-
 updated : {A : Type 0} (change : A → A) (before : List A) (x : A) (behind : List A) → update_at (length before) change (before ++ x ∷ behind) ≡ before ++ change x ∷ behind
 updated change [] x behind = refl
 updated change (y ∷ before) x behind = ap (λ ys. y ∷ ys) (updated change before x behind)
 
 at_last : (name : List ℕ) (subsection : Option (List ℕ)) (keeps : Meta → Bool) (state : State) (at : ℕ) (l : IsLastAt (is_target name subsection keeps) state.sections at) → slice_get state.sections at ≡ Some l.found
-at_last name subsection keeps state at l = ap (λ ss. slice_get ss at) l.is ∙ ap (slice_get (l.before ++ l.found ∷ l.behind)) (sym l.place) ∙ there l.before l.found l.behind
+at_last name subsection keeps state at l = ap (λ ss. slice_get ss at) l.is ∙ ap (slice_get (l.before ++ l.found ∷ l.behind)) (sym l.place) ∙ stands_at l.before l.found l.behind
 
 set_last : (name : List ℕ) (subsection : Option (List ℕ)) (key : List ℕ) (keeps : Meta → Bool) (value : List ℕ) (state : State) (at : ℕ) (l : IsLastAt (is_target name subsection keeps) state.sections at)
     → set_at at key value state ≡ set_raw_value name subsection key keeps value state

@@ -80,7 +80,8 @@ held_place b next es s h once =
     ap (λ (t : SectionState). position (has_number t.number) es) (sym h.shown) ∙ ap (position (has_number h.found.number)) h.is
     ∙ place_of_number next h.before h.found h.behind (subst (AreNumbered next) h.is once)
 
-stands_at : {A : Type 0} (before : List A) (found : A) (behind : List A) → slice_get (before ++ found ∷ behind) (length before) ≡ Some found
+-- what stands at the place
+pub stands_at : {A : Type 0} (before : List A) (found : A) (behind : List A) → slice_get (before ++ found ∷ behind) (length before) ≡ Some found
 stands_at [] found behind = refl
 stands_at (x ∷ before) found behind = stands_at before found behind
 

@@ -6,5 +6,6 @@ pub mod detached;
 pub mod lists;
 pub mod popped;
 pub mod section;
+pub mod tables;
 pub mod values;
 pub mod views;

@@ -6,6 +6,7 @@ ghost use Rattle.gitconf_views.specs.Viewed.{AreViewed, AreViewed-prop, IsViewed
 
 pub mod value;
 
+use crate::tables::view_of;
 use crate::values::entry_meaning;
 use bstr::BString;
 use gitconf_base::meta::Metadata;
@@ -15,7 +16,6 @@ use gitconf_items::events::ItemEvents;
 use gitconf_items::items::Item;
 use gitconf_items::sink::{Sink, SinkFault};
 use gitconf_lines::blanks::Blanks;
-use gitconf_sections::row;
 use gitconf_sections::sections::walks::Iter;
 use gitconf_table::table::SectionId;
 use gitconf_text::NoMemory;
@@ -93,31 +93,7 @@ impl<'a> SectionRef<'a> {
     ghost use Rattle.gitconf_views.specs.Found.{IsFound};
     ghost use Rattle.gitconf_views.specs.ItemMeanings.{meaning_at};
     ghost use Rattle.gitconf_views.specs.Texts.{whole_text};
-    ghost use Rattle.gitconf_sections.specs.Section.{viewed};
-    ghost use Rattle.gitconf_views.specs.Store.{section_under};
     ghost use Rattle.gitconf_views.specs.Views.{shown};
-
-    /// A view of a section that a table has under a number, over the buffer and the copies that its spans are offsets of.
-    pub fn of_row(
-        buffer: &'a [u8],
-        copies: &'a [u8],
-        id: SectionId,
-        section: row::Section<'a>,
-    ) -> SectionRef<'a>
-        requires { IsViewed buffer.now copies.now (viewed section) }
-        ensures { shown result ≡ section_under buffer.now id (viewed section.entry) }
-    {
-        SectionRef {
-            alloc: section.alloc,
-            buffer,
-            copies,
-            id,
-            header: section.header,
-            meta: section.meta,
-            items: section.items,
-            held: section.held,
-        }
-    }
 
     /// The section's number in its file.
     pub fn id(&self) -> SectionId
@@ -250,7 +226,7 @@ impl<'a> Iterator for Sections<'a> {
 
     fn next(&mut self) -> Option<SectionRef<'a>> {
         match self.sections.next() {
-            Some((id, section)) => Some(SectionRef::of_row(self.buffer, self.copies, id, section)),
+            Some((id, section)) => Some(view_of(self.buffer, self.copies, id, section)),
             None => None,
         }
     }

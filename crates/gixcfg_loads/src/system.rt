@@ -2,10 +2,10 @@
 
 use crate::Loads;
 use gitconf_disk::{Disk, Process};
+use gix_config::File;
 use gix_config::file::Metadata;
 use gix_config::file::init::{self, from_env, from_paths};
 use gix_config::host::{Host, Places};
-use gix_config::File;
 use std::alloc::Global;
 use std::rc::Rc;
 

@@ -13,6 +13,7 @@ use gitconf_finding::tokens;
 use gitconf_text::line_end::LineEnd;
 use gitconf_text::parse::span;
 use gitconf_views::section::SectionRef;
+use gitconf_views::tables::view_of;
 use gitconf_write::line_end::first_line_end;
 
 impl Store {
@@ -30,7 +31,7 @@ impl Store {
     {
         let section = self.sections.at(position);
         let id = self.sections.id_at(position);
-        SectionRef::of_row(&self.buffer, &self.copies, id, section)
+        view_of(&self.buffer, &self.copies, id, section)
     }
 
     /// Whether the front has a newline.

@@ -16,6 +16,7 @@ use gitconf_table::table::SectionId;
 use gitconf_text::NoMemory;
 use gitconf_views::detached;
 use gitconf_views::section::SectionRef;
+use gitconf_views::tables::view_of;
 
 impl Store {
     /// The section of a number, if there is one. Constant time, and no memory.
@@ -23,7 +24,7 @@ impl Store {
         ensures { option_map shown result ≡ numbered id self.now }
     {
         match self.sections.get(id) {
-            Some(section) => Some(SectionRef::of_row(&self.buffer, &self.copies, id, section)),
+            Some(section) => Some(view_of(&self.buffer, &self.copies, id, section)),
             None => None,
         }
     }

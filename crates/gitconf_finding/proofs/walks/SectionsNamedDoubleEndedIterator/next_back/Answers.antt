@@ -10,8 +10,8 @@ invariant_of-self c =
     let it = c.args.self.now in
     record { viewed = left_viewed it.buffer.now it.copies.now (named_left it.sections) (named_left c.next_back.new.self) c.next_back.result c.next_back.ensures.steps it.viewed }
 
-pub of_row-requires : goal.of_row-requires
-of_row-requires c =
+pub view_of-requires : goal.view_of-requires
+view_of-requires c =
     let it = c.args.self.now in
     let viewed : IsViewed it.buffer.now it.copies.now (viewed c.in-Some.section) =
     (last_viewed it.buffer.now it.copies.now (named_left it.sections) (named_left c.next_back.new.self) (c.in-Some.id, viewed c.in-Some.section) c.in-Some.ensures.steps it.viewed).0 in

@@ -12,10 +12,10 @@ returns c =
     ap (λ (all : State). slice_get all.sections c.args.position) (sym c.self.view_is)
     ∙ place_shown c.self.inside.buffer.items c.self.inside.sections.entries c.args.position c.id_at-id.result s c.at-section.ensures c.id_at-id.ensures
     ∙ ap (λ lent. Some (section_under lent c.id_at-id.result s)) (sym c.deref.ensures.value)
-    ∙ ap Some (sym c.of_row.ensures)
+    ∙ ap Some (sym c.view_of.ensures)
 
-pub of_row-requires : goal.of_row-requires
-of_row-requires c =
+pub view_of-requires : goal.view_of-requires
+view_of-requires c =
     let inside = c.self.inside in
     place_viewed inside.buffer.items inside.copies.items c.deref.result.now c.deref-2.result.now inside.sections.entries c.args.position (viewed c.at-section.result)
     c.deref.ensures.value c.deref-2.ensures.value c.self.invariant.sections_within c.self.invariant.items.sections c.at-section.ensures
