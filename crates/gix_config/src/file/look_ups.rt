@@ -249,7 +249,8 @@ impl File {
     ) -> Result<BString, existing::Error>
         requires { F.IsAlwaysCallable filter }
         ensures { Filtered (λ keeps. ComputesKey F.FnMut keeps filter)
-            (λ keeps s. IsExisting bstring_bytes result (value_at (key_at section_name.now (option_copied subsection_name.entry) value_name.now) keeps s) (miss_at (key_at section_name.now (option_copied subsection_name.entry) value_name.now) self.now)) self.now }
+            (λ keeps s. IsExisting bstring_bytes result (value_at (key_at section_name.now (option_copied subsection_name.entry) value_name.now) keeps s)
+            (miss_at (key_at section_name.now (option_copied subsection_name.entry) value_name.now) self.now)) self.now }
     {
         let key = KeyRef {
             section_name,
@@ -332,7 +333,8 @@ impl File {
     ) -> Result<(BString, SectionRef<'_>), existing::Error>
         requires { F.IsAlwaysCallable filter }
         ensures { Filtered (λ keeps. ComputesKey F.FnMut keeps filter)
-            (λ keeps s. IsExisting shown_with result (value_in (key_at section_name.now (option_copied subsection_name.entry) value_name.now) keeps s) (miss_at (key_at section_name.now (option_copied subsection_name.entry) value_name.now) self.now)) self.now }
+            (λ keeps s. IsExisting shown_with result (value_in (key_at section_name.now (option_copied subsection_name.entry) value_name.now) keeps s)
+            (miss_at (key_at section_name.now (option_copied subsection_name.entry) value_name.now) self.now)) self.now }
     {
         let key = KeyRef {
             section_name,
@@ -387,7 +389,8 @@ impl File {
         requires known { IsSome (K.key key) }
         requires callable { F.IsAlwaysCallable filter }
         ensures { Filtered (λ keeps. ComputesKey F.FnMut keeps filter)
-            (λ keeps s. IsExisting texts_of result (if_any (values_at (the_key (K.key key)) keeps s)) (miss_at (the_key (K.key key)) self.now)) self.now }
+            (λ keeps s. IsExisting texts_of result (if_any (values_at (the_key (K.key key)) keeps s))
+            (miss_at (the_key (K.key key)) self.now)) self.now }
     {
         let key = key.as_key();
         self.raw_values_filter_by(
@@ -412,7 +415,9 @@ impl File {
     ) -> Result<Vec<BString>, existing::Error>
         requires { F.IsAlwaysCallable filter }
         ensures { Filtered (λ keeps. ComputesKey F.FnMut keeps filter)
-            (λ keeps s. IsExisting texts_of result (if_any (values_at (key_at section_name.now (option_copied subsection_name.entry) value_name.now) keeps s)) (miss_at (key_at section_name.now (option_copied subsection_name.entry) value_name.now) self.now)) self.now }
+            (λ keeps s. IsExisting texts_of result (if_any (values_at (key_at section_name.now
+            (option_copied subsection_name.entry) value_name.now) keeps s))
+            (miss_at (key_at section_name.now (option_copied subsection_name.entry) value_name.now) self.now)) self.now }
     {
         let key = KeyRef {
             section_name,
@@ -470,7 +475,8 @@ impl File {
         requires known { IsSome (K.key key) }
         requires callable { F.IsAlwaysCallable filter }
         ensures { Filtered (λ keeps. ComputesKey F.FnMut keeps filter)
-            (λ keeps s. IsExisting (λ found. map shown_with found.items) result (if_any (values_in (the_key (K.key key)) keeps s)) (miss_at (the_key (K.key key)) self.now)) self.now }
+            (λ keeps s. IsExisting (λ found. map shown_with found.items) result (if_any (values_in (the_key (K.key key)) keeps s))
+            (miss_at (the_key (K.key key)) self.now)) self.now }
     {
         let key = key.as_key();
         self.raw_values_with_sections_filter_by(
@@ -495,7 +501,9 @@ impl File {
     ) -> Result<Vec<(BString, SectionRef<'_>)>, existing::Error>
         requires { F.IsAlwaysCallable filter }
         ensures { Filtered (λ keeps. ComputesKey F.FnMut keeps filter)
-            (λ keeps s. IsExisting (λ found. map shown_with found.items) result (if_any (values_in (key_at section_name.now (option_copied subsection_name.entry) value_name.now) keeps s)) (miss_at (key_at section_name.now (option_copied subsection_name.entry) value_name.now) self.now)) self.now }
+            (λ keeps s. IsExisting (λ found. map shown_with found.items) result (if_any (values_in (key_at section_name.now
+            (option_copied subsection_name.entry) value_name.now) keeps s))
+            (miss_at (key_at section_name.now (option_copied subsection_name.entry) value_name.now) self.now)) self.now }
     {
         let key = KeyRef {
             section_name,

@@ -103,7 +103,8 @@ impl File {
     ) -> Result<(SectionId, Blanks), Error>
         requires { F.IsAlwaysCallable filter }
         ensures filtered { Filtered (λ keeps. ComputesKey F.FnMut keeps filter)
-            (λ keeps s. IsPickedOf (λ f. f) blanks_at name.now (option_copied subsection_name.entry) self.now (picked name.now (option_copied subsection_name.entry) keeps s) result) self.now }
+            (λ keeps s. IsPickedOf (λ f. f) blanks_at name.now (option_copied subsection_name.entry) self.now
+            (picked name.now (option_copied subsection_name.entry) keeps s) result) self.now }
         ensures stands { IfOk result (λ f. has_number f.0 self.now ≡ true) }
     {
         let (id, blanks) = match self.section_filter(name, subsection_name, filter) {
@@ -124,7 +125,8 @@ impl File {
     ) -> Result<Option<(SectionId, Blanks)>, NoMemory>
         requires { F.IsAlwaysCallable filter }
         ensures filtered { Filtered (λ keeps. ComputesKey F.FnMut keeps filter)
-            (λ keeps s. MatchResult result (λ found. found ≡ option_map blanks_at (picked name.now (option_copied subsection_name.entry) keeps s)) (λ _. picked name.now (option_copied subsection_name.entry) keeps s ≢ None)) self.now }
+            (λ keeps s. MatchResult result (λ found. found ≡ option_map blanks_at (picked name.now (option_copied subsection_name.entry) keeps s))
+            (λ _. picked name.now (option_copied subsection_name.entry) keeps s ≢ None)) self.now }
         ensures stands { IfOk result (λ found. IfSome found (λ f. has_number f.0 self.now ≡ true)) }
     {
         let (id, blanks) = match self.section_filter(name, subsection_name, filter) {
@@ -145,7 +147,8 @@ impl File {
     ) -> Result<(SectionId, Blanks), header::Error>
         requires { F.IsAlwaysCallable filter }
         ensures filtered { Filtered (λ keeps. ComputesKey F.FnMut keeps filter)
-            (λ keeps s. IsFoundOrMadeOf (λ _. self.new) (λ f. f) blanks_at name.now (option_copied subsection_name.entry) (picked name.now (option_copied subsection_name.entry) keeps s) self.old result) self.old }
+            (λ keeps s. IsFoundOrMadeOf (λ _. self.new) (λ f. f) blanks_at name.now (option_copied subsection_name.entry)
+            (picked name.now (option_copied subsection_name.entry) keeps s) self.old result) self.old }
         ensures stands { IfOk result (λ f. has_number f.0 self.new ≡ true) }
         ensures err { OnErr result (IsUnmade name.now (option_copied subsection_name.entry) self.old self.new) }
     {
@@ -257,7 +260,8 @@ impl File {
         ensures same_file { IfOk result (λ e. lent e ≡ self.entry.ghost_name) }
         ensures same_state { IfOk result (λ e. edited e ≡ self.old) }
         ensures filtered { Filtered (λ keeps. ComputesKey F.FnMut keeps filter)
-            (λ keeps s. IsPickedOf told (editor_at self.old) name.now (option_copied subsection_name.entry) self.old (picked name.now (option_copied subsection_name.entry) keeps s) result) self.old }
+            (λ keeps s. IsPickedOf told (editor_at self.old) name.now (option_copied subsection_name.entry) self.old
+            (picked name.now (option_copied subsection_name.entry) keeps s) result) self.old }
         ensures* refused { sem 𝓛 (RestsIfErr the_row self.entry lent result (λ n. n ≡ self.old)) }
     {
         let (id, blanks) = self.passing_section(name, subsection_name, filter)?;
@@ -399,7 +403,8 @@ impl File {
         requires { F.IsAlwaysCallable filter }
         ensures same_file { IfOk result (λ e. lent e ≡ self.entry.ghost_name) }
         ensures filtered { Filtered (λ keeps. ComputesKey F.FnMut keeps filter)
-            (λ keeps s. IsFoundOrMadeOf edited told (editor_at self.old) name.now (option_copied subsection_name.entry) (picked name.now (option_copied subsection_name.entry) keeps s) self.old result) self.old }
+            (λ keeps s. IsFoundOrMadeOf edited told (editor_at self.old) name.now (option_copied subsection_name.entry)
+            (picked name.now (option_copied subsection_name.entry) keeps s) self.old result) self.old }
         ensures* refused { sem 𝓛 (RestsIfErr the_row self.entry lent result (IsUnmade name.now (option_copied subsection_name.entry) self.old)) }
     {
         let line_end = self.line_end();

@@ -101,7 +101,8 @@ impl File {
         ensures same_file { IfOk result (λ e. lent e ≡ self.entry.ghost_name) }
         ensures same_state { IfOk result (λ e. edited e ≡ self.old) }
         ensures found { Filtered (λ keeps. ComputesKey F.FnMut keeps filter)
-            (λ keeps s. IsValueEditor (key_at section_name.now (option_copied subsection_name.entry) value_name.now) self.old (value_place (key_at section_name.now (option_copied subsection_name.entry) value_name.now) keeps s) result) self.old }
+            (λ keeps s. IsValueEditor (key_at section_name.now (option_copied subsection_name.entry) value_name.now) self.old
+            (value_place (key_at section_name.now (option_copied subsection_name.entry) value_name.now) keeps s) result) self.old }
         ensures* refused { sem 𝓛 (RestsIfErr the_row self.entry lent result (λ n. n ≡ self.old)) }
     {
         let key = KeyRef {
