@@ -1,7 +1,7 @@
 use Rattle.std.proofs.Common.{rules, ◌≡◌}
 use Rattle.gitconf_lines.proofs.Buffers.{extended_fit}
 use Rattle.gitconf_lines.proofs.Standing.{pushed_stand}
-use Rattle.gitconf_lines.proofs.push.push.Goals as goal
+use Rattle.gitconf_lines.proofs.push.push_checked.Goals as goal
 
 pub returns-in_err-line-clause-within : goal.returns-in_err-line-clause-within
 returns-in_err-line-clause-within c =
