@@ -21,7 +21,7 @@ use Rattle.gitconf_text.specs.LineEnds.{bytes_of_line_end}
 use Rattle.gitconf_lines.specs.declared.editor.Around.{Around}
 use Rattle.gitconf_lines.specs.declared.editor.Editor.{Editor}
 use Rattle.gitconf_lines.specs.Editors.{around_in, around_put, changed_put, editor_in, end_put, leading_put, line_put, IfEntry, separator_in, separator_put, set_put}
-use Rattle.gitconf_lines.specs.Places.{IsLastAt}
+use Rattle.gitconf_lines.specs.Places.{IsLastAt, IsLastPlace}
 use Rattle.gitconf_lines.specs.Standing.{Stand}
 use Rattle.gitconf_lines.proofs.Places.{set_at, found_at}
 use Rattle.gitconf_body.proofs.Counts.{last_exists, put_at, put_new}
@@ -115,6 +115,12 @@ changed_len_is buffer editor key value is at (kinds.Comment tag text) n l here l
 pub room_asked : (editor : Editor) (key value seen buffer : List ℕ) (read is : List Item) → seen ≡ buffer → read ≡ is
     → length seen + set_put editor key value (items_of seen read) ≡ length buffer + set_put editor key value (items_of buffer is)
 room_asked editor key value seen buffer read is same items = λ i. length (same i) + set_put editor key value (items_of (same i) (items i))
+
+-- the last place among the items as they are read is that among the items
+pub place_read : (key seen buffer : List ℕ) (read is : List Item) (place : Option ℕ) → seen ≡ buffer → read ≡ is
+    → IsLastPlace (λ i. is_entry_of key (item_of seen i)) read place → IsLastPlace (λ i. is_entry_of key (item_of buffer i)) is place
+place_read key seen buffer read is place same items last =
+    subst (λ b. IsLastPlace (λ i. is_entry_of key (item_of b i)) is place) same (subst (λ xs. IsLastPlace (λ i. is_entry_of key (item_of seen i)) xs place) items last)
 
 -- The body in which the key's last entry has another value.
 pub entry_replaced : (old new : List ℕ) (is js : List Item) (at : ℕ) (e d : Entry) (editor : states.Editor) (key value : List ℕ)

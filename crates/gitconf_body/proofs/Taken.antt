@@ -1,7 +1,6 @@
 -- What is left of items where an entry is taken out.
-use Rattle.std.proofs.Common.{◌≡◌, ℕ, zero, suc, ◌+◌, ◌-◌, ◌≤◌, ◌<◌, Bool, true, false, List, [], ◌∷◌, ◌++◌, length, take, drop, Option, Some, None, refl, ap, sym, subst, ◌∙◌, arith, append-nil}
+use Rattle.std.proofs.Common.{◌≡◌, ℕ, zero, suc, ◌+◌, ◌-◌, ◌≤◌, ◌<◌, Bool, true, false, List, [], ◌∷◌, ◌++◌, length, take, drop, Some, None, refl, ap, sym, subst, ◌∙◌, arith, append-nil}
 use Rattle.std.specs.List.{list_any}
-use Rattle.std.specs.Option.{is_some}
 use Rattle.std.proofs.lemmas.List.{map-append}
 use Rattle.gitconf_text.specs.Part as parts
 use Rattle.gitconf_items.specs.declared.items.Item.{Item}
@@ -12,10 +11,9 @@ use Rattle.gitconf_state.specs.State.{cut_last, is_entry}
 use Rattle.gitconf_state.specs.Edit.{is_entry_of, old_value}
 use Rattle.gitconf_state.specs.Editors.{key_and_meaning, removed, popped, popped_entry, without_last_blanks, without_first_line_ends}
 use Rattle.gitconf_state.proofs.EditPlaces.{old_value_at}
-use Rattle.gitconf_lines.specs.Places.{IsLastAt, IsLastPlace}
+use Rattle.gitconf_lines.specs.Places.{IsLastAt}
 use Rattle.gitconf_lines.specs.Spacings.{is_stored_entry}
 use Rattle.gitconf_body.specs.Taken.{begins_line_ends, is_blanks, ends_blanks, behind_line_ends, before_blanks, StayWithin}
-use Rattle.gitconf_lines.proofs.Places.{any_shown, none_found}
 use Rattle.gitconf_lines.proofs.Entries.{all_both, last_shown}
 use Rattle.gitconf_lines.proofs.Spacings.{any_entry_shown}
 
@@ -142,16 +140,9 @@ removed_at buffer key is js at l left =
 pub removed_none : (key : List ℕ) (is : List parts.Item) → list_any (is_entry_of key) is ≡ false → removed key is ≡ is
 removed_none key is none = rw (cut_none (is_entry_of key) is none, removed) refl
 
--- none is an entry of the key where no place was found
-pub none_of : (buffer key : List ℕ) (is : List Item) (place : Option ℕ) → IsLastPlace (λ i. is_entry_of key (item_of buffer i)) is place
-    → is_some place ≡ false → list_any (is_entry_of key) (items_of buffer is) ≡ false
-none_of buffer key is place l none = any_shown (is_entry_of key) (item_of buffer) is ∙ none_found (λ i. is_entry_of key (item_of buffer i)) is place l none
-
--- no place is found where nothing would be answered
-pub no_place_of : (buffer key : List ℕ) (is : List Item) (place : Option ℕ) → IsLastPlace (λ i. is_entry_of key (item_of buffer i)) is place
-    → old_value key (items_of buffer is) ≡ None → is_some place ≡ false
-no_place_of buffer key is None l none = refl
-no_place_of buffer key is (Some at) l none =
+-- where the place of an entry of the key is found, its value is told
+pub some_old : (buffer key : List ℕ) (is : List Item) (at : ℕ) → IsLastAt (λ i. is_entry_of key (item_of buffer i)) is at → old_value key (items_of buffer is) ≡ None → ⊥
+some_old buffer key is at l none =
     let k = last_shown (is_entry_of key) (item_of buffer) is at l in
     let some = old_value_at key (items_of buffer is) k.before k.found k.behind k.is k.passes k.none in
     absurd (let no = sym some ∙ none in cc)
@@ -238,10 +229,9 @@ entry_is_told buffer (items.LineEnds run) passes none = cc
 entry_is_told buffer (items.Comment tag text) passes none = cc
 entry_is_told buffer (items.Entry e) passes none = cc
 
--- no place is found where nothing would be answered
-pub no_place : (buffer : List ℕ) (is : List Item) (place : Option ℕ) → IsLastPlace is_stored_entry is place → popped_entry (items_of buffer is) ≡ None → is_some place ≡ false
-no_place buffer is None l none = refl
-no_place buffer is (Some at) l none = absurd (entry_is_told buffer l.found l.passes (sym (popped_entry_at buffer is at l) ∙ none))
+-- where the place of an entry is found, it is told
+pub some_popped : (buffer : List ℕ) (is : List Item) (at : ℕ) → IsLastAt is_stored_entry is at → popped_entry (items_of buffer is) ≡ None → ⊥
+some_popped buffer is at l none = entry_is_told buffer l.found l.passes (sym (popped_entry_at buffer is at l) ∙ none)
 
 pub popped_within : (is js ks : List Item) (at : ℕ) → js ≡ take at is → ks ≡ before_blanks (take at js) ++ drop at js → StayWithin is ks
 popped_within is js ks at cut left limit all =

@@ -1,5 +1,5 @@
 //! Setting the value of a key in a body.
-ghost use Rattle.std.specs.Prelude.{◌≡◌, ◌↔◌, ◌+◌, ◌-◌, ◌<◌, ◌≤◌, ◌^◌, min, length, IfOk, IfErr, OnOk, OnErr, IsErrOf, option_map};
+ghost use Rattle.std.specs.Prelude.{◌≡◌, ◌+◌, ◌-◌, ◌<◌, ◌≤◌, ◌^◌, min, length, IfOk, OnOk, OnErr, IsErrOf, option_map};
 ghost use Rattle.gitconf_text.specs.Value.{escaped};
 ghost use Rattle.gitconf_items.specs.Items.{items_of};
 ghost use Rattle.gitconf_items.specs.ItemsFit.{AreItemsWithin};
@@ -7,7 +7,7 @@ ghost use Rattle.gitconf_state.specs.Edit as state;
 ghost use Rattle.gitconf_text.specs.LineEnds.{bytes_of_line_end};
 ghost use Rattle.gitconf_lines.specs.Buffers.{Grows};
 
-use crate::set::{check_set, set};
+use crate::set::set;
 use gitconf_items::items::Item;
 use gitconf_lines::editor::editor_of;
 use gitconf_text::line_end::LineEnd;
@@ -22,27 +22,6 @@ pub(crate) fn entry_len(blanks: usize, line_end: LineEnd, key: &[u8], value: &[u
         .saturating_add(key.len())
         .saturating_add(escaped_len(value))
         .saturating_add(line_end.as_bytes().len())
-}
-
-/// Checks that a buffer has room for what [`set_value`] adds to it. Two walks over the items. Takes no memory.
-///
-/// # Errors
-///
-/// A [`span::Error`], number 3, if the buffer would be longer than 4294967295 bytes.
-pub fn check_set_value(
-    buffer: &[u8],
-    items: &[Item],
-    line_end: LineEnd,
-    key: &[u8],
-    value: &[u8],
-) -> Result<(), span::Error>
-    requires room { length buffer.now < 2 ^ 32 }
-    ensures too_large { IsErrOf result 3
-        ↔ (2 ^ 32 ≤ length buffer.now + state.set_bytes (bytes_of_line_end line_end) key.now value.now (items_of buffer.now items.now)) }
-    ensures only { IfErr result (λ e. e ≡ 3) }
-{
-    let editor = editor_of(items, line_end);
-    check_set(buffer, items, &editor, key, value)
 }
 
 /// Gives the last entry of a key another value: what follows `=` is replaced, and `=` is added if there is none, with the

@@ -10,7 +10,7 @@ ghost use Rattle.gitconf_state.specs.Editors as state;
 ghost use Rattle.gitconf_lines.specs.Buffers.{Grows, StandsAt};
 ghost use Rattle.gitconf_lines.specs.Editors as spec;
 ghost use Rattle.gitconf_lines.specs.Editors.{around_in, editor_in, AroundFits, EditorFits, IfEntry};
-ghost use Rattle.gitconf_lines.specs.Places.{IsLastAt};
+ghost use Rattle.gitconf_lines.specs.Places.{IsLastAt, IsLastPlace};
 ghost use Rattle.gitconf_lines.specs.Standing.{Stand};
 
 use gitconf_items::entry::{AssignedRef, Entry};
@@ -18,7 +18,9 @@ use gitconf_items::event::Span;
 use gitconf_items::items::Item;
 use gitconf_lines::buffer::check_room;
 use gitconf_lines::editor::{Around, Editor};
-use gitconf_lines::push::{around_len, check_push, entry_with, push, put_around, put_value};
+use gitconf_lines::push::{
+    around_len, check_push, entry_with, push_checked, put_around, put_value,
+};
 use gitconf_lines::seeking::last_place;
 use gitconf_lines::values::item_text;
 use gitconf_text::parse::span;
@@ -129,55 +131,65 @@ fn change(
     Ok(())
 }
 
-/// Gives the entry at a place another value, as [`change`] does, if the buffer has room for it. Returns the old value's raw text.
-fn change_checked(
-    buffer: &mut Vec<u8>,
-    items: &mut Vec<Item>,
-    at: usize,
-    editor: &Editor<'_>,
-    key: &[u8],
-    value: &[u8],
-) -> Result<Vec<u8>, span::Error>
-    requires room { length buffer.old.items < 2 ^ 32 }
-    requires within { AreItemsWithin (length buffer.old.items) items.old.items }
-    requires fits { EditorFits (length buffer.old.items) editor.now }
-    requires last { IsLastAt (λ i. is_entry_of key.now (item_of buffer.old.items i)) items.old.items at }
-    ensures ok { OnOk result (items_of buffer.new.items items.new.items
-        ≡ state.value_set (editor_in buffer.old.items editor.now) key.now value.now (items_of buffer.old.items items.old.items)) }
-    ensures answer { IfOk result (λ o. Some o.items ≡ old_value key.now (items_of buffer.old.items items.old.items)) }
-    ensures within { AreItemsWithin (length buffer.new.items) items.new.items }
-    ensures grows { Grows result (spec.set_put editor.now key.now value.now (items_of buffer.old.items items.old.items)) buffer.old.items buffer.new.items }
-    ensures refused { 2 ^ 32 ≤ length buffer.old.items + spec.set_put editor.now key.now value.now (items_of buffer.old.items items.old.items)
-        → IsErrOf result 3 }
-    ensures err { OnErr result (items.new.items ≡ items.old.items) }
-{
-    check_change(buffer, items, at, editor, key, value)?;
-    let old = item_text(*buffer.allocator(), buffer, &items[at])?;
-    change(buffer, items, at, editor, key, value)?;
-    Ok(old)
-}
-
-/// Checks that a buffer has room for what [`set`] adds to it. One walk over the items. Takes no memory.
+/// The place of the last entry of a key, `None` if none has it, if the buffer has room for what [`set_at`] adds to it there. One walk over
+/// the items. Takes no memory.
 ///
 /// # Errors
 ///
 /// A [`span::Error`], number 3, if the buffer would be longer than 4294967295 bytes.
-pub fn check_set(
+pub fn place_to_set(
     buffer: &[u8],
     items: &[Item],
     editor: &Editor<'_>,
     key: &[u8],
     value: &[u8],
-) -> Result<(), span::Error>
+) -> Result<Option<usize>, span::Error>
     requires room { length buffer.now < 2 ^ 32 }
+    ensures place { IfOk result (λ place. IsLastPlace (λ i. is_entry_of key.now (item_of buffer.now i)) items.now place) }
     ensures too_large { IsErrOf result 3
         ↔ (2 ^ 32 ≤ length buffer.now + spec.set_put editor.now key.now value.now (items_of buffer.now items.now)) }
     ensures only { IfErr result (λ e. e ≡ 3) }
 {
-    match last_place(buffer, items, key) {
-        Some(at) => check_change(buffer, items, at, editor, key, value),
-        None => check_push(buffer, editor, key, Some(value), None),
+    let place = last_place(buffer, items, key);
+    match place {
+        Some(at) => check_change(buffer, items, at, editor, key, value)?,
+        None => check_push(buffer, editor, key, Some(value), None)?,
     }
+    Ok(place)
+}
+
+/// Sets the value of a key, as [`set`] does, at the place that [`place_to_set`] found.
+///
+/// # Errors
+///
+/// A [`span::Error`]: 3 where the buffer would be longer than 4294967295 bytes, otherwise 27 when out of memory. The items are then as they
+/// were, and the buffer may have grown.
+pub fn set_at(
+    buffer: &mut Vec<u8>,
+    items: &mut Vec<Item>,
+    place: Option<usize>,
+    editor: &Editor<'_>,
+    key: &[u8],
+    value: &[u8],
+) -> Result<Option<Vec<u8>>, span::Error>
+    requires room { length buffer.old.items < 2 ^ 32 }
+    requires within { AreItemsWithin (length buffer.old.items) items.old.items }
+    requires fits { EditorFits (length buffer.old.items) editor.now }
+    requires place { IsLastPlace (λ i. is_entry_of key.now (item_of buffer.old.items i)) items.old.items place }
+    ensures ok { OnOk result (items_of buffer.new.items items.new.items
+        ≡ state.value_set (editor_in buffer.old.items editor.now) key.now value.now (items_of buffer.old.items items.old.items)) }
+    ensures answer { IfOk result (λ o. option_map (λ v. v.items) o ≡ old_value key.now (items_of buffer.old.items items.old.items)) }
+    ensures within { AreItemsWithin (length buffer.new.items) items.new.items }
+    ensures grows { Grows result (spec.set_put editor.now key.now value.now (items_of buffer.old.items items.old.items)) buffer.old.items buffer.new.items }
+    ensures err { OnErr result (items.new.items ≡ items.old.items) }
+{
+    let Some(at) = place else {
+        push_checked(buffer, items, editor, key, Some(value), None)?;
+        return Ok(None);
+    };
+    let old = item_text(*buffer.allocator(), buffer, &items[at])?;
+    change(buffer, items, at, editor, key, value)?;
+    Ok(Some(old))
 }
 
 /// Gives the last entry of a key another value: what follows `=` is replaced, and `=` is added if there is none, with the
@@ -209,9 +221,6 @@ pub fn set(
         → IsErrOf result 3 }
     ensures err { OnErr result (items.new.items ≡ items.old.items) }
 {
-    let Some(at) = last_place(buffer, items, key) else {
-        push(buffer, items, editor, key, Some(value), None)?;
-        return Ok(None);
-    };
-    Ok(Some(change_checked(buffer, items, at, editor, key, value)?))
+    let place = place_to_set(buffer, items, editor, key, value)?;
+    set_at(buffer, items, place, editor, key, value)
 }

@@ -1,5 +1,5 @@
 //! Entries that are removed from a body.
-ghost use Rattle.std.specs.Prelude.{◌≡◌, ℕ, List, [], false, ◌≤◌, ◌<◌, ◌+◌, ◌++◌, length, take, drop, Some, None, IfOk, OnOk, OnErr, IsOk, option_map};
+ghost use Rattle.std.specs.Prelude.{◌≡◌, ℕ, List, ◌≤◌, ◌<◌, ◌+◌, ◌++◌, length, take, drop, Some, None, IfOk, OnOk, OnErr, IsOk, option_map};
 ghost use Rattle.gitconf_text.specs.Part as parts;
 ghost use Rattle.gitconf_text.specs.Value.{plain};
 ghost use Rattle.gitconf_items.specs.Items.{entry_of, item_of, items_of};
@@ -66,18 +66,29 @@ fn take_out(items: &mut Vec<Item>, at: usize)
     drop_blanks(items, at);
 }
 
-/// Whether there is an entry of a key for [`remove`] to remove. It walks from the end up to that entry. Takes no memory.
-pub fn has_entry(buffer: &[u8], items: &[Item], key: &[u8]) -> bool
-    ensures none { result ≡ false → old_value key.now (items_of buffer.now items.now) ≡ None }
-    ensures some { old_value key.now (items_of buffer.now items.now) ≡ None → result ≡ false }
-    ensures kept { result ≡ false → removed key.now (items_of buffer.now items.now) ≡ items_of buffer.now items.now }
+/// Removes the entry at a place, with the blanks directly before it and the line endings directly after it. All else in the body stays.
+/// Returns the raw text of its value: its pieces joined, not decoded; no bytes for an entry without `=`.
+///
+/// Takes memory for the result alone.
+///
+/// # Errors
+///
+/// Out of memory. The items are then as they were.
+pub fn remove_at(buffer: &[u8], items: &mut Vec<Item>, at: usize) -> Result<Vec<u8>, NoMemory>
+    requires within { at < length items.old.items }
+    ensures ok { (key : List ℕ) → IsLastAt (λ i. is_entry_of key (item_of buffer.now i)) items.old.items at
+        → OnOk result (items_of buffer.now items.new.items ≡ removed key (items_of buffer.now items.old.items)) }
+    ensures answer { (key : List ℕ) → IsLastAt (λ i. is_entry_of key (item_of buffer.now i)) items.old.items at
+        → IfOk result (λ v. Some v.items ≡ old_value key (items_of buffer.now items.old.items)) }
+    ensures within { StayWithin items.old.items items.new.items }
+    ensures err { OnErr result (items.new.items ≡ items.old.items) }
 {
-    last_place(buffer, items, key).is_some()
+    let old = item_text(*items.allocator(), buffer, &items[at])?;
+    take_out(items, at);
+    Ok(old)
 }
 
-/// Removes the last entry of a key, with the blanks directly before it and the line endings directly after it. All else in the
-/// body stays. Returns the raw text of its value: its pieces joined, not decoded; no bytes for an entry without `=`. If no entry has
-/// the key, nothing is removed, and the result is `None`.
+/// Removes the last entry of a key, as [`remove_at`] does. If no entry has the key, nothing is removed, and the result is `None`.
 ///
 /// One walk over the items. Takes memory for the result alone.
 ///
@@ -94,14 +105,12 @@ pub fn remove(buffer: &[u8], items: &mut Vec<Item>, key: &[u8]) -> Result<Option
     let Some(at) = last_place(buffer, items, key) else {
         return Ok(None);
     };
-    let old = item_text(*items.allocator(), buffer, &items[at])?;
-    take_out(items, at);
-    Ok(Some(old))
+    Ok(Some(remove_at(buffer, items, at)?))
 }
 
-/// The place of the last entry, if there is one. It walks from the end up to that entry.
+/// The place of the last entry, if there is one. It walks from the end up to that entry. Takes no memory.
 #[tactic(auto, using(gitconf_lines::proofs::Places::fronts))]
-fn last_entry(items: &[Item]) -> Option<usize>
+pub fn last_entry(items: &[Item]) -> Option<usize>
     ensures { IsLastPlace is_stored_entry items.now result }
 {
     let mut rest = items;
@@ -112,15 +121,6 @@ fn last_entry(items: &[Item]) -> Option<usize>
         rest = before;
     }
     None
-}
-
-/// Whether there is an entry for [`pop`] to remove. It walks from the end up to that entry. Takes no memory.
-pub fn has_entries(items: &[Item]) -> bool
-    ensures none { (buffer : List ℕ) → result ≡ false → popped_entry (items_of buffer items.now) ≡ None }
-    ensures some { (buffer : List ℕ) → popped_entry (items_of buffer items.now) ≡ None → result ≡ false }
-    ensures emptied { (buffer : List ℕ) → result ≡ false → popped (items_of buffer items.now) ≡ [] }
-{
-    last_entry(items).is_some()
 }
 
 /// What a value means. Takes memory for the result, and for its raw text.
@@ -142,8 +142,35 @@ fn told(alloc: Global, buffer: &[u8], entry: &Entry) -> Result<(Vec<u8>, Vec<u8>
     Ok((name, value))
 }
 
-/// Removes the last entry, whatever its key, with the blanks directly before it and everything after it. Returns its key as it is spelled,
-/// and what its value means; no bytes for an entry without `=`. If there is no entry, all items are removed, and the result is `None`.
+/// Removes the last entry, which is at the place, with the blanks directly before it and everything after it. Returns its key as it is
+/// spelled, and what its value means; no bytes for an entry without `=`.
+///
+/// Takes memory for the result, and for the raw text of the value.
+///
+/// # Errors
+///
+/// Out of memory. The items are then as they were.
+pub fn pop_at(
+    buffer: &[u8],
+    items: &mut Vec<Item>,
+    at: usize,
+) -> Result<(Vec<u8>, Vec<u8>), NoMemory>
+    requires last { IsLastAt is_stored_entry items.old.items at }
+    ensures ok { OnOk result (items_of buffer.now items.new.items ≡ popped (items_of buffer.now items.old.items)) }
+    ensures answer { IfOk result (λ t. Some (t.0.items, t.1.items) ≡ popped_entry (items_of buffer.now items.old.items)) }
+    ensures within { StayWithin items.old.items items.new.items }
+    ensures err { OnErr result (items.new.items ≡ items.old.items) }
+{
+    let told = match &items[at] {
+        Item::Entry(entry) => told(*items.allocator(), buffer, entry)?,
+        _ => unreachable!(),
+    };
+    items.truncate(at);
+    drop_blanks(items, at);
+    Ok(told)
+}
+
+/// Removes the last entry, whatever its key, as [`pop_at`] does. If there is no entry, all items are removed, and the result is `None`.
 ///
 /// One walk over the items. Takes memory for the result, and for the raw text of the value.
 ///
@@ -161,11 +188,5 @@ pub fn pop(buffer: &[u8], items: &mut Vec<Item>) -> Result<Option<(Vec<u8>, Vec<
         items.clear();
         return Ok(None);
     };
-    let told = match &items[at] {
-        Item::Entry(entry) => told(*items.allocator(), buffer, entry)?,
-        _ => unreachable!(),
-    };
-    items.truncate(at);
-    drop_blanks(items, at);
-    Ok(Some(told))
+    Ok(Some(pop_at(buffer, items, at)?))
 }

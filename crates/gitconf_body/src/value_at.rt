@@ -4,23 +4,21 @@ ghost use Rattle.gitconf_text.specs.Value.{escaped};
 ghost use Rattle.gitconf_items.specs.declared.items.Item.TheVariants as kinds;
 ghost use Rattle.gitconf_items.specs.Items.{assigned_of, items_of};
 ghost use Rattle.gitconf_items.specs.ItemsFit.{AreItemsWithin, EntryFits};
-ghost use Rattle.gitconf_state.specs.Edit.{spacing_of};
 ghost use Rattle.gitconf_state.specs.Editors as state;
 ghost use Rattle.gitconf_lines.specs.Buffers.{Grows};
 ghost use Rattle.gitconf_lines.specs.Editors.{editor_in, EditorFits};
 ghost use Rattle.gitconf_lines.specs.Standing.{Stand, end_items};
 ghost use Rattle.gitconf_body.specs.Taken.{StayWithin};
 ghost use Rattle.gitconf_body.specs.ValuesAt as spec;
-ghost use Rattle.gitconf_body.specs.ValuesAt.{IfReplaces, behind_way, instead_of, rewritten_put, written_put};
+ghost use Rattle.gitconf_body.specs.ValuesAt.{IfReplaces, behind_way, instead_of, written_put};
 
 use gitconf_items::entry::{AssignedRef, Entry, Value};
 use gitconf_items::event::Span;
 use gitconf_items::items::Item;
 use gitconf_lines::buffer::check_room;
-use gitconf_lines::editor::{Editor, editor_of};
+use gitconf_lines::editor::Editor;
 use gitconf_lines::push::{put_entry, value_len};
 use gitconf_text::NoMemory;
-use gitconf_text::line_end::LineEnd;
 use gitconf_text::parse::span;
 
 /// What an entry that is written at a place replaces.
@@ -152,12 +150,12 @@ pub fn check_write(
 /// the entry there, as `in_place_of` says; if no entry is there, it comes before what is there. All other items stay.
 ///
 /// It looks at the items from the place on up to the first that is not blanks. Takes memory for what is added to the buffer, and for at
-/// most one more item.
+/// most one more item. It doesn't ask first whether the buffer has room: the caller has asked [`check_write`].
 ///
 /// # Errors
 ///
-/// A [`span::Error`]: number 3 if and only if the buffer would be longer than 4294967295 bytes, before any growth, otherwise 27 when out of
-/// memory. The items are then as they were, and the buffer may have grown.
+/// A [`span::Error`]: 3 where the buffer would be longer than 4294967295 bytes, otherwise 27 when out of memory. The items are then as they
+/// were, and the buffer may have grown.
 #[tactic(auto, using(gitconf_lines::proofs::Buffers::extending))]
 pub fn write_at(
     buffer: &mut Vec<u8>,
@@ -175,64 +173,13 @@ pub fn write_at(
         place (instead_of in_place_of) key.now value.now (items_of buffer.old.items items.old.items)) }
     ensures within { AreItemsWithin (length buffer.new.items) items.new.items }
     ensures grows { Grows result (written_put editor.now key.now value.now) buffer.old.items buffer.new.items }
-    ensures refused { 2 ^ 32 ≤ length buffer.old.items + written_put editor.now key.now value.now → IsErrOf result 3 }
     ensures err { OnErr result (items.new.items ≡ items.old.items) }
 {
-    check_write(buffer, editor, key, value)?;
     let entry = put_entry(buffer, &editor.around, key, Some(value))?;
     let at = place.min(items.len());
     let way = way_before(items.split_at(at).1, in_place_of);
     put(items, at, entry, way)?;
     Ok(())
-}
-
-/// Checks that a buffer has room for what [`rewrite_at`] adds to it. One walk over the items. Takes no memory.
-///
-/// # Errors
-///
-/// Those of [`check_write`].
-pub fn check_rewrite(
-    buffer: &[u8],
-    items: &[Item],
-    key: &[u8],
-    value: &[u8],
-) -> Result<(), span::Error>
-    requires room { length buffer.now < 2 ^ 32 }
-    ensures too_large { IsErrOf result 3 ↔ (2 ^ 32 ≤ length buffer.now + rewritten_put key.now value.now (items_of buffer.now items.now)) }
-    ensures only { IfErr result (λ e. e ≡ 3) }
-{
-    // No line ending is written, so any will do.
-    let editor = editor_of(items, LineEnd::Lf);
-    check_write(buffer, &editor, key, value)
-}
-
-/// As [`write_at`], with the blanks around `=` that the items use: those around their first one; none if they have entries, but no `=`;
-/// and a space and a space if they have no entry. One more walk over the items.
-///
-/// # Errors
-///
-/// Those of [`write_at`].
-pub fn rewrite_at(
-    buffer: &mut Vec<u8>,
-    items: &mut Vec<Item>,
-    place: usize,
-    in_place_of: InPlaceOf,
-    key: &[u8],
-    value: &[u8],
-) -> Result<(), span::Error>
-    requires room { length buffer.old.items < 2 ^ 32 }
-    requires within { AreItemsWithin (length buffer.old.items) items.old.items }
-    ensures ok { (line_end : List ℕ) → OnOk result (items_of buffer.new.items items.new.items
-        ≡ state.written_at (record { spacing = spacing_of (items_of buffer.old.items items.old.items); line_end = line_end; ends = true })
-        place (instead_of in_place_of) key.now value.now (items_of buffer.old.items items.old.items)) }
-    ensures within { AreItemsWithin (length buffer.new.items) items.new.items }
-    ensures grows { Grows result (rewritten_put key.now value.now (items_of buffer.old.items items.old.items)) buffer.old.items buffer.new.items }
-    ensures refused { 2 ^ 32 ≤ length buffer.old.items + rewritten_put key.now value.now (items_of buffer.old.items items.old.items) → IsErrOf result 3 }
-    ensures err { OnErr result (items.new.items ≡ items.old.items) }
-{
-    // No line ending is written, so any will do.
-    let editor = editor_of(items, LineEnd::Lf);
-    write_at(buffer, items, &editor, place, in_place_of, key, value)
 }
 
 /// Deletes the item at a place, counted in items from 0. All other items stay, even the blanks and line endings

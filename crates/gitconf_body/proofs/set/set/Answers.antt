@@ -1,49 +1,12 @@
-use Rattle.std.proofs.Common.{rules, arith, ◌≡◌, false, sym, ◌∙◌}
-use Rattle.std.specs.List.{list_any}
-use Rattle.gitconf_items.specs.Items.{item_of, items_of}
-use Rattle.gitconf_state.specs.Edit.{is_entry_of}
-use Rattle.gitconf_state.proofs.EditPlaces.{old_value_none}
-use Rattle.gitconf_lines.specs.Editors.{editor_in}
-use Rattle.gitconf_lines.proofs.Buffers.{grows_ok, grows_err}
-use Rattle.gitconf_body.proofs.Changing.{value_set_new, set_put_new}
-use Rattle.gitconf_lines.proofs.Places.{any_shown}
+use Rattle.std.proofs.Common.{arith, subst}
+use Rattle.std.specs.Prelude.{IsErrOf}
+use Rattle.gitconf_body.proofs.Changing.{place_read, room_asked}
 use Rattle.gitconf_body.proofs.set.set.Goals as goal
 
-pub returns-in_err-push-clause-grows : goal.returns-in_err-push-clause-grows
-returns-in_err-push-clause-grows c =
-    let none : list_any (λ i. is_entry_of c.args.key.now (item_of c.args.buffer.now.items i)) c.args.items.now.items ≡ false = search rules in
-    let n = any_shown (is_entry_of c.args.key.now) (item_of c.args.buffer.now.items) c.args.items.now.items ∙ none in
-    rw (set_put_new c.args.editor.now c.args.key.now c.args.value.now (items_of c.args.buffer.now.items c.args.items.now.items) n) (search (rules, grows_err))
+pub set_at-requires-clause-place : goal.set_at-requires-clause-place
+set_at-requires-clause-place c = place_read c.args.key.now _ _ _ _ _ c.deref.ensures.value c.deref-2.ensures.value c.in_ok-place.ensures.place
 
-pub returns-in_err-push-clause-refused : goal.returns-in_err-push-clause-refused
-returns-in_err-push-clause-refused c =
-    let none : list_any (λ i. is_entry_of c.args.key.now (item_of c.args.buffer.now.items i)) c.args.items.now.items ≡ false = search rules in
-    let n = any_shown (is_entry_of c.args.key.now) (item_of c.args.buffer.now.items) c.args.items.now.items ∙ none in
-    rw (set_put_new c.args.editor.now c.args.key.now c.args.value.now (items_of c.args.buffer.now.items c.args.items.now.items) n) (search rules)
-
-pub returns-in_default-clause-ok : goal.returns-in_default-clause-ok
-returns-in_default-clause-ok c =
-    let none : list_any (λ i. is_entry_of c.args.key.now (item_of c.args.buffer.now.items i)) c.args.items.now.items ≡ false = search rules in
-    let n = any_shown (is_entry_of c.args.key.now) (item_of c.args.buffer.now.items) c.args.items.now.items ∙ none in
-    c.in_ok-push.ensures.ok
-    ∙ sym (value_set_new (editor_in c.args.buffer.now.items c.args.editor.now) c.args.key.now c.args.value.now (items_of c.args.buffer.now.items c.args.items.now.items) n)
-
-pub returns-in_default-clause-answer : goal.returns-in_default-clause-answer
-returns-in_default-clause-answer c =
-    let none : list_any (λ i. is_entry_of c.args.key.now (item_of c.args.buffer.now.items i)) c.args.items.now.items ≡ false = search rules in
-    let n = any_shown (is_entry_of c.args.key.now) (item_of c.args.buffer.now.items) c.args.items.now.items ∙ none in
-    sym (old_value_none c.args.key.now (items_of c.args.buffer.now.items c.args.items.now.items) n)
-
-pub returns-in_default-clause-grows : goal.returns-in_default-clause-grows
-returns-in_default-clause-grows c =
-    let none : list_any (λ i. is_entry_of c.args.key.now (item_of c.args.buffer.now.items i)) c.args.items.now.items ≡ false = search rules in
-    let n = any_shown (is_entry_of c.args.key.now) (item_of c.args.buffer.now.items) c.args.items.now.items ∙ none in
-    let put = set_put_new c.args.editor.now c.args.key.now c.args.value.now (items_of c.args.buffer.now.items c.args.items.now.items) n in
-    grows_ok _ _ _ _ _ _ c.in_ok-push.ensures.grows (omega (arith, put))
-
-pub returns-in_default-clause-refused : goal.returns-in_default-clause-refused
-returns-in_default-clause-refused c =
-    let none : list_any (λ i. is_entry_of c.args.key.now (item_of c.args.buffer.now.items i)) c.args.items.now.items ≡ false = search rules in
-    let n = any_shown (is_entry_of c.args.key.now) (item_of c.args.buffer.now.items) c.args.items.now.items ∙ none in
-    let put = set_put_new c.args.editor.now c.args.key.now c.args.value.now (items_of c.args.buffer.now.items c.args.items.now.items) n in
-    λ big. absurd (let no = c.in_ok-push.ensures.refused (omega (arith, put, big)) in cc)
+pub returns-clause-refused : goal.returns-clause-refused
+returns-clause-refused c =
+    let asked = room_asked c.args.editor.now c.args.key.now c.args.value.now _ _ _ _ c.deref.ensures.value c.deref-2.ensures.value in
+    λ big. absurd (let no = subst (λ r. IsErrOf r 3) c.in_ok-place.was (c.place_to_set.ensures.too_large.1 (omega (arith, asked, big))) in cc)

@@ -21,7 +21,7 @@ returns-clause-ok c =
     let at = c.min-at.result in
     let there : at ≡ min c.args.place (length is) = search rules in
     let way : c.way_before-way.result ≡ way_before c.args.in_place_of (drop at is) =
-    c.way_before-way.ensures ∙ ap (way_before c.args.in_place_of) (c.split_at.ensures.back ∙ ap (drop at) c.deref-2.ensures.value) in
+    c.way_before-way.ensures ∙ ap (way_before c.args.in_place_of) (c.split_at.ensures.back ∙ ap (drop at) c.deref.ensures.value) in
     let put : c.put.new.items.items ≡ take at is ++ kinds.Entry c.in_ok-entry.entry ∷ behind_way c.way_before-way.result (drop at is) = search rules in
     (written_stand c.args.buffer.now.items c.put_entry.new.buffer.items is c.put.new.items.items c.args.place at c.args.in_place_of (kinds.Entry c.in_ok-entry.entry)
     (editor_in c.args.buffer.now.items c.args.editor.now) c.args.key.now c.args.value.now c.put_entry.ensures.grows.extended c.requires.within there
@@ -34,7 +34,7 @@ returns-clause-within c =
     let at = c.min-at.result in
     let there : at ≡ min c.args.place (length is) = search rules in
     let way : c.way_before-way.result ≡ way_before c.args.in_place_of (drop at is) =
-    c.way_before-way.ensures ∙ ap (way_before c.args.in_place_of) (c.split_at.ensures.back ∙ ap (drop at) c.deref-2.ensures.value) in
+    c.way_before-way.ensures ∙ ap (way_before c.args.in_place_of) (c.split_at.ensures.back ∙ ap (drop at) c.deref.ensures.value) in
     let put : c.put.new.items.items ≡ take at is ++ kinds.Entry c.in_ok-entry.entry ∷ behind_way c.way_before-way.result (drop at is) = search rules in
     (written_stand c.args.buffer.now.items c.put_entry.new.buffer.items is c.put.new.items.items c.args.place at c.args.in_place_of (kinds.Entry c.in_ok-entry.entry)
     (editor_in c.args.buffer.now.items c.args.editor.now) c.args.key.now c.args.value.now c.put_entry.ensures.grows.extended c.requires.within there
