@@ -1,6 +1,6 @@
 -- The section of a number with other items, in a longer buffer.
-use Rattle.std.proofs.Common.{◌≡◌, ℕ, zero, suc, ◌+◌, ◌<◌, ◌≤◌, ◌^◌, ◌==◌, Bool, true, false, nat_lt, List, [], ◌∷◌, length, map, filter, position, Option, Some, None, Result, Ok, Err, refl, ap, sym, subst, ◌∙◌, arith, inl, inr}
-use Rattle.std.specs.Prelude.{if◌then◌else◌, ◌⊎◌, IfSome, IsErrOf}
+use Rattle.std.proofs.Common.{◌≡◌, ℕ, zero, suc, ◌+◌, ◌<◌, ◌≤◌, ◌^◌, ◌==◌, Bool, true, false, nat_lt, List, [], ◌∷◌, ◌++◌, length, map, filter, position, Option, Some, None, Result, Ok, Err, refl, ap, sym, subst, ◌∙◌, arith, inl, inr}
+use Rattle.std.specs.Prelude.{if◌then◌else◌, ◌⊎◌, IfSome, IsErrOf, OnErr}
 use Rattle.std.specs.List.{AllByRecursion, last_or, position_or_len, slice_get}
 use Rattle.std.specs.Option.{option_map}
 use Rattle.std.proofs.lemmas.Bool.{eq-eqb, eqb-false, ne_eqb, ltb-false}
@@ -15,10 +15,11 @@ use Rattle.gitconf_state.specs.Edit.{with_used}
 use Rattle.gitconf_state.specs.Edits.{change_items, items_of_numbered, numbered, said_in_section, Raw, Entry}
 use Rattle.gitconf_state.specs.State.{SectionState, State, HasItems}
 use Rattle.gitconf_items.specs.Items.{items_of}
-use Rattle.gitconf_lines.specs.declared.editor.Leading.{Leading}
-use Rattle.gitconf_lines.specs.declared.editor.Leading.TheVariants as leadings
-use Rattle.gitconf_lines.specs.declared.editor.Around.{Around}
-use Rattle.gitconf_lines.specs.declared.editor.Around.TheVariants as arounds
+use Rattle.gitconf_lines.specs.Places.{IsLastAt}
+use Rattle.gitconf_lines.specs.declared.editor.Editor.{Editor}
+use Rattle.gitconf_lines.specs.Editors.{around_put, around_bytes}
+use Rattle.gitconf_body.specs.ValuesAt.{written_put, rewritten_put}
+use Rattle.gitconf_text.specs.Value.{escaped}
 use Rattle.gitconf_lines.proofs.Buffers.{extended_fit, extended_items, same_extended}
 use Rattle.gitconf_sections.specs.Section.{Section}
 use Rattle.gitconf_sections.proofs.Edits.{put_again}
@@ -242,3 +243,28 @@ numbered_items_at b front meta table id at s once here number = go (numbered id 
         → elim o as (λ _. List parts.Item) [ None ↦ [] | Some s ↦ s.items ] ≡ items_of b s.items.items
     go None is = absurd (cc)
     go (Some u) is = cc
+
+-- the section that is read at a place has the items of the one that is taken from there
+pub same_items : (table : Sections Section) (at : ℕ) (s t : Section) → section_at at table ≡ Some s → section_at at table ≡ Some t → s.items.items ≡ t.items.items
+same_items table at s t read taken =
+    let both : Some s ≡ Some t = sym read ∙ taken in
+    let is : s ≡ t = cc in
+    ap (λ (s : Section). s.items.items) is
+
+-- an editor with the blanks of the items puts as many bytes as one that is made of them
+pub rewritten_count : (buffer : List ℕ) (editor : Editor) (key value : List ℕ) (is : List Item) → around_put editor.around ≡ around_bytes (items_of buffer is)
+    → written_put editor key value ≡ rewritten_put key value (items_of buffer is)
+rewritten_count buffer editor key value is around = ap (λ n. length key + (n + length (escaped value))) around
+
+-- what holds anyway holds after an error
+pub as_err : {T E P : Type 0} (r : Result T E) → P → OnErr r P
+as_err (Ok t) p = tt
+as_err (Err e) p = p
+
+-- a last place is within the list
+pub last_within : {A : Type 0} {test : A → Bool} (xs : List A) (at : ℕ) → IsLastAt test xs at → at < length xs
+last_within xs at l = subst (λ ys. at < length ys) (sym l.is) (subst (λ n. n < length (l.before ++ l.found ∷ l.behind)) l.place (inner l.before l.found l.behind))
+  where
+    inner : {A : Type 0} (before : List A) (x : A) (behind : List A) → length before < length (before ++ x ∷ behind)
+    inner [] x behind = omega arith
+    inner (y ∷ before) x behind = let within = inner before x behind in omega (arith, within)

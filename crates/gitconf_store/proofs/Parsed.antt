@@ -2,7 +2,7 @@
 use Rattle.std.proofs.Common.{◌≡◌, ◌++◌, ℕ, true, List, length, map, flat_map, [], refl, subst, sym, ◌∙◌}
 use Rattle.gitconf_text.specs.Part.{Part}
 use Rattle.gitconf_text.specs.Document.{IsText, Reads, unmarked}
-use Rattle.gitconf_text.specs.Token.{Token, spelled_token, tokens_of}
+use Rattle.gitconf_text.specs.Token.{spelled_token, tokens_of}
 use Rattle.gitconf_base.specs.Metadata.{Meta}
 use Rattle.gitconf_items.specs.declared.items.Keep.{Keep}
 use Rattle.gitconf_items.specs.declared.items.Keep.TheVariants as keeps

@@ -1,5 +1,5 @@
 -- Written texts are read back.
-use Rattle.std.proofs.Common.{◌≡◌, ℕ, true, List, [], ◌∷◌, ◌++◌, map, ap, subst, sym}
+use Rattle.std.proofs.Common.{◌≡◌, ℕ, true, List, ◌++◌, map, ap, subst, sym}
 use Rattle.std.specs.Prelude.{flat_map}
 use Rattle.gitconf_text.specs.Part.{Part}
 use Rattle.gitconf_text.specs.Document.{IsText, Reads}

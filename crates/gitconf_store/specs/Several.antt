@@ -1,5 +1,5 @@
 -- Several values of existing entries: set again, deleted, and what they mean.
-use Rattle.std.specs.Prelude.{◌≡◌, ◌≢◌, ◌⊎◌, ◌↔◌, ◌+◌, ◌-◌, ◌==◌, ◌&&◌, nat_lt, if◌then◌else◌, ◌≤◌, ◌<◌, ◌^◌, ℕ, true, false, List, [], ◌∷◌, length, map, take, Some, None, Result, Err, IfErr, OnOk}
+use Rattle.std.specs.Prelude.{◌≡◌, ◌≢◌, ◌⊎◌, ◌↔◌, ◌+◌, ◌-◌, ◌==◌, ◌&&◌, nat_lt, if◌then◌else◌, ◌≤◌, ◌<◌, ◌^◌, ℕ, true, List, [], ◌∷◌, length, map, take, Some, None, Result, Err, IfErr, OnOk}
 use Rattle.gitconf_text.specs.Names.{is_value_name}
 use Rattle.gitconf_base.specs.Key.{Key}
 use Rattle.gitconf_state.specs.Edit.{with_used}

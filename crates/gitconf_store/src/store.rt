@@ -19,8 +19,8 @@ mod weaving;
 use crate::set_raw_value;
 use bstr::BString;
 use gitconf_base::meta::Metadata;
-use gitconf_body::entry::{check_set_value, set_value};
 use gitconf_body::section::section_with;
+use gitconf_body::set;
 use gitconf_finding::filters::last_passing;
 use gitconf_finding::print::{front_is_ended, write_sections};
 use gitconf_finding::tokens;
@@ -29,6 +29,7 @@ use gitconf_items::few::FewItems;
 use gitconf_items::items::Keep;
 use gitconf_items::sink::{Sink, SinkFault};
 use gitconf_joining::load::Loading;
+use gitconf_lines::editor::editor_of;
 use gitconf_parse::error::Error;
 use gitconf_parse::events::{Events, check_len, copied_with_room};
 use gitconf_parse::loading::read_sections;
@@ -476,9 +477,10 @@ impl Store {
     {
         let line_end = self.line_end();
         let section = self.sections.at(at);
-        check_set_value(&self.buffer, section.items, line_end, key, value)?;
+        let editor = editor_of(section.items, line_end);
+        let place = set::place_to_set(&self.buffer, section.items, &editor, key, value)?;
         let mut items = self.sections.take_items(at)?;
-        let set = set_value(&mut self.buffer, &mut *items, line_end, key, value);
+        let set = set::set_at(&mut self.buffer, &mut *items, place, &editor, key, value);
         self.sections.put_items(at, items);
         set
     }

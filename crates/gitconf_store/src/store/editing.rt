@@ -3,6 +3,7 @@ use crate::store::Store;
 use gitconf_body::{set, take_out};
 use gitconf_lines::editor::Editor;
 use gitconf_lines::push;
+use gitconf_lines::seeking::last_place;
 use gitconf_table::table::SectionId;
 use gitconf_text::NoMemory;
 use gitconf_text::parse::span;
@@ -49,7 +50,7 @@ impl Store {
         };
         push::check_push(&self.buffer, editor, key, value, comment)?;
         let mut items = self.sections.take_items(at)?;
-        let pushed = push::push(&mut self.buffer, &mut *items, editor, key, value, comment);
+        let pushed = push::push_checked(&mut self.buffer, &mut *items, editor, key, value, comment);
         self.sections.put_items(at, items);
         pushed
     }
@@ -108,9 +109,9 @@ impl Store {
             return Ok(None);
         };
         let section = self.sections.at(at);
-        set::check_set(&self.buffer, section.items, editor, key, value)?;
+        let place = set::place_to_set(&self.buffer, section.items, editor, key, value)?;
         let mut items = self.sections.take_items(at)?;
-        let set = set::set(&mut self.buffer, &mut *items, editor, key, value);
+        let set = set::set_at(&mut self.buffer, &mut *items, place, editor, key, value);
         self.sections.put_items(at, items);
         set
     }
@@ -135,13 +136,13 @@ impl Store {
             return Ok(None);
         };
         let section = self.sections.at(at);
-        if !take_out::has_entry(&self.buffer, section.items, key) {
+        let Some(place) = last_place(&self.buffer, section.items, key) else {
             return Ok(None);
-        }
+        };
         let mut items = self.sections.take_items(at)?;
-        let removed = take_out::remove(&self.buffer, &mut *items, key);
+        let removed = take_out::remove_at(&self.buffer, &mut *items, place);
         self.sections.put_items(at, items);
-        removed
+        Ok(Some(removed?))
     }
 
     /// Removes the last entry of the section of a number, whatever its key, with the blanks directly before it and everything after
@@ -166,13 +167,13 @@ impl Store {
             return Ok(None);
         };
         let section = self.sections.at(at);
-        if !take_out::has_entries(section.items) {
+        let Some(place) = take_out::last_entry(section.items) else {
             self.sections.clear(at);
             return Ok(None);
-        }
+        };
         let mut items = self.sections.take_items(at)?;
-        let popped = take_out::pop(&self.buffer, &mut *items);
+        let popped = take_out::pop_at(&self.buffer, &mut *items, place);
         self.sections.put_items(at, items);
-        popped
+        Ok(Some(popped?))
     }
 }

@@ -7,9 +7,10 @@ use gitconf_body::value_at;
 use gitconf_body::value_at::InPlaceOf;
 use gitconf_finding::existing;
 use gitconf_finding::places::{all_value_places, last_value_place, put_in_order};
-use gitconf_lines::editor::Editor;
+use gitconf_lines::editor::{Editor, editor_of};
 use gitconf_table::table::SectionId;
 use gitconf_text::NoMemory;
+use gitconf_text::line_end::LineEnd;
 use gitconf_text::parse::section::ValueNameError;
 use gitconf_text::parse::section::bytes::is_value_name;
 use gitconf_text::parse::span;
@@ -185,11 +186,14 @@ impl Store {
             return Ok(());
         };
         let section = self.sections.at(at);
-        value_at::check_rewrite(&self.buffer, section.items, key, value)?;
+        // No line ending is written, so any will do.
+        let editor = editor_of(section.items, LineEnd::Lf);
+        value_at::check_write(&self.buffer, &editor, key, value)?;
         let mut items = self.sections.take_items(at)?;
-        let written = value_at::rewrite_at(
+        let written = value_at::write_at(
             &mut self.buffer,
             &mut *items,
+            &editor,
             place,
             in_place_of,
             key,

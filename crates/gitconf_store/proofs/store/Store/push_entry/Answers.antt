@@ -19,11 +19,11 @@ use Rattle.gitconf_views.proofs.Outcomes.{on_ok, on_err, either_way}
 use Rattle.gitconf_store.proofs.Setting.{HasOthers, kept_view}
 use Rattle.gitconf_store.proofs.store.Store.push_entry.Goals as goal
 
-pub push-pushed-requires-clause-fits : goal.push-pushed-requires-clause-fits
-push-pushed-requires-clause-fits c = given_fits (length c.self.inside.buffer.items) c.args.editor.now c.requires.given
+pub push_checked-pushed-requires-clause-fits : goal.push_checked-pushed-requires-clause-fits
+push_checked-pushed-requires-clause-fits c = given_fits (length c.self.inside.buffer.items) c.args.editor.now c.requires.given
 
-pub push-pushed-requires-clause-within : goal.push-pushed-requires-clause-within
-push-pushed-requires-clause-within c =
+pub push_checked-pushed-requires-clause-within : goal.push_checked-pushed-requires-clause-within
+push_checked-pushed-requires-clause-within c =
     let l = is_taken c.self.inside.sections c.take_items.new.self c.in-Some.at c.deref_mut.result.now.items (c.in_ok-items.ensures.items ∙ ap (λ v. Some v.items) (sym c.deref_mut.ensures.value)) c.in_ok-items.ensures.ok in
     items_within_at c.self.inside.buffer.items c.self.inside.copies.items (with_items c.deref_mut.result.now.items l.kept) c.self.inside.sections.entries c.in-Some.at c.self.invariant.sections_within l.here
 
@@ -42,37 +42,37 @@ returns-in_default-clause-used c =
 pub returns-clause-ok : goal.returns-clause-ok
 returns-clause-ok c =
     let l = is_taken c.self.inside.sections c.take_items.new.self c.in-Some.at c.deref_mut.result.now.items (c.in_ok-items.ensures.items ∙ ap (λ v. Some v.items) (sym c.deref_mut.ensures.value)) c.in_ok-items.ensures.ok in
-    let back = l.back c.put_items.new.self c.push-pushed.new.items.items c.put_items.ensures in
-    let whole = ap (state_of c.push-pushed.new.buffer.items c.self.inside.front.items c.self.inside.meta.value) back in
+    let back = l.back c.put_items.new.self c.push_checked-pushed.new.items.items c.put_items.ensures in
+    let whole = ap (state_of c.push_checked-pushed.new.buffer.items c.self.inside.front.items c.self.inside.meta.value) back in
     let b = c.self.inside.buffer.items in
-    let new = c.push-pushed.new.buffer.items in
+    let new = c.push_checked-pushed.new.buffer.items in
     let s = (with_items c.deref_mut.result.now.items l.kept) in
-    let t : Section = with_items c.push-pushed.new.items.items l.kept in
+    let t : Section = with_items c.push_checked-pushed.new.items.items l.kept in
     let here = l.here in
     let place : place_of c.args.id c.self.inside.sections ≡ Some c.in-Some.at = search rules in
     let number = number_at-place c.args.id c.self.inside.sections c.in-Some.at place in
-    let others : HasOthers (length new) s t = record { header = refl; meta = refl; held = refl; within = c.push-pushed.ensures.within } in
-    let ok = subst (λ e. OnOk c.push-pushed.result (items_of new c.push-pushed.new.items.items ≡ pushed e c.args.key.now (option_copied c.args.value) (option_copied c.args.comment) (items_of b s.items.items)))
-    (given_same b c.args.editor.now c.requires.given) c.push-pushed.ensures.ok in
-    rw (← c.self.view_is) (on_ok c.push-pushed.result
+    let others : HasOthers (length new) s t = record { header = refl; meta = refl; held = refl; within = c.push_checked-pushed.ensures.within } in
+    let ok = subst (λ e. OnOk c.push_checked-pushed.result (items_of new c.push_checked-pushed.new.items.items ≡ pushed e c.args.key.now (option_copied c.args.value) (option_copied c.args.comment) (items_of b s.items.items)))
+    (given_same b c.args.editor.now c.requires.given) c.push_checked-pushed.ensures.ok in
+    rw (← c.self.view_is) (on_ok c.push_checked-pushed.result
     (λ set. whole ∙ numbered_view b new c.self.inside.copies.items c.self.inside.front.items c.self.inside.meta.value c.self.inside.sections c.args.id c.in-Some.at s t
     (pushed (given_editor c.args.editor.now) c.args.key.now (option_copied c.args.value) (option_copied c.args.comment))
-    c.push-pushed.ensures.grows.extended others c.self.invariant.front_within c.self.invariant.sections_within c.position.ensures.numbered.once here number set) ok)
+    c.push_checked-pushed.ensures.grows.extended others c.self.invariant.front_within c.self.invariant.sections_within c.position.ensures.numbered.once here number set) ok)
 
 pub returns-clause-err : goal.returns-clause-err
 returns-clause-err c =
     let l = is_taken c.self.inside.sections c.take_items.new.self c.in-Some.at c.deref_mut.result.now.items (c.in_ok-items.ensures.items ∙ ap (λ v. Some v.items) (sym c.deref_mut.ensures.value)) c.in_ok-items.ensures.ok in
-    let back = l.back c.put_items.new.self c.push-pushed.new.items.items c.put_items.ensures in
-    let whole = ap (state_of c.push-pushed.new.buffer.items c.self.inside.front.items c.self.inside.meta.value) back in
+    let back = l.back c.put_items.new.self c.push_checked-pushed.new.items.items c.put_items.ensures in
+    let whole = ap (state_of c.push_checked-pushed.new.buffer.items c.self.inside.front.items c.self.inside.meta.value) back in
     let b = c.self.inside.buffer.items in
-    let new = c.push-pushed.new.buffer.items in
+    let new = c.push_checked-pushed.new.buffer.items in
     let s = (with_items c.deref_mut.result.now.items l.kept) in
-    let t : Section = with_items c.push-pushed.new.items.items l.kept in
+    let t : Section = with_items c.push_checked-pushed.new.items.items l.kept in
     let here = l.here in
-    let others : HasOthers (length new) s t = record { header = refl; meta = refl; held = refl; within = c.push-pushed.ensures.within } in
-    rw (← c.self.view_is) (on_err c.push-pushed.result
+    let others : HasOthers (length new) s t = record { header = refl; meta = refl; held = refl; within = c.push_checked-pushed.ensures.within } in
+    rw (← c.self.view_is) (on_err c.push_checked-pushed.result
     (λ kept. whole ∙ kept_view b new c.self.inside.copies.items c.self.inside.front.items c.self.inside.meta.value c.self.inside.sections c.in-Some.at s t
-    c.push-pushed.ensures.grows.extended others c.self.invariant.front_within c.self.invariant.sections_within here kept) c.push-pushed.ensures.err)
+    c.push_checked-pushed.ensures.grows.extended others c.self.invariant.front_within c.self.invariant.sections_within here kept) c.push_checked-pushed.ensures.err)
 
 pub returns-clause-used : goal.returns-clause-used
 returns-clause-used c =
@@ -81,30 +81,31 @@ returns-clause-used c =
     let here = l.here in
     let place : place_of c.args.id c.self.inside.sections ≡ Some c.in-Some.at = search rules in
     let number = number_at-place c.args.id c.self.inside.sections c.in-Some.at place in
-    rw (← c.self.view_is) (puts_at b c.self.inside.front.items c.self.inside.meta.value c.self.inside.sections c.args.id c.in-Some.at (with_items c.deref_mut.result.now.items l.kept) c.push-pushed.result
+    let fits : 2 ^ 32 ≤ length b + line_put c.args.editor.now c.args.key.now (option_copied c.args.value) (option_copied c.args.comment) → ⊥ = λ due. absurd (let no = subst (λ r. IsErrOf r 3) c.in_ok-check_push.was (c.check_push.ensures.too_large.1 (subst (λ x. 2 ^ 32 ≤ length x + line_put c.args.editor.now c.args.key.now (option_copied c.args.value) (option_copied c.args.comment)) (sym c.deref.ensures.value) due)) in cc) in
+    rw (← c.self.view_is) (puts_at b c.self.inside.front.items c.self.inside.meta.value c.self.inside.sections c.args.id c.in-Some.at (with_items c.deref_mut.result.now.items l.kept) c.push_checked-pushed.result
     (line_put c.args.editor.now c.args.key.now (option_copied c.args.value) (option_copied c.args.comment)) _ c.position.ensures.numbered.once here number
-    (record { put = c.push-pushed.ensures.grows.put; grown = c.push-pushed.ensures.grows.grown; too_large = c.push-pushed.ensures.grows.too_large; refused = c.push-pushed.ensures.refused; known = c.push-pushed.ensures.grows.known }))
+    (record { put = c.push_checked-pushed.ensures.grows.put; grown = c.push_checked-pushed.ensures.grows.grown; too_large = c.push_checked-pushed.ensures.grows.too_large; refused = λ due. absurd (fits due); known = c.push_checked-pushed.ensures.grows.known }))
 
 pub invariant_of-self-2 : goal.invariant_of-self-2
 invariant_of-self-2 c =
     let l = is_taken c.self.inside.sections c.take_items.new.self c.in-Some.at c.deref_mut.result.now.items (c.in_ok-items.ensures.items ∙ ap (λ v. Some v.items) (sym c.deref_mut.ensures.value)) c.in_ok-items.ensures.ok in
-    let back = l.back c.put_items.new.self c.push-pushed.new.items.items c.put_items.ensures in
+    let back = l.back c.put_items.new.self c.push_checked-pushed.new.items.items c.put_items.ensures in
     let b = c.self.inside.buffer.items in
-    let new = c.push-pushed.new.buffer.items in
+    let new = c.push_checked-pushed.new.buffer.items in
     let s = (with_items c.deref_mut.result.now.items l.kept) in
-    let t : Section = with_items c.push-pushed.new.items.items l.kept in
+    let t : Section = with_items c.push_checked-pushed.new.items.items l.kept in
     let here = l.here in
     let place : place_of c.args.id c.self.inside.sections ≡ Some c.in-Some.at = search rules in
     let number = number_at-place c.args.id c.self.inside.sections c.in-Some.at place in
-    let others : HasOthers (length new) s t = record { header = refl; meta = refl; held = refl; within = c.push-pushed.ensures.within } in
-    let ok = subst (λ e. OnOk c.push-pushed.result (items_of new c.push-pushed.new.items.items ≡ pushed e c.args.key.now (option_copied c.args.value) (option_copied c.args.comment) (items_of b s.items.items)))
-    (given_same b c.args.editor.now c.requires.given) c.push-pushed.ensures.ok in
-    subst (StoreFits c.push-pushed.new.buffer.items c.self.inside.copies.items c.self.inside.front.items c.self.inside.meta.value) (sym back) (numbered_kept b new c.self.inside.copies.items c.self.inside.front.items c.self.inside.meta.value c.self.inside.sections c.args.id c.in-Some.at s t
+    let others : HasOthers (length new) s t = record { header = refl; meta = refl; held = refl; within = c.push_checked-pushed.ensures.within } in
+    let ok = subst (λ e. OnOk c.push_checked-pushed.result (items_of new c.push_checked-pushed.new.items.items ≡ pushed e c.args.key.now (option_copied c.args.value) (option_copied c.args.comment) (items_of b s.items.items)))
+    (given_same b c.args.editor.now c.requires.given) c.push_checked-pushed.ensures.ok in
+    subst (StoreFits c.push_checked-pushed.new.buffer.items c.self.inside.copies.items c.self.inside.front.items c.self.inside.meta.value) (sym back) (numbered_kept b new c.self.inside.copies.items c.self.inside.front.items c.self.inside.meta.value c.self.inside.sections c.args.id c.in-Some.at s t
     (pushed (given_editor c.args.editor.now) c.args.key.now (option_copied c.args.value) (option_copied c.args.comment))
-    c.push-pushed.ensures.grows.extended c.push-pushed.ensures.grows.room others c.self.invariant c.position.ensures.numbered.once here number
+    c.push_checked-pushed.ensures.grows.extended c.push_checked-pushed.ensures.grows.room others c.self.invariant c.position.ensures.numbered.once here number
     (apply_items (Push c.args.id (given_editor c.args.editor.now) c.args.key.now (option_copied c.args.value) (option_copied c.args.comment))
     (state_of b c.self.inside.front.items c.self.inside.meta.value c.self.inside.sections) (c.requires.editor, c.requires.key) c.self.invariant.items)
-    (either_way c.push-pushed.result ok c.push-pushed.ensures.err))
+    (either_way c.push_checked-pushed.result ok c.push_checked-pushed.ensures.err))
 
 pub invariant_of-self : goal.invariant_of-self
 invariant_of-self c =

@@ -1,5 +1,4 @@
 use Rattle.std.proofs.Common.{true, subst, sym}
-use Rattle.std.specs.Option.{option_copied}
 use Rattle.bstr.specs.Owned.{bstring_bytes}
 use Rattle.gitconf_finding.specs.Lookups.{miss_at, value_at}
 use Rattle.gitconf_base.specs.Key.{key_of}

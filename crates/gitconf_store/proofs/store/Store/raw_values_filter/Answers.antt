@@ -1,5 +1,4 @@
 use Rattle.std.proofs.Common.{true, subst, sym}
-use Rattle.std.specs.Option.{option_copied}
 use Rattle.gitconf_finding.specs.Lookups.{miss_at, texts_of, if_any, values_at}
 use Rattle.gitconf_base.specs.Key.{key_of}
 use Rattle.gitconf_state.specs.Edits.{with_sections}

@@ -1,5 +1,4 @@
 use Rattle.std.proofs.Common.{true, subst, sym}
-use Rattle.std.specs.Option.{option_copied}
 use Rattle.std.specs.Prelude.{map}
 use Rattle.gitconf_finding.specs.Lookups.{miss_at, shown_with, if_any, values_in}
 use Rattle.gitconf_base.specs.Key.{key_of}

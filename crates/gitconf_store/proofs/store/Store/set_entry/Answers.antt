@@ -8,24 +8,31 @@ use Rattle.gitconf_state.specs.Edits.{items_of_numbered, Raw, SetValue}
 use Rattle.gitconf_state.proofs.EditsKeep.{apply_items}
 use Rattle.gitconf_items.specs.Items.{items_of}
 use Rattle.gitconf_lines.specs.Editors.{set_put}
+use Rattle.gitconf_body.proofs.Changing.{place_read}
 use Rattle.gitconf_sections.specs.Section.{Section, with_items, viewed}
 use Rattle.gitconf_sections.proofs.Edits.{is_taken, taken_within}
 use Rattle.gitconf_store.specs.Edits.{UsedGrows}
 use Rattle.gitconf_store.specs.Editors.{given_editor, PutsIn}
 use Rattle.gitconf_views.specs.Store.{state_of, StoreFits}
 use Rattle.gitconf_views.proofs.GivenEditors.{given_fits, given_same}
-use Rattle.gitconf_store.proofs.Editing.{items_within_at, missing_stays, missing_told, numbered_items_at, numbered_kept, numbered_told, numbered_view, puts_at, puts_none, puts_same, used_memory, used_refused}
+use Rattle.gitconf_store.proofs.Editing.{items_within_at, missing_stays, missing_told, numbered_items_at, numbered_kept, numbered_told, numbered_view, puts_at, puts_none, puts_same, same_items, used_memory, used_refused}
 use Rattle.gitconf_views.proofs.Outcomes.{on_ok, on_err, either_way, if_ok}
 use Rattle.gitconf_store.proofs.Setting.{HasOthers, kept_view}
 use Rattle.gitconf_store.proofs.store.Store.set_entry.Goals as goal
 
-pub set-set-requires-clause-fits : goal.set-set-requires-clause-fits
-set-set-requires-clause-fits c = given_fits (length c.self.inside.buffer.items) c.args.editor.now c.requires.given
+pub set_at-set-requires-clause-fits : goal.set_at-set-requires-clause-fits
+set_at-set-requires-clause-fits c = given_fits (length c.self.inside.buffer.items) c.args.editor.now c.requires.given
 
-pub set-set-requires-clause-within : goal.set-set-requires-clause-within
-set-set-requires-clause-within c =
+pub set_at-set-requires-clause-within : goal.set_at-set-requires-clause-within
+set_at-set-requires-clause-within c =
     let l = is_taken c.self.inside.sections c.take_items.new.self c.in-Some.at c.deref_mut.result.now.items (c.in_ok-items.ensures.items ∙ ap (λ v. Some v.items) (sym c.deref_mut.ensures.value)) c.in_ok-items.ensures.ok in
     items_within_at c.self.inside.buffer.items c.self.inside.copies.items (with_items c.deref_mut.result.now.items l.kept) c.self.inside.sections.entries c.in-Some.at c.self.invariant.sections_within l.here
+
+pub set_at-set-requires-clause-place : goal.set_at-set-requires-clause-place
+set_at-set-requires-clause-place c =
+    let l = is_taken c.self.inside.sections c.take_items.new.self c.in-Some.at c.deref_mut.result.now.items (c.in_ok-items.ensures.items ∙ ap (λ v. Some v.items) (sym c.deref_mut.ensures.value)) c.in_ok-items.ensures.ok in
+    let seen = same_items c.self.inside.sections c.in-Some.at (viewed c.at-section.result) (with_items c.deref_mut.result.now.items l.kept) c.at-section.ensures l.here in
+    place_read c.args.key.now _ _ _ _ _ c.deref.ensures.value seen c.in_ok-place.ensures.place
 
 pub returns-in_default-clause-ok : goal.returns-in_default-clause-ok
 returns-in_default-clause-ok c =
@@ -52,42 +59,42 @@ returns-clause-answer c =
     let number = number_at-place c.args.id c.self.inside.sections c.in-Some.at place in
     let told = numbered_told b c.self.inside.front.items c.self.inside.meta.value c.self.inside.sections c.args.id c.in-Some.at (with_items c.deref_mut.result.now.items l.kept) (old_value c.args.key.now)
     c.position.ensures.numbered.once here number in
-    rw (← c.self.view_is) (if_ok c.set-set.result (λ o is. ap Raw (is ∙ sym told)) c.set-set.ensures.answer)
+    rw (← c.self.view_is) (if_ok c.set_at-set.result (λ o is. ap Raw (is ∙ sym told)) c.set_at-set.ensures.answer)
 
 pub returns-clause-ok : goal.returns-clause-ok
 returns-clause-ok c =
     let l = is_taken c.self.inside.sections c.take_items.new.self c.in-Some.at c.deref_mut.result.now.items (c.in_ok-items.ensures.items ∙ ap (λ v. Some v.items) (sym c.deref_mut.ensures.value)) c.in_ok-items.ensures.ok in
-    let back = l.back c.put_items.new.self c.set-set.new.items.items c.put_items.ensures in
-    let whole = ap (state_of c.set-set.new.buffer.items c.self.inside.front.items c.self.inside.meta.value) back in
+    let back = l.back c.put_items.new.self c.set_at-set.new.items.items c.put_items.ensures in
+    let whole = ap (state_of c.set_at-set.new.buffer.items c.self.inside.front.items c.self.inside.meta.value) back in
     let b = c.self.inside.buffer.items in
-    let new = c.set-set.new.buffer.items in
+    let new = c.set_at-set.new.buffer.items in
     let s = (with_items c.deref_mut.result.now.items l.kept) in
-    let t : Section = with_items c.set-set.new.items.items l.kept in
+    let t : Section = with_items c.set_at-set.new.items.items l.kept in
     let here = l.here in
     let place : place_of c.args.id c.self.inside.sections ≡ Some c.in-Some.at = search rules in
     let number = number_at-place c.args.id c.self.inside.sections c.in-Some.at place in
-    let others : HasOthers (length new) s t = record { header = refl; meta = refl; held = refl; within = c.set-set.ensures.within } in
-    let ok = subst (λ e. OnOk c.set-set.result (items_of new c.set-set.new.items.items ≡ value_set e c.args.key.now c.args.value.now (items_of b s.items.items)))
-    (given_same b c.args.editor.now c.requires.given) c.set-set.ensures.ok in
-    rw (← c.self.view_is) (on_ok c.set-set.result
+    let others : HasOthers (length new) s t = record { header = refl; meta = refl; held = refl; within = c.set_at-set.ensures.within } in
+    let ok = subst (λ e. OnOk c.set_at-set.result (items_of new c.set_at-set.new.items.items ≡ value_set e c.args.key.now c.args.value.now (items_of b s.items.items)))
+    (given_same b c.args.editor.now c.requires.given) c.set_at-set.ensures.ok in
+    rw (← c.self.view_is) (on_ok c.set_at-set.result
     (λ set. whole ∙ numbered_view b new c.self.inside.copies.items c.self.inside.front.items c.self.inside.meta.value c.self.inside.sections c.args.id c.in-Some.at s t
     (value_set (given_editor c.args.editor.now) c.args.key.now c.args.value.now)
-    c.set-set.ensures.grows.extended others c.self.invariant.front_within c.self.invariant.sections_within c.position.ensures.numbered.once here number set) ok)
+    c.set_at-set.ensures.grows.extended others c.self.invariant.front_within c.self.invariant.sections_within c.position.ensures.numbered.once here number set) ok)
 
 pub returns-clause-err : goal.returns-clause-err
 returns-clause-err c =
     let l = is_taken c.self.inside.sections c.take_items.new.self c.in-Some.at c.deref_mut.result.now.items (c.in_ok-items.ensures.items ∙ ap (λ v. Some v.items) (sym c.deref_mut.ensures.value)) c.in_ok-items.ensures.ok in
-    let back = l.back c.put_items.new.self c.set-set.new.items.items c.put_items.ensures in
-    let whole = ap (state_of c.set-set.new.buffer.items c.self.inside.front.items c.self.inside.meta.value) back in
+    let back = l.back c.put_items.new.self c.set_at-set.new.items.items c.put_items.ensures in
+    let whole = ap (state_of c.set_at-set.new.buffer.items c.self.inside.front.items c.self.inside.meta.value) back in
     let b = c.self.inside.buffer.items in
-    let new = c.set-set.new.buffer.items in
+    let new = c.set_at-set.new.buffer.items in
     let s = (with_items c.deref_mut.result.now.items l.kept) in
-    let t : Section = with_items c.set-set.new.items.items l.kept in
+    let t : Section = with_items c.set_at-set.new.items.items l.kept in
     let here = l.here in
-    let others : HasOthers (length new) s t = record { header = refl; meta = refl; held = refl; within = c.set-set.ensures.within } in
-    rw (← c.self.view_is) (on_err c.set-set.result
+    let others : HasOthers (length new) s t = record { header = refl; meta = refl; held = refl; within = c.set_at-set.ensures.within } in
+    rw (← c.self.view_is) (on_err c.set_at-set.result
     (λ kept. whole ∙ kept_view b new c.self.inside.copies.items c.self.inside.front.items c.self.inside.meta.value c.self.inside.sections c.in-Some.at s t
-    c.set-set.ensures.grows.extended others c.self.invariant.front_within c.self.invariant.sections_within here kept) c.set-set.ensures.err)
+    c.set_at-set.ensures.grows.extended others c.self.invariant.front_within c.self.invariant.sections_within here kept) c.set_at-set.ensures.err)
 
 pub returns-clause-used : goal.returns-clause-used
 returns-clause-used c =
@@ -97,31 +104,35 @@ returns-clause-used c =
     let place : place_of c.args.id c.self.inside.sections ≡ Some c.in-Some.at = search rules in
     let number = number_at-place c.args.id c.self.inside.sections c.in-Some.at place in
     let same = numbered_items_at b c.self.inside.front.items c.self.inside.meta.value c.self.inside.sections c.args.id c.in-Some.at (with_items c.deref_mut.result.now.items l.kept) c.position.ensures.numbered.once here number in
-    rw (← c.self.view_is) (puts_at b c.self.inside.front.items c.self.inside.meta.value c.self.inside.sections c.args.id c.in-Some.at (with_items c.deref_mut.result.now.items l.kept) c.set-set.result _ _
+    let seen = same_items c.self.inside.sections c.in-Some.at (viewed c.at-section.result) (with_items c.deref_mut.result.now.items l.kept) c.at-section.ensures l.here in
+    let fits : 2 ^ 32 ≤ length b + set_put c.args.editor.now c.args.key.now c.args.value.now (items_of b c.deref_mut.result.now.items) → ⊥ = λ due. absurd (let no = subst (λ r. IsErrOf r 3) c.in_ok-place.was
+    (c.place_to_set.ensures.too_large.1 (subst (λ x. 2 ^ 32 ≤ length x + set_put c.args.editor.now c.args.key.now c.args.value.now (items_of x c.at-section.result.items.now)) (sym c.deref.ensures.value)
+    (subst (λ is. 2 ^ 32 ≤ length b + set_put c.args.editor.now c.args.key.now c.args.value.now (items_of b is)) (sym seen) due))) in cc) in
+    rw (← c.self.view_is) (puts_at b c.self.inside.front.items c.self.inside.meta.value c.self.inside.sections c.args.id c.in-Some.at (with_items c.deref_mut.result.now.items l.kept) c.set_at-set.result _ _
     c.position.ensures.numbered.once here number
-    (subst (λ items. UsedGrows c.set-set.result (set_put c.args.editor.now c.args.key.now c.args.value.now items) (length b) (length c.set-set.new.buffer.items)) (sym same)
-    (record { put = c.set-set.ensures.grows.put; grown = c.set-set.ensures.grows.grown; too_large = c.set-set.ensures.grows.too_large; refused = c.set-set.ensures.refused; known = c.set-set.ensures.grows.known })))
+    (subst (λ items. UsedGrows c.set_at-set.result (set_put c.args.editor.now c.args.key.now c.args.value.now items) (length b) (length c.set_at-set.new.buffer.items)) (sym same)
+    (record { put = c.set_at-set.ensures.grows.put; grown = c.set_at-set.ensures.grows.grown; too_large = c.set_at-set.ensures.grows.too_large; refused = λ due. absurd (fits due); known = c.set_at-set.ensures.grows.known })))
 
 pub invariant_of-self-2 : goal.invariant_of-self-2
 invariant_of-self-2 c =
     let l = is_taken c.self.inside.sections c.take_items.new.self c.in-Some.at c.deref_mut.result.now.items (c.in_ok-items.ensures.items ∙ ap (λ v. Some v.items) (sym c.deref_mut.ensures.value)) c.in_ok-items.ensures.ok in
-    let back = l.back c.put_items.new.self c.set-set.new.items.items c.put_items.ensures in
+    let back = l.back c.put_items.new.self c.set_at-set.new.items.items c.put_items.ensures in
     let b = c.self.inside.buffer.items in
-    let new = c.set-set.new.buffer.items in
+    let new = c.set_at-set.new.buffer.items in
     let s = (with_items c.deref_mut.result.now.items l.kept) in
-    let t : Section = with_items c.set-set.new.items.items l.kept in
+    let t : Section = with_items c.set_at-set.new.items.items l.kept in
     let here = l.here in
     let place : place_of c.args.id c.self.inside.sections ≡ Some c.in-Some.at = search rules in
     let number = number_at-place c.args.id c.self.inside.sections c.in-Some.at place in
-    let others : HasOthers (length new) s t = record { header = refl; meta = refl; held = refl; within = c.set-set.ensures.within } in
-    let ok = subst (λ e. OnOk c.set-set.result (items_of new c.set-set.new.items.items ≡ value_set e c.args.key.now c.args.value.now (items_of b s.items.items)))
-    (given_same b c.args.editor.now c.requires.given) c.set-set.ensures.ok in
-    subst (StoreFits c.set-set.new.buffer.items c.self.inside.copies.items c.self.inside.front.items c.self.inside.meta.value) (sym back) (numbered_kept b new c.self.inside.copies.items c.self.inside.front.items c.self.inside.meta.value c.self.inside.sections c.args.id c.in-Some.at s t
+    let others : HasOthers (length new) s t = record { header = refl; meta = refl; held = refl; within = c.set_at-set.ensures.within } in
+    let ok = subst (λ e. OnOk c.set_at-set.result (items_of new c.set_at-set.new.items.items ≡ value_set e c.args.key.now c.args.value.now (items_of b s.items.items)))
+    (given_same b c.args.editor.now c.requires.given) c.set_at-set.ensures.ok in
+    subst (StoreFits c.set_at-set.new.buffer.items c.self.inside.copies.items c.self.inside.front.items c.self.inside.meta.value) (sym back) (numbered_kept b new c.self.inside.copies.items c.self.inside.front.items c.self.inside.meta.value c.self.inside.sections c.args.id c.in-Some.at s t
     (value_set (given_editor c.args.editor.now) c.args.key.now c.args.value.now)
-    c.set-set.ensures.grows.extended c.set-set.ensures.grows.room others c.self.invariant c.position.ensures.numbered.once here number
+    c.set_at-set.ensures.grows.extended c.set_at-set.ensures.grows.room others c.self.invariant c.position.ensures.numbered.once here number
     (apply_items (SetValue c.args.id (given_editor c.args.editor.now) c.args.key.now c.args.value.now)
     (state_of b c.self.inside.front.items c.self.inside.meta.value c.self.inside.sections) (c.requires.editor, c.requires.key) c.self.invariant.items)
-    (either_way c.set-set.result ok c.set-set.ensures.err))
+    (either_way c.set_at-set.result ok c.set_at-set.ensures.err))
 
 pub invariant_of-self : goal.invariant_of-self
 invariant_of-self c =
@@ -133,16 +144,16 @@ put_items-requires c =
     let within : c.in-Some.at < length c.self.inside.sections.entries = search rules in
     taken_within c.self.inside.sections c.take_items.new.self c.in-Some.at c.in_ok-items.ensures.ok within
 
-pub returns-in_err-check_set-clause-used : goal.returns-in_err-check_set-clause-used
-returns-in_err-check_set-clause-used c =
+pub returns-in_err-place-clause-used : goal.returns-in_err-place-clause-used
+returns-in_err-place-clause-used c =
     let b = c.self.inside.buffer.items in
     let state = state_of c.self.inside.buffer.items c.self.inside.front.items c.self.inside.meta.value c.self.inside.sections in
     let place : place_of c.args.id c.self.inside.sections ≡ Some c.in-Some.at = search rules in
     let number = number_at-place c.args.id c.self.inside.sections c.in-Some.at place in
     let items = numbered_items_at b c.self.inside.front.items c.self.inside.meta.value c.self.inside.sections c.args.id c.in-Some.at (viewed c.at-section.result) c.position.ensures.numbered.once c.at-section.ensures number in
     let three : IsErrOf c.from_residual.result 3 = search rules in
-    let asked : IsErrOf c.check_set.result 3 = search rules in
-    let due = subst (λ x. 2 ^ 32 ≤ length x + set_put c.args.editor.now c.args.key.now c.args.value.now (items_of x c.at-section.result.items.now)) c.deref.ensures.value (c.check_set.ensures.too_large.0 asked) in
+    let asked : IsErrOf c.place_to_set.result 3 = search rules in
+    let due = subst (λ x. 2 ^ 32 ≤ length x + set_put c.args.editor.now c.args.key.now c.args.value.now (items_of x c.at-section.result.items.now)) c.deref.ensures.value (c.place_to_set.ensures.too_large.0 asked) in
     rw (← c.self.view_is) (puts_same c.args.id c.from_residual.result _ state (subst (λ is. UsedGrows c.from_residual.result (set_put c.args.editor.now c.args.key.now c.args.value.now is) (length b) (length b)) (sym items) (used_refused c.from_residual.result _ (length b) three due)))
 
 pub returns-in_err-items-clause-used : goal.returns-in_err-items-clause-used
@@ -154,6 +165,6 @@ returns-in_err-items-clause-used c =
     let items = numbered_items_at b c.self.inside.front.items c.self.inside.meta.value c.self.inside.sections c.args.id c.in-Some.at (viewed c.at-section.result) c.position.ensures.numbered.once c.at-section.ensures number in
     let same : c.take_items.new.self ≡ c.self.inside.sections = search rules in
     let memory : IsErrOf c.from_residual-in_err-items.result 27 = search rules in
-    let fits : 2 ^ 32 ≤ length b + set_put c.args.editor.now c.args.key.now c.args.value.now (items_of c.self.inside.buffer.items c.at-section.result.items.now) → ⊥ = λ due. absurd (let no = subst (λ r. IsErrOf r 3) c.in_ok-check_set.was (c.check_set.ensures.too_large.1 (subst (λ x. 2 ^ 32 ≤ length x + set_put c.args.editor.now c.args.key.now c.args.value.now (items_of x c.at-section.result.items.now)) (sym c.deref.ensures.value) due)) in cc) in
+    let fits : 2 ^ 32 ≤ length b + set_put c.args.editor.now c.args.key.now c.args.value.now (items_of c.self.inside.buffer.items c.at-section.result.items.now) → ⊥ = λ due. absurd (let no = subst (λ r. IsErrOf r 3) c.in_ok-place.was (c.place_to_set.ensures.too_large.1 (subst (λ x. 2 ^ 32 ≤ length x + set_put c.args.editor.now c.args.key.now c.args.value.now (items_of x c.at-section.result.items.now)) (sym c.deref.ensures.value) due)) in cc) in
     rw (← c.self.view_is) (subst (λ t. PutsIn c.args.id c.from_residual-in_err-items.result (set_put c.args.editor.now c.args.key.now c.args.value.now (items_of_numbered c.args.id state)) state (state_of b c.self.inside.front.items c.self.inside.meta.value t)) (sym same)
     (puts_same c.args.id c.from_residual-in_err-items.result (set_put c.args.editor.now c.args.key.now c.args.value.now (items_of_numbered c.args.id state)) state (subst (λ is. UsedGrows c.from_residual-in_err-items.result (set_put c.args.editor.now c.args.key.now c.args.value.now is) (length b) (length b)) (sym items) (used_memory c.from_residual-in_err-items.result _ (length b) memory fits))))

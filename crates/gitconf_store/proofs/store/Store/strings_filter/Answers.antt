@@ -1,5 +1,4 @@
 use Rattle.std.proofs.Common.{true}
-use Rattle.std.specs.Option.{option_copied}
 use Rattle.gitconf_state.specs.Edits.{with_sections}
 use Rattle.gitconf_base.specs.Key.{key_of}
 use Rattle.gitconf_finding.proofs.Answering.{texts_told}

@@ -1,5 +1,5 @@
 use Rattle.std.proofs.Common.{true}
-use Rattle.std.specs.Option.{option_copied, option_map}
+use Rattle.std.specs.Option.{option_map}
 use Rattle.gitconf_state.specs.Edits.{with_sections}
 use Rattle.gitconf_finding.specs.Finding.{place_of}
 use Rattle.gitconf_base.specs.Key.{key_of}

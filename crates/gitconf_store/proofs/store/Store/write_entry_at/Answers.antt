@@ -80,9 +80,10 @@ returns-clause-used c =
     let here = l.here in
     let place : place_of c.args.id c.self.inside.sections ≡ Some c.in-Some.at = search rules in
     let number = number_at-place c.args.id c.self.inside.sections c.in-Some.at place in
+    let fits : 2 ^ 32 ≤ length b + written_put c.args.editor.now c.args.key.now c.args.value.now → ⊥ = λ due. absurd (let no = subst (λ r. IsErrOf r 3) c.in_ok-check_write.was (c.check_write.ensures.too_large.1 (subst (λ x. 2 ^ 32 ≤ length x + written_put c.args.editor.now c.args.key.now c.args.value.now) (sym c.deref.ensures.value) due)) in cc) in
     rw (← c.self.view_is) (puts_at b c.self.inside.front.items c.self.inside.meta.value c.self.inside.sections c.args.id c.in-Some.at (with_items c.deref_mut.result.now.items l.kept) c.write_at-written.result
     (written_put c.args.editor.now c.args.key.now c.args.value.now) _ c.position.ensures.numbered.once here number
-    (record { put = c.write_at-written.ensures.grows.put; grown = c.write_at-written.ensures.grows.grown; too_large = c.write_at-written.ensures.grows.too_large; refused = c.write_at-written.ensures.refused; known = c.write_at-written.ensures.grows.known }))
+    (record { put = c.write_at-written.ensures.grows.put; grown = c.write_at-written.ensures.grows.grown; too_large = c.write_at-written.ensures.grows.too_large; refused = λ due. absurd (fits due); known = c.write_at-written.ensures.grows.known }))
 
 pub invariant_of-self-2 : goal.invariant_of-self-2
 invariant_of-self-2 c =
