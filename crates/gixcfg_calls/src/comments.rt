@@ -28,7 +28,8 @@ struct Ends {
     line: usize,
 }
 
-/// A file's given text with a comment after the value of a key's last entry, in place of the blanks and the comment that are there. The new text is read again, and has to mean what the file means. Two walks over the text.
+/// A file's given text with a comment after the value of a key's last entry, in place of the blanks and the comment that are there. The new
+/// text is read again, and has to mean what the file means. Two walks over the text.
 ///
 /// # Errors
 ///
