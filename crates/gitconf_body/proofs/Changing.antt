@@ -16,7 +16,7 @@ use Rattle.gitconf_items.specs.ShownEvents.{IsExtended}
 use Rattle.gitconf_state.specs.State.{is_entry}
 use Rattle.gitconf_state.specs.Edit.{blank_bytes, update_last, is_entry_of, set_bytes, set_value, spacing_of, with_value}
 use Rattle.gitconf_state.specs.Editors as states
-use Rattle.gitconf_state.proofs.EditLists.{any_at, update_last_at, last_passing, filter_none}
+use Rattle.gitconf_state.proofs.Edits.Lists.{any_at, update_last_at, last_passing, filter_none}
 use Rattle.gitconf_text.specs.LineEnds.{bytes_of_line_end}
 use Rattle.gitconf_lines.specs.declared.editor.Around.{Around}
 use Rattle.gitconf_lines.specs.declared.editor.Editor.{Editor}

@@ -11,7 +11,7 @@ use Rattle.gitconf_base.specs.Metadata.{Meta}
 use Rattle.gitconf_state.specs.LineEnds.{file_line_end}
 use Rattle.gitconf_state.specs.State.{SectionState, State, is_entry}
 use Rattle.gitconf_text.specs.Header.{spelled_header}
-use Rattle.gitconf_state.proofs.EditLists.{filter_none, last_passing}
+use Rattle.gitconf_state.proofs.Edits.Lists.{filter_none, last_passing}
 use Rattle.gitconf_lines.specs.Places.{IsLastAt}
 use Rattle.gitconf_lines.specs.Spacings.{option_bytes, spacing_bytes}
 

@@ -10,7 +10,7 @@ use Rattle.gitconf_items.specs.ItemsFit.{AreItemsWithin, ItemFits}
 use Rattle.gitconf_state.specs.State.{cut_last, is_entry}
 use Rattle.gitconf_state.specs.Edit.{is_entry_of, old_value}
 use Rattle.gitconf_state.specs.Editors.{key_and_meaning, removed, popped, popped_entry, without_last_blanks, without_first_line_ends}
-use Rattle.gitconf_state.proofs.EditPlaces.{old_value_at}
+use Rattle.gitconf_state.proofs.Edits.Places.{old_value_at}
 use Rattle.gitconf_lines.specs.Places.{IsLastAt}
 use Rattle.gitconf_lines.specs.Spacings.{is_stored_entry}
 use Rattle.gitconf_body.specs.Taken.{begins_line_ends, is_blanks, ends_blanks, behind_line_ends, before_blanks, StayWithin}

@@ -8,7 +8,7 @@ use Rattle.gitconf_state.specs.Edits.{held_behind_last, numbered_from}
 use Rattle.gitconf_state.specs.Including.{whole}
 use Rattle.gitconf_state.specs.LineEnds.{file_line_end}
 use Rattle.gitconf_state.specs.State.{AreNumbered, SectionState, State}
-use Rattle.gitconf_state.proofs.EditsKeep.{behind_last_holds, holds_appended}
+use Rattle.gitconf_state.proofs.Edits.Keep.{behind_last_holds, holds_appended}
 use Rattle.gitconf_expansion.specs.Expansion.{Asks, Expands, included_meta, IsFetched, On, Reached}
 use Rattle.gitconf_expansion.specs.Laws.{file_of, IsIncludedBy, StandBehind}
 use Rattle.gitconf_expansion.proofs.Keeping.{expansion_from, limit, one_level, EachStepKeeps}

@@ -1,5 +1,5 @@
 pub mod Behind
-pub mod ExpansionRows
+pub mod Worked
 pub mod Fetching
 pub mod Keeping
 pub mod Lossy

@@ -22,7 +22,7 @@ use Rattle.gitconf_state.specs.Loads.{IsFullLoad, IsLoad}
 use Rattle.gitconf_state.specs.Lookup.{entries_of_key, has_name, listing, meaning, Listed}
 use Rattle.gitconf_state.specs.State.{document_of, section_document, SectionState, State}
 use Rattle.gitconf_state.proofs.Listings.{same_listed}
-use Rattle.gitconf_state.proofs.LoadingDocument.{full_document, lossy_document}
+use Rattle.gitconf_state.proofs.Loading.Document.{full_document, lossy_document}
 use Rattle.gitconf_expansion.specs.Expansion.{included_meta, Deeper, Ended, Expands, Follows, FollowsAll, Gives, IsFetched, IsJoined, IsLoaded, IsPutIn, On, Reached, Visits, Wanting}
 use Rattle.gitconf_expansion.specs.Inclusion.{followed, has_url, inclusion, inclusion_by, Includes, Inclusion, NoInclude}
 use Rattle.gitconf_expansion.specs.Laws.{asks_with, ParentsSayTheSame, SayTheSame}

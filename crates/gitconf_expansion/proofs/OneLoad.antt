@@ -11,7 +11,7 @@ use Rattle.gitconf_parse.specs.ParseError.{Refusal}
 use Rattle.gitconf_parse.proofs.OneDocument.{one_tokens}
 use Rattle.gitconf_state.specs.Made.{IsMade}
 use Rattle.gitconf_state.specs.State.{SectionState, State}
-use Rattle.gitconf_state.proofs.LoadingTokens.{own_parts, own_section_parts, own_tokens, same_parts}
+use Rattle.gitconf_state.proofs.Loading.Tokens.{own_parts, own_section_parts, own_tokens, same_parts}
 use Rattle.gitconf_expansion.specs.Expansion.{kept_tokens, IsLoaded, IsLoadOf}
 
 -- the items before the first header, the headers, and the items after each

@@ -15,10 +15,10 @@ use Rattle.gitconf_state.specs.Including.{spliced, whole}
 use Rattle.gitconf_state.specs.LineEnds.{file_line_end}
 use Rattle.gitconf_state.specs.Loads.{IsFullLoad, IsLoad}
 use Rattle.gitconf_state.specs.State.{is_entry, is_item, entries_of, HasItems, HasSectionItems, SectionState, State}
-use Rattle.gitconf_state.proofs.EditItems.{file_line_end_is, one_line_end}
-use Rattle.gitconf_state.proofs.EditsKeep.{behind_last_holds, holds_appended, joined_passes, numbered_from_clean, numbered_from_items, without_entries}
-use Rattle.gitconf_state.proofs.LoadingClean.{full_has_items, full_is_clean, kept_has_items, lossy_is_clean}
-use Rattle.gitconf_state.proofs.LoadingDocument as document
+use Rattle.gitconf_state.proofs.Edits.Items.{file_line_end_is, one_line_end}
+use Rattle.gitconf_state.proofs.Edits.Keep.{behind_last_holds, holds_appended, joined_passes, numbered_from_clean, numbered_from_items, without_entries}
+use Rattle.gitconf_state.proofs.Loading.Clean.{full_has_items, full_is_clean, kept_has_items, lossy_is_clean}
+use Rattle.gitconf_state.proofs.Loading.Document as document
 use Rattle.gitconf_expansion.specs.Expansion.{Asks, Expands, included_meta, IsFetched, IsLoaded, IsLoadOf, May, On, Reached}
 use Rattle.gitconf_expansion.specs.Laws.{file_of, AreHeaded}
 use Rattle.gitconf_expansion.proofs.Keeping.{expansion, whole_expansion}

@@ -21,8 +21,8 @@ use Rattle.gitconf_state.specs.Edits.{WriteAt, apply, items_of_numbered, numbere
 use Rattle.gitconf_state.specs.Lookup as lookup
 use Rattle.gitconf_state.specs.Lookup.{KeyMissing, Listed, Miss, has_name, is_named, listed, listing, miss_of}
 use Rattle.gitconf_state.specs.State.{HasItems, HasSectionItems, SectionState, State, is_item}
-use Rattle.gitconf_state.proofs.EditItems.{spacing_fits}
-use Rattle.gitconf_state.proofs.EditsKeep.{apply_items}
+use Rattle.gitconf_state.proofs.Edits.Items.{spacing_fits}
+use Rattle.gitconf_state.proofs.Edits.Keep.{apply_items}
 use Rattle.gitconf_lines.specs.Places.{IsLastAt}
 use Rattle.gitconf_lines.proofs.Entries.{last_shown}
 use Rattle.gitconf_lines.proofs.Places.{any_shown}

@@ -6,4 +6,4 @@ pub mod Telling
 pub mod MembersLeft
 pub mod Cutting
 pub mod Passing
-pub mod PatternRows
+pub mod Worked

@@ -1,3 +1,1 @@
-pub mod RowRules
-pub mod PathRows
-pub mod ConditionRows
+pub mod Worked

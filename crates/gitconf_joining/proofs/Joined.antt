@@ -13,7 +13,7 @@ use Rattle.gitconf_text.specs.Header.{name_of, subsection_of}
 use Rattle.gitconf_table.specs.Sections.{SectionEntry, Sections, changed_at}
 use Rattle.gitconf_table.specs.Sections as table
 use Rattle.gitconf_state.specs.Edits.{numbered_from}
-use Rattle.gitconf_state.proofs.EditsKeep.{holds_appended}
+use Rattle.gitconf_state.proofs.Edits.Keep.{holds_appended}
 use Rattle.gitconf_items.specs.Items.{items_of}
 use Rattle.gitconf_table.proofs.SectionLemmas.{section_edited}
 use Rattle.gitconf_sections.specs.Section.{Section, holding}

@@ -12,10 +12,10 @@ use Rattle.gitconf_state.specs.Clean.{IsCleanSection, IsClean}
 use Rattle.gitconf_state.specs.Comments.{without_white_end, item_comments, part_comments, comments_of, comments_of_kept, comments}
 use Rattle.gitconf_state.specs.Printing.{section_parts, printed_parts, printed_kept, printed, printed_section}
 use Rattle.gitconf_state.specs.Writing.{Closed}
-use Rattle.gitconf_state.proofs.Apart.{AreApart, fitted}
-use Rattle.gitconf_state.proofs.SectionsApart.{IsSection, all_both, all_mapped, section_apart, printed_apart}
-use Rattle.gitconf_state.proofs.PrintedDocument.{section_comments, printed_comments}
-use Rattle.gitconf_state.proofs.ReadsBack.{is_text, filter_all}
+use Rattle.gitconf_state.proofs.Printing.Apart.{AreApart, fitted}
+use Rattle.gitconf_state.proofs.Printing.SectionsApart.{IsSection, all_both, all_mapped, section_apart, printed_apart}
+use Rattle.gitconf_state.proofs.Printing.PrintedDocument.{section_comments, printed_comments}
+use Rattle.gitconf_state.proofs.Printing.ReadsBack.{is_text, filter_all}
 
 -- the comment of a token, if it is one
 abbrev token_comments : Token → List (List ℕ)

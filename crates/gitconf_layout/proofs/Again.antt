@@ -15,9 +15,9 @@ use Rattle.gitconf_items.specs.EventRef.{Shown, written}
 use Rattle.gitconf_items.specs.ShownEvents.{shown_token}
 use Rattle.gitconf_text.proofs.Tests.{both_true, false_not}
 use Rattle.gitconf_text.proofs.ByteLaws.{mark_no_blank}
-use Rattle.gitconf_state.proofs.Follows.{may_follow, line_end_cases}
-use Rattle.gitconf_state.proofs.Fitted.{line_ends-append}
-use Rattle.gitconf_state.proofs.LoadingNames.{is_line_closed, Follows, first_fits, only_line_ends, behind_item}
+use Rattle.gitconf_state.proofs.Printing.Follows.{may_follow, line_end_cases}
+use Rattle.gitconf_state.proofs.Printing.Fitted.{line_ends-append}
+use Rattle.gitconf_state.proofs.Loading.Names.{is_line_closed, Follows, first_fits, only_line_ends, behind_item}
 use Rattle.gitconf_layout.specs.declared.format.Options.{Options}
 use Rattle.gitconf_layout.specs.declared.place.Before.{Before}
 use Rattle.gitconf_layout.specs.declared.place.Before.TheVariants.{Value, Other}

@@ -11,8 +11,8 @@ use Rattle.gitconf_text.specs.Part.{Assigned, Entry, EntryItem, Part, ItemPart, 
 use Rattle.gitconf_text.proofs.Tests.{both_true, false_not}
 use Rattle.gitconf_text.proofs.ByteLaws.{letter_no_blank}
 use Rattle.gitconf_state.specs.Writing.{OpenKey}
-use Rattle.gitconf_state.proofs.Follows.{may_follow, may_follow_key, key_skips, value_skips}
-use Rattle.gitconf_state.proofs.FittedEntry.{IsClosed}
+use Rattle.gitconf_state.proofs.Printing.Follows.{may_follow, may_follow_key, key_skips, value_skips}
+use Rattle.gitconf_state.proofs.Printing.FittedEntry.{IsClosed}
 use Rattle.gitconf_layout.specs.declared.format.Options.{Options}
 use Rattle.gitconf_layout.specs.declared.place.Before.{Before}
 use Rattle.gitconf_layout.specs.declared.place.Before.TheVariants.{Value}

@@ -12,7 +12,7 @@ use Rattle.gitconf_items.specs.EventRef.{Shown}
 use Rattle.gitconf_parse.proofs.OneDocument.{one_tokens}
 use Rattle.gitconf_state.specs.Comments.{comments_of}
 use Rattle.gitconf_state.specs.Writing.{Closed}
-use Rattle.gitconf_state.proofs.ReadsBack.{is_text}
+use Rattle.gitconf_state.proofs.Printing.ReadsBack.{is_text}
 use Rattle.gitconf_layout.specs.declared.format.Newline.{Newline}
 use Rattle.gitconf_layout.specs.declared.format.Newline.TheVariants.{Detect, Lf, CrLf}
 use Rattle.gitconf_layout.specs.declared.format.Options.{Options}

@@ -7,7 +7,7 @@ use Rattle.gitconf_text.specs.Text.{begins_line_end, is_line_end}
 use Rattle.gitconf_text.specs.Unit.{Class, LineFeed, Quote, Mark, Backslash, White, Other, class_of}
 use Rattle.gitconf_text.specs.Value.{may_follow_value}
 use Rattle.gitconf_text.proofs.Tests.{both_true}
-use Rattle.gitconf_state.proofs.Follows.{may_follow, may_follow_key, may_follow_comment, line_end_cases, line_end_follows}
+use Rattle.gitconf_state.proofs.Printing.Follows.{may_follow, may_follow_key, may_follow_comment, line_end_cases, line_end_follows}
 use Rattle.gitconf_layout.specs.Layout.{is_cr_or_lf, trimmed}
 use Rattle.gitconf_layout.proofs.SetEntries.{one_line_end}
 use Rattle.gitconf_state.specs.Writing.{Open, Closed, OpenKey, OpenKeyAndBlanks, OpenValue, OpenComment}

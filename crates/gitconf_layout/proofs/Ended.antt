@@ -14,11 +14,11 @@ use Rattle.gitconf_text.specs.Document.{Document, with_part, gathered}
 use Rattle.gitconf_text.proofs.Tests.{both_true, apart}
 use Rattle.gitconf_state.specs.Comments.{without_white_end, part_comments, comments_of}
 use Rattle.gitconf_state.specs.Writing.{Closed, OpenKey, OpenValue, OpenComment, after_blanks}
-use Rattle.gitconf_state.proofs.Follows.{may_follow, may_follow_key, line_end_follows}
-use Rattle.gitconf_state.proofs.Fitted.{Fitted, put, respelled, put_blanks, put_line_ends}
-use Rattle.gitconf_state.proofs.FittedComment.{put_comment}
-use Rattle.gitconf_state.proofs.FittedEntry.{IsClosed, put_key, put_value}
-use Rattle.gitconf_state.proofs.LoadingNames.{is_line_closed, first_fits, behind_item}
+use Rattle.gitconf_state.proofs.Printing.Follows.{may_follow, may_follow_key, line_end_follows}
+use Rattle.gitconf_state.proofs.Printing.Fitted.{Fitted, put, respelled, put_blanks, put_line_ends}
+use Rattle.gitconf_state.proofs.Printing.FittedComment.{put_comment}
+use Rattle.gitconf_state.proofs.Printing.FittedEntry.{IsClosed, put_key, put_value}
+use Rattle.gitconf_state.proofs.Loading.Names.{is_line_closed, first_fits, behind_item}
 use Rattle.gitconf_layout.specs.Layout.{trimmed, with_one_line_end}
 use Rattle.gitconf_layout.proofs.SetEntries.{one_line_end}
 use Rattle.gitconf_layout.proofs.SetValues.{begins_front, piece_ends}

@@ -11,7 +11,7 @@ use Rattle.gitconf_text.specs.Names.{is_value_name}
 use Rattle.gitconf_text.specs.Header.{Header, PlainHeader, DottedHeader, QuotedHeader, spelled_header}
 use Rattle.gitconf_text.proofs.Tests.{both_true, apart}
 use Rattle.gitconf_text.proofs.ByteLaws.{letter_name_byte}
-use Rattle.gitconf_state.proofs.FittedEntry.{IsClosed}
+use Rattle.gitconf_state.proofs.Printing.FittedEntry.{IsClosed}
 use Rattle.gitconf_layout.specs.Layout.{is_cr_or_lf, trimmed}
 use Rattle.gitconf_layout.proofs.LastBytes.{trimmed-other}
 use Rattle.gitconf_layout.proofs.SetEntries.{PieceEnd, PieceEnds, one_line_end}

@@ -12,7 +12,7 @@ use Rattle.gitconf_items.specs.EventRef.{Shown}
 use Rattle.gitconf_items.specs.ShownEvents.{shown_token}
 use Rattle.gitconf_text.proofs.Tests.{both_true}
 use Rattle.gitconf_text.proofs.ByteLaws.{letter_no_blank, letter_no_line_end, mark_no_blank, mark_no_line_end, line_end_no_blank}
-use Rattle.gitconf_state.proofs.Follows.{blank_cases}
+use Rattle.gitconf_state.proofs.Printing.Follows.{blank_cases}
 use Rattle.gitconf_layout.specs.declared.format.Indent.{Indent}
 use Rattle.gitconf_layout.specs.declared.format.Options.{Options}
 use Rattle.gitconf_layout.specs.declared.place.Before.{Before}

@@ -17,11 +17,11 @@ use Rattle.gitconf_items.specs.ShownEvents.{shown_token}
 use Rattle.gitconf_text.proofs.Tests.{both_true}
 use Rattle.gitconf_state.specs.Comments.{without_white_end, comments_of}
 use Rattle.gitconf_state.specs.Writing.{may_stand_behind, Open, Closed, OpenKey, OpenKeyAndBlanks, OpenValue, OpenComment, after_blanks, after_entry, after}
-use Rattle.gitconf_state.proofs.Follows.{may_follow, may_follow_key, blanks_follow, line_end_follows, mark_follows, letter_follows}
-use Rattle.gitconf_state.proofs.Fitted.{Fitted, put, respelled, put_blanks, put_line_ends}
-use Rattle.gitconf_state.proofs.FittedComment.{put_comment}
-use Rattle.gitconf_state.proofs.FittedEntry.{put_key, put_value}
-use Rattle.gitconf_state.proofs.LoadingNames.{Follows, first_fits, only_line_ends, behind_item}
+use Rattle.gitconf_state.proofs.Printing.Follows.{may_follow, may_follow_key, blanks_follow, line_end_follows, mark_follows, letter_follows}
+use Rattle.gitconf_state.proofs.Printing.Fitted.{Fitted, put, respelled, put_blanks, put_line_ends}
+use Rattle.gitconf_state.proofs.Printing.FittedComment.{put_comment}
+use Rattle.gitconf_state.proofs.Printing.FittedEntry.{put_key, put_value}
+use Rattle.gitconf_state.proofs.Loading.Names.{Follows, first_fits, only_line_ends, behind_item}
 use Rattle.gitconf_layout.specs.declared.format.Options.{Options}
 use Rattle.gitconf_layout.specs.declared.place.Before.{Before}
 use Rattle.gitconf_layout.specs.declared.place.Before.TheVariants.{Nothing, Value, Other}

@@ -10,8 +10,8 @@ use Rattle.gitconf_items.specs.EventRef.{Shown, ShownComment, ShownHeader, Shown
 use Rattle.gitconf_items.specs.ShownEvents.{shown_token}
 use Rattle.gitconf_state.specs.Comments.{comments_of}
 use Rattle.gitconf_state.specs.Writing.{Closed}
-use Rattle.gitconf_state.proofs.Fitted.{Fitted, respelled}
-use Rattle.gitconf_state.proofs.ReadsBack.{is_text}
+use Rattle.gitconf_state.proofs.Printing.Fitted.{Fitted, respelled}
+use Rattle.gitconf_state.proofs.Printing.ReadsBack.{is_text}
 use Rattle.gitconf_layout.specs.declared.format.Newline.{Newline}
 use Rattle.gitconf_layout.specs.declared.format.Newline.TheVariants.{Detect, Lf, CrLf}
 use Rattle.gitconf_layout.specs.declared.format.Options.{Options}

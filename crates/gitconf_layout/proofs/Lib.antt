@@ -1,6 +1,6 @@
 pub mod LastBytes
 pub mod Passes
-pub mod Rows
+pub mod Worked
 pub mod Staying
 pub mod SetHeaders
 pub mod SetEntries

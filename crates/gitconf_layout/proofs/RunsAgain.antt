@@ -4,7 +4,7 @@ use Rattle.std.specs.Prelude.{◌==◌}
 use Rattle.std.proofs.lemmas.Bool.{eqb-true}
 use Rattle.gitconf_text.specs.Text.{begins_line_end, are_line_ends, is_line_end}
 use Rattle.gitconf_text.proofs.Tests.{both_true}
-use Rattle.gitconf_state.proofs.Follows.{line_end_cases}
+use Rattle.gitconf_state.proofs.Printing.Follows.{line_end_cases}
 use Rattle.gitconf_layout.specs.declared.format.Options.{Options}
 use Rattle.gitconf_layout.specs.declared.place.Before.{Before}
 use Rattle.gitconf_layout.specs.declared.place.Before.TheVariants.{Nothing, Value, Other}

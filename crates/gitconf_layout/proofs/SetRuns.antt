@@ -9,7 +9,7 @@ use Rattle.gitconf_text.specs.Text.{begins, begins_line_end, are_line_ends, is_l
 use Rattle.gitconf_items.specs.EventRef.{Shown}
 use Rattle.gitconf_text.proofs.Tests.{both_true}
 use Rattle.gitconf_state.specs.Comments.{without_white_end}
-use Rattle.gitconf_state.proofs.Fitted.{line_ends-append}
+use Rattle.gitconf_state.proofs.Printing.Fitted.{line_ends-append}
 use Rattle.gitconf_layout.specs.declared.format.Indent.{Indent}
 use Rattle.gitconf_layout.specs.declared.format.Indent.TheVariants.{Tabs, Spaces}
 use Rattle.gitconf_layout.specs.declared.format.Options.{Options}

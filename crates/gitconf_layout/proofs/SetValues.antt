@@ -6,7 +6,7 @@ use Rattle.gitconf_text.specs.Bytes.{is_blank}
 use Rattle.gitconf_text.specs.Text.{begins, ends, is_line_end}
 use Rattle.gitconf_text.specs.Unit.{units_of, is_white}
 use Rattle.gitconf_text.specs.Value.{Piece, Value as ValueOf, spelled_value, raw_of, value_units, may_follow_value, are_paired, IsEnded, FitsValue}
-use Rattle.gitconf_state.proofs.FittedEntry.{IsClosed}
+use Rattle.gitconf_state.proofs.Printing.FittedEntry.{IsClosed}
 use Rattle.gitconf_layout.specs.declared.format.Options.{Options}
 use Rattle.gitconf_layout.proofs.SetEntries.{set_end, set_piece, set_value, gap, PieceEnd, PieceEnds}
 

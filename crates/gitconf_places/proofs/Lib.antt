@@ -1,2 +1,2 @@
 pub mod PlaceLemmas
-pub mod PlaceRows
+pub mod Worked

@@ -1,3 +1,3 @@
 pub mod Said
 pub mod Differing
-pub mod DifferenceRows
+pub mod Worked

@@ -11,7 +11,7 @@ use Rattle.gitconf_base.specs.Metadata.{Meta}
 use Rattle.gitconf_state.specs.State.{SectionState, State, section_document}
 use Rattle.gitconf_state.specs.Equality.{compared}
 use Rattle.gitconf_state.specs.Loads.{IsFullLoad, IsLoad}
-use Rattle.gitconf_state.proofs.LoadingDocument.{full_document, lossy_document}
+use Rattle.gitconf_state.proofs.Loading.Document.{full_document, lossy_document}
 use Rattle.gitconf_state.specs.Lookup.{Listed, listing, listed, is_named, named, entries_of_key, Said, said_by, said, deciding, last_value}
 
 -- what a section says of a key, if it has the name and subsection

@@ -350,7 +350,7 @@ impl Store {
     /// # Errors
     ///
     /// A write failed, or took nothing. It is not tried again, and a beginning of the text may have been written.
-    #[tactic(auto, using(gitconf_state::proofs::ReadsBack::kept_reads_back, gitconf_laws::proofs::CommentLaws::kept_comments))]
+    #[tactic(auto, using(gitconf_state::proofs::Printing::ReadsBack::kept_reads_back, gitconf_laws::proofs::CommentLaws::kept_comments))]
     pub fn write_to_filter<W: Sink, F: FnMut(&SectionRef<'_>) -> bool>(
         &self,
         out: &mut W,
@@ -386,7 +386,7 @@ impl Store {
     /// # Errors
     ///
     /// Those of [`Store::write_to_filter`].
-    #[tactic(auto, using(std::proofs::lemmas::Fn::always_returns_same, gitconf_state::proofs::ReadsBack::all_reads_back, gitconf_laws::proofs::CommentLaws::all_comments))]
+    #[tactic(auto, using(std::proofs::lemmas::Fn::always_returns_same, gitconf_state::proofs::Printing::ReadsBack::all_reads_back, gitconf_laws::proofs::CommentLaws::all_comments))]
     pub fn write_to<W: Sink>(&self, out: &mut W) -> Result<(), SinkFault>
         ensures written { Writes result (printed self.now) (W.told out.old) (W.told out.new) }
         ensures reads { IsClean self.now → Reads (printed self.now) (document_of self.now) }
@@ -402,7 +402,7 @@ impl Store {
     /// # Errors
     ///
     /// Out of memory.
-    #[tactic(auto, using(crate::proofs::ReadBack::text_reads, crate::proofs::ReadBack::text_comments))]
+    #[tactic(auto, using(crate::proofs::Texts::ReadBack::text_reads, crate::proofs::Texts::ReadBack::text_comments))]
     pub fn to_bstring(&self) -> Result<BString, NoMemory>
         ensures text { IfOk result (λ text. bstring_bytes text ≡ printed self.now) }
         ensures reads { IsClean self.now → IfOk result (λ text. Reads (bstring_bytes text) (document_of self.now)) }

@@ -7,6 +7,6 @@ pub mod Walks
 pub mod TableLemmas
 pub mod RowLemmas
 pub mod RenamingLemmas
-pub mod IndexRows
+pub mod Worked
 pub mod Woven
 pub mod WovenTables

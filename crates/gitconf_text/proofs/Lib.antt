@@ -3,10 +3,7 @@ pub mod Lists
 pub mod ByteLaws
 pub mod NamesLaws
 pub mod SectionKeysLaws
-pub mod Rows
-pub mod RefusedRows
+pub mod Worked
 pub mod ValuesPlain
 pub mod ValuesEscaped
-pub mod ValuesRows
-pub mod TypedRows
 pub mod CommentEnds

@@ -17,7 +17,7 @@ use Rattle.gitconf_state.specs.Edit.{header_bytes, made_header}
 use Rattle.gitconf_state.specs.Editors.{value_set}
 use Rattle.gitconf_state.specs.Edits.{renamed, Detached}
 use Rattle.gitconf_state.specs.State.{is_header, is_item}
-use Rattle.gitconf_state.proofs.EditItems.{made_header_is}
+use Rattle.gitconf_state.proofs.Edits.Items.{made_header_is}
 use Rattle.gitconf_items.specs.Items.{items_of}
 use Rattle.gitconf_lines.specs.declared.editor.Editor.{Editor}
 use Rattle.gitconf_lines.specs.Blanks.{given_editor, IsGiven, PutsAround}

@@ -16,8 +16,8 @@ use Rattle.gitconf_text.proofs.Tests.{both_true}
 use Rattle.gitconf_table.specs.Sections.{SectionEntry}
 use Rattle.gitconf_state.specs.Editors.{popped_entry}
 use Rattle.gitconf_state.specs.State.{HasSectionItems, is_item}
-use Rattle.gitconf_state.proofs.EditorItems.{popped_named}
-use Rattle.gitconf_state.proofs.LoadingFilters.{both_hold}
+use Rattle.gitconf_state.proofs.Edits.EditorItems.{popped_named}
+use Rattle.gitconf_state.proofs.Loading.Filters.{both_hold}
 use Rattle.gitconf_items.specs.Items.{items_of}
 use Rattle.gitconf_sections.specs.Section.{Section}
 use Rattle.gitconf_views.specs.Store.{section_state}

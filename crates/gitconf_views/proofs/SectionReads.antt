@@ -4,7 +4,7 @@ use Rattle.gitconf_text.specs.Document.{Reads}
 use Rattle.gitconf_state.specs.State.{SectionState, HasSectionItems, section_document}
 use Rattle.gitconf_state.specs.Clean.{IsCleanSection}
 use Rattle.gitconf_state.specs.Printing.{printed_section}
-use Rattle.gitconf_state.proofs.ReadsBack.{sections_read_back}
+use Rattle.gitconf_state.proofs.Printing.ReadsBack.{sections_read_back}
 
 -- a section alone, whatever is held behind it
 pub section_reads : (s : SectionState) → HasSectionItems (record s { held = [] }) → IsCleanSection (record s { held = [] })

@@ -9,7 +9,7 @@ use Rattle.gitconf_state.specs.State.{SectionState, State}
 use Rattle.gitconf_state.specs.LineEnds.{file_line_end}
 use Rattle.gitconf_state.specs.Printing.{unless, ends_with_line, held_items, section_parts, printed_section, sections_parts, behind_front, printed_kept, printed_items}
 use Rattle.gitconf_state.specs.Writing.{Closed}
-use Rattle.gitconf_state.proofs.Written.{items_written}
+use Rattle.gitconf_state.proofs.Printing.Written.{items_written}
 use Rattle.gitconf_write.specs.Texts.{items_text}
 use Rattle.gitconf_write.proofs.Left.{IsLeft, left_all, left_first, left_fault}
 use Rattle.gitconf_write.proofs.Printed.{spelled-items, printed_section-is, held_items-text, ends_with_line-both}

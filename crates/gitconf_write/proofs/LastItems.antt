@@ -8,7 +8,7 @@ use Rattle.gitconf_text.specs.Part as parts
 use Rattle.gitconf_items.specs.declared.items.Item.{Item}
 use Rattle.gitconf_items.specs.Items.{item_of, items_of}
 use Rattle.gitconf_state.specs.LineEnds.{holds, ends_line}
-use Rattle.gitconf_state.proofs.LastLines.{ends_with, ends_line-is}
+use Rattle.gitconf_state.proofs.Printing.LastLines.{ends_with, ends_line-is}
 
 -- after items that end with a line ending, or don't
 abbrev pub ended_behind : (line_end : List ℕ) → (ended : Bool) → parts.Item → Bool

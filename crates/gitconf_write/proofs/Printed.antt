@@ -8,7 +8,7 @@ use Rattle.gitconf_text.specs.Part.{Item, ItemPart, spelled_item, spelled_part, 
 use Rattle.gitconf_state.specs.State.{SectionState}
 use Rattle.gitconf_state.specs.LineEnds.{section_line_end, ends_line}
 use Rattle.gitconf_state.specs.Printing.{printed_items, unless, behind_header, printed_body, held_items, ends_with_line, printed_section}
-use Rattle.gitconf_state.proofs.Written.{items_written}
+use Rattle.gitconf_state.proofs.Printing.Written.{items_written}
 use Rattle.gitconf_write.specs.LineEnds.{both_end_line}
 use Rattle.gitconf_write.specs.Texts.{section_text, held_text}
 

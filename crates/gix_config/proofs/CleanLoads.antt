@@ -11,7 +11,7 @@ use Rattle.gitconf_state.specs.Edit.{made_header, with_used}
 use Rattle.gitconf_state.specs.Edits.{apply, has_blank_leading, NewSection, Push}
 use Rattle.gitconf_state.specs.Editors.{Editor}
 use Rattle.gitconf_state.specs.State.{entries_of, SectionState, State}
-use Rattle.gitconf_state.proofs.EditsKeep.{apply_clean}
+use Rattle.gitconf_state.proofs.Edits.Keep.{apply_clean}
 use Rattle.gitconf_expansion.specs.Expansion.{Asks, Ended, On}
 use Rattle.gitconf_expansion.specs.Laws.{AreHeaded}
 use Rattle.gitconf_expansion.proofs.States.{headed_stays, IsHeaded}

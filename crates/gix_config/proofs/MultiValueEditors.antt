@@ -7,7 +7,7 @@ use Rattle.gitconf_finding.specs.declared.existing.Error.{Error}
 use Rattle.gitconf_finding.specs.declared.existing.Error.TheVariants.{Memory}
 use Rattle.gitconf_store.specs.Several.{moved_up}
 use Rattle.gitconf_finding.specs.ValuePlaces.{ArePlaces}
-use Rattle.gitconf_store.proofs.Several.{other_memory}
+use Rattle.gitconf_store.proofs.Edits.Several.{other_memory}
 use Rattle.gix_config.specs.MultiValueEditors.{AreFoundTargets, AreTargets}
 use Rattle.gix_config.specs.Targeted.{Targeted}
 

@@ -11,8 +11,8 @@ use Rattle.gitconf_state.specs.Editors.{Editor, editor_of}
 use Rattle.gitconf_state.specs.LineEnds.{file_line_end}
 use Rattle.gitconf_state.specs.Lookup.{is_named, listing}
 use Rattle.gitconf_state.specs.State.{HasItems, HasSectionItems, SectionState, State, is_item}
-use Rattle.gitconf_state.proofs.EditItems.{are_blanks, file_line_end_is, one_line_end, spacing_blank, spacing_fits}
-use Rattle.gitconf_state.proofs.EditLists.{filter_both}
+use Rattle.gitconf_state.proofs.Edits.Items.{are_blanks, file_line_end_is, one_line_end, spacing_blank, spacing_fits}
+use Rattle.gitconf_state.proofs.Edits.Lists.{filter_both}
 use Rattle.gitconf_finding.specs.Picks.{picked}
 use Rattle.gitconf_finding.specs.ValuePlaces.{editor_of_numbered}
 use Rattle.gix_config.specs.SectionEditors.{with_leading}

@@ -7,7 +7,7 @@ use Rattle.gitconf_state.specs.Edit.{with_used}
 use Rattle.gitconf_state.specs.Edits.{Edit, SetValue, apply, change_items, change_numbered, numbered}
 use Rattle.gitconf_state.specs.Editors.{Editor}
 use Rattle.gitconf_state.specs.State.{SectionState, State}
-use Rattle.gitconf_state.proofs.EditLists.{last_at, last_passing}
+use Rattle.gitconf_state.proofs.Edits.Lists.{last_at, last_passing}
 use Rattle.gitconf_views.proofs.AloneEdits.{is_three, no_six, of_three, place_known}
 use Rattle.gitconf_store.specs.Edits.{UsedGrows}
 use Rattle.gitconf_store.specs.Editors.{PutsIn}

@@ -11,7 +11,7 @@ use Rattle.gitconf_state.specs.LineEnds.{file_line_end}
 use Rattle.gitconf_state.specs.Lookup as states
 use Rattle.gitconf_state.specs.Lookup.{Listed, Miss, is_named, listed, listing, miss_of}
 use Rattle.gitconf_state.specs.State.{SectionState, State}
-use Rattle.gitconf_state.proofs.EditLists.{filter_both, filter_none}
+use Rattle.gitconf_state.proofs.Edits.Lists.{filter_both, filter_none}
 use Rattle.gitconf_finding.specs.declared.existing.Error.{Error as Existing}
 use Rattle.gitconf_finding.specs.declared.existing.Error.TheVariants.{SectionMissing, SubSectionMissing, KeyMissing, ValueName, Memory}
 use Rattle.gitconf_finding.specs.Misses.{IsExisting, missing}
@@ -19,7 +19,7 @@ use Rattle.gitconf_finding.specs.Picks.{picked, IsMissing}
 use Rattle.gitconf_finding.specs.SomeSections.{AreSome, WithSome}
 use Rattle.gix_config.specs.declared.file.section_mut.making.Error.{Error}
 use Rattle.gix_config.specs.declared.file.section_mut.making.Error.TheVariants.{NonePasses, Lookup}
-use Rattle.gitconf_store.proofs.Numbering.{numbered_has}
+use Rattle.gitconf_store.proofs.Places.Numbering.{numbered_has}
 use Rattle.gix_config.specs.Edited.{has_number}
 use Rattle.gix_config.specs.SectionEditors.{blanks_at, editor_at, IsFoundOrMadeOf, IsNumbered, IsPassing, IsPickedOf}
 

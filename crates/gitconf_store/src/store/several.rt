@@ -78,7 +78,7 @@ impl Store {
     ///
     /// Places of one section that are next to each other in the list, each before the next one in the section, are removed at once: the
     /// section is found in constant time, and walked over once. So for places in order each section that they are in is walked over once.
-    #[tactic(auto, using(crate::proofs::LeavingOut::leaving))]
+    #[tactic(auto, using(crate::proofs::Edits::LeavingOut::leaving))]
     pub fn delete_entries_at(&mut self, places: &[(SectionId, usize)])
         ensures { self.new ≡ all_deleted places.now self.old }
     {

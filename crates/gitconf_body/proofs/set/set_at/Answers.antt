@@ -2,7 +2,7 @@ use Rattle.std.proofs.Common.{rules, arith, ◌≡◌, false, ap, sym, Some, ◌
 use Rattle.std.specs.List.{list_any}
 use Rattle.gitconf_items.specs.Items.{item_of, items_of}
 use Rattle.gitconf_state.specs.Edit.{is_entry_of, item_raw}
-use Rattle.gitconf_state.proofs.EditPlaces.{old_value_at, old_value_none}
+use Rattle.gitconf_state.proofs.Edits.Places.{old_value_at, old_value_none}
 use Rattle.gitconf_lines.specs.Editors.{editor_in}
 use Rattle.gitconf_lines.specs.Places.{IsLastAt}
 use Rattle.gitconf_lines.proofs.Buffers.{grows_ok, grows_err}

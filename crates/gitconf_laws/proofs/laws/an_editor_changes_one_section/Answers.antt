@@ -1,4 +1,4 @@
-use Rattle.gitconf_state.proofs.EditNumbers.{edited_one}
+use Rattle.gitconf_state.proofs.Edits.Numbers.{edited_one}
 use Rattle.gitconf_laws.proofs.laws.an_editor_changes_one_section.Goals as goal
 
 pub returns : goal.returns

@@ -1,4 +1,4 @@
-use Rattle.gitconf_state.proofs.ExactPrinting as exact
+use Rattle.gitconf_state.proofs.Exact.Printing as exact
 use Rattle.gitconf_laws.proofs.laws.byte_for_byte.Goals as goal
 
 pub returns : goal.returns

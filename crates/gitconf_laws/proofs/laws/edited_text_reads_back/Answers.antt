@@ -1,8 +1,8 @@
 use Rattle.gitconf_state.specs.Edits.{apply_all}
-use Rattle.gitconf_state.proofs.ReadsBack.{all_reads_back, kept_reads_back, sections_read_back}
+use Rattle.gitconf_state.proofs.Printing.ReadsBack.{all_reads_back, kept_reads_back, sections_read_back}
 use Rattle.gitconf_laws.proofs.CommentLaws.{kept_comments}
-use Rattle.gitconf_state.proofs.EditsKeep.{apply_all_items, apply_all_clean}
-use Rattle.gitconf_state.proofs.LoadingClean.{full_has_items, full_is_clean}
+use Rattle.gitconf_state.proofs.Edits.Keep.{apply_all_items, apply_all_clean}
+use Rattle.gitconf_state.proofs.Loading.Clean.{full_has_items, full_is_clean}
 use Rattle.gitconf_laws.proofs.laws.edited_text_reads_back.Goals as goal
 
 pub returns-clause-state : goal.returns-clause-state

@@ -1,5 +1,5 @@
-use Rattle.gitconf_state.proofs.EditsKeep.{apply_items, apply_clean, apply_all_items, apply_all_clean}
-use Rattle.gitconf_state.proofs.EditNumbers.{apply_all_numbers}
+use Rattle.gitconf_state.proofs.Edits.Keep.{apply_items, apply_clean, apply_all_items, apply_all_clean}
+use Rattle.gitconf_state.proofs.Edits.Numbers.{apply_all_numbers}
 use Rattle.gitconf_laws.proofs.laws.edits_keep_states.Goals as goal
 
 pub returns-clause-items : goal.returns-clause-items

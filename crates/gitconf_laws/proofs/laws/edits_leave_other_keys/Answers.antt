@@ -1,4 +1,4 @@
-use Rattle.gitconf_state.proofs.EditLeaves.{leaves}
+use Rattle.gitconf_state.proofs.Edits.Leaves.{leaves}
 use Rattle.gitconf_laws.proofs.laws.edits_leave_other_keys.Goals as goal
 
 pub returns : goal.returns

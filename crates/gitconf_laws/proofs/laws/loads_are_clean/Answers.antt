@@ -1,5 +1,5 @@
-use Rattle.gitconf_state.proofs.LoadingClean.{full_has_items, full_is_clean, kept_has_items, lossy_is_clean, part_load_has_items, part_load_is_clean}
-use Rattle.gitconf_state.proofs.LoadingDocument as document
+use Rattle.gitconf_state.proofs.Loading.Clean.{full_has_items, full_is_clean, kept_has_items, lossy_is_clean, part_load_has_items, part_load_is_clean}
+use Rattle.gitconf_state.proofs.Loading.Document as document
 use Rattle.gitconf_laws.proofs.laws.loads_are_clean.Goals as goal
 
 pub returns-clause-full : goal.returns-clause-full

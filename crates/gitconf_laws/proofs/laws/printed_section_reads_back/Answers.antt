@@ -1,4 +1,4 @@
-use Rattle.gitconf_state.proofs.ReadsBack.{sections_read_back}
+use Rattle.gitconf_state.proofs.Printing.ReadsBack.{sections_read_back}
 use Rattle.gitconf_laws.proofs.laws.printed_section_reads_back.Goals as goal
 
 pub returns : goal.returns

@@ -1,4 +1,4 @@
-use Rattle.gitconf_state.proofs.ReadsBack.{kept_reads_back, all_reads_back}
+use Rattle.gitconf_state.proofs.Printing.ReadsBack.{kept_reads_back, all_reads_back}
 use Rattle.gitconf_laws.proofs.laws.printed_text_reads_back.Goals as goal
 
 pub returns-clause-kept : goal.returns-clause-kept

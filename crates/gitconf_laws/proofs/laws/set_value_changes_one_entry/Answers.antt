@@ -1,5 +1,5 @@
-use Rattle.gitconf_state.proofs.EditPlaces.{set_value_new}
-use Rattle.gitconf_state.proofs.EditValues.{set_value_entry}
+use Rattle.gitconf_state.proofs.Edits.Places.{set_value_new}
+use Rattle.gitconf_state.proofs.Edits.Values.{set_value_entry}
 use Rattle.gitconf_laws.proofs.laws.set_value_changes_one_entry.Goals as goal
 
 pub returns-clause-found : goal.returns-clause-found

@@ -1,5 +1,5 @@
 use Rattle.std.proofs.Common.{ap, refl}
-use Rattle.gitconf_state.proofs.EditPlaces.{set_raw_value_file, set_raw_value_at, set_raw_value_new}
+use Rattle.gitconf_state.proofs.Edits.Places.{set_raw_value_file, set_raw_value_at, set_raw_value_new}
 use Rattle.gitconf_laws.proofs.laws.set_value_changes_one_section.Goals as goal
 
 pub returns-clause-file : goal.returns-clause-file

@@ -1,5 +1,5 @@
 use Rattle.std.proofs.Common.{true, refl}
-use Rattle.gitconf_state.proofs.EditValues as values
+use Rattle.gitconf_state.proofs.Edits.Values as values
 use Rattle.gitconf_laws.proofs.laws.set_value_is_found.Goals as goal
 
 pub returns-clause-found : goal.returns-clause-found

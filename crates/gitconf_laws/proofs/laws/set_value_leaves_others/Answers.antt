@@ -1,4 +1,4 @@
-use Rattle.gitconf_state.proofs.EditOthers.{set_value_leaves_keys, set_value_leaves_sections}
+use Rattle.gitconf_state.proofs.Edits.Others.{set_value_leaves_keys, set_value_leaves_sections}
 use Rattle.gitconf_laws.proofs.laws.set_value_leaves_others.Goals as goal
 
 pub returns-clause-keys : goal.returns-clause-keys

@@ -1,5 +1,5 @@
 use Rattle.std.proofs.Common.{refl}
-use Rattle.gitconf_state.proofs.EditUsed.{apply_all_used, are_edits_used}
+use Rattle.gitconf_state.proofs.Edits.Used.{apply_all_used, are_edits_used}
 use Rattle.gitconf_laws.proofs.laws.used_bytes_are_not_asked.Goals as goal
 
 pub returns-clause-edits : goal.returns-clause-edits

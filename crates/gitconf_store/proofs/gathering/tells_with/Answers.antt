@@ -1,7 +1,7 @@
 use Rattle.std.proofs.Common.{ap, ◌∙◌}
 use Rattle.std.specs.Prelude.{is_some}
 use Rattle.gitconf_text.specs.LineEnds.{bytes_of_line_end}
-use Rattle.gitconf_store.proofs.Gathered.{some_made}
+use Rattle.gitconf_store.proofs.Files.Gathered.{some_made}
 use Rattle.gitconf_store.proofs.gathering.tells_with.Goals as goal
 
 pub returns-else-told : goal.returns-else-told

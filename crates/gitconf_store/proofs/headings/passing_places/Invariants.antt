@@ -6,7 +6,7 @@ use Rattle.gitconf_table.specs.Sections.{SectionEntry, is_named}
 use Rattle.gitconf_sections.specs.Walks.{named_left}
 use Rattle.gitconf_sections.specs.Section.{Section}
 use Rattle.gitconf_store.specs.Renamings.{marked_places}
-use Rattle.gitconf_store.proofs.PassingPlaces.{IsWalked, walked}
+use Rattle.gitconf_store.proofs.Places.PassingPlaces.{IsWalked, walked}
 use Rattle.gitconf_store.proofs.headings.passing_places.Given as goal
 
 -- the sections before those that are left were walked by, and the places of those that pass told

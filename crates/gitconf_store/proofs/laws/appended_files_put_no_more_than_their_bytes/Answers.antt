@@ -2,7 +2,7 @@ use Rattle.std.proofs.Common.{arith}
 use Rattle.gitconf_state.specs.Edits.{between}
 use Rattle.gitconf_state.specs.LineEnds.{file_line_end}
 use Rattle.gitconf_store.specs.Appends.{items_before}
-use Rattle.gitconf_store.proofs.AppendedFiles.{line_bounded}
+use Rattle.gitconf_store.proofs.Files.AppendedFiles.{line_bounded}
 use Rattle.gitconf_store.proofs.laws.appended_files_put_no_more_than_their_bytes.Goals as goal
 
 pub returns : goal.returns

@@ -1,4 +1,4 @@
-use Rattle.gitconf_store.proofs.Deleting.{others_left}
+use Rattle.gitconf_store.proofs.Edits.Deleting.{others_left}
 use Rattle.gitconf_store.proofs.laws.deletions_leave_other_values.Goals as goal
 
 pub returns : goal.returns

@@ -1,6 +1,6 @@
 use Rattle.gitconf_text.specs.Header.{spelled_header}
 use Rattle.gitconf_state.specs.Edit.{header_bytes, is_target, made_header}
-use Rattle.gitconf_store.proofs.HeaderBytes.{header_tokens, headers_tokens}
+use Rattle.gitconf_store.proofs.Headers.HeaderBytes.{header_tokens, headers_tokens}
 use Rattle.gitconf_store.proofs.laws.headers_put_no_more_than_their_tokens.Goals as goal
 
 pub returns-clause-one : goal.returns-clause-one

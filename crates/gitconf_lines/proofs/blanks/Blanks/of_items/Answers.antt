@@ -1,7 +1,7 @@
 use Rattle.std.proofs.Common.{◌≡◌, true, ap, sym, subst, ◌∙◌}
 use Rattle.std.specs.List.{list_all}
 use Rattle.gitconf_text.specs.Bytes.{is_blank}
-use Rattle.gitconf_state.proofs.EditItems.{spacing_fits}
+use Rattle.gitconf_state.proofs.Edits.Items.{spacing_fits}
 use Rattle.gitconf_items.specs.Items.{items_of}
 use Rattle.gitconf_lines.proofs.blanks.Blanks.of_items.Goals as goal
 

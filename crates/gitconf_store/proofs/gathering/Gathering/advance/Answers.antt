@@ -2,7 +2,7 @@ use Rattle.std.proofs.Common.{◌<◌, length, ap, sym, subst, ◌∙◌}
 use Rattle.gitconf_state.specs.Including.{visited}
 use Rattle.gitconf_views.specs.Views.{shown}
 use Rattle.gitconf_store.specs.Gathering.{Gathered}
-use Rattle.gitconf_store.proofs.Gathered.{rest_then, some_left, visited_fits, visited_state}
+use Rattle.gitconf_store.proofs.Files.Gathered.{rest_then, some_left, visited_fits, visited_state}
 use Rattle.gitconf_store.proofs.gathering.Gathering.advance.Goals as goal
 
 pub invariant_of-self : goal.invariant_of-self

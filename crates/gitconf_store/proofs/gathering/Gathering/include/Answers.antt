@@ -5,9 +5,9 @@ use Rattle.gitconf_state.specs.Including.{spliced, whole}
 use Rattle.gitconf_state.specs.State.{State}
 use Rattle.gitconf_store.specs.Appends.{included}
 use Rattle.gitconf_store.specs.Gathering.{gathered, Gathered, GatheringFits}
-use Rattle.gitconf_store.proofs.AppendedFiles.{not_memory, not_refused}
-use Rattle.gitconf_store.proofs.Gathered.{included_fits, included_state, long, room_is}
-use Rattle.gitconf_store.proofs.GatheredLists.{run}
+use Rattle.gitconf_store.proofs.Files.AppendedFiles.{not_memory, not_refused}
+use Rattle.gitconf_store.proofs.Files.Gathered.{included_fits, included_state, long, room_is}
+use Rattle.gitconf_store.proofs.Files.GatheredLists.{run}
 use Rattle.gitconf_store.proofs.gathering.Gathering.include.Goals as goal
 
 pub returns-in_err-check_put-clause-too_large : goal.returns-in_err-check_put-clause-too_large

@@ -2,7 +2,7 @@ use Rattle.std.proofs.Common.{◌-◌, length, sym, subst, ◌∙◌}
 use Rattle.gitconf_table.specs.Runs.{woven, AreRuns}
 use Rattle.gitconf_state.specs.Including.{whole, with_sections}
 use Rattle.gitconf_store.specs.Gathering.{Gathered}
-use Rattle.gitconf_store.proofs.GatheredLists.{runs_later, whole_woven}
+use Rattle.gitconf_store.proofs.Files.GatheredLists.{runs_later, whole_woven}
 use Rattle.gitconf_store.proofs.gathering.Gathering.into_store.Goals as goal
 
 pub weave-requires-clause-runs : goal.weave-requires-clause-runs

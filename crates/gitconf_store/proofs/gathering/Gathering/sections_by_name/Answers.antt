@@ -3,8 +3,8 @@ use Rattle.std.specs.List.{list_any}
 use Rattle.gitconf_finding.specs.Walks.{with_name}
 use Rattle.gitconf_state.specs.Lookup.{has_name, listing}
 use Rattle.gitconf_store.specs.Gathering.{Gathered}
-use Rattle.gitconf_store.proofs.Gathered.{if_some}
-use Rattle.gitconf_store.proofs.GatheredLists.{any_kept}
+use Rattle.gitconf_store.proofs.Files.Gathered.{if_some}
+use Rattle.gitconf_store.proofs.Files.GatheredLists.{any_kept}
 use Rattle.gitconf_store.proofs.gathering.Gathering.sections_by_name.Goals as goal
 
 pub returns-clause-none : goal.returns-clause-none

@@ -7,9 +7,9 @@ use Rattle.gitconf_sections.specs.Section.{Section, with_items}
 use Rattle.gitconf_sections.proofs.Edits.{there_is}
 use Rattle.gitconf_sections.specs.LeavingOut.{without_all}
 use Rattle.gitconf_views.specs.Store.{state_of, StoreFits}
-use Rattle.gitconf_store.proofs.Editing.{items_within_at, missing_stays, numbered_kept, numbered_view}
-use Rattle.gitconf_store.proofs.LeavingOut.{left_shown, left_within, run_deleted, run_keeps}
-use Rattle.gitconf_store.proofs.Setting.{HasOthers}
+use Rattle.gitconf_store.proofs.Edits.Editing.{items_within_at, missing_stays, numbered_kept, numbered_view}
+use Rattle.gitconf_store.proofs.Edits.LeavingOut.{left_shown, left_within, run_deleted, run_keeps}
+use Rattle.gitconf_store.proofs.Edits.Setting.{HasOthers}
 use Rattle.gitconf_store.proofs.store.Store.delete_run.Goals as goal
 
 pub returns-in_default : goal.returns-in_default

@@ -1,5 +1,5 @@
 use Rattle.std.proofs.lemmas.Result.{IfOk-weaker}
-use Rattle.gitconf_store.proofs.Parsed.{text_loaded}
+use Rattle.gitconf_store.proofs.Texts.Parsed.{text_loaded}
 use Rattle.gitconf_store.proofs.store.Store.from_text.Goals as goal
 
 pub returns-clause-document : goal.returns-clause-document

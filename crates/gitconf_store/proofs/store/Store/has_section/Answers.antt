@@ -1,5 +1,5 @@
 use Rattle.gitconf_sections.specs.Walks.{shown_section, with_name_left}
-use Rattle.gitconf_store.proofs.NamedSections.{any_with_name}
+use Rattle.gitconf_store.proofs.Places.NamedSections.{any_with_name}
 use Rattle.gitconf_store.proofs.store.Store.has_section.Goals as goal
 
 pub returns : goal.returns

@@ -1,6 +1,6 @@
 use Rattle.std.specs.Option.{option_copied}
 use Rattle.gitconf_sections.specs.Walks.{named_left, shown_section}
-use Rattle.gitconf_store.proofs.NamedSections.{any_named}
+use Rattle.gitconf_store.proofs.Places.NamedSections.{any_named}
 use Rattle.gitconf_store.proofs.store.Store.has_subsection.Goals as goal
 
 pub returns : goal.returns

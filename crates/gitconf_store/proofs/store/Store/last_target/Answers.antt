@@ -8,7 +8,7 @@ use Rattle.gitconf_finding.specs.SomeSections.{AreSome}
 use Rattle.gitconf_views.specs.Store.{section_state}
 use Rattle.gitconf_views.specs.Views.{shown}
 use Rattle.gitconf_finding.specs.Walks.{named_left, passing}
-use Rattle.gitconf_store.proofs.Targets.{target_missing, target_named, target_placed}
+use Rattle.gitconf_store.proofs.Places.Targets.{target_missing, target_named, target_placed}
 use Rattle.gitconf_store.proofs.store.Store.last_target.Goals as goal
 
 pub returns-in_default-clause-exact : goal.returns-in_default-clause-exact

@@ -1,7 +1,7 @@
 use Rattle.std.proofs.Common.{ap, ◌∙◌}
 use Rattle.gitconf_text.specs.LineEnds.{bytes_of_line_end}
 use Rattle.gitconf_store.specs.Appends.{kept_at, line_at}
-use Rattle.gitconf_store.proofs.AppendedFiles.{line_told}
+use Rattle.gitconf_store.proofs.Files.AppendedFiles.{line_told}
 use Rattle.gitconf_store.proofs.store.Store.line_at.Goals as goal
 
 pub returns-then-parts_lines-clause-bytes : goal.returns-then-parts_lines-clause-bytes

@@ -5,7 +5,7 @@ use Rattle.gitconf_table.specs.Sections.{place_of}
 use Rattle.gitconf_table.proofs.SectionLemmas.{number_at-place, section_edited}
 use Rattle.gitconf_state.specs.Editors.{popped, popped_entry}
 use Rattle.gitconf_state.specs.Edits.{Entry, Pop}
-use Rattle.gitconf_state.proofs.EditsKeep.{apply_items}
+use Rattle.gitconf_state.proofs.Edits.Keep.{apply_items}
 use Rattle.gitconf_items.specs.Items.{items_of}
 use Rattle.gitconf_lines.specs.Places.{IsLastAt}
 use Rattle.gitconf_lines.specs.Spacings.{is_stored_entry}
@@ -14,10 +14,10 @@ use Rattle.gitconf_lines.proofs.Buffers.{same_extended}
 use Rattle.gitconf_sections.specs.Section.{Section, with_items, viewed}
 use Rattle.gitconf_sections.proofs.Edits.{is_taken, taken_within}
 use Rattle.gitconf_views.specs.Store.{state_of, StoreFits}
-use Rattle.gitconf_store.proofs.Editing.{items_within_at, missing_stays, missing_told, numbered_kept, numbered_told, numbered_view, as_err, entry_inside, same_items}
+use Rattle.gitconf_store.proofs.Edits.Editing.{items_within_at, missing_stays, missing_told, numbered_kept, numbered_told, numbered_view, as_err, entry_inside, same_items}
 use Rattle.gitconf_views.proofs.PoppedKeys.{items_at, key_named}
 use Rattle.gitconf_views.proofs.Outcomes.{either_way}
-use Rattle.gitconf_store.proofs.Setting.{HasOthers, kept_view}
+use Rattle.gitconf_store.proofs.Edits.Setting.{HasOthers, kept_view}
 use Rattle.gitconf_store.proofs.store.Store.pop_entry.Goals as goal
 
 pub returns-in_default-clause-ok : goal.returns-in_default-clause-ok

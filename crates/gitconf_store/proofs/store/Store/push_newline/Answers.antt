@@ -4,15 +4,15 @@ use Rattle.gitconf_table.proofs.SectionLemmas.{number_at-place}
 use Rattle.gitconf_state.specs.Edit.{with_used}
 use Rattle.gitconf_state.specs.Editors.{line_end_pushed}
 use Rattle.gitconf_state.specs.Edits.{PushLineEnd}
-use Rattle.gitconf_state.proofs.EditsKeep.{apply_items}
+use Rattle.gitconf_state.proofs.Edits.Keep.{apply_items}
 use Rattle.gitconf_text.specs.LineEnds.{bytes_of_line_end}
 use Rattle.gitconf_sections.specs.Section.{Section, with_items}
 use Rattle.gitconf_sections.proofs.Edits.{is_taken, taken_within}
 use Rattle.gitconf_store.specs.Editors.{given_editor, PutsIn}
 use Rattle.gitconf_views.specs.Store.{state_of, StoreFits}
-use Rattle.gitconf_store.proofs.Editing.{items_within_at, missing_stays, numbered_kept, numbered_view, puts_at, puts_none, puts_same, used_memory, used_refused}
+use Rattle.gitconf_store.proofs.Edits.Editing.{items_within_at, missing_stays, numbered_kept, numbered_view, puts_at, puts_none, puts_same, used_memory, used_refused}
 use Rattle.gitconf_views.proofs.Outcomes.{on_ok, on_err, either_way}
-use Rattle.gitconf_store.proofs.Setting.{HasOthers, kept_view}
+use Rattle.gitconf_store.proofs.Edits.Setting.{HasOthers, kept_view}
 use Rattle.std.specs.Prelude.{IsErrOf}
 use Rattle.gitconf_store.proofs.store.Store.push_newline.Goals as goal
 

@@ -6,9 +6,9 @@ use Rattle.gitconf_table.proofs.SectionLemmas.{number_at-place}
 use Rattle.gitconf_state.specs.Edit.{is_entry_of, old_value}
 use Rattle.gitconf_state.specs.Editors.{removed}
 use Rattle.gitconf_state.specs.Edits.{Raw, Remove}
-use Rattle.gitconf_state.proofs.EditsKeep.{apply_items}
+use Rattle.gitconf_state.proofs.Edits.Keep.{apply_items}
 use Rattle.gitconf_items.specs.Items.{item_of, items_of}
-use Rattle.gitconf_state.proofs.EditPlaces.{old_value_none}
+use Rattle.gitconf_state.proofs.Edits.Places.{old_value_none}
 use Rattle.gitconf_lines.specs.Places.{IsLastAt}
 use Rattle.gitconf_lines.proofs.Places.{any_shown}
 use Rattle.gitconf_body.proofs.Changing.{place_read}
@@ -17,9 +17,9 @@ use Rattle.gitconf_lines.proofs.Buffers.{same_extended}
 use Rattle.gitconf_sections.specs.Section.{Section, with_items, viewed}
 use Rattle.gitconf_sections.proofs.Edits.{is_taken, taken_within}
 use Rattle.gitconf_views.specs.Store.{state_of, StoreFits}
-use Rattle.gitconf_store.proofs.Editing.{unchanged_view, items_within_at, missing_stays, missing_told, numbered_kept, numbered_told, numbered_view, as_err, raw_inside, last_within, same_items}
+use Rattle.gitconf_store.proofs.Edits.Editing.{unchanged_view, items_within_at, missing_stays, missing_told, numbered_kept, numbered_told, numbered_view, as_err, raw_inside, last_within, same_items}
 use Rattle.gitconf_views.proofs.Outcomes.{either_way}
-use Rattle.gitconf_store.proofs.Setting.{HasOthers, kept_view}
+use Rattle.gitconf_store.proofs.Edits.Setting.{HasOthers, kept_view}
 use Rattle.gitconf_store.proofs.store.Store.remove_entry.Goals as goal
 
 pub returns-in_default-clause-ok : goal.returns-in_default-clause-ok

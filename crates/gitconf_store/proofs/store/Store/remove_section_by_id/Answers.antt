@@ -1,7 +1,7 @@
 use Rattle.std.proofs.Common.{ap, sym, ◌∙◌}
 use Rattle.gitconf_state.specs.Edits.{without_numbered}
 use Rattle.gitconf_views.specs.Views.{shown}
-use Rattle.gitconf_store.proofs.Numbering.{numbered_has, taken_some, without_none}
+use Rattle.gitconf_store.proofs.Places.Numbering.{numbered_has, taken_some, without_none}
 use Rattle.gitconf_store.proofs.store.Store.remove_section_by_id.Goals as goal
 
 pub returns-in_ok-section-in-Some-clause-taken : goal.returns-in_ok-section-in-Some-clause-taken

@@ -7,7 +7,7 @@ use Rattle.gitconf_store.specs.Removals.{IsTakenOut, without_section}
 use Rattle.gitconf_finding.specs.SomeSections.{AreSome}
 use Rattle.gitconf_views.specs.Views.{shown}
 use Rattle.gitconf_finding.specs.Walks.{passing}
-use Rattle.gitconf_store.proofs.Numbering.{named_out, taken_none, taken_refused, taken_some}
+use Rattle.gitconf_store.proofs.Places.Numbering.{named_out, taken_none, taken_refused, taken_some}
 use Rattle.gitconf_finding.proofs.SomeSections.{with_some_named}
 use Rattle.gitconf_store.proofs.store.Store.remove_section_filter.Goals as goal
 

@@ -7,7 +7,7 @@ use Rattle.gitconf_state.specs.Edit.{with_used}
 use Rattle.gitconf_state.specs.Edits.{numbered, renamed}
 use Rattle.gitconf_state.specs.State.{State}
 use Rattle.gitconf_views.specs.Store.{section_state}
-use Rattle.gitconf_store.proofs.Renaming.{is_numbered, marks_of, numbered_renamed, one_is, one_place, unnumbered, unnumbered_stays}
+use Rattle.gitconf_store.proofs.Headers.Renaming.{is_numbered, marks_of, numbered_renamed, one_is, one_place, unnumbered, unnumbered_stays}
 use Rattle.gitconf_store.proofs.store.Store.rename.Goals as goal
 
 pub returns-in_default-clause-ok : goal.returns-in_default-clause-ok

@@ -4,7 +4,7 @@ use Rattle.gitconf_state.specs.Edit.{is_target}
 use Rattle.gitconf_state.specs.Lookup.{is_named, listing}
 use Rattle.gitconf_state.specs.State.{SectionState}
 use Rattle.gitconf_store.specs.RenameErrors.{of_lookup, of_span}
-use Rattle.gitconf_store.proofs.RenamingAll.{all_marks, header_refused, is_done, key_missing, memory_wanting, names_missing, no_passing, no_places, only_memory, some_marked, some_passes, target_found}
+use Rattle.gitconf_store.proofs.Headers.RenamingAll.{all_marks, header_refused, is_done, key_missing, memory_wanting, names_missing, no_passing, no_places, only_memory, some_marked, some_passes, target_found}
 use Rattle.gitconf_store.proofs.store.Store.rename_section_filter.Goals as goal
 
 pub returns-in_err-check_named-clause-exact : goal.returns-in_err-check_named-clause-exact

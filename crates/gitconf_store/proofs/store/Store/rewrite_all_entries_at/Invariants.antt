@@ -1,5 +1,5 @@
 use Rattle.std.proofs.Common.{map, length}
-use Rattle.gitconf_store.proofs.Several.{IsUnderWay}
+use Rattle.gitconf_store.proofs.Edits.Several.{IsUnderWay}
 use Rattle.gitconf_store.proofs.store.Store.rewrite_all_entries_at.Given as goal
 
 -- the first entries have the value

@@ -1,5 +1,5 @@
 use Rattle.std.proofs.Common.{drop, map}
-use Rattle.gitconf_store.proofs.Several.{IsUnderWay}
+use Rattle.gitconf_store.proofs.Edits.Several.{IsUnderWay}
 use Rattle.gitconf_store.proofs.store.Store.rewrite_entries_at.Given as goal
 
 -- the first entries have their values

@@ -3,7 +3,7 @@ use Rattle.std.specs.Prelude.{slice_get}
 use Rattle.gitconf_sections.specs.Section.{viewed}
 use Rattle.gitconf_state.specs.State.{State}
 use Rattle.gitconf_views.specs.Store.{section_under}
-use Rattle.gitconf_store.proofs.Numbering.{place_shown, place_viewed}
+use Rattle.gitconf_store.proofs.Places.Numbering.{place_shown, place_viewed}
 use Rattle.gitconf_store.proofs.store.Store.section_at.Goals as goal
 
 pub returns : goal.returns

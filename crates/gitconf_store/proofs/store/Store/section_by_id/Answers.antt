@@ -2,7 +2,7 @@ use Rattle.std.proofs.Common.{Some, ap, sym, ◌∙◌}
 use Rattle.std.specs.Option.{option_map}
 use Rattle.gitconf_sections.specs.Section.{viewed}
 use Rattle.gitconf_views.specs.Store.{section_under}
-use Rattle.gitconf_store.proofs.Numbering.{numbered_shown, numbered_viewed}
+use Rattle.gitconf_store.proofs.Places.Numbering.{numbered_shown, numbered_viewed}
 use Rattle.gitconf_store.proofs.store.Store.section_by_id.Goals as goal
 
 pub returns-in-None : goal.returns-in-None

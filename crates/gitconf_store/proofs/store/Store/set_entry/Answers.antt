@@ -5,7 +5,7 @@ use Rattle.gitconf_table.proofs.SectionLemmas.{number_at-place}
 use Rattle.gitconf_state.specs.Edit.{old_value, with_used}
 use Rattle.gitconf_state.specs.Editors.{value_set}
 use Rattle.gitconf_state.specs.Edits.{items_of_numbered, Raw, SetValue}
-use Rattle.gitconf_state.proofs.EditsKeep.{apply_items}
+use Rattle.gitconf_state.proofs.Edits.Keep.{apply_items}
 use Rattle.gitconf_items.specs.Items.{items_of}
 use Rattle.gitconf_lines.specs.Editors.{set_put}
 use Rattle.gitconf_body.proofs.Changing.{place_read}
@@ -15,9 +15,9 @@ use Rattle.gitconf_store.specs.Edits.{UsedGrows}
 use Rattle.gitconf_store.specs.Editors.{given_editor, PutsIn}
 use Rattle.gitconf_views.specs.Store.{state_of, StoreFits}
 use Rattle.gitconf_views.proofs.GivenEditors.{given_fits, given_same}
-use Rattle.gitconf_store.proofs.Editing.{items_within_at, missing_stays, missing_told, numbered_items_at, numbered_kept, numbered_told, numbered_view, puts_at, puts_none, puts_same, same_items, used_memory, used_refused}
+use Rattle.gitconf_store.proofs.Edits.Editing.{items_within_at, missing_stays, missing_told, numbered_items_at, numbered_kept, numbered_told, numbered_view, puts_at, puts_none, puts_same, same_items, used_memory, used_refused}
 use Rattle.gitconf_views.proofs.Outcomes.{on_ok, on_err, either_way, if_ok}
-use Rattle.gitconf_store.proofs.Setting.{HasOthers, kept_view}
+use Rattle.gitconf_store.proofs.Edits.Setting.{HasOthers, kept_view}
 use Rattle.gitconf_store.proofs.store.Store.set_entry.Goals as goal
 
 pub set_at-set-requires-clause-fits : goal.set_at-set-requires-clause-fits

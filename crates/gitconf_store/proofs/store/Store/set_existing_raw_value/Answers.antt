@@ -5,7 +5,7 @@ use Rattle.gitconf_state.specs.Edits.{apply}
 use Rattle.gitconf_store.specs.Edits.{UsedGrows}
 use Rattle.gitconf_store.specs.Existing.{rewriting, rewriting_bytes}
 use Rattle.gitconf_base.specs.Key.{key_of}
-use Rattle.gitconf_store.proofs.Existing.{look_up_refused, puts_there, rewritten_err, rewritten_ok}
+use Rattle.gitconf_store.proofs.Edits.Existing.{look_up_refused, puts_there, rewritten_err, rewritten_ok}
 use Rattle.gitconf_store.proofs.store.Store.set_existing_raw_value.Goals as goal
 
 pub returns-in_err-place : goal.returns-in_err-place

@@ -8,13 +8,13 @@ use Rattle.gitconf_text.specs.Part.{LineEndsItem}
 use Rattle.gitconf_state.specs.Edit.{made_header, new_section, set_value, with_used}
 use Rattle.gitconf_state.specs.Edits as states
 use Rattle.gitconf_state.specs.State.{State, is_item}
-use Rattle.gitconf_state.proofs.EditItems.{file_line_end_is, new_section_is, section_with_is}
+use Rattle.gitconf_state.proofs.Edits.Items.{file_line_end_is, new_section_is, section_with_is}
 use Rattle.gitconf_state.specs.LineEnds.{file_line_end}
 use Rattle.gitconf_text.specs.LineEnds.{bytes_of_line_end}
 use Rattle.gitconf_sections.specs.Section.{Section, made}
 use Rattle.gitconf_views.specs.Store.{state_of}
 use Rattle.gitconf_views.proofs.Outcomes.{if_err_at_all}
-use Rattle.gitconf_store.proofs.Making.{IsMadeWith, longer_state, longer_fits, made_section, made_state, made_fits}
+use Rattle.gitconf_store.proofs.Headers.Making.{IsMadeWith, longer_state, longer_fits, made_section, made_state, made_fits}
 use Rattle.gitconf_store.proofs.store.Store.set_in_new.Goals as goal
 
 pub invariant_of-self : goal.invariant_of-self

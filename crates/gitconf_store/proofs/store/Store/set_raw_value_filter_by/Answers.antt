@@ -6,7 +6,7 @@ use Rattle.gitconf_lines.specs.Places.{IsLastAt}
 use Rattle.gitconf_state.specs.Edit.{is_target}
 use Rattle.gitconf_store.specs.Edits.{IsSet}
 use Rattle.gitconf_store.specs.SetErrors.{of_header, of_span}
-use Rattle.gitconf_store.proofs.Sets.{made_ok, made_err, found_ok, found_err}
+use Rattle.gitconf_store.proofs.Edits.Sets.{made_ok, made_err, found_ok, found_err}
 use Rattle.gitconf_store.proofs.store.Store.set_raw_value_filter_by.Goals as goal
 
 pub returns-in_err-set_in_new-clause-exact : goal.returns-in_err-set_in_new-clause-exact

@@ -7,8 +7,8 @@ use Rattle.gitconf_table.specs.Sections.{with_section}
 use Rattle.gitconf_table.proofs.SectionLemmas.{section_edited}
 use Rattle.gitconf_sections.specs.Section.{Section, viewed}
 use Rattle.gitconf_views.specs.Store.{state_of, StoreFits}
-use Rattle.gitconf_store.proofs.Renaming.{is_numbered, unnumbered_stays}
-use Rattle.gitconf_store.proofs.Trusting.{IsTrusted, trusted_fits, trusted_state}
+use Rattle.gitconf_store.proofs.Headers.Renaming.{is_numbered, unnumbered_stays}
+use Rattle.gitconf_store.proofs.Edits.Trusting.{IsTrusted, trusted_fits, trusted_state}
 use Rattle.gitconf_store.proofs.store.Store.set_trust.Goals as goal
 
 pub returns-in_default-clause-ok : goal.returns-in_default-clause-ok

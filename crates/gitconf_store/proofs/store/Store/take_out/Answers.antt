@@ -1,4 +1,4 @@
-use Rattle.gitconf_store.proofs.Numbering.{without_fits, without_state}
+use Rattle.gitconf_store.proofs.Places.Numbering.{without_fits, without_state}
 use Rattle.gitconf_store.proofs.store.Store.take_out.Goals as goal
 
 pub invariant_of-self : goal.invariant_of-self

@@ -1,6 +1,6 @@
 use Rattle.std.proofs.Common.{◌∙◌}
 use Rattle.std.specs.List.{each_same}
-use Rattle.gitconf_store.proofs.Cloning.{cloned_state, clones_fit}
+use Rattle.gitconf_store.proofs.Files.Cloning.{cloned_state, clones_fit}
 use Rattle.gitconf_store.proofs.store.Store.try_clone.Goals as goal
 
 pub invariant_of-result : goal.invariant_of-result

@@ -1,4 +1,4 @@
-use Rattle.gitconf_store.proofs.Woven.{woven_fits, woven_state}
+use Rattle.gitconf_store.proofs.Files.Woven.{woven_fits, woven_state}
 use Rattle.gitconf_store.proofs.store.Store.weave.Goals as goal
 
 pub invariant_of-self : goal.invariant_of-self

@@ -5,7 +5,7 @@ use Rattle.gitconf_table.proofs.SectionLemmas.{number_at-place}
 use Rattle.gitconf_state.specs.Edit.{with_used}
 use Rattle.gitconf_state.specs.Editors.{written_at}
 use Rattle.gitconf_state.specs.Edits.{WriteAt}
-use Rattle.gitconf_state.proofs.EditsKeep.{apply_items}
+use Rattle.gitconf_state.proofs.Edits.Keep.{apply_items}
 use Rattle.gitconf_items.specs.Items.{items_of}
 use Rattle.gitconf_body.specs.ValuesAt.{instead_of, written_put}
 use Rattle.gitconf_sections.specs.Section.{Section, with_items}
@@ -13,9 +13,9 @@ use Rattle.gitconf_sections.proofs.Edits.{is_taken, taken_within}
 use Rattle.gitconf_store.specs.Editors.{given_editor, PutsIn}
 use Rattle.gitconf_views.specs.Store.{state_of, StoreFits}
 use Rattle.gitconf_views.proofs.GivenEditors.{given_fits, given_same}
-use Rattle.gitconf_store.proofs.Editing.{items_within_at, missing_stays, numbered_kept, numbered_view, puts_at, puts_none, puts_same, used_memory, used_refused}
+use Rattle.gitconf_store.proofs.Edits.Editing.{items_within_at, missing_stays, numbered_kept, numbered_view, puts_at, puts_none, puts_same, used_memory, used_refused}
 use Rattle.gitconf_views.proofs.Outcomes.{on_ok, on_err, either_way}
-use Rattle.gitconf_store.proofs.Setting.{HasOthers, kept_view}
+use Rattle.gitconf_store.proofs.Edits.Setting.{HasOthers, kept_view}
 use Rattle.gitconf_store.proofs.store.Store.write_entry_at.Goals as goal
 
 pub write_at-written-requires-clause-fits : goal.write_at-written-requires-clause-fits

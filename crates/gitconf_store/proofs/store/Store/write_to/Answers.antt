@@ -1,5 +1,5 @@
 use Rattle.std.proofs.Common.{true, ◌∙◌}
-use Rattle.gitconf_store.proofs.ReadBack.{whole_document, whole_comments}
+use Rattle.gitconf_store.proofs.Texts.ReadBack.{whole_document, whole_comments}
 use Rattle.gitconf_store.proofs.store.Store.write_to.Goals as goal
 
 pub returns-clause-reads : goal.returns-clause-reads

@@ -3,7 +3,7 @@ use Rattle.gitconf_state.specs.LineEnds.{file_line_end}
 use Rattle.gitconf_state.specs.Printing.{printed_kept}
 use Rattle.gitconf_state.specs.State.{HasItems, State}
 use Rattle.gitconf_state.specs.Writing.{Closed}
-use Rattle.gitconf_state.proofs.ReadsBack.{kept_reads_back}
+use Rattle.gitconf_state.proofs.Printing.ReadsBack.{kept_reads_back}
 use Rattle.gitconf_items.specs.Items.{items_of}
 use Rattle.gitconf_text.specs.LineEnds.{bytes_of_line_end}
 use Rattle.gitconf_write.specs.Texts.{items_text}

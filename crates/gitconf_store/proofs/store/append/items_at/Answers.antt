@@ -1,5 +1,5 @@
 use Rattle.gitconf_sections.specs.Section.{viewed}
-use Rattle.gitconf_store.proofs.AppendedFiles.{kept_there}
+use Rattle.gitconf_store.proofs.Files.AppendedFiles.{kept_there}
 use Rattle.gitconf_store.proofs.store.append.items_at.Goals as goal
 
 pub returns-else-is_empty : goal.returns-else-is_empty

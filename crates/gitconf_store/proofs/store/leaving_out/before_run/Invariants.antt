@@ -1,5 +1,5 @@
 use Rattle.std.proofs.Common.{◌≤◌, length}
-use Rattle.gitconf_store.proofs.LeavingOut.{IsRunBack}
+use Rattle.gitconf_store.proofs.Edits.LeavingOut.{IsRunBack}
 use Rattle.gitconf_store.proofs.store.leaving_out.before_run.Given as goal
 
 -- the run so far, from its first place on

@@ -1,7 +1,7 @@
 use Rattle.std.proofs.Common.{◌≡◌, None, refl, subst, length}
 use Rattle.std.specs.Prelude.{option_map, OnOk, IfOk, IsOk}
 use Rattle.gitconf_state.specs.Editors.{popped, popped_entry}
-use Rattle.gitconf_state.proofs.EditorItems.{popped_all}
+use Rattle.gitconf_state.proofs.Edits.EditorItems.{popped_all}
 use Rattle.gitconf_state.specs.State.{is_item}
 use Rattle.gitconf_items.specs.Items.{items_of}
 use Rattle.gitconf_lines.proofs.Buffers.{same_extended}

@@ -2,7 +2,7 @@ use Rattle.std.proofs.Common.{◌≡◌, refl, subst, length}
 use Rattle.std.specs.Prelude.{OnOk}
 use Rattle.std.specs.Option.{option_copied}
 use Rattle.gitconf_state.specs.Editors.{pushed}
-use Rattle.gitconf_state.proofs.EditorItems.{pushed_is}
+use Rattle.gitconf_state.proofs.Edits.EditorItems.{pushed_is}
 use Rattle.gitconf_items.specs.Items.{items_of}
 use Rattle.gitconf_views.specs.declared.section.Section.{Section}
 use Rattle.gitconf_lines.specs.Blanks.{given_editor}

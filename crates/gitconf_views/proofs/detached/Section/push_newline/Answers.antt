@@ -1,6 +1,6 @@
 use Rattle.std.proofs.Common.{refl, length}
 use Rattle.gitconf_state.specs.Editors.{line_end_pushed}
-use Rattle.gitconf_state.proofs.EditorItems.{line_end_pushed_is}
+use Rattle.gitconf_state.proofs.Edits.EditorItems.{line_end_pushed_is}
 use Rattle.gitconf_items.specs.Items.{items_of}
 use Rattle.gitconf_views.specs.declared.section.Section.{Section}
 use Rattle.gitconf_lines.specs.Blanks.{given_editor}

@@ -3,7 +3,7 @@ use Rattle.std.specs.Prelude.{option_map, OnOk, IfOk, IsOk}
 use Rattle.gitconf_state.specs.Edit.{old_value}
 use Rattle.gitconf_state.specs.Editors.{removed}
 use Rattle.gitconf_state.specs.Edits.{Detached}
-use Rattle.gitconf_state.proofs.EditorItems.{removed_all}
+use Rattle.gitconf_state.proofs.Edits.EditorItems.{removed_all}
 use Rattle.gitconf_state.specs.State.{is_item}
 use Rattle.gitconf_items.specs.Items.{items_of}
 use Rattle.gitconf_lines.proofs.Buffers.{same_extended}

@@ -2,7 +2,7 @@ use Rattle.std.proofs.Common.{◌≡◌, refl, subst, length}
 use Rattle.std.specs.Prelude.{OnOk}
 use Rattle.gitconf_state.specs.Editors.{value_set}
 use Rattle.gitconf_state.specs.Edits.{Detached}
-use Rattle.gitconf_state.proofs.EditorItems.{value_set_is}
+use Rattle.gitconf_state.proofs.Edits.EditorItems.{value_set_is}
 use Rattle.gitconf_items.specs.Items.{items_of}
 use Rattle.gitconf_views.specs.declared.section.Section.{Section}
 use Rattle.gitconf_views.specs.Alone.{whole, with_items}

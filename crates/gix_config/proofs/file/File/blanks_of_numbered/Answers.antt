@@ -1,7 +1,7 @@
 use Rattle.std.proofs.Common.{ap, sym, ◌∙◌, Some}
 use Rattle.std.specs.Option.{option_map}
 use Rattle.gitconf_views.specs.Views.{shown}
-use Rattle.gitconf_store.proofs.Numbering.{numbered_has}
+use Rattle.gitconf_store.proofs.Places.Numbering.{numbered_has}
 use Rattle.gix_config.specs.SectionEditors.{blanks_at}
 use Rattle.gix_config.proofs.Standing.{number_found}
 use Rattle.gix_config.proofs.file.File.blanks_of_numbered.Goals as goal

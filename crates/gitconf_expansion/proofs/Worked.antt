@@ -1,0 +1,2 @@
+-- Worked rows: what definitions say of single cases, by computation.
+pub mod Expansions

@@ -1,0 +1,4 @@
+-- Worked rows: what definitions say of single cases, by computation.
+pub mod Printing
+pub mod Edits
+pub mod Editors

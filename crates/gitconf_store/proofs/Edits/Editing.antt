@@ -1,0 +1,270 @@
+-- The section of a number with other items, in a longer buffer.
+use Rattle.std.proofs.Common.{◌≡◌, ℕ, zero, suc, ◌+◌, ◌<◌, ◌≤◌, ◌^◌, ◌==◌, Bool, true, false, nat_lt, List, [], ◌∷◌, ◌++◌, length, map, filter, position, Option, Some, None, Result, Ok, Err, refl, ap, sym, subst, ◌∙◌, arith, inl, inr}
+use Rattle.std.specs.Prelude.{if◌then◌else◌, ◌⊎◌, IfSome, IsErrOf, OnErr}
+use Rattle.std.specs.List.{AllByRecursion, last_or, position_or_len, slice_get}
+use Rattle.std.specs.Option.{option_map}
+use Rattle.std.proofs.lemmas.Bool.{eq-eqb, eqb-false, ne_eqb, ltb-false}
+use Rattle.gitconf_text.specs.Part as parts
+use Rattle.gitconf_base.specs.Metadata.{Meta}
+use Rattle.gitconf_table.specs.Sections.{AreNumbered, SectionEntry, Sections, changed_at, has_number, with_section, section_at, place_of, number_at}
+use Rattle.gitconf_items.specs.declared.items.Item.{Item}
+use Rattle.gitconf_items.specs.Events.{header_of}
+use Rattle.gitconf_items.specs.ItemsFit.{AreItemsWithin}
+use Rattle.gitconf_items.specs.ShownEvents.{IsExtended}
+use Rattle.gitconf_state.specs.Edit.{with_used}
+use Rattle.gitconf_state.specs.Edits.{change_items, items_of_numbered, numbered, said_in_section, Raw, Entry}
+use Rattle.gitconf_state.specs.State.{SectionState, State, HasItems}
+use Rattle.gitconf_items.specs.Items.{items_of}
+use Rattle.gitconf_lines.specs.Places.{IsLastAt}
+use Rattle.gitconf_lines.specs.declared.editor.Editor.{Editor}
+use Rattle.gitconf_lines.specs.Editors.{around_put, around_bytes}
+use Rattle.gitconf_body.specs.ValuesAt.{written_put, rewritten_put}
+use Rattle.gitconf_text.specs.Value.{escaped}
+use Rattle.gitconf_lines.proofs.Buffers.{extended_fit, extended_items, same_extended}
+use Rattle.gitconf_sections.specs.Section.{Section}
+use Rattle.gitconf_sections.proofs.Edits.{put_again}
+use Rattle.gitconf_views.specs.Alone.{with_items}
+use Rattle.gitconf_store.specs.Edits.{UsedGrows}
+use Rattle.gitconf_store.specs.Editors.{PutsIn}
+use Rattle.gitconf_views.specs.Store.{section_state, state_of, SectionFits, AllSectionsFit, StoreFits}
+use Rattle.gitconf_store.proofs.Edits.Setting.{HasOthers, changed_fits, kept_view, section_in, sections_in}
+
+abbrev chosen : (id : ℕ) → (List parts.Item → List parts.Item) → SectionState → SectionState
+chosen id change s = if s.number == id then with_items change s else s
+
+others_stay : (b : List ℕ) (id : ℕ) (change : List parts.Item → List parts.Item) (es : List (SectionEntry Section))
+    → AllByRecursion (λ (e : SectionEntry Section). (e.number == id) ≡ false) es → map (chosen id change) (map (section_state b) es) ≡ map (section_state b) es
+others_stay b id change [] apart = refl
+others_stay b id change (e ∷ es) apart = rw apart.0 (ap (λ t. section_state b e ∷ t) (others_stay b id change es apart.1))
+
+pub others_untold : (b : List ℕ) (id : ℕ) (o : Option SectionState) (es : List (SectionEntry Section))
+    → AllByRecursion (λ (e : SectionEntry Section). (e.number == id) ≡ false) es → last_or o (filter (λ (s : SectionState). s.number == id) (map (section_state b) es)) ≡ o
+others_untold b id o [] apart = refl
+others_untold b id o (e ∷ es) apart = rw apart.0 (others_untold b id o es apart.1)
+
+-- one of these numbers is none of the others
+pub number_apart : (n id at : ℕ) (es : List (SectionEntry Section)) → AllByRecursion (λ (f : SectionEntry Section). (f.number == n) ≡ false) es
+    → option_map (λ (e : SectionEntry Section). e.number) (slice_get es at) ≡ Some id → (n == id) ≡ false
+number_apart n id at [] apart here = absurd (cc)
+number_apart n id zero (e ∷ es) apart here =
+    let is : e.number ≡ id = cc in
+    let other : (id == n) ≡ false = subst (λ m. (m == n) ≡ false) is apart.0 in
+    ne_eqb n id (λ same. eqb-false id n other (sym same))
+number_apart n id (suc at) (e ∷ es) apart here = number_apart n id at es apart.1 here
+
+-- The section at the place of its number is the one that is changed.
+pub changed_numbered : (b new copies : List ℕ) (s t : Section) (es : List (SectionEntry Section)) (next id at : ℕ) (change : List parts.Item → List parts.Item) → IsExtended b new
+    → HasOthers (length new) s t → AllByRecursion (SectionFits b copies) es → AreNumbered next es → option_map (λ (e : SectionEntry Section). e.section) (slice_get es at) ≡ Some s
+    → option_map (λ (e : SectionEntry Section). e.number) (slice_get es at) ≡ Some id → items_of new t.items.items ≡ change (items_of b s.items.items)
+    → map (section_state new) (changed_at (λ e. record e { section = t }) es at) ≡ map (chosen id change) (map (section_state b) es)
+changed_numbered b new copies s t [] next id at change x others fits once here number set = absurd (cc)
+changed_numbered b new copies s t (e ∷ es) next id (suc at) change x others fits once here number set =
+    let other : (e.number == id) ≡ false = number_apart e.number id at es once.1 number in
+    rw other (λ i. section_in b new copies e x fits.0 i ∷ changed_numbered b new copies s t es next id at change x others fits.1 once.2 here number set i)
+changed_numbered b new copies s t (e ∷ es) next id zero change x others fits once here number set =
+    let is : e.section ≡ s = cc in
+    let named : e.number ≡ id = cc in
+    let own : (e.number == id) ≡ true = eq-eqb e.number id named in
+    let rest : AllByRecursion (λ (f : SectionEntry Section). (f.number == id) ≡ false) es = subst (λ n. AllByRecursion (λ (f : SectionEntry Section). (f.number == n) ≡ false) es) named once.1 in
+    let same : t.header ≡ e.section.header = others.header ∙ ap (λ s. s.header) (sym is) in
+    rw own ((λ i. record {
+      number = e.number;
+      header = (ap (header_of new) same ∙ ap (λ s. s.header) (section_in b new copies e x fits.0)) i;
+      meta = (ap (λ m. m.value) others.meta ∙ ap (λ s. s.meta.value) (sym is)) i;
+      items = (set ∙ ap (λ s. change (items_of b s.items.items)) (sym is)) i;
+      held = (ap (λ h. items_of new h.items) (others.held ∙ ap (λ s. s.held) (sym is)) ∙ ap (λ s. s.held) (section_in b new copies e x fits.0)) i;
+    } ∷ sections_in b new copies es x fits.1 i) ∙ ap (λ r. with_items change (section_state b e) ∷ r) (sym (others_stay b id change es rest)))
+
+-- what is told of it
+told_at : (b : List ℕ) (s : Section) (es : List (SectionEntry Section)) (next id at : ℕ) (o : Option SectionState) → AreNumbered next es
+    → option_map (λ (e : SectionEntry Section). e.section) (slice_get es at) ≡ Some s → option_map (λ (e : SectionEntry Section). e.number) (slice_get es at) ≡ Some id
+    → option_map (λ (s : SectionState). s.items) (last_or o (filter (λ (s : SectionState). s.number == id) (map (section_state b) es))) ≡ Some (items_of b s.items.items)
+told_at b s [] next id at o once here number = absurd (cc)
+told_at b s (e ∷ es) next id (suc at) o once here number = rw (number_apart e.number id at es once.1 number) (told_at b s es next id at o once.2 here number)
+told_at b s (e ∷ es) next id zero o once here number =
+    let is : e.section ≡ s = cc in
+    let named : e.number ≡ id = cc in
+    let own : (e.number == id) ≡ true = eq-eqb e.number id named in
+    let rest : AllByRecursion (λ (f : SectionEntry Section). (f.number == id) ≡ false) es = subst (λ n. AllByRecursion (λ (f : SectionEntry Section). (f.number == n) ≡ false) es) named once.1 in
+    rw own (ap (option_map (λ (s : SectionState). s.items)) (others_untold b id (Some (section_state b e)) es rest) ∙ ap (λ s. Some (items_of b s.items.items)) is)
+
+-- The state with the change.
+pub numbered_view : (b new copies : List ℕ) (front : List Item) (meta : Meta) (table : Sections Section) (id at : ℕ) (s t : Section) (change : List parts.Item → List parts.Item)
+    → IsExtended b new → HasOthers (length new) s t → AreItemsWithin (length b) front → AllSectionsFit b copies table → AreNumbered table.next table.entries
+    → section_at at table ≡ Some s → number_at at table ≡ Some id → items_of new t.items.items ≡ change (items_of b s.items.items)
+    → state_of new front meta (with_section table at t) ≡ with_used (length new) (change_items id change (state_of b front meta table))
+numbered_view b new copies front meta table id at s t change x others within fits once here number set = λ i. record {
+  front = extended_items b new front x within i;
+  meta = meta;
+  next = table.next;
+  used = length new;
+  sections = changed_numbered b new copies s t table.entries table.next id at change x others fits once here number set i;
+}
+
+pub numbered_told : {A : Type 0} (b : List ℕ) (front : List Item) (meta : Meta) (table : Sections Section) (id at : ℕ) (s : Section) (told : List parts.Item → Option A)
+    → AreNumbered table.next table.entries → section_at at table ≡ Some s → number_at at table ≡ Some id
+    → said_in_section id told (state_of b front meta table) ≡ told (items_of b s.items.items)
+numbered_told {A} b front meta table id at s told once here number = go (numbered id (state_of b front meta table)) (told_at b s table.entries table.next id at None once here number)
+  where
+    go : (o : Option SectionState) → option_map (λ (s : SectionState). s.items) o ≡ Some (items_of b s.items.items)
+        → elim o as (λ _. Option A) [ None ↦ None | Some s ↦ told s.items ] ≡ told (items_of b s.items.items)
+    go None is = absurd (cc)
+    go (Some u) is = ap told (let h : u.items ≡ items_of b s.items.items = cc in h)
+
+-- the items of the section there stand within the buffer
+pub items_within_at : (b copies : List ℕ) (s : Section) (es : List (SectionEntry Section)) (at : ℕ) → AllByRecursion (SectionFits b copies) es
+    → option_map (λ (e : SectionEntry Section). e.section) (slice_get es at) ≡ Some s → AreItemsWithin (length b) s.items.items
+items_within_at b copies s [] at fits here = absurd (cc)
+items_within_at b copies s (e ∷ es) (suc at) fits here = items_within_at b copies s es at fits.1 here
+items_within_at b copies s (e ∷ es) zero fits here = let is : e.section ≡ s = cc in subst (λ s. AreItemsWithin (length b) s.items.items) is fits.0.items
+
+-- The state with a change that leaves the section's items.
+pub unchanged_view : (b copies : List ℕ) (front : List Item) (meta : Meta) (table : Sections Section) (id at : ℕ) (s : Section) (change : List parts.Item → List parts.Item)
+    → StoreFits b copies front meta table → AreNumbered table.next table.entries → section_at at table ≡ Some s → number_at at table ≡ Some id → change (items_of b s.items.items) ≡ items_of b s.items.items
+    → state_of b front meta table ≡ change_items id change (state_of b front meta table)
+unchanged_view b copies front meta table id at s change fits once here number stays =
+    let others : HasOthers (length b) s s = record { header = refl; meta = refl; held = refl; within = items_within_at b copies s table.entries at fits.sections_within here } in
+    ap (state_of b front meta) (sym (put_again table at s here))
+    ∙ numbered_view b b copies front meta table id at s s change (same_extended b b refl) others fits.front_within fits.sections_within once here number (sym stays)
+
+-- It keeps what a store keeps.
+pub numbered_keeps : (b new copies : List ℕ) (front : List Item) (meta : Meta) (table : Sections Section) (at : ℕ) (s t : Section)
+    → IsExtended b new → length new < 2 ^ 32 → HasOthers (length new) s t → StoreFits b copies front meta table → section_at at table ≡ Some s
+    → HasItems (state_of new front meta (with_section table at t)) → StoreFits new copies front meta (with_section table at t)
+numbered_keeps b new copies front meta table at s t x room others old here items = record {
+  room = room;
+  front_within = extended_fit b new front x old.front_within;
+  sections_within = changed_fits b new copies s t table.entries at x others old.sections_within here;
+  items = items;
+}
+
+-- Where no section has the number, nothing is changed, and nothing is told.
+no_number_there : (id : ℕ) (es : List (SectionEntry Section)) → length es ≤ position_or_len (has_number id) es → AllByRecursion (λ (e : SectionEntry Section). (e.number == id) ≡ false) es
+no_number_there id [] past = tt
+no_number_there id (e ∷ es) past = go (e.number == id) refl (no_number_there id es)
+  where
+    go : (t : Bool) → (e.number == id) ≡ t
+        → (length es ≤ position_or_len (has_number id) es → AllByRecursion (λ (e : SectionEntry Section). (e.number == id) ≡ false) es)
+        → AllByRecursion (λ (e : SectionEntry Section). (e.number == id) ≡ false) (e ∷ es)
+    go true h later = absurd (let p : suc (length es) ≤ 0 = rw h at past in omega (arith, p))
+    go false h later = (h, later (let p : suc (length es) ≤ 1 + position_or_len (has_number id) es = rw h at past in omega (arith, p)))
+
+pub missing : (id : ℕ) (es : List (SectionEntry Section)) → position (has_number id) es ≡ None → AllByRecursion (λ (e : SectionEntry Section). (e.number == id) ≡ false) es
+missing id es none = go (nat_lt (position_or_len (has_number id) es) (length es)) refl
+  where
+    go : (t : Bool) → nat_lt (position_or_len (has_number id) es) (length es) ≡ t → AllByRecursion (λ (e : SectionEntry Section). (e.number == id) ≡ false) es
+    go true h = absurd (let p = rw h at none in cc)
+    go false h = no_number_there id es (let p = ltb-false _ _ h in omega (arith, p))
+
+pub missing_stays : (b : List ℕ) (front : List Item) (meta : Meta) (table : Sections Section) (id : ℕ) (change : List parts.Item → List parts.Item) → place_of id table ≡ None
+    → change_items id change (state_of b front meta table) ≡ state_of b front meta table
+missing_stays b front meta table id change none =
+    λ i. record { front = items_of b front; meta = meta; next = table.next; used = length b; sections = others_stay b id change table.entries (missing id table.entries none) i }
+
+pub missing_told : {A : Type 0} (b : List ℕ) (front : List Item) (meta : Meta) (table : Sections Section) (id : ℕ) (told : List parts.Item → Option A) → place_of id table ≡ None
+    → said_in_section id told (state_of b front meta table) ≡ None
+missing_told {A} b front meta table id told none = go (numbered id (state_of b front meta table)) (others_untold b id None table.entries (missing id table.entries none))
+  where
+    go : (o : Option SectionState) → o ≡ None → elim o as (λ _. Option A) [ None ↦ None | Some s ↦ told s.items ] ≡ None
+    go o e = rw e refl
+
+-- So it does where its items are those of an edit, and where they are as they were.
+pub numbered_kept : (b new copies : List ℕ) (front : List Item) (meta : Meta) (table : Sections Section) (id at : ℕ) (s t : Section) (change : List parts.Item → List parts.Item)
+    → IsExtended b new → length new < 2 ^ 32 → HasOthers (length new) s t → StoreFits b copies front meta table → AreNumbered table.next table.entries
+    → section_at at table ≡ Some s → number_at at table ≡ Some id → HasItems (change_items id change (state_of b front meta table))
+    → (items_of new t.items.items ≡ change (items_of b s.items.items)) ⊎ (t.items.items ≡ s.items.items) → StoreFits new copies front meta (with_section table at t)
+numbered_kept b new copies front meta table id at s t change x room others old once here number has either =
+    numbered_keeps b new copies front meta table at s t x room others old here (elim either [
+      | inl set ↦ used (length new) (change_items id change (state_of b front meta table))
+          (numbered_view b new copies front meta table id at s t change x others old.front_within old.sections_within once here number set) has
+      | inr kept ↦ used (length new) (state_of b front meta table) (kept_view b new copies front meta table at s t x others old.front_within old.sections_within here kept) old.items
+    ])
+  where
+    used : (n : ℕ) (state : State) → state_of new front meta (with_section table at t) ≡ with_used n state → HasItems state → HasItems (state_of new front meta (with_section table at t))
+    used n state is has = subst HasItems (sym is) (record { front = has.front; sections = has.sections })
+
+-- an answer says what it holds
+pub raw_inside : {o p : Option (List ℕ)} → Raw o ≡ Raw p → o ≡ p
+raw_inside is = cc
+
+pub entry_inside : {o p : Option (List ℕ × List ℕ)} → Entry o ≡ Entry p → o ≡ p
+entry_inside is = cc
+
+-- what is put where the section stands, and where none has the number
+pub puts_at : {T : Type 0} (b : List ℕ) (front : List Item) (meta : Meta) (table : Sections Section) (id at : ℕ) (s : Section) (r : Result T ℕ) (count : ℕ) (new : State)
+    → AreNumbered table.next table.entries → section_at at table ≡ Some s → number_at at table ≡ Some id → UsedGrows r count (length b) new.used
+    → PutsIn id r count (state_of b front meta table) new
+puts_at b front meta table id at s r count new once here number grows =
+    go (numbered id (state_of b front meta table)) refl (told_at b s table.entries table.next id at None once here number)
+  where
+    go : (o : Option SectionState) → numbered id (state_of b front meta table) ≡ o → option_map (λ (s : SectionState). s.items) o ≡ Some (items_of b s.items.items)
+        → PutsIn id r count (state_of b front meta table) new
+    go None at is = absurd (cc)
+    go (Some u) at is = record { there = rw at grows; missing = λ none. absurd (let no = sym at ∙ none in cc) }
+
+-- nothing was put, since it was refused
+pub used_refused : {T : Type 0} (r : Result T ℕ) (count used : ℕ) → IsErrOf r 3 → 2 ^ 32 ≤ used + count → UsedGrows r count used used
+used_refused (Ok t) count used three due = absurd (cc)
+used_refused (Err e) count used three due = record { put = tt; grown = omega arith; too_large = λ _. due; refused = λ _. three; known = inl (let h = three in cc) }
+
+pub used_memory : {T : Type 0} (r : Result T ℕ) (count used : ℕ) → IsErrOf r 27 → (2 ^ 32 ≤ used + count → ⊥) → UsedGrows r count used used
+used_memory (Ok t) count used memory fits = absurd (cc)
+used_memory (Err e) count used memory fits = record { put = tt; grown = omega arith; too_large = λ three. absurd (let no : Err 27 ≡ Err 3 = sym memory ∙ three in cc); refused = λ due. absurd (fits due); known = inr (let h = memory in cc) }
+
+pub puts_same : {T : Type 0} (id : ℕ) (r : Result T ℕ) (count : ℕ) (state : State) → UsedGrows r count state.used state.used → PutsIn id r count state state
+puts_same id r count state grows = record { there = go (numbered id state); missing = λ _. refl }
+  where
+    go : (o : Option SectionState) → IfSome o (λ _. UsedGrows r count state.used state.used)
+    go None = tt
+    go (Some s) = grows
+
+pub puts_none : {T : Type 0} (b : List ℕ) (front : List Item) (meta : Meta) (table : Sections Section) (id : ℕ) (r : Result T ℕ) (count : ℕ) → place_of id table ≡ None
+    → PutsIn id r count (state_of b front meta table) (state_of b front meta table)
+puts_none b front meta table id r count none =
+    let no : numbered id (state_of b front meta table) ≡ None = others_untold b id None table.entries (missing id table.entries none) in
+    record { there = rw no tt; missing = λ _. refl }
+
+-- the section there is not missing
+pub never_missing : (b : List ℕ) (front : List Item) (meta : Meta) (table : Sections Section) (id at : ℕ) (s : Section)
+    → AreNumbered table.next table.entries → section_at at table ≡ Some s → number_at at table ≡ Some id → numbered id (state_of b front meta table) ≡ None → ⊥
+never_missing b front meta table id at s once here number =
+    go (numbered id (state_of b front meta table)) (told_at b s table.entries table.next id at None once here number)
+  where
+    go : (o : Option SectionState) → option_map (λ (s : SectionState). s.items) o ≡ Some (items_of b s.items.items) → o ≡ None → ⊥
+    go None is none = absurd (cc)
+    go (Some u) is none = absurd (cc)
+
+-- the items of the section there
+pub numbered_items_at : (b : List ℕ) (front : List Item) (meta : Meta) (table : Sections Section) (id at : ℕ) (s : Section)
+    → AreNumbered table.next table.entries → section_at at table ≡ Some s → number_at at table ≡ Some id → items_of_numbered id (state_of b front meta table) ≡ items_of b s.items.items
+numbered_items_at b front meta table id at s once here number = go (numbered id (state_of b front meta table)) (told_at b s table.entries table.next id at None once here number)
+  where
+    go : (o : Option SectionState) → option_map (λ (s : SectionState). s.items) o ≡ Some (items_of b s.items.items)
+        → elim o as (λ _. List parts.Item) [ None ↦ [] | Some s ↦ s.items ] ≡ items_of b s.items.items
+    go None is = absurd (cc)
+    go (Some u) is = cc
+
+-- the section that is read at a place has the items of the one that is taken from there
+pub same_items : (table : Sections Section) (at : ℕ) (s t : Section) → section_at at table ≡ Some s → section_at at table ≡ Some t → s.items.items ≡ t.items.items
+same_items table at s t read taken =
+    let both : Some s ≡ Some t = sym read ∙ taken in
+    let is : s ≡ t = cc in
+    ap (λ (s : Section). s.items.items) is
+
+-- an editor with the blanks of the items puts as many bytes as one that is made of them
+pub rewritten_count : (buffer : List ℕ) (editor : Editor) (key value : List ℕ) (is : List Item) → around_put editor.around ≡ around_bytes (items_of buffer is)
+    → written_put editor key value ≡ rewritten_put key value (items_of buffer is)
+rewritten_count buffer editor key value is around = ap (λ n. length key + (n + length (escaped value))) around
+
+-- what holds anyway holds after an error
+pub as_err : {T E P : Type 0} (r : Result T E) → P → OnErr r P
+as_err (Ok t) p = tt
+as_err (Err e) p = p
+
+-- a last place is within the list
+pub last_within : {A : Type 0} {test : A → Bool} (xs : List A) (at : ℕ) → IsLastAt test xs at → at < length xs
+last_within xs at l = subst (λ ys. at < length ys) (sym l.is) (subst (λ n. n < length (l.before ++ l.found ∷ l.behind)) l.place (inner l.before l.found l.behind))
+  where
+    inner : {A : Type 0} (before : List A) (x : A) (behind : List A) → length before < length (before ++ x ∷ behind)
+    inner [] x behind = omega arith
+    inner (y ∷ before) x behind = let within = inner before x behind in omega (arith, within)

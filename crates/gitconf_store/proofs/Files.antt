@@ -1,0 +1,7 @@
+-- Whole files: put after others, woven, copied.
+pub mod Cloning
+pub mod Appending
+pub mod AppendedFiles
+pub mod GatheredLists
+pub mod Gathered
+pub mod Woven

@@ -1,0 +1,3 @@
+-- Files and their texts.
+pub mod Parsed
+pub mod ReadBack
