@@ -29,7 +29,8 @@ fn have_same_values(one: &[Setting], other: &[Setting]) -> bool
 fn deciding(settings: &[Setting], at: usize) -> Option<&BString>
     requires { at < length settings.now }
     ensures { (d : Setting) → option_map (λ v. bstring_bytes v.now) result
-        ≡ (if goes_on (plain_setting (slice_index_or settings.now at d)) (plain_settings (drop (at + 1) settings.now)) then None else (plain_setting (slice_index_or settings.now at d)).value) }
+        ≡ (if goes_on (plain_setting (slice_index_or settings.now at d)) (plain_settings (drop (at + 1) settings.now)) then None
+        else (plain_setting (slice_index_or settings.now at d)).value) }
 {
     let setting = &settings[at];
     match settings.get(at + 1) {

@@ -74,7 +74,8 @@ fn keep(alloc: Global, settings: Vec<Setting>, marks: &[bool]) -> Result<Vec<Set
 pub fn differing(alloc: Global, mut settings: Vec<Setting>) -> Result<Vec<Setting>, AllocError>
     ensures kept { IfOk result (λ kept. IsKept (plain_settings settings.items) (plain_settings kept.items)) }
     ensures sorted { IfOk result (λ kept. IsSorted setting_cmp (plain_settings kept.items)) }
-    ensures all { (p : PlainSetting → Bool) → list_all p (plain_settings settings.items) ≡ true → IfOk result (λ kept. list_all p (plain_settings kept.items) ≡ true) }
+    ensures all { (p : PlainSetting → Bool) → list_all p (plain_settings settings.items) ≡ true
+        → IfOk result (λ kept. list_all p (plain_settings kept.items) ≡ true) }
 {
     settings.sort_by(|one, other| order(one, other))?;
     let marks = marks(alloc, &settings)?;

@@ -129,7 +129,8 @@ fn machine<E: Env>(alloc: Global, env: &mut E, places: &Places) -> Result<Option
 /// The same, unless it is switched off.
 fn system<E: Env>(alloc: Global, env: &mut E, places: &Places) -> Result<Option<String>, NoMemory>
     ensures placed { IfOk result (λ place. IsPlaced (E.variables env.old)
-        (λ var. system_place places.now (spec.text_of var (codes "GIT_CONFIG_NOSYSTEM")) (spec.text_of var (codes "GIT_CONFIG_SYSTEM"))) (option_map string_bytes place)) }
+        (λ var. system_place places.now (spec.text_of var (codes "GIT_CONFIG_NOSYSTEM")) (spec.text_of var (codes "GIT_CONFIG_SYSTEM")))
+        (option_map string_bytes place)) }
     ensures stays { E.variables env.new ≡ E.variables env.old }
 {
     if is_on(text_of(env, "GIT_CONFIG_NOSYSTEM")?) {

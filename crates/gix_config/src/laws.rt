@@ -56,8 +56,8 @@ pub fn files_of_variables_are_clean()
     ensures made { (variables : List ℕ → VariableReport) (files : List ℕ → FileReport) (asks : Asks) (file : State) → AreNamed variables
         → asks.table ≡ Some files → AreHeaded files
         → IsFromEnv (Some variables) asks (Ok (Some file)) → IsClean file × (entries_of file.front ≡ []) }
-    ensures overrides { (variables : List ℕ → VariableReport) (places : Places) (files : List ℕ → FileReport) (file : State) → AreNamed variables → AreHeaded files
-        → IsOverrides (Some variables) places (Some files) (Ok file) → IsClean file × (entries_of file.front ≡ []) }
+    ensures overrides { (variables : List ℕ → VariableReport) (places : Places) (files : List ℕ → FileReport) (file : State)
+        → AreNamed variables → AreHeaded files → IsOverrides (Some variables) places (Some files) (Ok file) → IsClean file × (entries_of file.front ≡ []) }
 {}
 
 /// The configuration of a repository is clean, if that holds of variables and of texts, also those of the repository's own files: so what is

@@ -32,7 +32,8 @@ impl Store {
     ) -> Option<Found<'_>>
         requires { F.IsAlwaysCallable filter }
         ensures { Filtered (λ keeps. ComputesKey F.FnMut keeps filter) (λ keeps s. option_map place_of result
-            ≡ last_place deciding key.entry.value_name.now keeps (sections_named key.entry.section_name.now (option_copied key.entry.subsection_name) s)) self.now }
+            ≡ last_place deciding key.entry.value_name.now keeps
+            (sections_named key.entry.section_name.now (option_copied key.entry.subsection_name) s)) self.now }
     {
         let sections = self.sections_named(key.section_name, key.subsection_name);
         last_found(sections, key.value_name.as_bytes(), deciding, filter)
@@ -232,7 +233,8 @@ impl Store {
     ) -> Result<Vec<(BString, SectionRef<'_>)>, existing::Error>
         requires { F.IsAlwaysCallable filter }
         ensures { Filtered (λ keeps. ComputesKey F.FnMut keeps filter)
-            (λ keeps s. IsExisting (λ found. map shown_with found.items) result (if_any (values_in (key_of key.entry) keeps s)) (miss_at (key_of key.entry) self.now)) self.now }
+            (λ keeps s. IsExisting (λ found. map shown_with found.items) result (if_any (values_in (key_of key.entry) keeps s))
+            (miss_at (key_of key.entry) self.now)) self.now }
     {
         let found = self.find_all(key, filter);
         let found = texts_with_sections(*self.buffer.allocator(), found);
