@@ -8,18 +8,22 @@ import shutil
 import sys
 import threading
 
-# No check gains from more processes than that.
+# How many processes the crate has that most wait for, and others that are urgent, or where no more crates are ready than there are
+# processors. With more than one a check takes less time and more work: a quarter more by two, more than a third by four.
 MOST_JOBS = 4
+MORE_JOBS = 2
 
 # A crate is urgent if nearly as many lines wait for it as for the one that most wait for.
 URGENT = 0.7
 
-# Of the tasks that no others wait for, one more is worked on than there are processors left, since a check by several processes
-# leaves some idle.
+# How many lines a crate counts for beside its own: a check is one process at its beginning and at its end.
+LINES_OF_A_CRATE = 400
+
+# Where nothing is urgent, one more task is worked on than there are processors, since a check by several processes leaves some idle.
 BEYOND = 1
 
-# How much less of a processor these get (as `nice` counts) where a crate that most wait for has begun meanwhile.
-NICER = 8
+# A task is the nicer the fewer lines wait for it, and as nice as can be if that is less than a third of the most.
+NICEST = 19
 
 # Proofs and their tests come before must-fail edits, which fill what they leave free.
 FILLING = ("edits", "seed")
@@ -48,41 +52,38 @@ class Order:
         self.above = {key: 0 for key in tasks}
         # (a task comes after those that it waits for)
         for key in reversed(list(tasks)):
-            self.above[key] += tasks[key][1]
+            self.above[key] += tasks[key][1] + LINES_OF_A_CRATE
             for it in tasks[key][0]:
                 self.above[it] = max(self.above[it], self.above[key])
         self.left = sorted(tasks, key=lambda key: (key[1] in FILLING, -self.above[key]))
-        # How many processes each of the urgent ones has; the others have one.
-        self.urgent, self.others, self.given = {}, set(), {}
+        self.urgent, self.others, self.given = set(), set(), {}
         self.ended = queue.SimpleQueue()
 
     def begin(self):
-        """Begins what is ready: the urgent ones as far as no other urgent one has the processors, and the others on what these leave."""
+        """Begins what is ready: the urgent ones, and the others on what these leave."""
         ready = [key for key in self.left if all(it in self.given for it in self.tasks[key][0])]
         proofs = [key for key in [*self.urgent, *self.others, *ready] if key[1] == "proof"]
         most = max((self.above[key] for key in proofs), default=0)
         urgent = [key for key in ready if key in proofs and self.above[key] >= URGENT * most]
-        for at, key in enumerate(urgent):
-            idle = self.processors - sum(self.urgent.values())
-            if idle > 0:
-                # (an odd one goes to the first)
-                self.urgent[key] = min(MOST_JOBS, -(-idle // (len(urgent) - at)))
-                self.start(key, self.urgent[key], 0)
-        # (while something is urgent, the next urgent one finds a processor, and memory)
+        is_little = len(ready) + len(self.urgent) + len(self.others) <= self.processors
+        for key in urgent[: self.processors - len(self.urgent)]:
+            self.urgent.add(key)
+            self.start(key, min(MOST_JOBS if self.above[key] == most else MORE_JOBS, self.processors), most)
         room = self.processors - 1 if self.urgent else self.processors + BEYOND
         for key in (it for it in ready if it not in urgent):
-            if len(self.others) < room and sum(self.urgent.values()) + len(self.others) < self.processors + BEYOND:
+            # (proofs that least wait for hold no place of one that more wait for, and begin early since they are the nicest)
+            if len(self.others) < (2 * room if key in proofs else room):
                 self.others.add(key)
-                self.start(key, 1, NICER)
+                self.start(key, MORE_JOBS if is_little else 1, most)
 
-    def start(self, key, jobs, nicer):
-        """Runs a task in a thread of its own, whose processes are as nice as it is."""
+    def start(self, key, jobs, most):
+        """Runs a task in a thread of its own, whose processes are the nicer the fewer lines wait for it."""
+        nicer = max(0, min(NICEST, int(1.4 * NICEST * (1 - self.above[key] / most)))) if most else 0
 
         def work():
             result, error = None, None
             try:
-                if nicer:
-                    os.setpriority(os.PRIO_PROCESS, threading.get_native_id(), os.nice(0) + nicer)
+                os.setpriority(os.PRIO_PROCESS, threading.get_native_id(), os.nice(0) + nicer)
                 result = self.tasks[key][-1](self.given, jobs)
             except BaseException as met:
                 error = met
@@ -100,6 +101,6 @@ class Order:
             key, result, error = self.ended.get()
             if error:
                 raise error
-            self.urgent.pop(key, None)
+            self.urgent.discard(key)
             self.others.discard(key)
             self.given[key] = result

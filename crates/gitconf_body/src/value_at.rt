@@ -22,7 +22,7 @@ use gitconf_text::NoMemory;
 use gitconf_text::parse::span;
 
 /// What an entry that is written at a place replaces.
-#[derive(Clone, Copy, Debug)]
+#[derive(Clone, Copy)]
 pub enum InPlaceOf {
     /// Nothing: what is there stays after the new entry.
     Nothing,

@@ -3,7 +3,7 @@ use Rattle.std.proofs.Common.{◌≡◌, ℕ, ◌+◌, ◌==◌, ltb, leb, ◌^�
 use Rattle.std.specs.List.{AllByRecursion}
 use Rattle.std.proofs.lemmas.Bool.{and_parts, leb-true, ne_eqb}
 use Rattle.gitconf_text.specs.Part.{Item}
-use Rattle.gitconf_table.specs.Sections.{no_number}
+use Rattle.gitconf_text.specs.Sections.{no_number}
 use Rattle.gitconf_state.specs.Edits.{held_behind_last, numbered_from}
 use Rattle.gitconf_state.specs.Including.{has_room, spliced, spliced_bytes, whole}
 use Rattle.gitconf_state.specs.LineEnds.{file_line_end}

@@ -8,8 +8,8 @@ use Rattle.gitconf_text.specs.Names.{is_same_name}
 use Rattle.gitconf_base.specs.Metadata.{Meta}
 use Rattle.gitconf_items.specs.declared.items.Item.{Item}
 use Rattle.gitconf_items.specs.Events.{header_of}
-use Rattle.gitconf_table.specs.Sections.{SectionEntry}
-use Rattle.gitconf_table.specs.Sections as table
+use Rattle.gitconf_text.specs.Sections.{SectionEntry}
+use Rattle.gitconf_text.specs.Sections as table
 use Rattle.gitconf_table.proofs.SectionLemmas.{has_name-new}
 use Rattle.gitconf_state.specs.Lookup as state
 use Rattle.gitconf_state.specs.State.{SectionState, State}

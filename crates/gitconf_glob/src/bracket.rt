@@ -6,7 +6,7 @@ ghost use Rattle.gitconf_glob.specs.Counted.{among};
 ghost use Rattle.gitconf_glob.specs.Cursor.{passed, one_of};
 
 /// A class of bytes that a bracket names, such as `[:alpha:]`.
-#[derive(Clone, Copy, Debug, PartialEq, Eq)]
+#[derive(Clone, Copy)]
 pub enum Class {
     Alnum,
     Alpha,
@@ -23,7 +23,7 @@ pub enum Class {
 }
 
 /// A member of a bracket: a byte, the bytes from one to another, or a class.
-#[derive(Clone, Copy, Debug, PartialEq, Eq)]
+#[derive(Clone, Copy)]
 pub enum Member {
     Byte(u8),
     Range(u8, u8),

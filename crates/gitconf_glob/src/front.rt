@@ -6,7 +6,7 @@ ghost use Rattle.gitconf_glob.specs.Shapes.{element_of, front_of, FitsIn};
 use crate::bracket::bracket_passed;
 
 /// What takes one byte of the text. Brackets are separate (`bracket`, `places`).
-#[derive(Clone, Copy, Debug, PartialEq, Eq)]
+#[derive(Clone, Copy)]
 pub enum Element {
     Literal(u8),
     /// Any byte except `/`.
@@ -14,7 +14,7 @@ pub enum Element {
 }
 
 /// What is at a pattern's front. A number counts the bytes after the first one that belong to it.
-#[derive(Clone, Copy, Debug, PartialEq, Eq)]
+#[derive(Clone, Copy)]
 pub enum Front {
     /// What no text matches.
     Nothing,

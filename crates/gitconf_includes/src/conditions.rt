@@ -20,7 +20,7 @@ use gitconf_text::NoMemory;
 use std::alloc::Global;
 
 /// What is known of a condition without looking at any section.
-#[derive(Clone, Copy, Debug)]
+#[derive(Clone, Copy)]
 pub enum Judged<'a> {
     /// It holds, or it doesn't.
     Holds(bool),

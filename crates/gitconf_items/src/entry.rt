@@ -17,7 +17,7 @@ use std::alloc::{AllocError, Global};
 use std::marker::Model;
 
 /// A piece of a value other than the last one.
-#[derive(Clone, Copy, Debug, Default)]
+#[derive(Clone, Copy, Default)]
 pub struct Piece {
     /// Its bytes, without the backslash after them.
     pub text: Span,
@@ -26,7 +26,7 @@ pub struct Piece {
 }
 
 /// A value: the pieces before the last one, and the last one.
-#[derive(Clone, Debug, Drop)]
+#[derive(Clone, Drop)]
 pub struct Value {
     /// Up to four take no memory of their own.
     pub pieces: SmallVec<Piece, 4>,
@@ -35,7 +35,7 @@ pub struct Value {
 }
 
 /// A value of more than one piece, and the blanks before it.
-#[derive(Clone, Debug, Drop)]
+#[derive(Clone, Drop)]
 pub struct Continued {
     /// The blanks between `=` and the value.
     pub blanks: Span,
@@ -44,7 +44,7 @@ pub struct Continued {
 }
 
 /// What is assigned to a value name.
-#[derive(Clone, Debug, Drop)]
+#[derive(Clone, Drop)]
 pub enum Assigned {
     /// Nothing: no `=` follows the name.
     Nothing,
@@ -71,7 +71,7 @@ impl Assigned {
 }
 
 /// What is assigned to the value name of an entry, borrowed from it.
-#[derive(Clone, Copy, Debug)]
+#[derive(Clone, Copy)]
 pub enum AssignedRef<'a> {
     /// Nothing: no `=` follows the name.
     Nothing,
@@ -82,7 +82,7 @@ pub enum AssignedRef<'a> {
 }
 
 /// The parts of an entry: a value name, the blanks after it, and what is assigned, if anything.
-#[derive(Clone, Debug, Drop)]
+#[derive(Clone, Drop)]
 pub struct EntryParts {
     /// The value name.
     pub name: Span,
@@ -94,7 +94,7 @@ pub struct EntryParts {
 
 /// The parts of an entry that are one after the other, with `=` among them: the offset of the name, and the lengths of the name,
 /// of the blanks before and after `=`, and of the value.
-#[derive(Clone, Copy, Debug)]
+#[derive(Clone, Copy)]
 pub(crate) struct Line {
     pub(crate) start: u32,
     pub(crate) name: u16,
@@ -104,7 +104,7 @@ pub(crate) struct Line {
 }
 
 /// How the parts of an entry are held.
-#[derive(Debug, Drop)]
+#[derive(Drop)]
 pub(crate) enum Form {
     /// A name, and that many blanks directly after it.
     Name { name: Span, blanks: u32 },
@@ -115,7 +115,7 @@ pub(crate) enum Form {
 }
 
 /// An entry. Contracts see its parts.
-#[derive(Debug, Drop)]
+#[derive(Drop)]
 pub struct Entry {
     pub(crate) form: Form,
 }

@@ -132,7 +132,7 @@ pub struct Header {
 }
 
 /// A token of a text.
-#[derive(Clone, Copy, Debug)]
+#[derive(Clone, Copy)]
 pub enum Event {
     Comment { tag: u8, text: Span },
     SectionHeader(Header),

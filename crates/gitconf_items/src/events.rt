@@ -11,9 +11,10 @@ use crate::entry::{AssignedRef, Entry, Piece};
 use crate::event::Span;
 use crate::event_ref::EventRef;
 use crate::items::Item;
+use std::fmt;
 
 /// Where an iterator is: between items, or within an entry, of which it still has the rest.
-#[derive(Clone, Copy, Debug)]
+#[derive(Clone, Copy)]
 enum Place<'a> {
     Between,
     BehindName(&'a Entry),
@@ -48,11 +49,17 @@ enum Place<'a> {
 /// more than one piece. Within an entry, empty blanks and line endings have no event.
 ///
 /// It takes no memory, and a step takes constant time.
-#[derive(Clone, Copy, Debug)]
+#[derive(Clone, Copy)]
 pub struct ItemEvents<'a> {
     buffer: &'a [u8],
     place: Place<'a>,
     items: &'a [Item],
+}
+
+impl fmt::Debug for ItemEvents<'_> {
+    fn fmt<W: fmt::Write>(&self, f: &mut fmt::Formatter<W>) -> fmt::Result {
+        f.debug_struct("ItemEvents").finish_non_exhaustive()
+    }
 }
 
 /// The event of the next piece of a value of several, or of its last one.

@@ -7,7 +7,7 @@ use gitconf_text::NoMemory;
 use std::mem::{replace, size_of};
 
 /// What a body is made of. It takes 24 bytes.
-#[derive(Clone, Debug, Drop)]
+#[derive(Clone, Drop)]
 pub enum Item {
     Blanks(Span),
     LineEnds(Span),
@@ -34,7 +34,7 @@ pub enum Keep {
 }
 
 /// A header and what follows it.
-#[derive(Debug, Drop)]
+#[derive(Drop)]
 pub struct Section {
     /// The header.
     pub header: Header,

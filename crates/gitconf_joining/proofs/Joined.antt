@@ -10,8 +10,8 @@ use Rattle.gitconf_items.specs.ShownEvents.{IsShown}
 use Rattle.gitconf_items.specs.Events.{header_of}
 use Rattle.gitconf_text.specs.Bytes.{fold}
 use Rattle.gitconf_text.specs.Header.{name_of, subsection_of}
-use Rattle.gitconf_table.specs.Sections.{SectionEntry, Sections, changed_at}
-use Rattle.gitconf_table.specs.Sections as table
+use Rattle.gitconf_text.specs.Sections.{SectionEntry, Sections, changed_at}
+use Rattle.gitconf_text.specs.Sections as table
 use Rattle.gitconf_state.specs.Edits.{numbered_from}
 use Rattle.gitconf_state.proofs.Edits.Keep.{holds_appended}
 use Rattle.gitconf_items.specs.Items.{items_of}

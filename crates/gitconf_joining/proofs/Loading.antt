@@ -6,7 +6,7 @@ use Rattle.std.specs.List.{AllByRecursion, flat_map, range_with_len}
 use Rattle.std.specs.Option.{option_map}
 use Rattle.gitconf_text.specs.Bytes.{fold}
 use Rattle.gitconf_text.specs.Header.{name_of, subsection_of}
-use Rattle.gitconf_table.specs.Sections.{SectionEntry, Sections, with_last}
+use Rattle.gitconf_text.specs.Sections.{SectionEntry, Sections, with_last}
 use Rattle.gitconf_text.specs.Token.{HeaderToken, Token, item_tokens}
 use Rattle.gitconf_base.specs.Metadata.{Meta}
 use Rattle.gitconf_items.specs.declared.items.Item.{Item}

@@ -2,7 +2,7 @@
 use Rattle.std.proofs.Common.{◌≡◌, ℕ, zero, suc, List, [], ◌∷◌, length, Some, refl, ap, sym, subst}
 use Rattle.std.specs.List.{AllByRecursion, AllZip, slice_get}
 use Rattle.std.specs.Option.{option_map}
-use Rattle.gitconf_table.specs.Sections.{SectionEntry, Sections, changed_at}
+use Rattle.gitconf_text.specs.Sections.{SectionEntry, Sections, changed_at}
 use Rattle.gitconf_items.proofs.Moves.{AreChanged}
 use Rattle.gitconf_sections.specs.Section.{Section}
 use Rattle.gitconf_sections.specs.Moves.{IsMovable, IsSectionMoved}

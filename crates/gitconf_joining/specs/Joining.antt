@@ -3,7 +3,7 @@ use Rattle.std.specs.Prelude.{◌≡◌, ℕ, zero, suc, ◌+◌, List, [], ◌�
 use Rattle.gitconf_text.specs.Part as parts
 use Rattle.gitconf_items.specs.declared.items.Item.{Item}
 use Rattle.gitconf_items.specs.ItemsFit.{AreItemsWithin}
-use Rattle.gitconf_table.specs.Sections.{Sections}
+use Rattle.gitconf_text.specs.Sections.{Sections}
 use Rattle.gitconf_state.specs.Edits.{numbered_from}
 use Rattle.gitconf_state.specs.State.{SectionState}
 use Rattle.gitconf_items.specs.Items.{items_of}

@@ -2,7 +2,7 @@
 use Rattle.std.specs.Prelude.{◌≡◌, ℕ, List, [], length, map}
 use Rattle.std.specs.List.{AllByRecursion, range_with_len}
 use Rattle.gitconf_base.specs.Metadata.{Meta}
-use Rattle.gitconf_table.specs.Sections.{Sections}
+use Rattle.gitconf_text.specs.Sections.{Sections}
 use Rattle.gitconf_state.specs.State.{SectionState}
 use Rattle.gitconf_sections.specs.Section.{Section}
 use Rattle.gitconf_views.specs.Store.{AllSectionsFit, section_state}

@@ -1,7 +1,7 @@
 -- Sections whose bytes come after other bytes, so that their spans are moved.
 use Rattle.std.specs.Prelude.{◌≡◌, ℕ}
 use Rattle.std.specs.List.{AllByRecursion, AllZip}
-use Rattle.gitconf_table.specs.Sections.{SectionEntry, Sections}
+use Rattle.gitconf_text.specs.Sections.{SectionEntry, Sections}
 use Rattle.gitconf_sections.specs.Moves.{IsMovable, IsSectionMoved}
 use Rattle.gitconf_sections.specs.Section.{Section}
 

@@ -6,7 +6,7 @@ ghost use Rattle.gitconf_items.specs.Items.{items_of};
 ghost use Rattle.gitconf_text.specs.LineEnds.{bytes_of_line_end};
 ghost use Rattle.gitconf_sections.specs.Held.{line_end_item};
 ghost use Rattle.gitconf_joining.specs.Joining.{front_then, AreBehind, AreSame};
-ghost use Rattle.gitconf_table.specs.Sections.{no_number};
+ghost use Rattle.gitconf_text.specs.Sections.{no_number};
 
 use gitconf_items::event::Span;
 use gitconf_items::few::FewItems;

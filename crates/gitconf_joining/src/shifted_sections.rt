@@ -5,7 +5,7 @@ ghost use Rattle.gitconf_items.specs.declared.event.Event.TheVariants as kinds;
 ghost use Rattle.gitconf_items.specs.ItemsFit.{AreItemsWithin};
 ghost use Rattle.gitconf_items.specs.Moves.{AreItemsMoved};
 ghost use Rattle.gitconf_items.specs.ShownEvents.{IsShown};
-ghost use Rattle.gitconf_table.specs.Sections.{no_number};
+ghost use Rattle.gitconf_text.specs.Sections.{no_number};
 ghost use Rattle.gitconf_sections.specs.Section.{made};
 ghost use Rattle.gitconf_joining.specs.Moves.{AreMovable, AreSectionsMoved};
 ghost use Rattle.gitconf_views.specs.Store.{AllSectionsFit, section_state, section_under};

@@ -11,7 +11,7 @@ ghost use Rattle.gitconf_base.specs.Metadata.{Meta};
 ghost use Rattle.gitconf_items.specs.EventRef.{Shown};
 ghost use Rattle.gitconf_items.specs.EventList.{keeps_entry_token};
 ghost use Rattle.gitconf_items.specs.TokenDocument.{keeps_meaning};
-ghost use Rattle.gitconf_table.specs.Sections.{no_number};
+ghost use Rattle.gitconf_text.specs.Sections.{no_number};
 ghost use Rattle.gitconf_state.specs.State.{State, AreNumbered, HasItems, IsState, document_of, entries_of, SectionState, section_document, document_of_kept};
 ghost use Rattle.gitconf_state.specs.Printing.{printed, printed_kept, printed_section};
 ghost use Rattle.gitconf_state.specs.Clean.{IsClean};

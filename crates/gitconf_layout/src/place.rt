@@ -6,7 +6,7 @@ ghost use Rattle.gitconf_layout.specs.Layout.{behind};
 use gitconf_items::event_ref::EventRef;
 
 /// What comes before a token on its line, apart from blanks.
-#[derive(Clone, Copy, Debug)]
+#[derive(Clone, Copy)]
 pub enum Before {
     /// Nothing.
     Nothing,
@@ -17,7 +17,7 @@ pub enum Before {
 }
 
 /// Where a token is.
-#[derive(Clone, Copy, Debug)]
+#[derive(Clone, Copy)]
 pub struct Place {
     /// Whether it comes after a header.
     pub in_section: bool,

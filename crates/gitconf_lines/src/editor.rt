@@ -13,7 +13,7 @@ use gitconf_items::items::Item;
 use gitconf_text::line_end::LineEnd;
 
 /// The blanks before a key.
-#[derive(Clone, Copy, Debug)]
+#[derive(Clone, Copy)]
 pub enum Leading<'a> {
     /// There are none.
     Nothing,
@@ -24,7 +24,7 @@ pub enum Leading<'a> {
 }
 
 /// The blanks before and after `=`.
-#[derive(Clone, Copy, Debug)]
+#[derive(Clone, Copy)]
 pub enum Around<'a> {
     /// A space on both sides, which is added to the buffer with each value.
     Spaces,
@@ -35,7 +35,7 @@ pub enum Around<'a> {
 }
 
 /// What an editor of a body writes besides names and values. It stays as it was made, even while the body changes.
-#[derive(Clone, Copy, Debug)]
+#[derive(Clone, Copy)]
 pub struct Editor<'a> {
     /// The blanks before a key.
     pub leading: Leading<'a>,

@@ -21,7 +21,7 @@ use Rattle.gitconf_parse.proofs.OneDocument.{one_document}
 use Rattle.gitconf_expansion.specs.Expansion.{Asks, Ended, IsLoaded, On}
 use Rattle.gitconf_expansion.specs.Laws.{AreHeaded}
 use Rattle.gitconf_expansion.proofs.States.{headed_stays, IsHeaded, loaded_headed}
-use Rattle.gitconf_resolving.specs.Resolving.{IsMadeOf}
+use Rattle.gitconf_loaders.specs.Resolving.{IsMadeOf}
 use Rattle.gitconf_loaders.specs.Globals.{empty_file, home_rules, IsGlobal}
 use Rattle.gitconf_loaders.specs.Paths.{AreLoaded, has_room_behind, IsBehind, IsFileLoaded, IsLoadedFrom, IsLoadOfPaths, IsMetaLoaded, IsTextTaken, Joins, once, taken}
 

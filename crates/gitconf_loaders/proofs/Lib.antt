@@ -5,3 +5,6 @@ pub mod Everywhere
 pub mod Asked
 pub mod Clean
 pub mod Seen
+pub mod Made
+pub mod OneText
+pub mod UrlLemmas

@@ -16,10 +16,10 @@ use Rattle.gitconf_parse.specs.EventResult.{IsRefused}
 use Rattle.gitconf_parse.specs.ParseError.{Refusal}
 use Rattle.gitconf_state.specs.State.{State}
 use Rattle.gitconf_expansion.specs.Expansion.{IsLoadOf}
-use Rattle.gitconf_loaders.specs.declared.from_paths.Error.{Error}
-use Rattle.gitconf_loaders.specs.declared.from_paths.Error.TheVariants as paths
+use Rattle.gitconf_refusals.specs.declared.from_paths.Error.{Error}
+use Rattle.gitconf_refusals.specs.declared.from_paths.Error.TheVariants as paths
 use Rattle.gitconf_loaders.specs.Causes.{IsFault, IsFileCause, load_refusal}
-use Rattle.gitconf_loaders.specs.Errors.{paths_number, paths_of_parse}
+use Rattle.gitconf_refusals.specs.Errors.{paths_number, paths_of_parse}
 use Rattle.gitconf_loaders.specs.Paths.{IsLoadedFrom, IsRead, load_fault, numbered}
 
 -- what a call of the host says, the table may say

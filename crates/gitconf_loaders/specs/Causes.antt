@@ -15,8 +15,8 @@ use Rattle.gitconf_includes.specs.declared.init.Error.TheVariants as init
 use Rattle.gitconf_includes.specs.declared.init.Options.{Options}
 use Rattle.gitconf_parse.specs.EventResult.{IsRefused}
 use Rattle.gitconf_expansion.specs.Outcomes.{IsCause, IsFaultOf, IsTextOf}
-use Rattle.gitconf_loaders.specs.declared.from_paths.Error.{Error}
-use Rattle.gitconf_loaders.specs.declared.from_paths.Error.TheVariants as paths
+use Rattle.gitconf_refusals.specs.declared.from_paths.Error.{Error}
+use Rattle.gitconf_refusals.specs.declared.from_paths.Error.TheVariants as paths
 use Rattle.gitconf_loaders.specs.Paths.{is_among, IsTextTaken}
 
 -- how a load is refused for a fault of the file at a path

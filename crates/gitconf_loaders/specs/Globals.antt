@@ -14,8 +14,8 @@ use Rattle.gitconf_places.specs.Places.{IsPlaced, place_of}
 use Rattle.gitconf_state.specs.State.{State}
 use Rattle.gitconf_loaders.specs.Causes.{IsLoadCause}
 use Rattle.gitconf_loaders.specs.Paths.{IsLoadOfPaths, Then}
-use Rattle.gitconf_loaders.specs.declared.from_paths.Error.{Error}
-use Rattle.gitconf_loaders.specs.declared.from_paths.Error.TheVariants.{Memory}
+use Rattle.gitconf_refusals.specs.declared.from_paths.Error.{Error}
+use Rattle.gitconf_refusals.specs.declared.from_paths.Error.TheVariants.{Memory}
 
 -- the sources, in the order in which they are read
 abbrev pub global_sources : List Source

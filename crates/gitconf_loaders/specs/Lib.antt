@@ -1,5 +1,6 @@
-pub mod Errors
 pub mod Paths
 pub mod Causes
 pub mod Globals
 pub mod Variables
+pub mod Resolving
+pub mod Urls

@@ -13,14 +13,14 @@ use Rattle.gitconf_host.specs.Reports.{FileReport, Grew, IsNoLess, May, read_of,
 use Rattle.gitconf_host.specs.declared.fault.FileFault.{FileFault}
 use Rattle.gitconf_host.specs.declared.fault.Stage.{Stage}
 use Rattle.gitconf_host.specs.declared.fault.Stage.TheVariants.{Open, Read, Memory}
-use Rattle.gitconf_table.specs.Sections.{no_number}
+use Rattle.gitconf_text.specs.Sections.{no_number}
 use Rattle.gitconf_state.specs.Edit.{with_used}
 use Rattle.gitconf_state.specs.Edits.{Append, apply}
 use Rattle.gitconf_state.specs.State.{State}
 use Rattle.gitconf_store.specs.Appends.{appended_bytes}
 use Rattle.gitconf_expansion.specs.Expansion.{Asks, IsLoadOf}
 use Rattle.gitconf_expansion.specs.Outcomes.{is_file_number}
-use Rattle.gitconf_resolving.specs.Resolving.{IsMadeOf}
+use Rattle.gitconf_loaders.specs.Resolving.{IsMadeOf}
 
 -- a result, with the number of its refusal
 abbrev pub numbered : {T E : Type 0} → (number : E → ℕ) → Result T E → Result T ℕ

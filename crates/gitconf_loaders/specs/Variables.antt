@@ -9,8 +9,8 @@ use Rattle.gitconf_host.specs.Reports.{HasText, May, NoText, NotSet, VariableRep
 use Rattle.gitconf_text.specs.HeaderErrors.{header_number}
 use Rattle.gitconf_views.specs.ValueErrors.{edit_numbers, value_number}
 use Rattle.gitconf_store.specs.Renamings.{header_numbers}
-use Rattle.gitconf_loaders.specs.declared.from_env.Error.{Error}
-use Rattle.gitconf_loaders.specs.declared.from_env.Error.TheVariants as env
+use Rattle.gitconf_refusals.specs.declared.from_env.Error.{Error}
+use Rattle.gitconf_refusals.specs.declared.from_env.Error.TheVariants as env
 
 -- how many entries there are: none if the variable isn't set to a text; otherwise digits, with an optional plus, below 2 to the 64th, or
 -- refusal 23

@@ -2,11 +2,10 @@
 ghost use Rattle.std.specs.Prelude.{◌≡◌, ◌++◌, false, unwrap_or, List, IfErr, IfOk, OnOk};
 ghost use Rattle.gitconf_base.specs.Metadata.{api_meta, Meta};
 ghost use Rattle.gitconf_includes.specs.Rules.{rules_of};
-ghost use Rattle.gitconf_loaders.specs.Errors.{paths_number};
+ghost use Rattle.gitconf_refusals.specs.Errors.{paths_number};
 ghost use Rattle.gitconf_loaders.specs.Globals.{empty_file, found_list, global_sources, home_rules, AreFound, IsFound, IsGlobal, IsGlobalCause};
 ghost use Rattle.gitconf_loaders.specs.Paths.{CountsLoad, numbered};
 
-use crate::from_paths::Error;
 use crate::paths::{from_paths, shared};
 use gitconf_base::meta::Metadata;
 use gitconf_base::source::{Source, Trust};
@@ -14,6 +13,7 @@ use gitconf_host::{Env, Files, Places};
 use gitconf_includes::includes;
 use gitconf_includes::init::Options;
 use gitconf_places::StorageLocation;
+use gitconf_refusals::from_paths::Error;
 use gitconf_store::store::Store;
 use gitconf_text::NoMemory;
 use std::alloc::Global;

@@ -2,13 +2,13 @@
 ghost use Rattle.std.specs.Prelude.{◌≡◌, IfErr, IfOk, string_bytes};
 ghost use Rattle.std.specs.Option.{option_map};
 ghost use Rattle.std.specs.Result.{result_map_both};
-ghost use Rattle.gitconf_loaders.specs.Errors.{env_number};
+ghost use Rattle.gitconf_refusals.specs.Errors.{env_number};
 ghost use Rattle.gitconf_loaders.specs.Paths.{numbered};
 ghost use Rattle.gitconf_loaders.specs.Variables as spec;
 ghost use Rattle.gitconf_loaders.specs.Variables.{IsCount, IsCountCause, IsEntryCause, IsKeyAt, IsValueAt};
 
-use crate::from_env::Error;
 use gitconf_host::{Env, EnvVar};
+use gitconf_refusals::from_env::Error;
 use gitconf_text::NoMemory;
 use std::alloc::Global;
 

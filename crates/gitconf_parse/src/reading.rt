@@ -11,7 +11,7 @@ use part::parts;
 use std::alloc::AllocFailed;
 
 /// What was looked for where the text was refused.
-#[derive(Clone, Copy, Debug, PartialEq, Eq)]
+#[derive(Clone, Copy, Debug)]
 pub enum Expected {
     SectionHeader,
     Name,
@@ -19,7 +19,7 @@ pub enum Expected {
 }
 
 /// Where the text was refused.
-#[derive(Clone, Copy, Debug, PartialEq, Eq)]
+#[derive(Clone, Copy)]
 pub struct Fault {
     /// The offset, in bytes, from which on nothing can be read.
     pub at: usize,
@@ -28,7 +28,7 @@ pub struct Fault {
 }
 
 /// Why a text was not read: a fault of it, or out of memory.
-#[derive(Clone, Copy, Debug, PartialEq, Eq)]
+#[derive(Clone, Copy)]
 pub enum ReadError {
     Memory,
     Fault(Fault),

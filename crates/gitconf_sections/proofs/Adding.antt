@@ -8,7 +8,7 @@ use Rattle.gitconf_text.specs.Bytes.{fold}
 use Rattle.gitconf_items.specs.declared.items.Item.{Item}
 use Rattle.gitconf_table.specs.Pairs.{EachTwo}
 use Rattle.gitconf_table.specs.Renames.{with_names_at}
-use Rattle.gitconf_table.specs.Sections.{SectionEntry, Sections, changed_at, edited_at, entry_of, numbered_from, section_at, with_all, with_last, with_names, with_section}
+use Rattle.gitconf_text.specs.Sections.{SectionEntry, Sections, changed_at, edited_at, entry_of, numbered_from, section_at, with_all, with_last, with_names, with_section}
 use Rattle.gitconf_table.proofs.SectionLemmas.{tables}
 use Rattle.gitconf_sections.specs.declared.body.Body.{Body}
 use Rattle.gitconf_sections.specs.declared.body.Body.TheVariants.{Listed, Nothing, Own}

@@ -3,7 +3,7 @@ use Rattle.std.proofs.Common.{◌≡◌, ℕ, ◌≤◌, List, length, Some, Res
 use Rattle.std.specs.Prelude.{IfOk, OnErr, OnOk}
 use Rattle.std.specs.Option.{option_map}
 use Rattle.gitconf_items.specs.declared.items.Item.{Item}
-use Rattle.gitconf_table.specs.Sections.{Sections, changed_at, edited_at, section_at, with_section}
+use Rattle.gitconf_text.specs.Sections.{Sections, changed_at, edited_at, section_at, with_section}
 use Rattle.gitconf_table.proofs.SectionLemmas.{section_edited, tables}
 use Rattle.gitconf_sections.specs.declared.row.Row.{Row}
 use Rattle.gitconf_sections.specs.Section.{AreListed, IsSameButIn, NeedsNoMore, Section, end_behind, read, read_all}

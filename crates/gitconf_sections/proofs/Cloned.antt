@@ -3,7 +3,7 @@ use Rattle.std.proofs.Common.{◌≡◌, ℕ, zero, suc, List, [], ◌∷◌, le
 use Rattle.std.specs.List.{AllZip}
 use Rattle.gitconf_items.specs.declared.items.Item.{Item}
 use Rattle.gitconf_items.specs.contracts.items.ItemClone.TheImpl as item
-use Rattle.gitconf_table.specs.Sections.{SectionEntry, Sections, IsEntryClone, IsTableClone}
+use Rattle.gitconf_text.specs.Sections.{SectionEntry, Sections, IsEntryClone, IsTableClone}
 use Rattle.gitconf_sections.specs.declared.body.Body.{Body}
 use Rattle.gitconf_sections.specs.declared.body.Body.TheVariants.{Listed, Nothing, Own}
 use Rattle.gitconf_sections.specs.declared.row.Row.{Row}

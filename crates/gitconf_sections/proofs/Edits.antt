@@ -4,7 +4,7 @@ use Rattle.std.specs.List.{slice_get}
 use Rattle.std.specs.Option.{option_map}
 use Rattle.std.specs.Prelude.{IfSome}
 use Rattle.gitconf_items.specs.declared.items.Item.{Item}
-use Rattle.gitconf_table.specs.Sections.{SectionEntry, Sections, changed_at, edited_at, section_at, with_section}
+use Rattle.gitconf_text.specs.Sections.{SectionEntry, Sections, changed_at, edited_at, section_at, with_section}
 use Rattle.gitconf_table.proofs.SectionLemmas.{section_edited, tables}
 use Rattle.gitconf_sections.specs.Section.{Section, with_items}
 

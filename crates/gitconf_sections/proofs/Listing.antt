@@ -7,7 +7,7 @@ use Rattle.gitconf_items.specs.declared.items.Item.{Item}
 use Rattle.gitconf_table.specs.declared.runs.Run.{Run}
 use Rattle.gitconf_table.specs.Pairs.{EachToEach, EachTwo}
 use Rattle.gitconf_table.specs.Runs.{woven}
-use Rattle.gitconf_table.specs.Sections.{SectionEntry, changed_at, numbered_from}
+use Rattle.gitconf_text.specs.Sections.{SectionEntry, changed_at, numbered_from}
 use Rattle.gitconf_table.proofs.Woven.{all_append, all_woven, map_woven, two_joined, woven_apart}
 use Rattle.gitconf_sections.specs.declared.body.Body.{Body}
 use Rattle.gitconf_sections.specs.declared.body.Body.TheVariants.{Listed, Nothing, Own}

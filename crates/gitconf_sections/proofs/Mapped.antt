@@ -3,7 +3,7 @@ use Rattle.std.proofs.Common.{◌≡◌, ℕ, zero, suc, ◌+◌, ◌==◌, Bool
 use Rattle.std.specs.List.{AllByRecursion, list_any, position_or_len, slice_get}
 use Rattle.std.specs.Option.{option_map}
 use Rattle.std.proofs.lemmas.List.{length-map, map-append}
-use Rattle.gitconf_table.specs.Sections.{SectionEntry, Sections, AreNumbered, IsNumbered, changed_at, has_number, number_at, numbered_from, place_of, section_at, section_of, with_all, with_last, with_names, with_section, without}
+use Rattle.gitconf_text.specs.Sections.{SectionEntry, Sections, AreNumbered, IsNumbered, changed_at, has_number, number_at, numbered_from, place_of, section_at, section_of, with_all, with_last, with_names, with_section, without}
 use Rattle.gitconf_table.specs.Renames.{with_names_at}
 
 module _ {A B : Type 0} (r : A → B) where
@@ -107,7 +107,7 @@ module _ {A B : Type 0} (r : A → B) where
   -- more sections
   pub last_mapped : (name : List ℕ) (subsection : Option (List ℕ)) (s : A) (all : Sections A) → all_mapped (with_last name subsection s all) ≡ with_last name subsection (r s) (all_mapped all)
   last_mapped name subsection s all = λ i. record {
-    entries = map-append mapped all.entries (Rattle.gitconf_table.specs.Sections.entry_of all.next name subsection s ∷ []) i;
+    entries = map-append mapped all.entries (Rattle.gitconf_text.specs.Sections.entry_of all.next name subsection s ∷ []) i;
     next = all.next + 1;
   }
 

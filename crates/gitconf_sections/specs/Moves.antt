@@ -4,7 +4,7 @@ use Rattle.gitconf_items.specs.Events.{HeaderFits}
 use Rattle.gitconf_items.specs.ItemsFit.{AreItemsWithin}
 use Rattle.gitconf_items.specs.ShownEvents.{CopyFits}
 use Rattle.gitconf_items.specs.Moves.{AreItemsMoved, IsHeaderMoved}
-use Rattle.gitconf_table.specs.Sections.{Sections, section_at, with_section}
+use Rattle.gitconf_text.specs.Sections.{Sections, section_at, with_section}
 use Rattle.gitconf_sections.specs.Section.{Section}
 
 -- the same section, after `by` bytes were put before those of its buffer, and `copies_by` before the decoded copies

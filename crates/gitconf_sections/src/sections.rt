@@ -2,7 +2,7 @@
 ghost use Rattle.std.specs.Prelude.{◌≡◌, ◌+◌, ◌<◌, ◌==◌, [], length, Some, IfOk, IfSome, OnErr, OnOk};
 ghost use Rattle.std.specs.List.{list_any, AllByRecursion};
 ghost use Rattle.std.specs.Option.{option_copied, option_map};
-ghost use Rattle.gitconf_table.specs.Sections.{has_name, no_number, number_at, place_of, section_at, section_of, without, IsNumbered, IsTableClone};
+ghost use Rattle.gitconf_text.specs.Sections.{has_name, no_number, number_at, place_of, section_at, section_of, without, IsNumbered, IsTableClone};
 ghost use Rattle.gitconf_table.specs.Renames.{with_names_at};
 ghost use Rattle.gitconf_sections.specs.Section.{viewed, IsSectionClone};
 
@@ -29,7 +29,7 @@ pub struct SectionList {
 
 impl Model for SectionList {
     ghost use Rattle.std.specs.Prelude.{length};
-    ghost use Rattle.gitconf_table.specs.Sections.{Sections};
+    ghost use Rattle.gitconf_text.specs.Sections.{Sections};
     ghost use Rattle.gitconf_sections.specs.Section.{Section, read_all, AreListed};
 
     ghost Value = { Sections Section };

@@ -2,7 +2,7 @@
 -- visited. What a path gives comes after everything that is done.
 -- Source: git, which reads an included file in place of its include; the rule of the front is that of appended files.
 use Rattle.std.specs.Prelude.{ℕ, ◌+◌, ◌^◌, Bool, List, [], ◌∷◌, ◌++◌, ◌&&◌, length, ltb, leb}
-use Rattle.gitconf_table.specs.Sections.{no_number}
+use Rattle.gitconf_text.specs.Sections.{no_number}
 use Rattle.gitconf_state.specs.Appending.{items_before, line_bytes}
 use Rattle.gitconf_state.specs.Edits.{between, held_behind_last, numbered_from}
 use Rattle.gitconf_state.specs.LineEnds.{file_line_end}

@@ -1,7 +1,7 @@
 -- What an append of another file adds to the buffer of a file.
 use Rattle.std.specs.Prelude.{◌≡◌, ℕ, ◌+◌, List, [], ◌∷◌, ◌++◌, length, Option, Some, None, slice_get}
 use Rattle.gitconf_text.specs.Part as parts
-use Rattle.gitconf_table.specs.Sections.{SectionEntry}
+use Rattle.gitconf_text.specs.Sections.{SectionEntry}
 use Rattle.gitconf_items.specs.declared.event.Span.{Span}
 use Rattle.gitconf_items.specs.declared.items.Item.{Item}
 use Rattle.gitconf_items.specs.ItemsFit.{AreItemsWithin}

@@ -7,7 +7,7 @@ use Rattle.gitconf_text.specs.declared.parse.section.header.Error.{Error as Head
 use Rattle.gitconf_text.specs.declared.parse.section.header.Error.TheVariants.{InvalidName, InvalidSubSection, Span}
 use Rattle.gitconf_base.specs.Metadata.{Meta}
 use Rattle.gitconf_items.specs.declared.event.Header.{Header}
-use Rattle.gitconf_table.specs.Sections.{Sections, edited_at}
+use Rattle.gitconf_text.specs.Sections.{Sections, edited_at}
 use Rattle.gitconf_state.specs.Edit.{header_bytes, is_target, with_used}
 use Rattle.gitconf_state.specs.Edits.{RenameAll, apply, renamed, with_sections}
 use Rattle.gitconf_state.specs.Lookup.{is_named, listed, listing, miss_of}

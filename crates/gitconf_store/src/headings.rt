@@ -4,7 +4,7 @@ ghost use Rattle.std.specs.List.{list_any, AllByRecursion};
 ghost use Rattle.std.specs.Option.{option_copied};
 ghost use Rattle.std.specs.Prelude.{◌≡◌, ◌&&◌, ◌<◌, [], ◌∷◌, ◌++◌, true, Bool, List, length, map, IfOk, IfSome, OnErr, OnOk};
 ghost use Rattle.gitconf_base.specs.Metadata.{Meta};
-ghost use Rattle.gitconf_table.specs.Sections.{is_named, place_of, IsNumbered};
+ghost use Rattle.gitconf_text.specs.Sections.{is_named, place_of, IsNumbered};
 ghost use Rattle.gitconf_store.specs.Renamings.{marked_places, with_headers, AreMarks};
 
 use gitconf_base::meta::Metadata;

@@ -10,7 +10,7 @@ use Rattle.gitconf_table.specs.Letters.{name_part, part_of, subsection_part, Are
 use Rattle.gitconf_table.specs.Links.{words_of}
 use Rattle.gitconf_table.specs.Renames.{named_at, named_each, set_each, with_names_at}
 use Rattle.gitconf_table.specs.Rows.{entries_of, entry_of_row, RowsFit}
-use Rattle.gitconf_table.specs.Sections.{SectionEntry, Sections, changed_at}
+use Rattle.gitconf_text.specs.Sections.{SectionEntry, Sections, changed_at}
 use Rattle.gitconf_table.specs.Tables.{IsTable}
 use Rattle.gitconf_table.specs.Word.{full_word, name_word}
 use Rattle.gitconf_table.proofs.RowLemmas.{entries_same, longer, rows_fit}

@@ -11,7 +11,7 @@ use Rattle.gitconf_table.specs.declared.letters.Part.{Part}
 use Rattle.gitconf_table.specs.declared.letters.Names.{Names}
 use Rattle.gitconf_table.specs.declared.table.Row.{Row}
 use Rattle.gitconf_table.specs.Letters.{moved_names, name_part, part_of, subsection_part, ArePut, IsPut, IsSubsectionPut, NamesFit, PartFits, SubsectionFits}
-use Rattle.gitconf_table.specs.Sections.{SectionEntry, AreNumbered, changed_at, entry_of, has_number, numbered_from}
+use Rattle.gitconf_text.specs.Sections.{SectionEntry, AreNumbered, changed_at, entry_of, has_number, numbered_from}
 use Rattle.gitconf_table.specs.Rows.{entries_of, entry_of_row, moved_rows, numbers_in, IsRowClone, RowsFit}
 use Rattle.gitconf_table.specs.Tables.{numbers_of, AreApart, ArePlaced}
 use Rattle.gitconf_table.proofs.SectionLemmas.{changed_numbered, placed_section, placed_removed}

@@ -13,7 +13,7 @@ use Rattle.std.proofs.lemmas.List.Quantifiers.{position-Some}
 use Rattle.std.proofs.lemmas.List.Filters.{length-filter_both}
 use Rattle.std.proofs.lemmas.List.Folds.{find_at}
 use Rattle.std.proofs.lemmas.Option.{slice_get_read, slice_get-get_or}
-use Rattle.gitconf_table.specs.Sections.{SectionEntry, Sections, AreNumbered, changed_at, edited_at, entry_of, has_name, has_number, numbered_from, number_at, place_of, section_at, section_of, with_section}
+use Rattle.gitconf_text.specs.Sections.{SectionEntry, Sections, AreNumbered, changed_at, edited_at, entry_of, has_name, has_number, numbered_from, number_at, place_of, section_at, section_of, with_section}
 
 -- letters in lower case stay
 pub fold_again : (name : List ℕ) → fold (fold name) ≡ fold name

@@ -5,7 +5,7 @@ use Rattle.std.specs.Option.{option_map}
 use Rattle.gitconf_table.specs.declared.letters.Names.{Names}
 use Rattle.gitconf_table.specs.declared.table.Row.{Row}
 use Rattle.gitconf_table.specs.Letters.{name_part, part_of, subsection_part}
-use Rattle.gitconf_table.specs.Sections.{SectionEntry, AreNumbered, IsEntryClone}
+use Rattle.gitconf_text.specs.Sections.{SectionEntry, AreNumbered, IsEntryClone}
 use Rattle.gitconf_table.specs.Rows.{entries_of, IsRowClone}
 
 -- rows that are clones, one by one, are sections that are

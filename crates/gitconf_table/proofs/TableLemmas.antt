@@ -15,7 +15,7 @@ use Rattle.std.proofs.lemmas.List.Filters.{length-filter_both}
 use Rattle.std.proofs.lemmas.Slice.Eq.{bytes_eq-Decides}
 use Rattle.gitconf_text.specs.Bytes.{fold}
 use Rattle.gitconf_table.specs.declared.table.Row.{Row}
-use Rattle.gitconf_table.specs.Sections.{SectionEntry, AreNumbered, changed_at, entry_of, has_name, has_number, is_named, no_number, numbered_from, IsEntryClone}
+use Rattle.gitconf_text.specs.Sections.{SectionEntry, AreNumbered, changed_at, entry_of, has_name, has_number, is_named, no_number, numbered_from, IsEntryClone}
 use Rattle.gitconf_table.specs.Rows.{entries_at, entries_of, entry_of_row}
 use Rattle.gitconf_table.specs.Word.{full_state, full_word, name_state, name_word, nothing_behind, whole_state, with_bytes, word_of}
 use Rattle.gitconf_table.specs.Words.{places_in, places_of}

@@ -7,7 +7,7 @@ use Rattle.gitconf_table.specs.Pairs.{EachTwo}
 use Rattle.gitconf_table.specs.Runs.{woven}
 use Rattle.gitconf_table.specs.declared.table.Row.{Row}
 use Rattle.gitconf_table.specs.Rows.{entries_of, entry_of_row}
-use Rattle.gitconf_table.specs.Sections.{SectionEntry, AreNumbered}
+use Rattle.gitconf_text.specs.Sections.{SectionEntry, AreNumbered}
 use Rattle.gitconf_table.specs.Tables.{numbers_of, word_of_name, word_of_names, ArePlaced, IsTable}
 use Rattle.gitconf_table.proofs.Woven.{all_woven, map_woven, woven_apart}
 

@@ -1,4 +1,3 @@
-pub mod Sections
 pub mod Letters
 pub mod Rows
 pub mod SectionIters

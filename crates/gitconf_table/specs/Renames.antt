@@ -2,7 +2,7 @@
 use Rattle.std.specs.Prelude.{ℕ, zero, suc, List, [], ◌∷◌, Option, slice_set}
 use Rattle.gitconf_table.specs.declared.letters.Names.{Names}
 use Rattle.gitconf_table.specs.declared.table.Row.{Row}
-use Rattle.gitconf_table.specs.Sections.{Sections, with_names}
+use Rattle.gitconf_text.specs.Sections.{Sections, with_names}
 
 -- the table with these names for the sections at these places
 abbrev pub with_names_at : {T : Type 0} → Sections T → (places : List ℕ) → (name : List ℕ) → (subsection : Option (List ℕ)) → Sections T

@@ -4,7 +4,7 @@ use Rattle.std.specs.List.{filter_map, AllByRecursion}
 use Rattle.std.specs.Option.{option_map}
 use Rattle.gitconf_table.specs.declared.table.Row.{Row}
 use Rattle.gitconf_table.specs.Letters.{moved_names, name_part, part_of, subsection_part, NamesFit}
-use Rattle.gitconf_table.specs.Sections.{SectionEntry}
+use Rattle.gitconf_text.specs.Sections.{SectionEntry}
 
 -- a row as an entry of the list
 abbrev pub entry_of_row : {T : Type 0} → (letters : List ℕ) → Row T → SectionEntry T

@@ -6,7 +6,7 @@ use Rattle.gitconf_table.specs.declared.table.SectionIter.{SectionIter}
 use Rattle.gitconf_table.specs.declared.table.Ids.{Ids}
 use Rattle.gitconf_table.specs.declared.table.by_name.Named.{Named}
 use Rattle.gitconf_table.specs.declared.table.by_name.WithName.{WithName}
-use Rattle.gitconf_table.specs.Sections.{has_name, is_named}
+use Rattle.gitconf_text.specs.Sections.{has_name, is_named}
 use Rattle.gitconf_table.specs.Rows.{entries_at}
 
 -- an item as its number and what the section holds

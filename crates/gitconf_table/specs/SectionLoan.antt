@@ -2,7 +2,7 @@
 use Rattle.std.specs.Prelude.{ℕ}
 use Rattle.std.specs.Borrow.{Lends, MutBor, Fml}
 use denote.RattleType.{RattleType}
-use Rattle.gitconf_table.specs.Sections.{Sections, with_section}
+use Rattle.gitconf_text.specs.Sections.{Sections, with_section}
 use Rattle.gitconf_table.specs.contracts.table.SectionTable.{the_row}
 
 -- at the end of the loan, the table has the last value of r in the section at the place

@@ -1,6 +1,6 @@
 -- When the places and words that a table keeps besides its sections are right.
 use Rattle.std.specs.Prelude.{◌≡◌, ◌≢◌, ℕ, ◌<◌, List, map, length, slice_index}
-use Rattle.gitconf_table.specs.Sections.{SectionEntry, IsNumbered}
+use Rattle.gitconf_text.specs.Sections.{SectionEntry, IsNumbered}
 use Rattle.gitconf_table.specs.declared.table.Row.{Row}
 use Rattle.gitconf_table.specs.Rows.{entries_of, RowsFit}
 use Rattle.gitconf_table.specs.Word.{full_word, name_word}

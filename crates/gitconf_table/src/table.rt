@@ -8,7 +8,7 @@ ghost use Rattle.std.specs.Str.{bytes_eq};
 ghost use Rattle.std.specs.Borrow.{sem};
 ghost use Rattle.gitconf_text.specs.Bytes.{fold};
 ghost use Rattle.gitconf_table.specs.Links.{no_place};
-ghost use Rattle.gitconf_table.specs.Sections.{all_named, entry_of, has_name, ids, is_named, named, no_number, number_at, numbered_from, place_of, section_at, section_of, sections_of, with_all, with_behind, with_last, with_names, without, IsNumbered, IsTableClone};
+ghost use Rattle.gitconf_text.specs.Sections.{all_named, entry_of, has_name, ids, is_named, named, no_number, number_at, numbered_from, place_of, section_at, section_of, sections_of, with_all, with_behind, with_last, with_names, without, IsNumbered, IsTableClone};
 ghost use Rattle.gitconf_table.specs.Rows.{entry_of_row, moved_rows, numbers_in, RowsFit};
 ghost use Rattle.gitconf_table.specs.Tables.{AreApart, ArePlaced, ArePlacedTo};
 ghost use Rattle.gitconf_table.specs.Word.{full_word, name_word};
@@ -102,7 +102,7 @@ pub struct SectionTable<T> {
 }
 
 impl<T> Model for SectionTable<T> {
-    ghost use Rattle.gitconf_table.specs.Sections.{Sections};
+    ghost use Rattle.gitconf_text.specs.Sections.{Sections};
     ghost use Rattle.gitconf_table.specs.Rows.{entries_of};
     ghost use Rattle.gitconf_table.specs.Tables.{IsKept};
 
@@ -433,8 +433,11 @@ impl<T> SectionTable<T> {
         if usize::MAX - self.next < count {
             return Err(span::Error::too_large());
         }
+        reserve_rows(&mut self.rows, &mut self.names, &mut self.full, count)?;
+        make_room(&mut self.letters, other.letters.len())?;
+        add_places(&mut self.places, self.next, count)?;
         let SectionTable {
-            rows: mut added,
+            rows: added,
             letters,
             places: _,
             mut names,
@@ -442,15 +445,15 @@ impl<T> SectionTable<T> {
             seed,
             next: _,
         } = other;
-        self.rows.reserve(count)?;
-        self.names.reserve(count)?;
-        self.full.reserve(count)?;
-        make_room(&mut self.letters, letters.len())?;
-        add_places(&mut self.places, self.next, count)?;
         change_words(&added, &letters, seed, self.seed, &mut names, &mut full);
-        let behind = put(&mut self.letters, &letters).start;
-        renumber(&mut added, self.next, behind);
-        put_at(&mut self.rows, position, &mut added);
+        put_rows(
+            &mut self.rows,
+            &mut self.letters,
+            position,
+            self.next,
+            added,
+            &letters,
+        );
         relocate(&self.rows, &mut self.places, position);
         self.names.insert_all(position, names);
         self.full.insert_all(position, full);
@@ -548,6 +551,25 @@ fn reserve_row<T: Drop>(
     full.reserve(1)
 }
 
+// Makes room for that many more rows and their words.
+fn reserve_rows<T: Drop>(
+    rows: &mut Vec<Row<T>>,
+    names: &mut WordIndex,
+    full: &mut WordIndex,
+    more: usize,
+) -> Result<(), AllocError>
+    ensures items { rows.new.items ≡ rows.old.items }
+    ensures names { names.new.words ≡ names.old.words }
+    ensures full { full.new.words ≡ full.old.words }
+    ensures room { OnOk result (vec_len rows.new + more ≤ vec_capacity rows.new) }
+    ensures indexes { OnOk result ((more ≤ names.new.room) × (more ≤ full.new.room)) }
+    ensures fits { OnOk result (length names.new.words + more ≤ no_place) }
+{
+    rows.reserve(more)?;
+    names.reserve(more)?;
+    full.reserve(more)
+}
+
 // Writes down the place of each row from `from` on under its number; those before it have theirs.
 fn relocate<T>(rows: &Vec<Row<T>>, places: &mut Vec<u32>, from: usize)
     requires long { vec_len rows.now ≤ no_place }
@@ -573,6 +595,30 @@ fn add_places(places: &mut Vec<u32>, next: usize, count: usize) -> Result<(), Al
     ensures err { OnErr result (places.new.items ≡ places.old.items) }
 {
     places.resize(next + count, 0)
+}
+
+// Puts rows after the first `at` ones, under the numbers from `next` on, and their names after the other names; there is room.
+fn put_rows<T: Drop>(
+    rows: &mut Vec<Row<T>>,
+    letters: &mut Vec<u8>,
+    at: usize,
+    next: usize,
+    mut added: Vec<Row<T>>,
+    names: &[u8],
+)
+    requires within { at ≤ vec_len rows.old }
+    requires room { vec_len rows.old + vec_len added ≤ vec_capacity rows.old }
+    requires letters_room { vec_len letters.old + length names.now ≤ vec_capacity letters.old }
+    requires letters_fit { vec_len letters.old + length names.now < 2 ^ 32 }
+    requires numbers { next + vec_len added ≤ no_number }
+    requires named { RowsFit (length names.now) added.items }
+    ensures letters { letters.new.items ≡ letters.old.items ++ names.now }
+    ensures rows { rows.new.items ≡ take at rows.old.items ++ moved_rows next (length letters.old.items) added.items ++ drop at rows.old.items }
+    ensures len { vec_len rows.new ≡ vec_len rows.old + vec_len added }
+{
+    let behind = put(letters, names).start;
+    renumber(&mut added, next, behind);
+    put_at(rows, at, &mut added);
 }
 
 // Gives the rows the numbers from `next` on, and moves the places of their names by `behind` bytes.

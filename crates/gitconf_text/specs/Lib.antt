@@ -12,6 +12,7 @@ pub mod HeaderErrors
 pub mod Names
 pub mod SectionKeyRefs
 pub mod SectionKeys
+pub mod Sections
 pub mod Stripped
 pub mod ValueErrors
 pub mod Typed

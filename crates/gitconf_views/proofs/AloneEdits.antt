@@ -6,7 +6,7 @@ use Rattle.std.specs.List.{list_all, list_any}
 use Rattle.gitconf_text.specs.Names.{is_made_name, is_valid_or_none}
 use Rattle.gitconf_text.specs.Part as parts
 use Rattle.gitconf_base.specs.Metadata.{Meta}
-use Rattle.gitconf_table.specs.Sections.{no_number}
+use Rattle.gitconf_text.specs.Sections.{no_number}
 use Rattle.gitconf_items.specs.declared.event.Event.TheVariants as kinds
 use Rattle.gitconf_items.specs.declared.event.Header.{Header}
 use Rattle.gitconf_items.specs.Events.{header_of}

@@ -7,7 +7,7 @@ use Rattle.std.specs.Str.{bytes_eq}
 use Rattle.gitconf_text.specs.Header as grammar
 use Rattle.gitconf_text.specs.Bytes.{fold}
 use Rattle.gitconf_text.specs.Token.{HeaderToken}
-use Rattle.gitconf_table.specs.Sections.{SectionEntry}
+use Rattle.gitconf_text.specs.Sections.{SectionEntry}
 use Rattle.gitconf_items.specs.declared.event.Span.{Span}
 use Rattle.gitconf_items.specs.declared.event.Header.{Header}
 use Rattle.gitconf_items.specs.declared.event.Event.TheVariants as kinds

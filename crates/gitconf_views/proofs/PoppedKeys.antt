@@ -13,7 +13,7 @@ use Rattle.gitconf_text.specs.Names.{is_made_name, is_value_name}
 use Rattle.gitconf_text.specs.Part as parts
 use Rattle.gitconf_text.proofs.NamesLaws.{IsUtf8-made_name}
 use Rattle.gitconf_text.proofs.Tests.{both_true}
-use Rattle.gitconf_table.specs.Sections.{SectionEntry}
+use Rattle.gitconf_text.specs.Sections.{SectionEntry}
 use Rattle.gitconf_state.specs.Editors.{popped_entry}
 use Rattle.gitconf_state.specs.State.{HasSectionItems, is_item}
 use Rattle.gitconf_state.proofs.Edits.EditorItems.{popped_named}

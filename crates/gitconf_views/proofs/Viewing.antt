@@ -2,8 +2,8 @@
 use Rattle.std.proofs.Common.{◌≡◌, ◌==◌, ℕ, false, Option, Some, None, List, [], ◌∷◌, ◌++◌, map, refl, ap, subst, Bool, true}
 use Rattle.std.specs.List.{AllByRecursion}
 use Rattle.gitconf_base.specs.Metadata.{Meta}
-use Rattle.gitconf_table.specs.Sections.{SectionEntry, Sections, sections_of}
-use Rattle.gitconf_table.specs.Sections as table
+use Rattle.gitconf_text.specs.Sections.{SectionEntry, Sections, sections_of}
+use Rattle.gitconf_text.specs.Sections as table
 use Rattle.gitconf_items.specs.declared.items.Item.{Item}
 use Rattle.gitconf_state.specs.State.{State, SectionState, AreNumbered, IsState, HasSectionItems}
 use Rattle.gitconf_sections.specs.Section.{Section}

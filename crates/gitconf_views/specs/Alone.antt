@@ -5,7 +5,7 @@ use Rattle.gitconf_text.specs.HeaderErrors.{header_number}
 use Rattle.gitconf_text.specs.Part as parts
 use Rattle.gitconf_text.specs.declared.parse.section.header.Error.{Error}
 use Rattle.gitconf_base.specs.Metadata.{Meta}
-use Rattle.gitconf_table.specs.Sections.{no_number}
+use Rattle.gitconf_text.specs.Sections.{no_number}
 use Rattle.gitconf_items.specs.declared.event.Event.TheVariants as kinds
 use Rattle.gitconf_items.specs.Events.{header_of}
 use Rattle.gitconf_items.specs.ItemsFit.{AreItemsWithin}

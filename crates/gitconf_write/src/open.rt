@@ -9,7 +9,7 @@ use gitconf_items::entry::{AssignedRef, Entry};
 use gitconf_items::items::Item;
 
 /// What comes before in the same list, since the last line ending.
-#[derive(Clone, Copy, Debug)]
+#[derive(Clone, Copy)]
 pub(crate) enum Open {
     /// Nothing.
     Closed,

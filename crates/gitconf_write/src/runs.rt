@@ -12,7 +12,7 @@ use gitconf_items::event::{Header, Span};
 use gitconf_items::items::Item;
 
 /// A run of bytes: where it begins, and where it ends, one past its last byte.
-#[derive(Clone, Copy, Debug)]
+#[derive(Clone, Copy)]
 pub(crate) struct Run {
     start: usize,
     end: usize,

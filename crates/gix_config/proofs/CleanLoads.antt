@@ -16,7 +16,7 @@ use Rattle.gitconf_expansion.specs.Expansion.{Asks, Ended, On}
 use Rattle.gitconf_expansion.specs.Laws.{AreHeaded}
 use Rattle.gitconf_expansion.proofs.States.{headed_stays, IsHeaded}
 use Rattle.gitconf_finding.specs.Picks.{picked}
-use Rattle.gitconf_resolving.specs.Resolving.{MakesOf}
+use Rattle.gitconf_loaders.specs.Resolving.{MakesOf}
 use Rattle.gitconf_loaders.specs.Globals.{empty_file, home_rules}
 use Rattle.gitconf_loaders.specs.Paths.{has_room_behind, IsBehind, IsLoadedFrom, Then}
 use Rattle.gitconf_loaders.specs.Variables.{reported_key, key_variable}

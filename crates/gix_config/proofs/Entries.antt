@@ -22,16 +22,16 @@ use Rattle.gitconf_includes.specs.Errors.{includes_number}
 use Rattle.gitconf_state.specs.Edits.{Push}
 use Rattle.gitconf_state.specs.Editors.{Editor}
 use Rattle.gitconf_state.specs.State.{SectionState, State}
-use Rattle.gitconf_loaders.specs.Errors.{env_number, env_of_header, env_of_includes, env_of_value}
+use Rattle.gitconf_refusals.specs.Errors.{env_number, env_of_header, env_of_includes, env_of_value}
 use Rattle.gitconf_expansion.specs.Expansion.{Asks, Ended, On}
 use Rattle.gitconf_expansion.specs.Outcomes.{CountsFault, is_file_number}
-use Rattle.gitconf_resolving.specs.Resolving.{MakesOf}
+use Rattle.gitconf_loaders.specs.Resolving.{MakesOf}
 use Rattle.gitconf_loaders.specs.Globals.{empty_file, home_rules}
 use Rattle.gitconf_loaders.specs.Paths.{CountsLoad, left_by, numbered, Then}
 use Rattle.gitconf_loaders.proofs.Counts.{fault_load, refused_else, renumbered, same}
 use Rattle.gitconf_loaders.specs.Variables.{IsCount, IsCountCause, IsEntryCause, IsKeyAt, IsValueAt}
-use Rattle.gitconf_loaders.specs.declared.from_env.Error.{Error}
-use Rattle.gitconf_loaders.specs.declared.from_env.Error.TheVariants as env
+use Rattle.gitconf_refusals.specs.declared.from_env.Error.{Error}
+use Rattle.gitconf_refusals.specs.declared.from_env.Error.TheVariants as env
 use Rattle.gix_config.specs.Edited.{IsEdited}
 use Rattle.gix_config.specs.Environment.{ArePut, Edited, env_meta, IsEntryPut, IsEnvCause, IsFromEnv, IsMadeOfEntries, IsOverrides, IsSome, IsPushed, IsPut, IsPutUnder, IsSectionFor}
 use Rattle.gix_config.specs.SectionEditors.{IsFoundOrMade}

@@ -14,13 +14,13 @@ use Rattle.gitconf_state.specs.State.{State}
 use Rattle.gitconf_expansion.specs.Expansion.{Asks}
 use Rattle.gitconf_expansion.specs.Outcomes.{IsCause}
 use Rattle.gitconf_finding.specs.Lookups.{implicit_at}
-use Rattle.gitconf_resolving.specs.Resolving.{MakesOf}
+use Rattle.gitconf_loaders.specs.Resolving.{MakesOf}
 use Rattle.gitconf_loaders.specs.Causes.{IsFileCause}
 use Rattle.gitconf_loaders.specs.Globals.{home_rules, IsGlobal, IsGlobalCause}
 use Rattle.gitconf_loaders.specs.Paths.{has_room_behind, IsBehind, IsLoadedFrom, Then}
-use Rattle.gitconf_loaders.specs.declared.from_git_dir.Error.{Error}
-use Rattle.gitconf_loaders.specs.declared.from_git_dir.Error.TheVariants as git
-use Rattle.gitconf_loaders.specs.declared.from_paths.Error.{Error as PathsError}
+use Rattle.gitconf_refusals.specs.declared.from_git_dir.Error.{Error}
+use Rattle.gitconf_refusals.specs.declared.from_git_dir.Error.TheVariants as git
+use Rattle.gitconf_refusals.specs.declared.from_paths.Error.{Error as PathsError}
 use Rattle.gix_config.specs.declared.file.init.repository.Parts.{Parts}
 use Rattle.gix_config.specs.Environment.{IsOverrides, IsOverridesCause}
 use Rattle.gix_config.specs.Typed.{boolean_or_refusal}

@@ -235,7 +235,7 @@ impl Refusal for init::Error {
 }
 
 impl Refusal for from_paths::Error {
-    ghost use Rattle.gitconf_loaders.specs.Errors.{paths_number};
+    ghost use Rattle.gitconf_refusals.specs.Errors.{paths_number};
 
     ghost number_of = { paths_number };
 
@@ -249,7 +249,7 @@ impl Refusal for from_paths::Error {
 }
 
 impl Refusal for from_env::Error {
-    ghost use Rattle.gitconf_loaders.specs.Errors.{env_number};
+    ghost use Rattle.gitconf_refusals.specs.Errors.{env_number};
 
     ghost number_of = { env_number };
 
@@ -270,7 +270,7 @@ impl Refusal for from_env::Error {
 }
 
 impl Refusal for from_git_dir::Error {
-    ghost use Rattle.gitconf_loaders.specs.Errors.{git_number};
+    ghost use Rattle.gitconf_refusals.specs.Errors.{git_number};
 
     ghost number_of = { git_number };
 

@@ -1,13 +1,20 @@
 //! Why a call with options wasn't done, and how that is reported.
+ghost use Rattle.std.specs.Prelude.{◌≡◌};
+ghost use Rattle.gixcfg_answers.specs.Troubles.{of_file, of_type, trouble_of_number};
+ghost use Rattle.gixcfg_answers.specs.declared.trouble.Trouble.TheVariants.{Memory};
 
 use crate::typed;
 use crate::typed::refusal_of;
+use gitconf_base::key::KeyRef;
 use gitconf_text::NoMemory;
 use gixcfg_files as files;
 use gixcfg_words::options::Kind;
 use std::alloc::AllocError;
 use std::io;
 use std::io::Write;
+
+/// The status if out of memory.
+pub const MEMORY: u8 = 5;
 
 /// Why a call with options wasn't done.
 #[derive(Drop)]
@@ -49,12 +56,12 @@ pub enum Trouble {
 }
 
 impl Trouble {
-    ghost use Rattle.std.specs.Prelude.{◌≤◌};
+    ghost use Rattle.gixcfg_answers.specs.Troubles.{status_of};
 
     /// The exit status: as git has it for a key that is missing, 1, for one that has several entries or none to take out, 5, and for a
     /// file that can't be written, 4; else as without options.
     pub fn status(&self) -> u8
-        ensures { result ≤ 5 }
+        ensures { result ≡ status_of self.now }
     {
         match self {
             Trouble::Missing | Trouble::Different | Trouble::NoSection | Trouble::BadName(_) => 1,
@@ -66,24 +73,31 @@ impl Trouble {
             | Trouble::NoFile
             | Trouble::Input
             | Trouble::Output => 4,
-            Trouble::Several | Trouble::NoEntry | Trouble::Memory => 5,
+            Trouble::Several | Trouble::NoEntry => 5,
+            Trouble::Memory => MEMORY,
         }
     }
 }
 
 impl From<NoMemory> for Trouble {
+    ghost from_gives = { λ _ e. e ≡ Memory };
+
     fn from(_: NoMemory) -> Trouble {
         Trouble::Memory
     }
 }
 
 impl From<AllocError> for Trouble {
+    ghost from_gives = { λ _ e. e ≡ Memory };
+
     fn from(_: AllocError) -> Trouble {
         Trouble::Memory
     }
 }
 
 impl From<typed::Fault> for Trouble {
+    ghost from_gives = { λ fault e. e ≡ of_type fault };
+
     fn from(fault: typed::Fault) -> Trouble {
         match fault {
             typed::Fault::Refused(kind) => Trouble::Untyped(kind),
@@ -93,6 +107,8 @@ impl From<typed::Fault> for Trouble {
 }
 
 impl From<files::Fault> for Trouble {
+    ghost from_gives = { λ fault e. e ≡ of_file fault };
+
     fn from(fault: files::Fault) -> Trouble {
         match fault {
             files::Fault::Memory => Trouble::Memory,
@@ -101,8 +117,22 @@ impl From<files::Fault> for Trouble {
     }
 }
 
+/// The key that a word is.
+///
+/// # Errors
+///
+/// [`Trouble::NoKey`] if the word has no dot.
+pub fn key_of(word: &str) -> Result<KeyRef<'_>, Trouble> {
+    match KeyRef::parse_unvalidated(word.as_bytes()) {
+        Some(key) => Ok(key),
+        None => Err(Trouble::NoKey),
+    }
+}
+
 /// The trouble that a refusal of an edit is, by its number.
-pub fn of_number(number: u8) -> Trouble {
+pub fn of_number(number: u8) -> Trouble
+    ensures { result ≡ trouble_of_number number }
+{
     match number {
         27 => Trouble::Memory,
         4..=6 => Trouble::BadName(number),

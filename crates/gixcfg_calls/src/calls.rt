@@ -3,12 +3,10 @@ ghost use Rattle.std.specs.Prelude.{◌≤◌};
 
 use crate::checks::check;
 use crate::differing::diff;
-use crate::edits::edit;
-use crate::loading::{Outside, path_of};
-use crate::reads::{get, list};
-use gixcfg_answers::trouble::{Trouble, tell};
-use gixcfg_filter::MEMORY;
-use gixcfg_loads::Loads;
+use gixcfg_answers::trouble::{MEMORY, Trouble, tell};
+use gixcfg_edits::edit;
+use gixcfg_reads::{Loads, get, list, path_of};
+use gixcfg_texts::outside::Outside;
 use gixcfg_words::VERSION;
 use gixcfg_words::call::{Asked, Call, read};
 use gixcfg_words::commands::Command;

@@ -1,9 +1,9 @@
 //! `check`: the first fault of each file.
 ghost use Rattle.std.specs.Prelude.{◌≤◌};
 
-use crate::loading::{Outside, file_at};
-use gixcfg_answers::trouble::{Trouble, tell};
-use gixcfg_filter::MEMORY;
+use crate::named::file_at;
+use gixcfg_answers::trouble::{MEMORY, Trouble, tell};
+use gixcfg_texts::outside::Outside;
 use gixcfg_words::call::Call;
 use std::alloc::AllocGlobal;
 use std::io::{Read, Write};

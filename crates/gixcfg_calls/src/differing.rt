@@ -1,13 +1,14 @@
 //! `diff`: what two files mean differently.
-ghost use Rattle.std.specs.Prelude.{◌≤◌};
+ghost use Rattle.std.specs.Prelude.{◌≤◌, IfErr};
 
-use crate::loading::{Outside, file_at};
+use crate::named::file_at;
 use bstr::BString;
 use gitconf_differences::{Difference, Side, differences};
 use gix_config::{File, NoMemory};
 use gixcfg_answers::lines::{Form, add_entry};
 use gixcfg_answers::names::add_names;
 use gixcfg_answers::trouble::{Trouble, tell};
+use gixcfg_texts::outside::Outside;
 use gixcfg_words::call::Call;
 use std::alloc::{AllocGlobal, Global};
 use std::io::{Read, Write};
@@ -29,17 +30,45 @@ pub fn diff<R: Files + AllocGlobal, I: Read, W: Write, E: Write>(
     let [first, second] = call.words.as_slice() else {
         return 2;
     };
-    let one = match file_at(rt, first, outside, input) {
-        Ok(file) => file,
-        Err(trouble) => return reported(&trouble, first, err),
-    };
-    let other = match file_at(rt, second, outside, input) {
-        Ok(file) => file,
-        Err(trouble) => return reported(&trouble, second, err),
-    };
-    match lines_between(rt.alloc(), &one, &other, call.options.null) {
+    match lines_of(rt, first, second, call.options.null, outside, input, err) {
         Ok(lines) => put_lines(&lines, call.options.quiet, out, err),
-        Err(_) => reported(&Trouble::Memory, first, err),
+        Err(status) => status,
+    }
+}
+
+/// What two files mean differently, a line for each entry; or the exit status, when it was reported why there is none.
+fn lines_of<R: Files + AllocGlobal, I: Read, E: Write>(
+    rt: &R,
+    first: &str,
+    second: &str,
+    is_null: bool,
+    outside: Outside<'_>,
+    input: &mut I,
+    err: &mut E,
+) -> Result<Vec<u8>, u8>
+    ensures { IfErr result (λ status. status ≤ 5) }
+{
+    let one = file_or_status(rt, first, outside, input, err)?;
+    let other = file_or_status(rt, second, outside, input, err)?;
+    match lines_between(rt.alloc(), &one, &other, is_null) {
+        Ok(lines) => Ok(lines),
+        Err(_) => Err(reported(&Trouble::Memory, first, err)),
+    }
+}
+
+/// The file that a word names, or the exit status, when it was reported why there is none.
+fn file_or_status<R: Files + AllocGlobal, I: Read, E: Write>(
+    rt: &R,
+    word: &str,
+    outside: Outside<'_>,
+    input: &mut I,
+    err: &mut E,
+) -> Result<File, u8>
+    ensures { IfErr result (λ status. status ≤ 5) }
+{
+    match file_at(rt, word, outside, input) {
+        Ok(file) => Ok(file),
+        Err(trouble) => Err(reported(&trouble, word, err)),
     }
 }
 
@@ -67,7 +96,7 @@ fn put_lines<W: Write, E: Write>(lines: &[u8], is_quiet: bool, out: &mut W, err:
     }
 }
 
-/// What two files mean differently, a line for each entry.
+/// The same of files that are read.
 fn lines_between(
     alloc: Global,
     one: &File,

@@ -7,13 +7,11 @@ use gix_config::file::set_raw_value;
 use gix_config::parse::{Error, SinkFault};
 use gix_config::refusals::Refusal;
 use gix_config::{NoMemory, value};
-use gixcfg_answers::trouble::Trouble;
+use gixcfg_answers::trouble::MEMORY;
+use gixcfg_texts::streams::StreamFault;
 use std::alloc::{AllocError, AllocFailed};
 use std::io;
 use std::io::Write;
-
-/// The status if out of memory.
-pub const MEMORY: u8 = 5;
 
 /// Why the program did not do it.
 #[derive(Drop)]
@@ -121,15 +119,12 @@ impl From<from_paths::Error> for Fault {
     }
 }
 
-/// What a call with options says of it, which refuses texts and files in its own way.
-impl From<Fault> for Trouble {
-    fn from(fault: Fault) -> Trouble {
+impl From<StreamFault> for Fault {
+    fn from(fault: StreamFault) -> Fault {
         match fault {
-            Fault::Memory => Trouble::Memory,
-            Fault::Missing => Trouble::Missing,
-            Fault::Input => Trouble::Input,
-            Fault::Usage => Trouble::NoKey,
-            _ => Trouble::Output,
+            StreamFault::Input => Fault::Input,
+            StreamFault::Output => Fault::Output,
+            StreamFault::Memory => Fault::Memory,
         }
     }
 }

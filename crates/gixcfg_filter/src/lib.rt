@@ -3,8 +3,7 @@
 #![tactic(auto)]
 
 mod fault;
-mod output;
 mod program;
 
-pub use fault::{Fault, MEMORY};
-pub use program::{home_of, key_of, put, read_all, run, understands};
+pub use fault::Fault;
+pub use program::{home_of, run, understands};

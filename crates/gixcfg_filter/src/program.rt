@@ -2,7 +2,6 @@
 ghost use Rattle.std.specs.Prelude.{◌≤◌};
 
 use crate::fault::{Fault, tell};
-use crate::output::Output;
 use bstr::BString;
 use gitconf_disk::{Disk, Process};
 use gix_config::file::{Metadata, SectionId, SectionRef, includes, init, section_mut};
@@ -11,8 +10,10 @@ use gix_config::host::{Env, EnvVar, Files};
 use gix_config::lookup::existing;
 use gix_config::{File, KeyRef, NoMemory};
 use gixcfg_answers::names::add_names;
+use gixcfg_texts::output::Output;
+use gixcfg_texts::streams::{put, read_all};
 use std::alloc::{AllocGlobal, Global};
-use std::io::{ErrorKind, Read, Write};
+use std::io::{Read, Write};
 use std::rt;
 
 /// What the program is asked to do.
@@ -99,7 +100,7 @@ fn execute<R: Read, W: Write, F: Files, V: Env>(
 ) -> Result<(), Fault> {
     match task_of(args)? {
         Task::OnInput(command) => work_on(alloc, command, read_all(alloc, input)?, out),
-        Task::Load(path, key) => put(&get(&load_path(alloc, path, files, env)?, key)?, out),
+        Task::Load(path, key) => { Ok(put(&get(&load_path(alloc, path, files, env)?, key)?, out)?) }
     }
 }
 
@@ -158,24 +159,10 @@ fn key_command<'a>(word: &str, key: &'a str) -> Result<Command<'a>, Fault> {
 /// # Errors
 ///
 /// [`Fault::Usage`] if the word has no dot.
-pub fn key_of(word: &str) -> Result<KeyRef<'_>, Fault> {
+fn key_of(word: &str) -> Result<KeyRef<'_>, Fault> {
     match KeyRef::parse_unvalidated(word.as_bytes()) {
         Some(key) => Ok(key),
         None => Err(Fault::Usage),
-    }
-}
-
-/// All of standard input.
-///
-/// # Errors
-///
-/// [`Fault::Input`] if it can't be read, [`Fault::Memory`] when out of memory.
-pub fn read_all<R: Read>(alloc: Global, input: &mut R) -> Result<Vec<u8>, Fault> {
-    let mut text = Vec::new(alloc);
-    match input.read_to_end(&mut text) {
-        Ok(_) => Ok(text),
-        Err(fault) if fault.kind() == ErrorKind::OutOfMemory => Err(Fault::Memory),
-        Err(_) => Err(Fault::Input),
     }
 }
 
@@ -333,7 +320,7 @@ fn laid_out(alloc: Global, text: &[u8]) -> Result<BString, Fault> {
 /// Writes the text, laid out by the default options.
 fn put_laid_out<W: Write>(alloc: Global, text: &[u8], out: &mut W) -> Result<(), Fault> {
     let text = laid_out(alloc, text)?;
-    put(&text, out)
+    Ok(put(&text, out)?)
 }
 
 /// Writes what is asked of the entries of a text.
@@ -357,7 +344,7 @@ fn put_answer<W: Write>(
     match query {
         Query::Get(key) => put_value(file, key, out),
         Query::All(key) => put_values(alloc, file, key, out),
-        Query::Bool(key) => put(boolean(file, key)?, out),
+        Query::Bool(key) => Ok(put(boolean(file, key)?, out)?),
         Query::Int(key) => put_integer(alloc, file, key, out),
         Query::List => put_list(alloc, file, out),
     }
@@ -366,7 +353,7 @@ fn put_answer<W: Write>(
 /// Writes the last value of a key, on a line.
 fn put_value<W: Write>(file: &File, key: KeyRef<'_>, out: &mut W) -> Result<(), Fault> {
     let value = get(file, key)?;
-    put(&value, out)
+    Ok(put(&value, out)?)
 }
 
 /// Writes all values of a key, each on a line.
@@ -377,7 +364,7 @@ fn put_values<W: Write>(
     out: &mut W,
 ) -> Result<(), Fault> {
     let lines = all(alloc, file, key)?;
-    put(&lines, out)
+    Ok(put(&lines, out)?)
 }
 
 /// Writes the integer of a key, on a line.
@@ -388,25 +375,13 @@ fn put_integer<W: Write>(
     out: &mut W,
 ) -> Result<(), Fault> {
     let line = integer(alloc, file, key)?;
-    put(&line, out)
+    Ok(put(&line, out)?)
 }
 
 /// Writes the entries of all sections, each on a line.
 fn put_list<W: Write>(alloc: Global, file: &File, out: &mut W) -> Result<(), Fault> {
     let lines = list(alloc, file)?;
-    put(&lines, out)
-}
-
-/// Writes an answer that is in memory.
-///
-/// # Errors
-///
-/// [`Fault::Output`] if the stream fails.
-pub fn put<W: Write>(answer: &[u8], out: &mut W) -> Result<(), Fault> {
-    match out.write_all(answer) {
-        Ok(()) => Ok(()),
-        Err(_) => Err(Fault::Output),
-    }
+    Ok(put(&lines, out)?)
 }
 
 /// Writes the text as a file.

@@ -7,7 +7,7 @@ use gix_config::file::init::{self, from_env, from_paths};
 use gix_config::host::{EnvVar, FileFault, Files, Host, MemEnv, Places, Stage};
 use gix_config::source::Trust;
 use gix_config::{File, NoMemory};
-use gixcfg_loads::Loads;
+use gixcfg_reads::Loads;
 use std::alloc::{AllocGlobal, Global};
 use std::rc::Rc;
 

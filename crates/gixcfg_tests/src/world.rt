@@ -3,8 +3,9 @@
 use crate::machine::{Machine, State};
 use crate::tree::{Node, Tree};
 use gix_config::NoMemory;
-use gixcfg_calls::{Outside, run_call};
+use gixcfg_calls::run_call;
 use gixcfg_filter::{run, understands};
+use gixcfg_texts::outside::Outside;
 use gixcfg_words::call::has_options;
 use std::alloc::{AllocError, AllocGlobal, Global};
 

@@ -1,7 +1,7 @@
 //! Sections that are added after the others.
 ghost use Rattle.std.specs.Option.{option_copied};
 ghost use Rattle.std.specs.Prelude.{◌≡◌, [], ◌+◌, ◌<◌, ◌≤◌, ◌↔◌, ◌++◌, length, IfErr, IfOk, IsErrOf, OnErr, OnOk};
-ghost use Rattle.gitconf_table.specs.Sections.{edited_at, no_number, with_all, with_last};
+ghost use Rattle.gitconf_text.specs.Sections.{edited_at, no_number, with_all, with_last};
 ghost use Rattle.gitconf_sections.specs.Held.{line_end_item};
 ghost use Rattle.gitconf_sections.specs.Section.{all_rebased, holding, made, AreListed};
 

@@ -1,7 +1,7 @@
 //! Edits of the section at a place.
 ghost use Rattle.std.specs.Option.{option_map};
 ghost use Rattle.std.specs.Prelude.{◌≡◌, [], ◌<◌, length, Some, IfOk, IfSome, OnErr, OnOk};
-ghost use Rattle.gitconf_table.specs.Sections.{edited_at, section_at};
+ghost use Rattle.gitconf_text.specs.Sections.{edited_at, section_at};
 ghost use Rattle.gitconf_sections.specs.LeavingOut.{without_all, Ascend};
 ghost use Rattle.gitconf_sections.specs.Moves.{IsMovable, IsMovedAt};
 ghost use Rattle.gitconf_sections.specs.Section.{with_items};

@@ -1,7 +1,7 @@
 //! Walks over the sections.
 ghost use Rattle.std.specs.Option.{option_copied};
 ghost use Rattle.std.specs.Prelude.{◌≡◌};
-ghost use Rattle.gitconf_table.specs.Sections.{all_named, named, sections_of, IsNumbered};
+ghost use Rattle.gitconf_text.specs.Sections.{all_named, named, sections_of, IsNumbered};
 ghost use Rattle.gitconf_sections.specs.Walks.{named_left, sections_left, with_name_left};
 
 use crate::row::{Row, Section, read};

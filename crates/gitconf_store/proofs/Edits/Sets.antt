@@ -12,7 +12,7 @@ use Rattle.gitconf_text.specs.declared.parse.section.header.Error.{Error as Head
 use Rattle.gitconf_text.specs.declared.parse.section.header.Error.TheVariants.{InvalidName, InvalidSubSection}
 use Rattle.gitconf_text.specs.declared.parse.section.header.Error.TheVariants as headers
 use Rattle.gitconf_base.specs.Metadata.{Meta}
-use Rattle.gitconf_table.specs.Sections.{no_number}
+use Rattle.gitconf_text.specs.Sections.{no_number}
 use Rattle.gitconf_lines.specs.Places.{IsLastAt}
 use Rattle.gitconf_state.specs.Edit.{is_target, old_value, new_section_bytes, section_with, set_bytes, set_raw_value, set_raw_value_bytes, with_used}
 use Rattle.gitconf_state.specs.LineEnds.{file_line_end}

@@ -8,7 +8,7 @@ use Rattle.gitconf_text.specs.Header.{name_of, subsection_of}
 use Rattle.gitconf_text.specs.Names.{is_value_name}
 use Rattle.gitconf_text.specs.Part.{Item as SectionItem}
 use Rattle.gitconf_base.specs.Metadata.{Meta}
-use Rattle.gitconf_table.specs.Sections.{SectionEntry, Sections, changed_at, with_section, section_at}
+use Rattle.gitconf_text.specs.Sections.{SectionEntry, Sections, changed_at, with_section, section_at}
 use Rattle.gitconf_items.specs.declared.items.Item.{Item}
 use Rattle.gitconf_items.specs.declared.event.Event.TheVariants as kinds
 use Rattle.gitconf_items.specs.Events.{header_of}

@@ -6,7 +6,7 @@ use Rattle.gitconf_base.specs.Metadata.{Meta}
 use Rattle.gitconf_base.specs.declared.source.Trust.{Trust}
 use Rattle.gitconf_items.specs.declared.items.Item.{Item}
 use Rattle.gitconf_items.specs.Events.{header_of}
-use Rattle.gitconf_table.specs.Sections.{AreNumbered, SectionEntry, Sections, changed_at, number_at, section_at, with_section}
+use Rattle.gitconf_text.specs.Sections.{AreNumbered, SectionEntry, Sections, changed_at, number_at, section_at, with_section}
 use Rattle.gitconf_state.specs.Edits.{change_numbered, with_trust}
 use Rattle.gitconf_state.specs.State.{HasSectionItems, SectionState}
 use Rattle.gitconf_items.specs.Items.{items_of}

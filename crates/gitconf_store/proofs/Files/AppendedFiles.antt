@@ -15,7 +15,7 @@ use Rattle.gitconf_items.specs.declared.event.Span.{Span}
 use Rattle.gitconf_items.specs.declared.items.Item.{Item}
 use Rattle.gitconf_items.specs.ItemsFit.{AreItemsWithin}
 use Rattle.gitconf_items.specs.ShownEvents.{IsExtended}
-use Rattle.gitconf_table.specs.Sections.{SectionEntry, Sections}
+use Rattle.gitconf_text.specs.Sections.{SectionEntry, Sections}
 use Rattle.gitconf_state.specs.Edit.{with_used}
 use Rattle.gitconf_state.specs.Edits.{between, begins_with, held_behind_last, joined, numbered_from, appended, Append}
 use Rattle.gitconf_state.specs.LineEnds.{ends_line, file_line_end}

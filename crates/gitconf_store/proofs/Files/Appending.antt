@@ -21,7 +21,7 @@ use Rattle.gitconf_items.specs.EventRef.{ShownHeader}
 use Rattle.gitconf_items.specs.ItemsFit.{AreItemsWithin, AssignedFits, ItemFits, PieceFits}
 use Rattle.gitconf_items.specs.ShownEvents.{decoded_or, shown_token, CopyFits, IsExtended, IsShown}
 use Rattle.gitconf_text.proofs.Lists.{all_push}
-use Rattle.gitconf_table.specs.Sections.{Sections}
+use Rattle.gitconf_text.specs.Sections.{Sections}
 use Rattle.gitconf_state.specs.Edit.{with_used}
 use Rattle.gitconf_state.specs.Edits.{with_last}
 use Rattle.gitconf_state.specs.State.{HasItems, HasSectionItems}

@@ -10,7 +10,7 @@ use Rattle.gitconf_text.specs.declared.line_end.LineEnd.{LineEnd}
 use Rattle.gitconf_items.specs.Items.{tokens_in}
 use Rattle.gitconf_table.specs.declared.runs.Run.{Run}
 use Rattle.gitconf_table.specs.Runs.{AreRuns}
-use Rattle.gitconf_table.specs.Sections.{no_number}
+use Rattle.gitconf_text.specs.Sections.{no_number}
 use Rattle.gitconf_state.specs.Appending.{held_or, items_before, line_bytes}
 use Rattle.gitconf_state.specs.Edits.{between, held_behind_last, numbered_from}
 use Rattle.gitconf_state.specs.Including.{has_room, spliced, spliced_bytes, visited, whole, with_sections}

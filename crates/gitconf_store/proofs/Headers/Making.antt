@@ -7,7 +7,7 @@ use Rattle.gitconf_text.specs.Header.{name_of, subsection_of}
 use Rattle.gitconf_text.specs.Names.{is_made_name, is_valid_or_none}
 use Rattle.gitconf_text.specs.Part as parts
 use Rattle.gitconf_base.specs.Metadata.{Meta}
-use Rattle.gitconf_table.specs.Sections.{Sections, entry_of, with_last}
+use Rattle.gitconf_text.specs.Sections.{Sections, entry_of, with_last}
 use Rattle.gitconf_items.specs.declared.items.Item.{Item}
 use Rattle.gitconf_items.specs.declared.event.Event.TheVariants as kinds
 use Rattle.gitconf_items.specs.Events.{header_of}

@@ -14,8 +14,8 @@ use Rattle.gitconf_items.specs.declared.items.Item.{Item}
 use Rattle.gitconf_items.specs.Events.{header_of}
 use Rattle.gitconf_items.specs.ShownEvents.{IsExtended, IsShown}
 use Rattle.gitconf_table.specs.Renames.{with_names_at}
-use Rattle.gitconf_table.specs.Sections.{AreNumbered, SectionEntry, Sections, changed_at, with_names}
-use Rattle.gitconf_table.specs.Sections as table
+use Rattle.gitconf_text.specs.Sections.{AreNumbered, SectionEntry, Sections, changed_at, with_names}
+use Rattle.gitconf_text.specs.Sections as table
 use Rattle.gitconf_state.specs.Edit.{is_target, made_header, with_used}
 use Rattle.gitconf_state.specs.Edits.{change_numbered, numbered, renamed}
 use Rattle.gitconf_state.specs.State.{HasItems, HasSectionItems, SectionState, State}

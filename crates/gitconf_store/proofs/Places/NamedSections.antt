@@ -3,8 +3,8 @@ use Rattle.std.proofs.Common.{◌≡◌, ℕ, Bool, true, false, List, [], ◌�
 use Rattle.std.specs.Prelude.{filter, is_some, ◌||◌}
 use Rattle.std.specs.List.{AllByRecursion, list_any}
 use Rattle.std.specs.Iterator.{YieldsFirstBy}
-use Rattle.gitconf_table.specs.Sections.{SectionEntry}
-use Rattle.gitconf_table.specs.Sections as table
+use Rattle.gitconf_text.specs.Sections.{SectionEntry}
+use Rattle.gitconf_text.specs.Sections as table
 use Rattle.gitconf_base.specs.Metadata.{Meta}
 use Rattle.gitconf_items.specs.declared.items.Item.{Item}
 use Rattle.gitconf_state.specs.State.{State}

@@ -6,7 +6,7 @@ use Rattle.std.specs.Option.{option_map}
 use Rattle.std.proofs.lemmas.Bool.{eqb-true}
 use Rattle.gitconf_base.specs.Metadata.{Meta}
 use Rattle.gitconf_items.specs.declared.items.Item.{Item}
-use Rattle.gitconf_table.specs.Sections.{SectionEntry, Sections, AreNumbered, has_number, section_of, without}
+use Rattle.gitconf_text.specs.Sections.{SectionEntry, Sections, AreNumbered, has_number, section_of, without}
 use Rattle.gitconf_state.specs.Edits.{Detached, RemoveSection, apply, numbered, with_sections, without_numbered}
 use Rattle.gitconf_state.specs.Edits as state
 use Rattle.gitconf_state.specs.Lookup.{is_named, listing}

@@ -5,7 +5,7 @@ use Rattle.std.specs.List.{list_any}
 use Rattle.std.proofs.lemmas.Bool.{or_left, or_right}
 use Rattle.std.proofs.lemmas.List.{length-append}
 use Rattle.std.proofs.lemmas.List.Folds.{list_any-append}
-use Rattle.gitconf_table.specs.Sections.{SectionEntry, Sections, AreNumbered, IsNumbered, has_number, place_of}
+use Rattle.gitconf_text.specs.Sections.{SectionEntry, Sections, AreNumbered, IsNumbered, has_number, place_of}
 use Rattle.gitconf_sections.specs.Section.{Section}
 use Rattle.gitconf_store.specs.Renamings.{marked_places, AreMarks}
 use Rattle.gitconf_store.proofs.Places.Targets.{place_of_number}

@@ -6,7 +6,7 @@ use Rattle.std.specs.Prelude.{filter, position, slice_get, IfSome}
 use Rattle.std.proofs.lemmas.Bool.{eq-eqb, lt-ltb, ne_eqb, eqb-false}
 use Rattle.std.proofs.lemmas.List.{map-append, length-map, length-append}
 use Rattle.gitconf_base.specs.Metadata.{Meta}
-use Rattle.gitconf_table.specs.Sections.{SectionEntry, AreNumbered, has_number}
+use Rattle.gitconf_text.specs.Sections.{SectionEntry, AreNumbered, has_number}
 use Rattle.gitconf_state.specs.Edit.{is_target}
 use Rattle.gitconf_state.specs.Lookup.{is_named, listing}
 use Rattle.gitconf_state.specs.State.{SectionState}

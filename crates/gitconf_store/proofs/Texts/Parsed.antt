@@ -22,7 +22,7 @@ use Rattle.gitconf_state.proofs.Printing.InsertingLineEnds.{printed_inserted}
 use Rattle.gitconf_state.proofs.Exact.Printing.{byte_for_byte}
 use Rattle.gitconf_items.specs.Items.{tokens_of_items}
 use Rattle.gitconf_items.specs.declared.items.Item.{Item}
-use Rattle.gitconf_table.specs.Sections.{Sections}
+use Rattle.gitconf_text.specs.Sections.{Sections}
 use Rattle.gitconf_state.specs.Loads.{section_tokens}
 use Rattle.gitconf_sections.specs.Section.{Section}
 use Rattle.gitconf_joining.specs.Loading.{IsLoading}

@@ -4,7 +4,7 @@ ghost use Rattle.gitconf_text.specs.LineEnds.{bytes_of_line_end};
 ghost use Rattle.gitconf_items.specs.Items.{tokens_in};
 ghost use Rattle.gitconf_write.specs.LineEnds.{first_newline, first_newline_of_bodies};
 ghost use Rattle.gitconf_views.specs.Views.{shown};
-ghost use Rattle.gitconf_table.specs.Sections.{no_number};
+ghost use Rattle.gitconf_text.specs.Sections.{no_number};
 ghost use Rattle.gitconf_state.specs.Edit.{with_used};
 ghost use Rattle.gitconf_store.specs.Appends.{bytes_at, included};
 

@@ -1,6 +1,6 @@
 -- Worked rows: which numbers the plain list has under names, before and after a rename and a removal.
 use Rattle.std.proofs.Common.{◌≡◌, ℕ, [], ◌∷◌, Some, None, refl, codes}
-use Rattle.gitconf_table.specs.Sections.{ids, with_last, with_names, without, Sections}
+use Rattle.gitconf_text.specs.Sections.{ids, with_last, with_names, without, Sections}
 
 -- `[core]`, `[core "a"]`, `[other]`, `[core]`, `[core "b"]`, `[core "a"]`, each holding its place
 abbrev six : Sections ℕ

@@ -1,6 +1,6 @@
 //! Sections and files put into a file.
 ghost use Rattle.std.specs.Prelude.{◌≡◌, ◌⊎◌, ◌↔◌, ◌+◌, ◌<◌, ◌≤◌, ◌^◌, length, true, IfErr, IfOk, IsErrOf, OnErr, OnOk};
-ghost use Rattle.gitconf_table.specs.Sections.{no_number};
+ghost use Rattle.gitconf_text.specs.Sections.{no_number};
 ghost use Rattle.gitconf_state.specs.Edit.{spacing_of, with_used};
 ghost use Rattle.gitconf_state.specs.Edits.{Append, PushSection, apply};
 ghost use Rattle.gitconf_store.specs.Appends.{appended_bytes};

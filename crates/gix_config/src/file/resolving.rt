@@ -5,7 +5,7 @@ use gitconf_base::meta::Metadata;
 use gitconf_host::{Files, Host};
 use gitconf_includes::includes;
 use gitconf_includes::init::{Error, Options};
-use gitconf_resolving::resolving::{Resolved, resolve, resolved_text};
+use gitconf_loaders::resolving::{Resolved, resolve, resolved_text};
 use gitconf_store::store::Store;
 use std::alloc::Global;
 use std::mem::replace;
@@ -16,7 +16,7 @@ impl File {
     ghost use Rattle.gitconf_expansion.specs.Expansion.{Resolves};
     ghost use Rattle.gitconf_expansion.specs.Outcomes.{asks_of, CountsFaults, IsCause};
     ghost use Rattle.gitconf_includes.specs.Errors.{includes_number, init_number};
-    ghost use Rattle.gitconf_resolving.specs.Resolving.{IsMadeCause, IsMadeOf, MakesCounted};
+    ghost use Rattle.gitconf_loaders.specs.Resolving.{IsMadeCause, IsMadeOf, MakesCounted};
 
     /// Reads the files that the file's sections include, and puts each, with what it includes itself, after the section that includes it: its
     /// sections in their order under the next numbers, and what comes before its first section held after the section before. For an

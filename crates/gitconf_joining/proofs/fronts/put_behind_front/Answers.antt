@@ -1,5 +1,5 @@
 use Rattle.std.proofs.Common.{◌++◌, length, refl, ap, ◌∙◌}
-use Rattle.gitconf_table.specs.Sections.{with_all}
+use Rattle.gitconf_text.specs.Sections.{with_all}
 use Rattle.gitconf_sections.specs.Held.{line_end_item}
 use Rattle.gitconf_joining.proofs.Joined.{put_behind_none, same_sections}
 use Rattle.gitconf_views.proofs.Outcomes.{if_err_at_all}

@@ -1,6 +1,6 @@
 use Rattle.std.proofs.Common.{◌≡◌, ◌+◌, length, sym, subst, refl, arith, add-one}
 use Rattle.gitconf_items.proofs.Moves.{AreChanged, changed_length}
-use Rattle.gitconf_table.specs.Sections.{Sections, section_at}
+use Rattle.gitconf_text.specs.Sections.{Sections, section_at}
 use Rattle.gitconf_sections.specs.Section.{Section}
 use Rattle.gitconf_sections.proofs.Edits.{if_there}
 use Rattle.gitconf_joining.specs.Moves.{IsEntryMoved}

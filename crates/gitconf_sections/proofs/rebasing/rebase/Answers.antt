@@ -1,5 +1,5 @@
 use Rattle.std.proofs.Common.{rules, ◌≡◌, ◌-◌, ◌≤◌, ◌∙◌, length, ap, sym, subst, add-one, arith}
-use Rattle.gitconf_table.specs.Sections.{changed_at}
+use Rattle.gitconf_text.specs.Sections.{changed_at}
 use Rattle.gitconf_sections.specs.Section.{end_behind, rebased}
 use Rattle.gitconf_sections.proofs.Adding.{length-until, until_all, until_at, until_next, until_rebased}
 use Rattle.gitconf_sections.proofs.Listing.{ends_within, is_at}

@@ -1,6 +1,6 @@
 use Rattle.std.proofs.Common.{rules, ◌≡◌, ◌&&◌, ℕ, Bool, true, false, [], ◌∷◌, ◌++◌, length, refl, ap, sym, append-nil, ◌∙◌}
 use Rattle.std.specs.Option.{option_copied}
-use Rattle.gitconf_table.specs.Sections.{SectionEntry, is_named}
+use Rattle.gitconf_text.specs.Sections.{SectionEntry, is_named}
 use Rattle.gitconf_sections.specs.Walks.{named_left}
 use Rattle.gitconf_sections.specs.Section.{Section, viewed}
 use Rattle.gitconf_store.proofs.Places.PassingPlaces.{begun, both_pass, first_fails, none_told, pass_by, passes_any, place_found, put_by, reached, second_fails, told_by, told_put}

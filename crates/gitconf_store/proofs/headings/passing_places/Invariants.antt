@@ -2,7 +2,7 @@ use Rattle.std.proofs.Common.{◌≡◌, ◌&&◌, ◌++◌, Bool, List, length,
 use Rattle.std.specs.Fn.{ComputesKey}
 use Rattle.std.specs.Option.{option_copied}
 use Rattle.gitconf_base.specs.Metadata.{Meta}
-use Rattle.gitconf_table.specs.Sections.{SectionEntry, is_named}
+use Rattle.gitconf_text.specs.Sections.{SectionEntry, is_named}
 use Rattle.gitconf_sections.specs.Walks.{named_left}
 use Rattle.gitconf_sections.specs.Section.{Section}
 use Rattle.gitconf_store.specs.Renamings.{marked_places}

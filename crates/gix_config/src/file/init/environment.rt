@@ -5,9 +5,9 @@ ghost use Rattle.gitconf_base.specs.Key.{key_of, parsed_key};
 ghost use Rattle.gitconf_base.specs.Metadata.{api_meta};
 ghost use Rattle.gitconf_expansion.specs.Outcomes.{asks_of, CountsFaults, IsCause};
 ghost use Rattle.gitconf_includes.specs.Errors.{includes_number};
-ghost use Rattle.gitconf_loaders.specs.Errors.{env_number};
+ghost use Rattle.gitconf_refusals.specs.Errors.{env_number};
 ghost use Rattle.gitconf_loaders.specs.Globals.{empty_file};
-ghost use Rattle.gitconf_resolving.specs.Resolving.{MakesOf};
+ghost use Rattle.gitconf_loaders.specs.Resolving.{MakesOf};
 ghost use Rattle.gitconf_loaders.specs.Paths.{CountsLoad, left_by, numbered};
 ghost use Rattle.gitconf_loaders.specs.Variables.{IsEntryCause};
 ghost use Rattle.gix_config.specs.Environment.{ArePut, IsEntryPut, IsEnvCause, IsFromEnv, IsOverrides, IsOverridesCause, IsPushed, IsPut, IsPutUnder};
@@ -21,10 +21,10 @@ use gitconf_base::source::Source;
 use gitconf_host::{Env, Files, Host, Places};
 use gitconf_includes::includes;
 use gitconf_includes::init::Options;
-use gitconf_loaders::from_env::Error;
 use gitconf_loaders::globals::home_options;
+use gitconf_loaders::resolving::{Resolved, resolve};
 use gitconf_loaders::variables::{count, key_at, value_at};
-use gitconf_resolving::resolving::{Resolved, resolve};
+use gitconf_refusals::from_env::Error;
 use gitconf_text::NoMemory;
 use std::alloc::Global;
 
@@ -231,7 +231,7 @@ pub(crate) fn overrides<F: Files, E: Env>(
 impl File {
     ghost use Rattle.std.specs.Prelude.{◌≡◌, IfErr};
     ghost use Rattle.gitconf_expansion.specs.Outcomes.{asks_of};
-    ghost use Rattle.gitconf_loaders.specs.Errors.{env_number};
+    ghost use Rattle.gitconf_refusals.specs.Errors.{env_number};
     ghost use Rattle.gitconf_loaders.specs.Paths.{CountsLoad, numbered};
     ghost use Rattle.gix_config.specs.Environment.{IsEnvCause, IsFromEnv, IsOverrides, IsOverridesCause};
 

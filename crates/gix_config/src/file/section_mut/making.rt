@@ -63,7 +63,7 @@ impl File {
     ghost use Rattle.gitconf_state.specs.Edits.{NewSection, PushSection, apply};
     ghost use Rattle.gitconf_state.specs.Editors.{editor_of};
     ghost use Rattle.gitconf_lines.specs.Blanks.{editor_with};
-    ghost use Rattle.gitconf_table.specs.Sections.{no_number};
+    ghost use Rattle.gitconf_text.specs.Sections.{no_number};
     ghost use Rattle.gitconf_state.specs.Lookup.{listed, miss_of};
     ghost use Rattle.gitconf_finding.specs.Misses.{IsExisting};
     ghost use Rattle.gitconf_store.specs.NewSections.{HasNoPlace};

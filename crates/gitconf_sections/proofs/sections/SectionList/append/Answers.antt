@@ -1,5 +1,5 @@
 use Rattle.std.proofs.Common.{◌∙◌, length, sym, subst}
-use Rattle.gitconf_table.specs.Sections.{Sections, with_all}
+use Rattle.gitconf_text.specs.Sections.{Sections, with_all}
 use Rattle.gitconf_sections.specs.declared.row.Row.{Row}
 use Rattle.gitconf_sections.specs.Section.{AreListed, all_rebased, read_all}
 use Rattle.gitconf_sections.proofs.Adding.{joined_listed, joined_read}

@@ -1,7 +1,7 @@
 use Rattle.std.proofs.Common.{rules, ◌≡◌, ◌++◌, ◌∙◌, ◌+◌, ◌<◌, ◌≤◌, Some, length, refl, sym, subst, ap, arith}
 use Rattle.smallvec.specs.SmallVec.{small_vec_len}
 use Rattle.std.proofs.lemmas.List.{length-map}
-use Rattle.gitconf_table.specs.Sections.{Sections, edited_at, section_at, with_all, with_section}
+use Rattle.gitconf_text.specs.Sections.{Sections, edited_at, section_at, with_all, with_section}
 use Rattle.gitconf_sections.specs.declared.row.Row.{Row}
 use Rattle.gitconf_sections.specs.Held.{line_end_item}
 use Rattle.gitconf_sections.specs.Section.{AreListed, Section, all_rebased, body_items, holding, read_all, read_entry}

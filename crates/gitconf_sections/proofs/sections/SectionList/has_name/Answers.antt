@@ -1,6 +1,6 @@
 use Rattle.std.proofs.Common.{◌∙◌, refl, sym}
 use Rattle.gitconf_sections.specs.Section.{read}
-use Rattle.gitconf_table.specs.Sections.{has_name}
+use Rattle.gitconf_text.specs.Sections.{has_name}
 use Rattle.gitconf_sections.proofs.Mapped.{any_mapped}
 use Rattle.gitconf_sections.proofs.sections.SectionList.has_name.Goals as goal
 

@@ -2,7 +2,7 @@ use Rattle.std.proofs.Common.{rules, ◌≡◌, ◌-◌, ◌≤◌, length, refl
 use Rattle.std.specs.Prelude.{IfSome}
 use Rattle.gitconf_items.specs.ItemsFit.{AreItemsWithin}
 use Rattle.gitconf_items.specs.Moves.{AreItemsMoved}
-use Rattle.gitconf_table.specs.Sections.{section_at}
+use Rattle.gitconf_text.specs.Sections.{section_at}
 use Rattle.gitconf_table.proofs.SectionLemmas.{tables}
 use Rattle.gitconf_sections.specs.declared.row.Row.{Row}
 use Rattle.gitconf_sections.specs.Moves.{IsMovable}

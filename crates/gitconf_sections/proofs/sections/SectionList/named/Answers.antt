@@ -2,7 +2,7 @@ use Rattle.std.proofs.Common.{◌∙◌, map, refl, ap, sym}
 use Rattle.gitconf_sections.specs.Section.{read}
 use Rattle.std.specs.List.{filter}
 use Rattle.std.specs.Option.{option_copied}
-use Rattle.gitconf_table.specs.Sections.{is_named}
+use Rattle.gitconf_text.specs.Sections.{is_named}
 use Rattle.gitconf_sections.specs.Walks.{read_pair}
 use Rattle.gitconf_sections.proofs.Mapped.{filter_mapped, pairs_mapped}
 use Rattle.gitconf_sections.proofs.sections.SectionList.named.Goals as goal

@@ -1,6 +1,6 @@
 use Rattle.std.proofs.Common.{length, sym, subst, arith}
 use Rattle.std.specs.Option.{option_copied}
-use Rattle.gitconf_table.specs.Sections.{Sections, entry_of}
+use Rattle.gitconf_text.specs.Sections.{Sections, entry_of}
 use Rattle.gitconf_sections.specs.declared.body.Body.TheVariants.{Own}
 use Rattle.gitconf_sections.specs.declared.row.Row.{Row}
 use Rattle.gitconf_sections.specs.Section.{AreListed}

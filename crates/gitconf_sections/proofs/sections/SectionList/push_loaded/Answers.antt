@@ -1,7 +1,7 @@
 use Rattle.std.proofs.Common.{rules, ◌≡◌, ◌++◌, refl, length, sym, subst, ap, ◌∙◌, arith}
 use Rattle.std.proofs.lemmas.List.{length-append}
 use Rattle.std.specs.Option.{option_copied}
-use Rattle.gitconf_table.specs.Sections.{Sections, entry_of, with_last}
+use Rattle.gitconf_text.specs.Sections.{Sections, entry_of, with_last}
 use Rattle.gitconf_sections.specs.declared.body.Body.TheVariants.{Listed}
 use Rattle.gitconf_sections.specs.declared.row.Row.{Row}
 use Rattle.gitconf_sections.specs.Section.{AreListed, made, read_all}

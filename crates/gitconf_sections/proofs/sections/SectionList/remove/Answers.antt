@@ -1,7 +1,7 @@
 use Rattle.std.proofs.Common.{length}
 use Rattle.gitconf_sections.specs.Section.{read}
 use Rattle.std.specs.Prelude.{not}
-use Rattle.gitconf_table.specs.Sections.{has_number}
+use Rattle.gitconf_text.specs.Sections.{has_number}
 use Rattle.gitconf_sections.proofs.Listing.{listed_filter}
 use Rattle.gitconf_sections.proofs.Mapped.{without_mapped}
 use Rattle.gitconf_sections.proofs.sections.SectionList.remove.Goals as goal

@@ -1,6 +1,6 @@
 use Rattle.std.proofs.Common.{◌∙◌, length, sym, subst, ap}
 use Rattle.std.specs.Option.{option_copied}
-use Rattle.gitconf_table.specs.Sections.{Sections}
+use Rattle.gitconf_text.specs.Sections.{Sections}
 use Rattle.gitconf_sections.specs.declared.row.Row.{Row}
 use Rattle.gitconf_sections.specs.Section.{AreListed, read, read_all}
 use Rattle.gitconf_sections.proofs.Adding.{listed_names}

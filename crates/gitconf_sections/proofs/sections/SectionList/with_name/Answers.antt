@@ -1,7 +1,7 @@
 use Rattle.std.proofs.Common.{◌∙◌, map, refl, ap, sym}
 use Rattle.gitconf_sections.specs.Section.{read}
 use Rattle.std.specs.List.{filter}
-use Rattle.gitconf_table.specs.Sections.{has_name}
+use Rattle.gitconf_text.specs.Sections.{has_name}
 use Rattle.gitconf_sections.specs.Walks.{read_pair}
 use Rattle.gitconf_sections.proofs.Mapped.{filter_mapped, pairs_mapped}
 use Rattle.gitconf_sections.proofs.sections.SectionList.with_name.Goals as goal

@@ -1,7 +1,7 @@
 use Rattle.std.proofs.Common.{rules, ◌≡◌, true, false, sym, ◌∙◌}
 use Rattle.std.specs.List.{list_any}
 use Rattle.std.specs.Option.{option_copied}
-use Rattle.gitconf_table.specs.Sections.{has_name}
+use Rattle.gitconf_text.specs.Sections.{has_name}
 use Rattle.gitconf_state.specs.Lookup as state
 use Rattle.gitconf_state.specs.State.{SectionState}
 use Rattle.gitconf_views.specs.Views.{shown}

@@ -1,5 +1,5 @@
 use Rattle.std.proofs.Common.{rules, ◌≡◌, ◌<◌, Some, None, refl, ap, sym, subst, inl, ◌∙◌, length}
-use Rattle.gitconf_table.specs.Sections.{place_of}
+use Rattle.gitconf_text.specs.Sections.{place_of}
 use Rattle.gitconf_table.proofs.SectionLemmas.{number_at-place}
 use Rattle.gitconf_lines.proofs.Buffers.{same_extended}
 use Rattle.gitconf_table.proofs.SectionLemmas.{section_edited}

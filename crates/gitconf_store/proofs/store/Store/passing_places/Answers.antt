@@ -1,6 +1,6 @@
 use Rattle.std.proofs.Common.{◌&&◌, map, ap, sym, subst, ◌∙◌}
 use Rattle.std.specs.Option.{option_copied}
-use Rattle.gitconf_table.specs.Sections as table
+use Rattle.gitconf_text.specs.Sections as table
 use Rattle.gitconf_state.specs.Edit.{is_target}
 use Rattle.gitconf_state.specs.Lookup.{is_named, listing}
 use Rattle.gitconf_state.specs.State.{SectionState, State}

@@ -1,7 +1,7 @@
 use Rattle.std.proofs.Common.{rules, ◌≡◌, Some, None, Ok, refl, sym, ap, subst, ◌∙◌, length, ◌<◌, false, [], inl, inr, ℕ}
 use Rattle.std.specs.Prelude.{OnOk, OnErr, IfOk}
 use Rattle.std.specs.List.{list_any}
-use Rattle.gitconf_table.specs.Sections.{place_of}
+use Rattle.gitconf_text.specs.Sections.{place_of}
 use Rattle.gitconf_table.proofs.SectionLemmas.{number_at-place, section_edited}
 use Rattle.gitconf_state.specs.Editors.{popped, popped_entry}
 use Rattle.gitconf_state.specs.Edits.{Entry, Pop}

@@ -1,6 +1,6 @@
 use Rattle.std.proofs.Common.{rules, ◌≡◌, ◌+◌, ◌-◌, ◌<◌, ◌≤◌, ◌^◌, [], ◌++◌, length, ap, sym, subst, ◌∙◌, arith, append-nil, length-append, inl, inr, IsErrOf}
 use Rattle.std.proofs.lemmas.List.{length-map}
-use Rattle.gitconf_table.specs.Sections.{no_number}
+use Rattle.gitconf_text.specs.Sections.{no_number}
 use Rattle.gitconf_state.specs.State.{State}
 use Rattle.gitconf_views.specs.Store.{section_state}
 use Rattle.gitconf_items.specs.Moves.{AreItemsMoved}

@@ -1,6 +1,6 @@
 use Rattle.std.specs.Option.{option_copied}
 use Rattle.gitconf_sections.specs.Walks.{named_left}
-use Rattle.gitconf_table.specs.Sections.{is_named}
+use Rattle.gitconf_text.specs.Sections.{is_named}
 use Rattle.gitconf_state.specs.Lookup as state
 use Rattle.gitconf_state.specs.State.{SectionState}
 use Rattle.gitconf_store.proofs.Places.Named.{named_so}

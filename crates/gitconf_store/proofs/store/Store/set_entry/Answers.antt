@@ -1,6 +1,6 @@
 use Rattle.std.proofs.Common.{rules, ◌≡◌, Some, None, refl, sym, ap, subst, length, ◌∙◌, ◌<◌, ◌≤◌, ◌+◌, ◌^◌}
 use Rattle.std.specs.Prelude.{OnOk, IsErrOf}
-use Rattle.gitconf_table.specs.Sections.{place_of}
+use Rattle.gitconf_text.specs.Sections.{place_of}
 use Rattle.gitconf_table.proofs.SectionLemmas.{number_at-place}
 use Rattle.gitconf_state.specs.Edit.{old_value, with_used}
 use Rattle.gitconf_state.specs.Editors.{value_set}

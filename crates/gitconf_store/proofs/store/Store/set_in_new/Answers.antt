@@ -2,7 +2,7 @@ use Rattle.std.proofs.Common.{rules, ◌≡◌, true, [], ◌∷◌, length, sym
 use Rattle.std.specs.List.{list_all}
 use Rattle.std.specs.Option.{option_copied}
 use Rattle.gitconf_text.specs.Names.{is_made_name, is_valid_or_none}
-use Rattle.gitconf_table.specs.Sections.{with_last}
+use Rattle.gitconf_text.specs.Sections.{with_last}
 use Rattle.gitconf_items.specs.Events.{header_of}
 use Rattle.gitconf_text.specs.Part.{LineEndsItem}
 use Rattle.gitconf_state.specs.Edit.{made_header, new_section, set_value, with_used}

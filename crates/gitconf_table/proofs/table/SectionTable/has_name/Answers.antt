@@ -1,5 +1,5 @@
 use Rattle.std.proofs.Common.{sym, ◌∙◌}
-use Rattle.gitconf_table.specs.Sections.{has_name}
+use Rattle.gitconf_text.specs.Sections.{has_name}
 use Rattle.gitconf_table.proofs.TableLemmas.{any_shown, none_shown}
 use Rattle.gitconf_table.proofs.table.SectionTable.has_name.Goals as goal
 

@@ -1,6 +1,6 @@
 use Rattle.std.proofs.Common.{◌≡◌, ap, filter, map}
 use Rattle.std.specs.Option.{option_copied}
-use Rattle.gitconf_table.specs.Sections.{is_named}
+use Rattle.gitconf_text.specs.Sections.{is_named}
 use Rattle.gitconf_table.specs.Rows.{entries_at, entries_of}
 use Rattle.gitconf_table.specs.Tables.{word_of_names}
 use Rattle.gitconf_table.specs.Word.{full_word}

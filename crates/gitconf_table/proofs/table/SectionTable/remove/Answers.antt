@@ -1,5 +1,5 @@
 use Rattle.std.proofs.Common.{ap, sym, ◌∙◌, not, length}
-use Rattle.gitconf_table.specs.Sections.{has_number, AreNumbered}
+use Rattle.gitconf_text.specs.Sections.{has_number, AreNumbered}
 use Rattle.gitconf_table.specs.Rows.{entries_of, RowsFit}
 use Rattle.gitconf_table.proofs.RowLemmas.{entries_of-remove, fit_remove, removed, rows_apart, rows_placed, rows_within}
 use Rattle.gitconf_table.proofs.SectionLemmas.{absent_kept, absent_section, filter_numbered, tables}

@@ -1,6 +1,6 @@
 use Rattle.std.proofs.Common.{refl, sym, ap, ◌∙◌, length}
 use Rattle.std.specs.List.{AllZip}
-use Rattle.gitconf_table.specs.Sections.{IsEntryClone}
+use Rattle.gitconf_text.specs.Sections.{IsEntryClone}
 use Rattle.gitconf_table.specs.Rows.{entries_of}
 use Rattle.gitconf_table.specs.Tables.{word_of_name, word_of_names}
 use Rattle.gitconf_table.specs.Word.{full_word, name_word}

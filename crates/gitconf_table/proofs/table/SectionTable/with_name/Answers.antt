@@ -1,5 +1,5 @@
 use Rattle.std.proofs.Common.{◌≡◌, ap, filter, map}
-use Rattle.gitconf_table.specs.Sections.{has_name}
+use Rattle.gitconf_text.specs.Sections.{has_name}
 use Rattle.gitconf_table.specs.Rows.{entries_at, entries_of}
 use Rattle.gitconf_table.specs.Tables.{word_of_name}
 use Rattle.gitconf_table.specs.Word.{name_word}

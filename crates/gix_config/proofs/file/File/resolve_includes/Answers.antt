@@ -1,5 +1,5 @@
 use Rattle.std.proofs.Common.{rules, ◌≡◌, sym}
-use Rattle.gitconf_resolving.proofs.Made.{resolves, resolves_wanting}
+use Rattle.gitconf_loaders.proofs.Made.{resolves, resolves_wanting}
 use Rattle.gix_config.proofs.file.File.resolve_includes.Goals as goal
 
 pub returns-in_err-meta_owned-clause-expanded : goal.returns-in_err-meta_owned-clause-expanded

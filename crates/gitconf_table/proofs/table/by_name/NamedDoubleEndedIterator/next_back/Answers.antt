@@ -1,6 +1,6 @@
 use Rattle.std.proofs.Common.{sym, ◌∙◌}
 use Rattle.std.specs.Option.{option_copied}
-use Rattle.gitconf_table.specs.Sections.{is_named}
+use Rattle.gitconf_text.specs.Sections.{is_named}
 use Rattle.gitconf_table.proofs.TableLemmas.{last_found, last_none, last_other, more_shown}
 use Rattle.gitconf_table.proofs.table.by_name.NamedDoubleEndedIterator.next_back.Goals as goal
 

@@ -1,5 +1,5 @@
 use Rattle.std.proofs.Common.{sym, ◌∙◌}
-use Rattle.gitconf_table.specs.Sections.{has_name}
+use Rattle.gitconf_text.specs.Sections.{has_name}
 use Rattle.gitconf_table.proofs.TableLemmas.{last_found, last_none, last_other, more_shown}
 use Rattle.gitconf_table.proofs.table.by_name.WithNameDoubleEndedIterator.next_back.Goals as goal
 

@@ -3,7 +3,7 @@ use Rattle.gitconf_state.specs.State.{State}
 use Rattle.gitconf_expansion.specs.Outcomes.{asks_of}
 use Rattle.gitconf_includes.specs.Errors.{includes_number}
 use Rattle.gitconf_loaders.proofs.Counts.{fault_load, none_less, same}
-use Rattle.gitconf_loaders.specs.Errors.{git_number, git_of_includes}
+use Rattle.gitconf_refusals.specs.Errors.{git_number, git_of_includes}
 use Rattle.gix_config.specs.Repository.{AreOverridesBehind, IsExpandedBehind, IsIncludeCause, IsWorktreeBehind, parts_of}
 use Rattle.gix_config.proofs.Repositories.{all_joined, expansion_cause, first_not_expanded, git_count, include_cause, local_not_put, of_includes, overrides_not_put, worktree_not_put}
 use Rattle.gix_config.proofs.file.init.repository.joined.Goals as goal

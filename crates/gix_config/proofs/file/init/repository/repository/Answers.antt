@@ -4,7 +4,7 @@ use Rattle.gitconf_state.specs.State.{State}
 use Rattle.gitconf_expansion.specs.Outcomes.{asks_of}
 use Rattle.gitconf_includes.specs.Rules.{resolved}
 use Rattle.gitconf_loaders.proofs.Counts.{later}
-use Rattle.gitconf_loaders.specs.Errors.{git_number}
+use Rattle.gitconf_refusals.specs.Errors.{git_number}
 use Rattle.gitconf_loaders.specs.Paths.{numbered}
 use Rattle.gix_config.specs.Repository.{folder_of, IsGitCause, IsJoined, local_path, parts_of}
 use Rattle.gix_config.proofs.Repositories.{joined_cause, not_read, read_and_joined, read_cause}

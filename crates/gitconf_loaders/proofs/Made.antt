@@ -1,0 +1,71 @@
+-- Files that are made of bytes, by how the calls end.
+use Rattle.std.proofs.Common.{◌≡◌, ◌≢◌, ℕ, ◌==◌, Bool, true, false, List, None, Result, Ok, Err, refl, sym, ap, subst, ◌∙◌}
+use Rattle.std.specs.Prelude.{IsErrAnd}
+use Rattle.std.proofs.lemmas.Bool.{eqb-true}
+use Rattle.gitconf_base.specs.Metadata.{Meta}
+use Rattle.gitconf_includes.specs.declared.includes.Error.{Error}
+use Rattle.gitconf_includes.specs.declared.includes.Error.TheVariants as refusals
+use Rattle.gitconf_includes.specs.declared.init.Error.{Error as Init}
+use Rattle.gitconf_includes.specs.Errors.{includes_number, init_number, init_of_includes, init_of_parse}
+use Rattle.gitconf_parse.specs.EventResult.{IsRefused}
+use Rattle.gitconf_parse.specs.ParseError.{Refusal}
+use Rattle.gitconf_state.specs.State.{State}
+use Rattle.gitconf_expansion.specs.Expansion.{Asks, Ended, Expands, IsLoaded, Leaves, On, Reached, Resolves}
+use Rattle.gitconf_expansion.proofs.Steps.{as_it_was, expands_wanting, leaves_refused}
+use Rattle.gitconf_loaders.specs.Resolving.{IsMadeOf}
+
+parse_number : (e : Refusal) → init_number (init_of_parse e) ≡ e.number
+parse_number e = go (e.number == 27) refl
+  where
+    go : (b : Bool) → (e.number == 27) ≡ b → init_number (init_of_parse e) ≡ e.number
+    go true is = rw is (sym (eqb-true e.number 27 is))
+    go false is = rw is refl
+
+pub includes_numbers : (e : Error) → init_number (init_of_includes e) ≡ includes_number e
+includes_numbers (refusals.CopyBuffer fault) = refl
+includes_numbers (refusals.Io path fault) = refl
+includes_numbers (refusals.Parse it) = refl
+includes_numbers (refusals.Span it) = refl
+includes_numbers (refusals.Interpolate it) = refl
+includes_numbers (refusals.IncludeDepthExceeded depth) = refl
+includes_numbers refusals.MissingConfigPath = refl
+includes_numbers refusals.MissingGitDir = refl
+includes_numbers (refusals.Realpath fault) = refl
+includes_numbers refusals.Memory = refl
+
+-- the parser refuses
+pub not_loaded : (asks : Asks) (text : List ℕ) (place : Meta) (e : Refusal) (result : Result State Init) → IsRefused text e → IsErrAnd result (λ r. r ≡ init_of_parse e)
+    → IsMadeOf init_number asks text place result
+not_loaded asks text place e (Ok made) refused err = absurd err
+not_loaded asks text place e (Err r) refused err = (Err e.number, (e, refused, refl), sym (ap init_number err ∙ parse_number e))
+
+-- an include refuses
+pub not_expanded : (asks : Asks) (text : List ℕ) (place : Meta) (loaded new : State) (e : Error) (result : Result State Init) → IsLoaded asks.rules.lossy text place loaded
+    → (r : Reached) × Expands asks.rules.max_depth asks None loaded r × Leaves includes_number (Err e) new r → IsErrAnd result (λ r. r ≡ init_of_includes e) → IsMadeOf init_number asks text place result
+not_expanded asks text place loaded new e (Ok made) load (r, expands, leaves) err = absurd err
+not_expanded asks text place loaded new e (Err x) load (On done, expands, leaves) err = absurd leaves
+not_expanded asks text place loaded new e (Err x) load (Ended n file, expands, leaves) err =
+    (Ok loaded, load, (Ended n file, expands, leaves.0 ∙ sym (ap init_number err ∙ includes_numbers e)))
+
+-- all is put in
+pub made : (asks : Asks) (text : List ℕ) (place : Meta) (loaded new : State) → IsLoaded asks.rules.lossy text place loaded
+    → (r : Reached) × Expands asks.rules.max_depth asks None loaded r × Leaves {E = Error} includes_number (Ok tt) new r → IsMadeOf {E = Init} init_number asks text place (Ok new)
+made asks text place loaded new load (r, expands, leaves) = (Ok loaded, load, (On new, subst (Expands asks.rules.max_depth asks None loaded) leaves expands, refl))
+
+-- whether no depth is asked for
+some_depth : (depth : ℕ) → depth ≢ 0 → (depth == 0) ≡ false
+some_depth depth some = go (depth == 0) refl
+  where
+    go : (b : Bool) → (depth == 0) ≡ b → (depth == 0) ≡ false
+    go true is = absurd (some (eqb-true depth 0 is))
+    go false is = is
+
+-- includes of a file are resolved
+pub resolves : (asks : Asks) (old new : State) (result : Result Unit Error) → asks.rules.max_depth ≢ 0
+    → (r : Reached) × Expands asks.rules.max_depth asks None old r × Leaves includes_number result new r → Resolves includes_number asks old result new
+resolves asks old new result some (r, expands, leaves) = (r, rw (some_depth asks.rules.max_depth some) expands, leaves)
+
+-- memory ran out before anything was done
+pub resolves_wanting : (asks : Asks) (old : State) (result : Result Unit Error) → asks.rules.max_depth ≢ 0 → IsErrAnd result (λ r. r ≡ refusals.Memory) → Resolves includes_number asks old result old
+resolves_wanting asks old result some err =
+    resolves asks old old result some (Ended 27 old, expands_wanting asks.rules.max_depth asks None old some, leaves_refused result refusals.Memory 27 old old err refl (as_it_was old old refl))

@@ -1,3 +1,0 @@
-pub mod UrlLemmas
-pub mod Made
-pub mod OneFile

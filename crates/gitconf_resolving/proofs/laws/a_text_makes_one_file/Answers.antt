@@ -1,5 +1,0 @@
-use Rattle.gitconf_resolving.proofs.OneFile.{one_file}
-use Rattle.gitconf_resolving.proofs.laws.a_text_makes_one_file.Goals as goal
-
-pub returns : goal.returns
-returns c = one_file

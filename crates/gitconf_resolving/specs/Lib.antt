@@ -1,2 +1,0 @@
-pub mod Urls
-pub mod Resolving
