@@ -8,9 +8,9 @@ import shutil
 import sys
 import threading
 
-# How many processes the crate has that most wait for, and others that are urgent, or where no more crates are ready than there are
-# processors. With more than one a check takes less time and more work: a quarter more by two, more than a third by four.
-MOST_JOBS = 4
+# How many processes the crate has that most wait for; and where no more tasks are ready than there are processors, one that half as many
+# wait for. With more than one a check takes less time and more work: a quarter more by two, more than a third by four.
+MOST_JOBS = 3
 MORE_JOBS = 2
 
 # A crate is urgent if nearly as many lines wait for it as for the one that most wait for.
@@ -68,13 +68,19 @@ class Order:
         is_little = len(ready) + len(self.urgent) + len(self.others) <= self.processors
         for key in urgent[: self.processors - len(self.urgent)]:
             self.urgent.add(key)
-            self.start(key, min(MOST_JOBS if self.above[key] == most else MORE_JOBS, self.processors), most)
+            self.start(key, self.jobs(key, most, is_little), most)
         room = self.processors - 1 if self.urgent else self.processors + BEYOND
         for key in (it for it in ready if it not in urgent):
             # (proofs that least wait for hold no place of one that more wait for, and begin early since they are the nicest)
             if len(self.others) < (2 * room if key in proofs else room):
                 self.others.add(key)
-                self.start(key, MORE_JOBS if is_little else 1, most)
+                self.start(key, self.jobs(key, most, is_little), most)
+
+    def jobs(self, key, most, is_little):
+        """How many processes a task gets."""
+        if self.above[key] == most:
+            return min(MOST_JOBS, self.processors)
+        return MORE_JOBS if is_little and 2 * self.above[key] >= most else 1
 
     def start(self, key, jobs, most):
         """Runs a task in a thread of its own, whose processes are the nicer the fewer lines wait for it."""
