@@ -1,5 +1,7 @@
 //! A file under expansion.
-ghost use Rattle.std.specs.Prelude.{◌≡◌, ◌==◌, ◌-◌, ◌≤◌, ◌||◌, if◌then◌else◌, is_some, None, option_map};
+ghost use Rattle.std.specs.Prelude.{◌≡◌, ◌⊎◌, ◌↔◌, ◌+◌, ◌==◌, ◌-◌, ◌<◌, ◌≤◌, ◌^◌, ◌||◌, if◌then◌else◌, is_some, length, None, option_map, vec_capacity, vec_len, IfErr, IsErrOf, OnOk};
+ghost use Rattle.gitconf_store.specs.Appends.{bytes_at};
+ghost use Rattle.gitconf_text.specs.Sections.{no_number};
 ghost use Rattle.gitconf_text.specs.LineEnds.{bytes_of_line_end};
 ghost use Rattle.gitconf_items.specs.Items.{tokens_in};
 ghost use Rattle.gitconf_views.specs.Views.{shown};
@@ -75,6 +77,30 @@ fn last_place(last: usize, long: usize, count: usize) -> usize
     if count == 0 { last } else { long - 1 }
 }
 
+/// Checks whether another file may be put in after the section at a place, and makes room for its run.
+///
+/// # Errors
+///
+/// Those of [`Store::check_put`]; 27 when out of memory.
+fn make_ready(
+    store: &Store,
+    runs: &mut Vec<Run>,
+    at: usize,
+    line_end: LineEnd,
+    other: &Store,
+) -> Result<(), span::Error>
+    requires { at ≤ length store.now.sections - 1 }
+    ensures items { runs.new.items ≡ runs.old.items }
+    ensures room { OnOk result (vec_len runs.new < vec_capacity runs.new) }
+    ensures too_large { IsErrOf result 3
+        ↔ ((2 ^ 32 ≤ store.now.used + bytes_at at (bytes_of_line_end line_end) other.now store.now) ⊎ (no_number < store.now.next + length other.now.sections)) }
+    ensures known { IfErr result (λ e. (e ≡ 3) ⊎ (e ≡ 27)) }
+{
+    store.check_put(at, line_end, other)?;
+    runs.reserve(1)?;
+    Ok(())
+}
+
 impl Gathering {
     ghost use Rattle.std.specs.Prelude.{◌≡◌, ◌⊎◌, ◌↔◌, ◌<◌, [], ◌∷◌, Bool, false, length, option_map, slice_get, IfErr, IfSome, IsErrOf, IsNone, OnErr, OnOk};
     ghost use Rattle.std.specs.List.{list_any};
@@ -140,8 +166,13 @@ impl Gathering {
         ensures known { IfErr result (λ e. (e ≡ 3) ⊎ (e ≡ 27)) }
     {
         let other = other.into_store();
-        self.store.check_put(self.last, self.line_end, &other)?;
-        self.runs.reserve(1)?;
+        make_ready(
+            &self.store,
+            &mut self.runs,
+            self.last,
+            self.line_end,
+            &other,
+        )?;
         let count = other.section_count();
         let found = newly_told(self.told, &other);
         self.store.include(self.last, self.line_end, other)?;

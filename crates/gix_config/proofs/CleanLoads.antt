@@ -149,10 +149,10 @@ module _ (variables : List ℕ → VariableReport) (places : Places) (files : Li
   joined_headed : (asks : Asks) (parts : RepositoryFiles) (now : State) → asks.table ≡ Some files → IsHeaded parts.globals → IsHeaded parts.local → ((file : State) → parts.worktree ≡ Some file → IsHeaded file)
       → IsJoined (Some variables) places (Some files) asks parts (Ok now) → IsHeaded now
   joined_headed asks parts now tells globals local worktree (Err n, expands, e) = absurd (cc)
-  joined_headed asks parts now tells globals local worktree (Ok first, expands, (Err n, second, e)) = absurd (cc)
-  joined_headed asks parts now tells globals local worktree (Ok first, expands, (Ok both, second, (Err n, third, e))) = absurd (cc)
-  joined_headed asks parts now tells globals local worktree (Ok first, expands, (Ok both, second, (Ok all, third, (Err n, made, e)))) = absurd (cc)
-  joined_headed asks parts now tells globals local worktree (Ok first, expands, (Ok both, second, (Ok all, third, (Ok overrides, made, put)))) =
+  joined_headed asks parts now tells globals local worktree (Ok first, expands, (Err n, own, e)) = absurd (cc)
+  joined_headed asks parts now tells globals local worktree (Ok first, expands, (Ok all, (Err n, second, e), rest)) = absurd (cc)
+  joined_headed asks parts now tells globals local worktree (Ok first, expands, (Ok all, (Ok both, second, third), (Err n, made, e))) = absurd (cc)
+  joined_headed asks parts now tells globals local worktree (Ok first, expands, (Ok all, (Ok both, second, third), (Ok overrides, made, put))) =
       let one = expanded_headed files asks parts.globals first tells headed globals expands in
       let two = behind_expanded asks first parts.local both tells one local second in
       let three = worktree_behind asks parts.worktree both all tells two worktree third in

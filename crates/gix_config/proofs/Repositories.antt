@@ -33,7 +33,7 @@ use Rattle.gitconf_loaders.specs.Globals.{IsGlobal, IsGlobalCause}
 use Rattle.gitconf_loaders.proofs.Counts.{later, renumbered}
 use Rattle.gitconf_loaders.proofs.Several.{IsAppendRefusal, open_room, shut_room}
 use Rattle.gix_config.specs.Environment.{IsOverridesCause}
-use Rattle.gix_config.specs.Repository.{AreOverridesBehind, has_worktree, IsExpanded, IsExpandedBehind, IsGitCause, IsIncludeCause, IsJoined, IsOverridingCause, IsPutBehind, IsReadCause, IsReadOf, IsRepository, IsRepositoryCause, is_set_true, IsWorktree, IsWorktreeBehind, folder_of, local_path, parts_of, repository_rules, RepositoryFiles, worktree_path}
+use Rattle.gix_config.specs.Repository.{has_worktree, IsExpanded, IsGitCause, IsIncludeCause, IsJoined, IsOverridingCause, IsPutBehind, IsReadCause, IsReadOf, IsRepository, IsRepositoryCause, IsRestBehind, is_set_true, IsWorktree, folder_of, local_path, parts_of, repository_rules, RepositoryFiles, worktree_path}
 use Rattle.gix_config.specs.declared.file.init.repository.Parts.{Parts}
 use Rattle.gix_config.specs.Typed.{boolean_or_refusal, IsTyped}
 use Rattle.gix_config.proofs.Entries.{expanded_number}
@@ -144,6 +144,12 @@ module _ (first : Result State ℕ → Type 0) (target : State) where
   then_refused other n (Ok done) new made refusal err = absurd err
   then_refused other n (Err r) new made refusal err = (Ok other, made, not_put target other n (git_number r) (ap git_number err ∙ of_span n) refusal)
 
+-- what is left after two steps, of which the first is refused
+pub then_stopped : (first : Result State ℕ → Type 0) (next : State → Result State ℕ → Type 0) (e : Error) (result : Result Unit Error) (new : State) → first (Err (git_number e)) → IsErrAnd result (λ r. r ≡ e)
+    → Then first next (left_by git_number result new)
+then_stopped first next e (Ok done) new is err = absurd err
+then_stopped first next e (Err r) new is err = (Err (git_number e), is, ap Err (ap git_number err))
+
 -- an expansion, by number
 pub is_expanded : (asks : Asks) (file : State) (result : Result State Includes) → MakesOf includes_number asks result (Ok file) → IsExpanded asks file (numbered includes_number result)
 is_expanded asks file result is = expanded_number asks file result is
@@ -231,10 +237,10 @@ include_cause variables options places table e (Err r) cause err = subst (IsGitC
     go (git.Span e) is = tt
     go git.Memory is = tt
 
-pub last_cause : {T : Type 0} (variables : Option (List ℕ → VariableReport)) (options : Options) (places : Places) (table : Option (List ℕ → FileReport)) (e : Error) (result : Result T Error)
-    → IsOverridingCause variables places table e → IsErrAnd result (λ r. r ≡ e) → IfErr result (IsGitCause variables options places table)
-last_cause variables options places table e (Ok made) cause err = tt
-last_cause variables options places table e (Err r) cause err = subst (IsGitCause variables options places table) (sym err) (go e cause)
+pub last_cause : {T : Type 0} (variables : Option (List ℕ → VariableReport)) (options : Options) (places : Places) (table : Option (List ℕ → FileReport)) (result : Result T Error)
+    → IfErr result (IsOverridingCause variables places table) → IfErr result (IsGitCause variables options places table)
+last_cause variables options places table (Ok made) cause = tt
+last_cause variables options places table (Err e) cause = go e cause
   where
     go : (e : Error) → IsOverridingCause variables places table e → IsGitCause variables options places table e
     go (git.FromPaths e) is = absurd is
@@ -243,6 +249,11 @@ last_cause variables options places table e (Err r) cause err = subst (IsGitCaus
     go (git.Includes e) is = absurd is
     go (git.Span e) is = tt
     go git.Memory is = tt
+
+pub handed_cause : {T : Type 0} (variables : Option (List ℕ → VariableReport)) (options : Options) (places : Places) (table : Option (List ℕ → FileReport)) (e : Error) (result : Result T Error)
+    → IsGitCause variables options places table e → IsErrAnd result (λ r. r ≡ e) → IfErr result (IsGitCause variables options places table)
+handed_cause variables options places table e (Ok made) cause err = tt
+handed_cause variables options places table e (Err r) cause err = subst (IsGitCause variables options places table) (sym err) cause
 
 -- the cause of an expansion's refusal
 pub expansion_cause : {T : Type 0} (variables : Option (List ℕ → VariableReport)) (options : Options) (places : Places) (table : Option (List ℕ → FileReport)) (e : Includes) (result : Result T Error)
@@ -310,22 +321,10 @@ module _ (variables : Option (List ℕ → VariableReport)) (places : Places) (t
   first_not_expanded e (Ok made) is err = absurd err
   first_not_expanded e (Err r) is err = (Err (includes_number e), expanded_number asks parts.globals (Err e) is, ap Err (ap git_number err ∙ of_includes e))
 
-  pub local_not_put : (first : State) (e : Error) (result : Result State Error) → MakesOf includes_number asks (Ok first) (Ok parts.globals) → IsExpandedBehind asks first parts.local (Err (git_number e)) → IsErrAnd result (λ r. r ≡ e)
-      → Joins (numbered git_number result)
-  local_not_put first e (Ok made) one is err = absurd err
-  local_not_put first e (Err r) one is err = (Ok first, expanded_number asks parts.globals (Ok first) one, (Err (git_number e), is, ap Err (ap git_number err)))
+  pub rest_not_put : (first : State) (e : Error) (result : Result State Error) → MakesOf includes_number asks (Ok first) (Ok parts.globals)
+      → IsRestBehind variables places table asks parts.local parts.worktree first (Err (git_number e)) → IsErrAnd result (λ r. r ≡ e) → Joins (numbered git_number result)
+  rest_not_put first e (Ok made) one is err = absurd err
+  rest_not_put first e (Err r) one is err = (Ok first, expanded_number asks parts.globals (Ok first) one, subst (λ x. IsRestBehind variables places table asks parts.local parts.worktree first (Err (git_number x))) (sym err) is)
 
-  pub worktree_not_put : (first both : State) (e : Error) (result : Result State Error) → MakesOf includes_number asks (Ok first) (Ok parts.globals) → IsExpandedBehind asks first parts.local (Ok both)
-      → IsWorktreeBehind asks parts.worktree both (Err (git_number e)) → IsErrAnd result (λ r. r ≡ e) → Joins (numbered git_number result)
-  worktree_not_put first both e (Ok made) one two is err = absurd err
-  worktree_not_put first both e (Err r) one two is err = (Ok first, expanded_number asks parts.globals (Ok first) one, (Ok both, two, (Err (git_number e), is, ap Err (ap git_number err))))
-
-  pub overrides_not_put : (first both all : State) (e : Error) (result : Result State Error) → MakesOf includes_number asks (Ok first) (Ok parts.globals) → IsExpandedBehind asks first parts.local (Ok both)
-      → IsWorktreeBehind asks parts.worktree both (Ok all) → AreOverridesBehind variables places table all (Err (git_number e)) → IsErrAnd result (λ r. r ≡ e) → Joins (numbered git_number result)
-  overrides_not_put first both all e (Ok made) one two three is err = absurd err
-  overrides_not_put first both all e (Err r) one two three is err =
-      subst (λ x. Joins (Err (git_number x))) (sym err) (Ok first, expanded_number asks parts.globals (Ok first) one, (Ok both, two, (Ok all, three, is)))
-
-  pub all_joined : (first both all now : State) → MakesOf includes_number asks (Ok first) (Ok parts.globals) → IsExpandedBehind asks first parts.local (Ok both) → IsWorktreeBehind asks parts.worktree both (Ok all)
-      → AreOverridesBehind variables places table all (Ok now) → Joins (Ok now)
-  all_joined first both all now one two three is = (Ok first, expanded_number asks parts.globals (Ok first) one, (Ok both, two, (Ok all, three, is)))
+  pub all_joined : (first now : State) → MakesOf includes_number asks (Ok first) (Ok parts.globals) → IsRestBehind variables places table asks parts.local parts.worktree first (Ok now) → Joins (Ok now)
+  all_joined first now one is = (Ok first, expanded_number asks parts.globals (Ok first) one, is)

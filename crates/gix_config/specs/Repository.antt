@@ -82,6 +82,10 @@ abbrev pub IsWorktreeBehind : Asks → (worktree : Option State) → (target : S
 IsWorktreeBehind asks None target r = r ≡ Ok target
 IsWorktreeBehind asks (Some worktree) target r = IsExpandedBehind asks target worktree r
 
+-- a repository's own file, and then its worktree's
+abbrev pub IsOwnBehind : Asks → (local : State) → (worktree : Option State) → (target : State) → Result State ℕ → Type 0
+IsOwnBehind asks local worktree target = Then (IsExpandedBehind asks target local) (IsWorktreeBehind asks worktree)
+
 -- the files of a repository: its own, that of its worktree, and that of the machine and of the user
 pub record RepositoryFiles : Type 0 where
   pub local : State
@@ -102,10 +106,13 @@ module _ (variables : Option (List ℕ → VariableReport)) (places : Places) (t
   abbrev pub AreOverridesBehind : (target : State) → Result State ℕ → Type 0
   AreOverridesBehind target = Then (IsOverrides variables places table) (IsPutBehind target)
 
+  -- the repository's own files are appended to a file, and then the overrides
+  abbrev pub IsRestBehind : Asks → (local : State) → (worktree : Option State) → (target : State) → Result State ℕ → Type 0
+  IsRestBehind asks local worktree target = Then (IsOwnBehind asks local worktree target) AreOverridesBehind
+
   -- All are expanded, each is appended to those before it, and the overrides come last.
   abbrev pub IsJoined : Asks → RepositoryFiles → Result State ℕ → Type 0
-  IsJoined asks parts = Then (IsExpanded asks parts.globals) (λ globals. Then (IsExpandedBehind asks globals parts.local)
-      (λ both. Then (IsWorktreeBehind asks parts.worktree both) AreOverridesBehind))
+  IsJoined asks parts = Then (IsExpanded asks parts.globals) (IsRestBehind asks parts.local parts.worktree)
 
   -- the configuration of the repository in that folder; memory may run out
   abbrev pub IsRepository : (dir : List ℕ) → (real : Option (List ℕ)) → Result State ℕ → Type 0

@@ -1,9 +1,8 @@
 //! Calls with options.
 ghost use Rattle.std.specs.Prelude.{◌≤◌};
 
-use crate::checks::check;
-use crate::differing::diff;
 use gixcfg_answers::trouble::{MEMORY, Trouble, tell};
+use gixcfg_checks::{check, diff};
 use gixcfg_edits::edit;
 use gixcfg_reads::{Loads, get, list, path_of};
 use gixcfg_texts::outside::Outside;

@@ -3,8 +3,5 @@
 #![tactic(auto)]
 
 mod calls;
-mod checks;
-mod differing;
-mod named;
 
 pub use calls::run_call;

@@ -6,4 +6,4 @@ mod fault;
 mod program;
 
 pub use fault::Fault;
-pub use program::{home_of, run, understands};
+pub use program::run;

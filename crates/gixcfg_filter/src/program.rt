@@ -4,56 +4,17 @@ ghost use Rattle.std.specs.Prelude.{◌≤◌};
 use crate::fault::{Fault, tell};
 use bstr::BString;
 use gitconf_disk::{Disk, Process};
-use gix_config::file::{Metadata, SectionId, SectionRef, includes, init, section_mut};
+use gix_config::file::{SectionId, includes, init, section_mut};
 use gix_config::format::{Options, normalize};
-use gix_config::host::{Env, EnvVar, Files};
+use gix_config::host::{Env, Files};
 use gix_config::lookup::existing;
-use gix_config::{File, KeyRef, NoMemory};
-use gixcfg_answers::names::add_names;
+use gix_config::{File, KeyRef};
+use gixcfg_tasks::{Command, Query, Task, home_of, list, meta_of, task_of};
 use gixcfg_texts::output::Output;
 use gixcfg_texts::streams::{put, read_all};
 use std::alloc::{AllocGlobal, Global};
 use std::io::{Read, Write};
 use std::rt;
-
-/// What the program is asked to do.
-#[derive(Clone, Copy)]
-enum Task<'a> {
-    /// It works on the file that standard input is.
-    OnInput(Command<'a>),
-    /// It prints the last value of a key of the file at a path, with what that file includes.
-    Load(&'a str, KeyRef<'a>),
-}
-
-/// What is asked of the entries of a file.
-#[derive(Clone, Copy)]
-enum Query<'a> {
-    /// The last value of a key.
-    Get(KeyRef<'a>),
-    /// All values of a key.
-    All(KeyRef<'a>),
-    /// The boolean of a key.
-    Bool(KeyRef<'a>),
-    /// The integer of a key.
-    Int(KeyRef<'a>),
-    /// The entries of all sections.
-    List,
-}
-
-/// What is to be done with the file that standard input is.
-#[derive(Clone, Copy)]
-enum Command<'a> {
-    /// Prints what is asked of its entries.
-    Ask(Query<'a>),
-    /// Gives a key a value, and prints the file.
-    Set(KeyRef<'a>, &'a str),
-    /// Takes a key's last entry out of the last section that has one, and prints the file.
-    Unset(KeyRef<'a>),
-    /// Prints the file.
-    Print,
-    /// Prints the file, laid out.
-    Fmt,
-}
 
 /// Runs the program with the words after its name, standard input, standard output, standard error, and the files and
 /// variables of its runtime, and returns its exit status: 0 done, 1 missing, 2 usage, 3 refused, 4 input or output, 5 memory.
@@ -84,11 +45,6 @@ pub fn run<
     }
 }
 
-/// Whether these are words of a call without options. Reads no file.
-pub fn understands(args: &[&str]) -> bool {
-    task_of(args).is_ok()
-}
-
 /// Does what the words ask for.
 fn execute<R: Read, W: Write, F: Files, V: Env>(
     alloc: Global,
@@ -98,9 +54,15 @@ fn execute<R: Read, W: Write, F: Files, V: Env>(
     files: &mut F,
     env: &mut V,
 ) -> Result<(), Fault> {
-    match task_of(args)? {
+    let Some(task) = task_of(args) else {
+        return Err(Fault::Usage);
+    };
+    match task {
         Task::OnInput(command) => work_on(alloc, command, read_all(alloc, input)?, out),
-        Task::Load(path, key) => { Ok(put(&get(&load_path(alloc, path, files, env)?, key)?, out)?) }
+        Task::Load(path, key) => {
+            let file = load_path(alloc, path, files, env)?;
+            put_value(&file, key, out)
+        }
     }
 }
 
@@ -120,52 +82,6 @@ fn work_on<W: Write>(
     }
 }
 
-/// The task that the words are.
-fn task_of<'a>(args: &[&'a str]) -> Result<Task<'a>, Fault> {
-    match args {
-        [word, path, command, key] if *word == "load" && *command == "get" => {
-            Ok(Task::Load(path, key_of(key)?))
-        }
-        _ => Ok(Task::OnInput(command_of(args)?)),
-    }
-}
-
-/// The command that the words are. A key without a dot is no key.
-fn command_of<'a>(args: &[&'a str]) -> Result<Command<'a>, Fault> {
-    match args {
-        [word, key] => key_command(word, key),
-        [word, key, value] if *word == "set" => Ok(Command::Set(key_of(key)?, value)),
-        [word] if *word == "list" => Ok(Command::Ask(Query::List)),
-        [word] if *word == "print" => Ok(Command::Print),
-        [word] if *word == "fmt" => Ok(Command::Fmt),
-        _ => Err(Fault::Usage),
-    }
-}
-
-/// The command that a word and a key are.
-fn key_command<'a>(word: &str, key: &'a str) -> Result<Command<'a>, Fault> {
-    match word {
-        "get" => Ok(Command::Ask(Query::Get(key_of(key)?))),
-        "all" => Ok(Command::Ask(Query::All(key_of(key)?))),
-        "bool" => Ok(Command::Ask(Query::Bool(key_of(key)?))),
-        "int" => Ok(Command::Ask(Query::Int(key_of(key)?))),
-        "unset" => Ok(Command::Unset(key_of(key)?)),
-        _ => Err(Fault::Usage),
-    }
-}
-
-/// The key that a word is.
-///
-/// # Errors
-///
-/// [`Fault::Usage`] if the word has no dot.
-fn key_of(word: &str) -> Result<KeyRef<'_>, Fault> {
-    match KeyRef::parse_unvalidated(word.as_bytes()) {
-        Some(key) => Ok(key),
-        None => Err(Fault::Usage),
-    }
-}
-
 /// Standard input as a file.
 fn load(alloc: Global, text: Vec<u8>) -> Result<File, Fault> {
     Ok(File::try_from_bytes_owned(alloc, text)?)
@@ -174,23 +90,6 @@ fn load(alloc: Global, text: Vec<u8>) -> Result<File, Fault> {
 /// Standard input as a file to look things up in, without its blanks, line ends and comments.
 fn load_entries(alloc: Global, text: Vec<u8>) -> Result<File, Fault> {
     Ok(File::try_from_bytes_owned_lossy(alloc, text)?)
-}
-
-/// The home folder that the variables tell, if there is one: `HOME`, which is asked once.
-///
-/// # Errors
-///
-/// Out of memory.
-pub fn home_of<V: Env>(env: &mut V) -> Result<Option<String>, NoMemory> {
-    match env.var("HOME")? {
-        EnvVar::Text(home) => Ok(Some(home)),
-        EnvVar::Unset | EnvVar::IllFormed => Ok(None),
-    }
-}
-
-/// Where the file at a path comes from: the caller, who trusts it.
-fn meta_of(alloc: Global, path: &str) -> Result<Metadata, NoMemory> {
-    Ok(Metadata::api().at(String::from_str(alloc, path)?))
 }
 
 /// The file at a path to look things up in, with what it includes. There is no repository for conditions to be about.
@@ -255,33 +154,6 @@ fn integer(alloc: Global, file: &File, key: KeyRef<'_>) -> Result<Vec<u8>, Fault
     }
 }
 
-/// The entries of all sections in file order, each on a line. Those before the first section are left out.
-fn list(alloc: Global, file: &File) -> Result<Vec<u8>, Fault> {
-    let mut lines = Vec::new(alloc);
-    for section in file.sections() {
-        add_entries(&mut lines, &section)?;
-    }
-    Ok(lines)
-}
-
-/// Adds the entries of a section, each on a line.
-fn add_entries(lines: &mut Vec<u8>, section: &SectionRef<'_>) -> Result<(), NoMemory> {
-    let header = section.header();
-    for entry in section.body() {
-        let (name, value) = entry?;
-        add_names(
-            lines,
-            header.name(),
-            header.subsection_name(),
-            name.as_bytes(),
-        )?;
-        lines.push(b'=')?;
-        lines.extend_from_slice(&value)?;
-        lines.push(b'\n')?;
-    }
-    Ok(())
-}
-
 /// Gives a key a value.
 fn set(file: &mut File, key: KeyRef<'_>, value: &str) -> Result<(), Fault> {
     let _ = file.set_raw_value(key, value.as_bytes())?;
@@ -312,14 +184,9 @@ fn remove(file: &mut File, id: SectionId, key: KeyRef<'_>) -> Result<(), Fault> 
     }
 }
 
-/// The text, laid out by the default options.
-fn laid_out(alloc: Global, text: &[u8]) -> Result<BString, Fault> {
-    Ok(normalize(alloc, text, Options::default())?)
-}
-
 /// Writes the text, laid out by the default options.
 fn put_laid_out<W: Write>(alloc: Global, text: &[u8], out: &mut W) -> Result<(), Fault> {
-    let text = laid_out(alloc, text)?;
+    let text = normalize(alloc, text, Options::default())?;
     Ok(put(&text, out)?)
 }
 
@@ -380,7 +247,7 @@ fn put_integer<W: Write>(
 
 /// Writes the entries of all sections, each on a line.
 fn put_list<W: Write>(alloc: Global, file: &File, out: &mut W) -> Result<(), Fault> {
-    let lines = list(alloc, file)?;
+    let lines = list(alloc, file.sections())?;
     Ok(put(&lines, out)?)
 }
 

@@ -1,18 +1,18 @@
 //! All that git reads, from where the program is called.
 
-use crate::including::{here_from, options_of, trouble_of};
 use crate::loads::Loads;
 use crate::paths::has_worktree_file;
-use crate::placing::{of_paths, placed};
-use gitconf_disk::Process;
+use crate::placing::placed;
 use gix_config::file::Metadata;
 use gix_config::file::init::{self, from_paths};
-use gix_config::host::{Places, StorageLocation};
 use gix_config::refusals::Refusal;
-use gix_config::source::{Source, Trust};
+use gix_config::source::Source;
 use gix_config::{File, NoMemory};
 use gixcfg_answers::trouble::Trouble;
 use gixcfg_files::{Repository, find_repository};
+use gixcfg_sources::conditions::{here_from, options_of};
+use gixcfg_sources::places::{add, metas_of_user, paths_of};
+use gixcfg_sources::refusals::{of_paths, trouble_of};
 use gixcfg_texts::outside::Outside;
 use std::alloc::{AllocGlobal, Global};
 use std::rc::Rc;
@@ -35,36 +35,6 @@ pub fn effective<R: Files + Env + Loads + AllocGlobal>(
     load(rt, metas, outside, options_of(home, &here, follows))
 }
 
-/// The places of configuration on this system, with this home folder.
-fn places_of(alloc: Global, home: Option<&str>) -> Result<Places, NoMemory> {
-    let home = match home {
-        Some(home) => Some(String::from_str(alloc, home)?),
-        None => None,
-    };
-    Ok(Places {
-        installation_config: None,
-        system_prefix: String::from_str(alloc, "/")?,
-        home,
-        homes: None,
-    })
-}
-
-/// Where the files of the system and of the user are.
-fn metas_of_user<R: Env + AllocGlobal>(
-    rt: &R,
-    home: Option<&str>,
-) -> Result<Vec<Metadata>, NoMemory> {
-    let alloc = rt.alloc();
-    let (mut env, places) = (Process::new(rt), places_of(alloc, home)?);
-    let mut metas = Vec::new(alloc);
-    for source in [Source::System, Source::Git, Source::User] {
-        if let Some(path) = source.storage_location(alloc, &mut env, &places)? {
-            add(&mut metas, path, source)?;
-        }
-    }
-    Ok(metas)
-}
-
 /// Where all files that git reads are.
 fn metas_of<R: Files + Env + AllocGlobal>(
     rt: &R,
@@ -82,16 +52,6 @@ fn metas_of<R: Files + Env + AllocGlobal>(
     Ok(metas)
 }
 
-/// Adds where a file comes from, which is trusted.
-fn add(metas: &mut Vec<Metadata>, path: String, source: Source) -> Result<(), NoMemory> {
-    Ok(metas.push(Metadata {
-        path: Some(path),
-        source,
-        level: 0,
-        trust: Trust::Full,
-    })?)
-}
-
 /// The files of these places, and the variables, as the options have it.
 fn load<R: Files + Loads + AllocGlobal>(
     rt: &R,
@@ -99,28 +59,36 @@ fn load<R: Files + Loads + AllocGlobal>(
     outside: Outside<'_>,
     options: init::Options<'_>,
 ) -> Result<File, Trouble> {
-    let alloc = rt.alloc();
-    let paths = paths_of(alloc, &metas)?;
-    let variables = match rt.from_variables(options) {
-        Ok(file) => file,
-        Err(refusal) => return Err(trouble_of(alloc, refusal.number(), &refusal)),
-    };
-    match rt.from_paths(metas, options) {
-        Ok(Some(file)) => joined(file, variables),
-        Ok(None) => Ok(or_empty(alloc, variables)?),
-        Err(refusal) => Err(refused(rt, paths, &refusal, outside)),
+    let variables = variables_of(rt, options)?;
+    match files_of(rt, metas, outside, options)? {
+        Some(file) => joined(file, variables),
+        None => Ok(or_empty(rt.alloc(), variables)?),
     }
 }
 
-/// The paths of files.
-fn paths_of(alloc: Global, metas: &[Metadata]) -> Result<Vec<String>, NoMemory> {
-    let mut paths = Vec::new(alloc);
-    for meta in metas {
-        if let Some(path) = &meta.path {
-            paths.push(String::from_str(alloc, path.as_str())?)?;
-        }
+/// The file of the variables, if they have entries.
+fn variables_of<R: Loads + AllocGlobal>(
+    rt: &R,
+    options: init::Options<'_>,
+) -> Result<Option<File>, Trouble> {
+    match rt.from_variables(options) {
+        Ok(file) => Ok(file),
+        Err(refusal) => Err(trouble_of(rt.alloc(), refusal.number(), &refusal)),
     }
-    Ok(paths)
+}
+
+/// The files of these places as one, if there are some.
+fn files_of<R: Files + Loads + AllocGlobal>(
+    rt: &R,
+    metas: Vec<Metadata>,
+    outside: Outside<'_>,
+    options: init::Options<'_>,
+) -> Result<Option<File>, Trouble> {
+    let paths = paths_of(rt.alloc(), &metas)?;
+    match rt.from_paths(metas, options) {
+        Ok(file) => Ok(file),
+        Err(refusal) => Err(refused(rt, paths, &refusal, outside)),
+    }
 }
 
 /// The trouble that a refusal of a load of these files is.

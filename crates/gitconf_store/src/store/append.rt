@@ -48,11 +48,12 @@ fn put_line_end(buffer: &mut Vec<u8>, line_end: &[u8]) -> Result<Option<Span>, s
     }
 }
 
-/// Adds a line ending and other bytes to a buffer, and copies to copies; and returns the span of the line ending.
+/// Adds a line ending and other bytes to a buffer, and copies to copies; and returns the span of the line ending, and how many copies
+/// there were.
 ///
 /// # Errors
 ///
-/// Those of [`append`]. The buffer may have grown.
+/// Those of [`append`], and of [`copies_before`]. The buffer may have grown.
 #[tactic(auto, using(gitconf_lines::proofs::Buffers::extending))]
 fn put_bytes(
     buffer: &mut Vec<u8>,
@@ -60,18 +61,21 @@ fn put_bytes(
     line_end: &[u8],
     other: &[u8],
     other_copies: &[u8],
-) -> Result<Option<Span>, span::Error>
+) -> Result<(Option<Span>, u32), span::Error>
     requires room { length buffer.old.items < 2 ^ 32 }
     ensures ok { OnOk result (buffer.new.items ≡ (buffer.old.items ++ line_end.now) ++ other.now) }
-    ensures line { IfOk result (IsLineAt (buffer.old.items ++ line_end.now) line_end.now) }
+    ensures line { IfOk result (λ p. IsLineAt (buffer.old.items ++ line_end.now) line_end.now p.0) }
+    ensures count { IfOk result (λ p. p.1 ≡ length copies.old.items) }
+    ensures fits { IfOk result (λ p. length other_copies.now ≤ 2 ^ 32 - 1 - p.1) }
     ensures grows { Grows result (length line_end.now + length other.now) buffer.old.items buffer.new.items }
     ensures copies { OnOk result (copies.new.items ≡ copies.old.items ++ other_copies.now) }
     ensures err { OnErr result (copies.new.items ≡ copies.old.items) }
 {
+    let copies_by = copies_before(copies, other_copies)?;
     let line = put_line_end(buffer, line_end)?;
     append(buffer, other)?;
     copies.extend_from_slice(other_copies)?;
-    Ok(line)
+    Ok((line, copies_by))
 }
 
 impl Store {
@@ -145,21 +149,20 @@ impl Store {
     {
         let line_end = self.check_put(at, line_end, &other)?;
         let by = (self.buffer.len() + line_end.len()) as u32;
-        let copies_by = copies_before(&self.copies, &other.copies)?;
+        let (line, copies_by) = put_bytes(
+            &mut self.buffer,
+            &mut self.copies,
+            line_end,
+            &other.buffer,
+            &other.copies,
+        )?;
         let Store {
-            buffer,
-            copies,
+            buffer: _,
+            copies: _,
             mut front,
             meta: _,
             mut sections,
         } = other;
-        let line = put_bytes(
-            &mut self.buffer,
-            &mut self.copies,
-            line_end,
-            &buffer,
-            &copies,
-        )?;
         move_front(&mut front, by);
         move_sections(&mut sections, by, copies_by);
         put_behind(

@@ -7,7 +7,7 @@ ghost use Rattle.gitconf_loaders.specs.Causes.{IsFileCause};
 ghost use Rattle.gitconf_refusals.specs.Errors.{git_number, paths_number};
 ghost use Rattle.gitconf_loaders.specs.Paths.{CountsLoad, left_by, numbered};
 ghost use Rattle.gix_config.specs.Repository as spec;
-ghost use Rattle.gix_config.specs.Repository.{AreOverridesBehind, IsExpandedBehind, IsGitCause, IsIncludeCause, IsJoined, IsOverridingCause, IsReadCause, IsReadOf, IsRepository, IsRepositoryCause, IsWorktree, IsWorktreeBehind, parts_of, repository_rules, worktree_path};
+ghost use Rattle.gix_config.specs.Repository.{AreOverridesBehind, IsExpandedBehind, IsGitCause, IsIncludeCause, IsJoined, IsOverridingCause, IsOwnBehind, IsReadCause, IsReadOf, IsRepository, IsRepositoryCause, IsRestBehind, IsWorktree, IsWorktreeBehind, parts_of, repository_rules, worktree_path};
 
 use crate::file::File;
 use crate::file::init::environment::{expanded, overrides};
@@ -169,11 +169,59 @@ fn put_overrides<F: Files, E: Env>(
     Ok(target.append(file)?)
 }
 
-/// Appends the repository's files to those of the machine and of the user, and the overrides to all.
+/// Appends the repository's own files to another one.
+///
+/// # Errors
+///
+/// Those of [`put_behind`].
+fn put_own<F: Files>(
+    alloc: Global,
+    files: &mut F,
+    options: &Options<'_>,
+    target: &mut File,
+    local: File,
+    worktree: Option<File>,
+) -> Result<(), Error>
+    ensures put { IsOwnBehind (asks_of options.now (F.table files.old)) local worktree target.old (left_by git_number result target.new) }
+    ensures cause { IfErr result (IsIncludeCause options.now (F.table files.old)) }
+    ensures table { F.table files.new ≡ F.table files.old }
+    ensures counted { CountsLoad (numbered git_number result) (F.failures files.old) (F.failures files.new) }
+{
+    put_behind(alloc, files, options, target, local)?;
+    put_worktree(alloc, files, options, target, worktree)
+}
+
+/// Appends the repository's own files to another one, and the overrides to all.
 ///
 /// # Errors
 ///
 /// Those of [`put_behind`], and of the overrides.
+fn put_rest<F: Files, E: Env>(
+    alloc: Global,
+    files: &mut F,
+    env: &mut E,
+    places: &Places,
+    options: &Options<'_>,
+    target: &mut File,
+    local: File,
+    worktree: Option<File>,
+) -> Result<(), Error>
+    ensures put { IsRestBehind (E.variables env.old) places.now (F.table files.old) (asks_of options.now (F.table files.old)) local worktree target.old
+        (left_by git_number result target.new) }
+    ensures cause { IfErr result (IsGitCause (E.variables env.old) options.now places.now (F.table files.old)) }
+    ensures table { F.table files.new ≡ F.table files.old }
+    ensures counted { CountsLoad (numbered git_number result) (F.failures files.old) (F.failures files.new) }
+    ensures stays { E.variables env.new ≡ E.variables env.old }
+{
+    put_own(alloc, files, options, target, local, worktree)?;
+    put_overrides(alloc, files, env, places, target)
+}
+
+/// Appends the repository's files to those of the machine and of the user, and the overrides to all.
+///
+/// # Errors
+///
+/// Those of [`put_rest`].
 fn joined<F: Files, E: Env>(
     alloc: Global,
     files: &mut F,
@@ -195,9 +243,9 @@ fn joined<F: Files, E: Env>(
         globals,
     } = parts;
     let mut all = expanded(alloc, files, options, globals)?;
-    put_behind(alloc, files, options, &mut all, local)?;
-    put_worktree(alloc, files, options, &mut all, worktree)?;
-    put_overrides(alloc, files, env, places, &mut all)?;
+    put_rest(
+        alloc, files, env, places, options, &mut all, local, worktree,
+    )?;
     Ok(all)
 }
 

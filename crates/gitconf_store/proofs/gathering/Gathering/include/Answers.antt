@@ -10,30 +10,17 @@ use Rattle.gitconf_store.proofs.Files.Gathered.{included_fits, included_state, l
 use Rattle.gitconf_store.proofs.Files.GatheredLists.{run}
 use Rattle.gitconf_store.proofs.gathering.Gathering.include.Goals as goal
 
-pub returns-in_err-check_put-clause-too_large : goal.returns-in_err-check_put-clause-too_large
-returns-in_err-check_put-clause-too_large c =
+pub returns-in_err-make_ready-clause-too_large : goal.returns-in_err-make_ready-clause-too_large
+returns-in_err-make_ready-clause-too_large c =
     let g = c.self.inside in
     let fits = c.self.invariant in
     let other = c.into_store-other.result in
     let some = subst (λ (a : Gathered). 0 < length a.done.sections) (sym c.self.view_is) c.requires in
-    let room = room_is g.count g.at g.ahead g.last g.runs.items g.line_end g.told g.store fits other some (IsErrOf c.check_put.result 3) (whole c.args.other.done c.args.other.rest) c.args.self.now
-    c.into_store-other.ensures c.self.view_is c.check_put.ensures.too_large in
-    let to : IsErrOf c.from_residual.result 3 → IsErrOf c.check_put.result 3 = search rules in
-    let from : IsErrOf c.check_put.result 3 → IsErrOf c.from_residual.result 3 = search rules in
+    let room = room_is g.count g.at g.ahead g.last g.runs.items g.line_end g.told g.store fits other some (IsErrOf c.make_ready.result 3) (whole c.args.other.done c.args.other.rest) c.args.self.now
+    c.into_store-other.ensures c.self.view_is c.make_ready.ensures.too_large in
+    let to : IsErrOf c.from_residual.result 3 → IsErrOf c.make_ready.result 3 = search rules in
+    let from : IsErrOf c.make_ready.result 3 → IsErrOf c.from_residual.result 3 = search rules in
     (λ refused. room.0 (to refused), λ none. from (room.1 none))
-
-pub returns-in_err-reserve-clause-too_large : goal.returns-in_err-reserve-clause-too_large
-returns-in_err-reserve-clause-too_large c =
-    let g = c.self.inside in
-    let fits = c.self.invariant in
-    let other = c.into_store-other.result in
-    let some = subst (λ (a : Gathered). 0 < length a.done.sections) (sym c.self.view_is) c.requires in
-    let room = room_is g.count g.at g.ahead g.last g.runs.items g.line_end g.told g.store fits other some (IsErrOf c.check_put.result 3) (whole c.args.other.done c.args.other.rest) c.args.self.now
-    c.into_store-other.ensures c.self.view_is c.check_put.ensures.too_large in
-    let memory : IfErr c.from_residual-in_err-reserve.result (λ e. e ≡ 27) = search rules in (
-      λ refused. absurd (not_memory c.from_residual-in_err-reserve.result memory refused),
-      λ none. absurd (not_refused c.check_put.result c.in_ok-check_put.field-0 c.in_ok-check_put.was (room.1 none)),
-    )
 
 pub returns-in_err-include-clause-too_large : goal.returns-in_err-include-clause-too_large
 returns-in_err-include-clause-too_large c =
@@ -41,11 +28,11 @@ returns-in_err-include-clause-too_large c =
     let fits = c.self.invariant in
     let other = c.into_store-other.result in
     let some = subst (λ (a : Gathered). 0 < length a.done.sections) (sym c.self.view_is) c.requires in
-    let room = room_is g.count g.at g.ahead g.last g.runs.items g.line_end g.told g.store fits other some (IsErrOf c.check_put.result 3) (whole c.args.other.done c.args.other.rest) c.args.self.now
-    c.into_store-other.ensures c.self.view_is c.check_put.ensures.too_large in
+    let room = room_is g.count g.at g.ahead g.last g.runs.items g.line_end g.told g.store fits other some (IsErrOf c.make_ready.result 3) (whole c.args.other.done c.args.other.rest) c.args.self.now
+    c.into_store-other.ensures c.self.view_is c.make_ready.ensures.too_large in
     let same : IsErrOf c.from_residual-in_err-include.result 3 → IsErrOf c.include.result 3 = search rules in (
-      λ refused. room.0 (c.check_put.ensures.too_large.1 (c.include.ensures.too_large.0 (same refused))),
-      λ none. absurd (not_refused c.check_put.result c.in_ok-check_put.field-0 c.in_ok-check_put.was (room.1 none)),
+      λ refused. room.0 (c.make_ready.ensures.too_large.1 (c.include.ensures.too_large.0 (same refused))),
+      λ none. absurd (not_refused c.make_ready.result c.in_ok-make_ready.field-0 c.in_ok-make_ready.was (room.1 none)),
     )
 
 pub last_place-self-inside-requires : goal.last_place-self-inside-requires
@@ -66,7 +53,7 @@ invariant_of-self-2 c =
     let some = subst (λ (a : Gathered). 0 < length a.done.sections) (sym c.self.view_is) c.requires in
     let put : c.include.new.self ≡ included g.last (bytes_of_line_end g.line_end) other g.store = c.in_ok-include.ensures.ok in
     let runs : c.push_reserved.new.self.items ≡ g.runs.items ++ run g.ahead (length other.sections) ∷ [] =
-    c.push_reserved.ensures.items ∙ (λ i. c.reserve.ensures.items i ++ run g.ahead (c.section_count-count.ensures i) ∷ []) in
+    c.push_reserved.ensures.items ∙ (λ i. c.make_ready.ensures.items i ++ run g.ahead (c.section_count-count.ensures i) ∷ []) in
     let place : c.last_place-self-inside.result ≡ (if length other.sections == 0 then g.last else length (included g.last (bytes_of_line_end g.line_end) other g.store).sections - 1) =
     c.last_place-self-inside.ensures
     ∙ (λ i. if c.section_count-count.ensures i == 0 then g.last else (c.section_count.ensures ∙ ap (λ (s : State). length s.sections) put) i - 1) in
@@ -83,7 +70,7 @@ returns-clause-ok c =
     let some = subst (λ (a : Gathered). 0 < length a.done.sections) (sym c.self.view_is) c.requires in
     let put : c.include.new.self ≡ included g.last (bytes_of_line_end g.line_end) other g.store = c.in_ok-include.ensures.ok in
     let runs : c.push_reserved.new.self.items ≡ g.runs.items ++ run g.ahead (length other.sections) ∷ [] =
-    c.push_reserved.ensures.items ∙ (λ i. c.reserve.ensures.items i ++ run g.ahead (c.section_count-count.ensures i) ∷ []) in
+    c.push_reserved.ensures.items ∙ (λ i. c.make_ready.ensures.items i ++ run g.ahead (c.section_count-count.ensures i) ∷ []) in
     (λ i. gathered g.count g.at (runs i) (put i))
     ∙ included_state g.count g.at g.ahead g.last g.runs.items g.line_end g.told g.store fits other some
     ∙ (λ i. let all : Gathered = c.self.view_is i in record { done = spliced (c.into_store-other.ensures i) all.rest all.done; rest = all.rest })
@@ -94,6 +81,6 @@ returns-clause-too_large c =
     let fits = c.self.invariant in
     let other = c.into_store-other.result in
     let some = subst (λ (a : Gathered). 0 < length a.done.sections) (sym c.self.view_is) c.requires in
-    let room = room_is g.count g.at g.ahead g.last g.runs.items g.line_end g.told g.store fits other some (IsErrOf c.check_put.result 3) (whole c.args.other.done c.args.other.rest) c.args.self.now
-    c.into_store-other.ensures c.self.view_is c.check_put.ensures.too_large in
-    (λ refused. absurd (cc), λ none. absurd (not_refused c.check_put.result c.in_ok-check_put.field-0 c.in_ok-check_put.was (room.1 none)))
+    let room = room_is g.count g.at g.ahead g.last g.runs.items g.line_end g.told g.store fits other some (IsErrOf c.make_ready.result 3) (whole c.args.other.done c.args.other.rest) c.args.self.now
+    c.into_store-other.ensures c.self.view_is c.make_ready.ensures.too_large in
+    (λ refused. absurd (cc), λ none. absurd (not_refused c.make_ready.result c.in_ok-make_ready.field-0 c.in_ok-make_ready.was (room.1 none)))

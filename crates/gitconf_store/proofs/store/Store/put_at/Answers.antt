@@ -45,8 +45,8 @@ move_sections-requires c =
     let is : c.put_bytes.new.buffer.items ≡ (b ++ bytes) ++ theirs = search rules in
     let by : c.len.result ≡ length b = search rules in
     let room = c.put_bytes.ensures.grows.room in
-    let copied : length c.other.inside.copies.items ≤ 4294967295 - c.in_ok-copies_by.copies_by = search rules in
-    movable theirs c.other.inside.copies.items (c.len.result + length bytes) c.in_ok-copies_by.copies_by
+    let copied : length c.other.inside.copies.items ≤ 4294967295 - c.in_ok-line.copies_by = search rules in
+    movable theirs c.other.inside.copies.items (c.len.result + length bytes) c.in_ok-line.copies_by
     (let l = ap length is in let k = length-append (b ++ bytes) theirs in let m = length-append b bytes in omega (arith, l, k, m, by, room)) copied
     c.other.inside.sections.entries c.other.invariant.sections_within
 
@@ -63,7 +63,7 @@ invariant_of-self-2 c =
     let is : new ≡ (b ++ bytes) ++ theirs = search rules in
     let are : more ≡ copies ++ there.copies.items = search rules in
     let by : c.len.result + length bytes ≡ length (b ++ bytes) = (let l : c.len.result ≡ length b = search rules in let m = length-append b bytes in omega (arith, l, m)) in
-    let copies_by : c.in_ok-copies_by.copies_by ≡ length copies = search rules in
+    let copies_by : c.in_ok-line.copies_by ≡ length copies = search rules in
     let told = c.in_ok-line_end.ensures.bytes ∙ (λ i. line_at c.args.at (bytes_of_line_end c.args.line_end) (sym c.other.view_is i) (sym c.self.view_is i)) in
     let front_moved = subst (λ n. AreItemsMoved n there.front.items c.move_front.new.front.items) by c.move_front.ensures in
     let moved : AreSectionsMoved (length (b ++ bytes)) (length copies) there.sections c.move_sections.new.sections = subst (λ n. AreSectionsMoved n (length copies) there.sections c.move_sections.new.sections) by
@@ -88,7 +88,7 @@ returns-clause-ok c =
     let is : new ≡ (b ++ bytes) ++ theirs = search rules in
     let are : more ≡ copies ++ there.copies.items = search rules in
     let by : c.len.result + length bytes ≡ length (b ++ bytes) = (let l : c.len.result ≡ length b = search rules in let m = length-append b bytes in omega (arith, l, m)) in
-    let copies_by : c.in_ok-copies_by.copies_by ≡ length copies = search rules in
+    let copies_by : c.in_ok-line.copies_by ≡ length copies = search rules in
     let told = c.in_ok-line_end.ensures.bytes ∙ (λ i. line_at c.args.at (bytes_of_line_end c.args.line_end) (sym c.other.view_is i) (sym c.self.view_is i)) in
     let front_moved = subst (λ n. AreItemsMoved n there.front.items c.move_front.new.front.items) by c.move_front.ensures in
     let moved : AreSectionsMoved (length (b ++ bytes)) (length copies) there.sections c.move_sections.new.sections = subst (λ n. AreSectionsMoved n (length copies) there.sections c.move_sections.new.sections) by
@@ -128,5 +128,5 @@ returns-clause-too_large c =
     λ passed. not_refused c.check_put.result c.in_ok-line_end.line_end c.in_ok-line_end.was (c.check_put.ensures.too_large.1 (inl passed)) in
     let no_numbers : (no_number < c.args.self.now.next + length c.args.other.sections) → ⊥ =
     λ passed. not_refused c.check_put.result c.in_ok-line_end.line_end c.in_ok-line_end.was (c.check_put.ensures.too_large.1 (inr passed)) in
-    let moved = moved_count (c.len.result + length c.in_ok-line_end.line_end.now) c.in_ok-copies_by.copies_by c.other.inside.sections.entries c.move_sections.new.sections.entries c.move_sections.ensures.entries in
+    let moved = moved_count (c.len.result + length c.in_ok-line_end.line_end.now) c.in_ok-line.copies_by c.other.inside.sections.entries c.move_sections.new.sections.entries c.move_sections.ensures.entries in
     neither c.put_behind.result (λ fault. no_numbers (let passed = c.put_behind.ensures.numbers fault in omega (arith, passed, next, count, moved))) no_room no_numbers
