@@ -1,10 +1,12 @@
 """What the tools that call the functions of the kit's `rt` share: files of Python that are no modules by their names, and the order
 in which crates are proved side by side."""
+import ctypes
 import importlib.machinery
 import importlib.util
 import os
 import queue
 import shutil
+import struct
 import sys
 import threading
 
@@ -25,6 +27,11 @@ BEYOND = 1
 # A task is the nicer the fewer lines wait for it, and as nice as can be if that is less than a third of the most.
 NICEST = 19
 
+# How long a process runs before another one has its turn, in nanoseconds, where Linux has that (6.12). By its own turns of three
+# milliseconds, eight provers on four processors take a quarter more work than four, since they empty each other's caches.
+TURN = 100_000_000
+SCHED_SETATTR = {"x86_64": 314, "aarch64": 274}
+
 # Proofs and their tests come before must-fail edits, which fill what they leave free.
 FILLING = ("edits", "seed")
 
@@ -41,6 +48,16 @@ def module(name, path):
 def rt():
     """The kit's command `rt` as a module."""
     return module("rt", os.path.join(os.path.dirname(os.path.realpath(shutil.which("rt"))), "rt"))
+
+
+def settle(nice):
+    """Gives the calling thread, and the processes that it begins, a niceness and long turns."""
+    os.setpriority(os.PRIO_PROCESS, threading.get_native_id(), nice)
+    number = SCHED_SETATTR.get(os.uname().machine)
+    if number:
+        # size, policy, flags, nice, priority, runtime, deadline, period; what it answers is all the same
+        attributes = struct.pack("=IIQiIQQQ", 48, os.SCHED_OTHER, 0, nice, 0, TURN, 0, 0)
+        ctypes.CDLL(None).syscall(number, 0, attributes, 0)
 
 
 class Order:
@@ -89,7 +106,7 @@ class Order:
         def work():
             result, error = None, None
             try:
-                os.setpriority(os.PRIO_PROCESS, threading.get_native_id(), os.nice(0) + nicer)
+                settle(os.nice(0) + nicer)
                 result = self.tasks[key][-1](self.given, jobs)
             except BaseException as met:
                 error = met
