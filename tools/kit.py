@@ -10,8 +10,8 @@ import struct
 import sys
 import threading
 
-# How many processes the crate has that most wait for; and where no more tasks are ready than there are processors, one that half as many
-# wait for. With more than one a check takes less time and more work: a quarter more by two, more than a third by four.
+# How many processes the crate has that most wait for, unless it is alone; and where no more tasks are ready than there are processors, one
+# that half as many wait for. With more than one a check takes less time and more work: a quarter more by two, more than a third by four.
 MOST_JOBS = 3
 MORE_JOBS = 2
 
@@ -82,22 +82,22 @@ class Order:
         proofs = [key for key in [*self.urgent, *self.others, *ready] if key[1] == "proof"]
         most = max((self.above[key] for key in proofs), default=0)
         urgent = [key for key in ready if key in proofs and self.above[key] >= URGENT * most]
-        is_little = len(ready) + len(self.urgent) + len(self.others) <= self.processors
+        count = len(ready) + len(self.urgent) + len(self.others)
         for key in urgent[: self.processors - len(self.urgent)]:
             self.urgent.add(key)
-            self.start(key, self.jobs(key, most, is_little), most)
+            self.start(key, self.jobs(key, most, count), most)
         room = self.processors - 1 if self.urgent else self.processors + BEYOND
         for key in (it for it in ready if it not in urgent):
             # (proofs that least wait for hold no place of one that more wait for, and begin early since they are the nicest)
             if len(self.others) < (2 * room if key in proofs else room):
                 self.others.add(key)
-                self.start(key, self.jobs(key, most, is_little), most)
+                self.start(key, self.jobs(key, most, count), most)
 
-    def jobs(self, key, most, is_little):
-        """How many processes a task gets."""
+    def jobs(self, key, most, count):
+        """How many processes a task gets, where that many are ready or at work."""
         if self.above[key] == most:
-            return min(MOST_JOBS, self.processors)
-        return MORE_JOBS if is_little and 2 * self.above[key] >= most else 1
+            return self.processors if count == 1 else min(MOST_JOBS, self.processors)
+        return MORE_JOBS if count <= self.processors and 2 * self.above[key] >= most else 1
 
     def start(self, key, jobs, most):
         """Runs a task in a thread of its own, whose processes are the nicer the fewer lines wait for it."""

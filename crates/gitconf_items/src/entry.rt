@@ -115,9 +115,16 @@ pub(crate) enum Form {
 }
 
 /// An entry. Contracts see its parts.
-#[derive(Drop)]
 pub struct Entry {
     pub(crate) form: Form,
+}
+
+impl Drop for Entry {
+    // By hand, so that each way out of a function is one call: a derived one is proved there part by part.
+    fn drop(self) {
+        let Entry { form } = self;
+        drop(form);
+    }
 }
 
 impl Model for Entry {
@@ -162,6 +169,15 @@ impl Entry {
             Some(form) => Some(Entry { form }),
             None => None,
         }
+    }
+
+    /// How its parts are held.
+    pub(crate) fn into_form(self) -> Form
+        ensures parts { parts_in result ≡ self }
+        ensures fits { FormFits result }
+    {
+        let Entry { form } = self;
+        form
     }
 
     /// Its value name.

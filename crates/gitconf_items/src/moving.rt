@@ -165,7 +165,7 @@ fn moved_entry(entry: Entry, by: u32) -> Entry
     ensures { IsMoved entry_of EntryFits by entry result }
 {
     Entry {
-        form: moved_form(entry.form, by),
+        form: moved_form(entry.into_form(), by),
     }
 }
 

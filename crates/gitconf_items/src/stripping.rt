@@ -84,7 +84,7 @@ fn stripped_entry(entry: Entry) -> Entry
     ensures { IsStripped entry_of stripped_entry EntryFits entry result }
 {
     Entry {
-        form: stripped_form(entry.form),
+        form: stripped_form(entry.into_form()),
     }
 }
 

@@ -28,13 +28,26 @@ use std::alloc::Global;
 use std::marker::Model;
 
 /// The events of a text, with the text.
-#[derive(Debug, Drop)]
+#[derive(Debug)]
 pub struct Events {
     buffer: Vec<u8>,
     /// The decoded subsections of the headers that need one.
     copies: Vec<u8>,
     events: EventVec,
     keeps_entries: bool,
+}
+
+impl Drop for Events {
+    // By hand, so that each way out of a function is one call: a derived one is proved there part by part.
+    fn drop(self) {
+        let Events {
+            buffer,
+            copies,
+            events,
+            keeps_entries: _,
+        } = self;
+        drop((buffer, copies, events));
+    }
 }
 
 impl Model for Events {
@@ -168,9 +181,16 @@ impl Events {
             self.events.as_slice(),
             filter,
         )?;
+        let Events {
+            buffer,
+            copies,
+            events: all,
+            keeps_entries: _,
+        } = self;
+        drop(all);
         Ok(Events {
-            buffer: self.buffer,
-            copies: self.copies,
+            buffer,
+            copies,
             events,
             keeps_entries,
         })
@@ -248,7 +268,14 @@ impl Events {
         ensures fits { IfOk result (λ r. length r.0.items < 2 ^ 32) }
     {
         let front = grouped(alloc, &self.buffer, self.events.as_slice(), sections)?;
-        Ok((self.buffer, front))
+        let Events {
+            buffer,
+            copies,
+            events,
+            keeps_entries: _,
+        } = self;
+        drop((copies, events));
+        Ok((buffer, front))
     }
 
     /// All events in the order of the text.

@@ -21,10 +21,17 @@ use std::marker::Model;
 
 /// The sections of a file, each under its number, in file order. The items of loaded sections are in one list; a section
 /// gets a list of its own when it is edited.
-#[derive(Drop)]
 pub struct SectionList {
     table: SectionTable<Row>,
     list: Vec<Item>,
+}
+
+impl Drop for SectionList {
+    // By hand, so that each way out of a function is one call: a derived one is proved there part by part.
+    fn drop(self) {
+        let SectionList { table, list } = self;
+        drop((table, list));
+    }
 }
 
 impl Model for SectionList {

@@ -1,7 +1,7 @@
 -- What an append of another file adds to the buffer of a file.
-use Rattle.std.specs.Prelude.{◌≡◌, ℕ, ◌+◌, List, [], ◌∷◌, ◌++◌, length, Option, Some, None, slice_get}
+use Rattle.std.specs.Prelude.{◌≡◌, ◌⊎◌, ℕ, ◌+◌, ◌<◌, ◌≤◌, ◌^◌, List, [], ◌∷◌, ◌++◌, length, Option, Some, None, slice_get}
 use Rattle.gitconf_text.specs.Part as parts
-use Rattle.gitconf_text.specs.Sections.{SectionEntry}
+use Rattle.gitconf_text.specs.Sections.{no_number, SectionEntry}
 use Rattle.gitconf_items.specs.declared.event.Span.{Span}
 use Rattle.gitconf_items.specs.declared.items.Item.{Item}
 use Rattle.gitconf_items.specs.ItemsFit.{AreItemsWithin}
@@ -42,6 +42,10 @@ line_at at line_end other state = line_bytes line_end (between line_end (items_a
 -- how many bytes are then added to the buffer: the other's, and that line ending's
 abbrev pub bytes_at : (at : ℕ) → (line_end : List ℕ) → (other state : State) → ℕ
 bytes_at at line_end other state = length (line_at at line_end other state) + other.used
+
+-- the buffer would be too long for these bytes, or fewer numbers are left than the other has sections
+abbrev pub HasNoRoomAt : (at : ℕ) → (line_end : List ℕ) → (other state : State) → Type 0
+HasNoRoomAt at line_end other state = (2 ^ 32 ≤ state.used + bytes_at at line_end other state) ⊎ (no_number < state.next + length other.sections)
 
 -- a section that holds these items too
 abbrev pub holding : (line_end : List ℕ) → (others : List parts.Item) → SectionState → SectionState

@@ -1,7 +1,6 @@
 //! A file under expansion.
-ghost use Rattle.std.specs.Prelude.{◌≡◌, ◌⊎◌, ◌↔◌, ◌+◌, ◌==◌, ◌-◌, ◌<◌, ◌≤◌, ◌^◌, ◌||◌, if◌then◌else◌, is_some, length, None, option_map, vec_capacity, vec_len, IfErr, IsErrOf, OnOk};
-ghost use Rattle.gitconf_store.specs.Appends.{bytes_at};
-ghost use Rattle.gitconf_text.specs.Sections.{no_number};
+ghost use Rattle.std.specs.Prelude.{◌≡◌, ◌⊎◌, ◌↔◌, ◌==◌, ◌-◌, ◌<◌, ◌≤◌, ◌||◌, if◌then◌else◌, is_some, length, None, option_map, vec_capacity, vec_len, IfErr, IsErrOf, OnOk};
+ghost use Rattle.gitconf_store.specs.Appends.{HasNoRoomAt};
 ghost use Rattle.gitconf_text.specs.LineEnds.{bytes_of_line_end};
 ghost use Rattle.gitconf_items.specs.Items.{tokens_in};
 ghost use Rattle.gitconf_views.specs.Views.{shown};
@@ -92,8 +91,7 @@ fn make_ready(
     requires { at ≤ length store.now.sections - 1 }
     ensures items { runs.new.items ≡ runs.old.items }
     ensures room { OnOk result (vec_len runs.new < vec_capacity runs.new) }
-    ensures too_large { IsErrOf result 3
-        ↔ ((2 ^ 32 ≤ store.now.used + bytes_at at (bytes_of_line_end line_end) other.now store.now) ⊎ (no_number < store.now.next + length other.now.sections)) }
+    ensures too_large { IsErrOf result 3 ↔ HasNoRoomAt at (bytes_of_line_end line_end) other.now store.now }
     ensures known { IfErr result (λ e. (e ≡ 3) ⊎ (e ≡ 27)) }
 {
     store.check_put(at, line_end, other)?;

@@ -87,7 +87,6 @@ impl<T: Clone> Clone for Row<T> {
 
 /// The sections of a file, each with its number, in file order. There are at most 4294967295 of them at a time: one more
 /// counts as out of memory.
-#[derive(Drop)]
 pub struct SectionTable<T> {
     rows: Vec<Row<T>>,
     // The names and subsections of all rows, and of rows that were removed or renamed.
@@ -99,6 +98,22 @@ pub struct SectionTable<T> {
     full: WordIndex,
     seed: u64,
     next: usize,
+}
+
+impl<T: Drop> Drop for SectionTable<T> {
+    // By hand, so that each way out of a function is one call: a derived one is proved there part by part.
+    fn drop(self) {
+        let SectionTable {
+            rows,
+            letters,
+            places,
+            names,
+            full,
+            seed: _,
+            next: _,
+        } = self;
+        drop((rows, letters, places, names, full));
+    }
 }
 
 impl<T> Model for SectionTable<T> {
@@ -430,12 +445,17 @@ impl<T> SectionTable<T> {
         ensures err { OnErr result (self.new ≡ self.old) }
     {
         let count = other.rows.len();
-        if usize::MAX - self.next < count {
-            return Err(span::Error::too_large());
-        }
-        reserve_rows(&mut self.rows, &mut self.names, &mut self.full, count)?;
-        make_room(&mut self.letters, other.letters.len())?;
-        add_places(&mut self.places, self.next, count)?;
+        // One way out while the other table is whole.
+        reserve_all(
+            &mut self.rows,
+            &mut self.letters,
+            &mut self.places,
+            &mut self.names,
+            &mut self.full,
+            self.next,
+            count,
+            other.letters.len(),
+        )?;
         let SectionTable {
             rows: added,
             letters,
@@ -595,6 +615,40 @@ fn add_places(places: &mut Vec<u32>, next: usize, count: usize) -> Result<(), Al
     ensures err { OnErr result (places.new.items ≡ places.old.items) }
 {
     places.resize(next + count, 0)
+}
+
+// Makes room for `count` more rows with `bytes` bytes of names, and for the places of their numbers, those from `next` on.
+fn reserve_all<T: Drop>(
+    rows: &mut Vec<Row<T>>,
+    letters: &mut Vec<u8>,
+    places: &mut Vec<u32>,
+    names: &mut WordIndex,
+    full: &mut WordIndex,
+    next: usize,
+    count: usize,
+    bytes: usize,
+) -> Result<(), span::Error>
+    ensures items { (rows.new.items ≡ rows.old.items) × (letters.new.items ≡ letters.old.items) }
+    ensures words { (names.new.words ≡ names.old.words) × (full.new.words ≡ full.old.words) }
+    ensures used_up { IsErrOf result 3 ↔ (no_number < next + count) }
+    ensures memory { IfErr result (λ e. next + count ≤ no_number → e ≡ 27) }
+    ensures err { OnErr result (places.new.items ≡ places.old.items) }
+    ensures numbers { OnOk result (next + count ≤ no_number) }
+    ensures rows_room { OnOk result (vec_len rows.new + count ≤ vec_capacity rows.new) }
+    ensures indexes { OnOk result ((count ≤ names.new.room) × (count ≤ full.new.room)) }
+    ensures fits { OnOk result (length names.new.words + count ≤ no_place) }
+    ensures letters_room { OnOk result (vec_len letters.new + bytes ≤ vec_capacity letters.new) }
+    ensures letters_fit { OnOk result (vec_len letters.new + bytes < 2 ^ 32) }
+    ensures placed { OnOk result (vec_len places.new ≡ next + count) }
+    ensures kept { OnOk result (length places.old.items ≤ next + count → take (length places.old.items) places.new.items ≡ places.old.items) }
+{
+    if usize::MAX - next < count {
+        return Err(span::Error::too_large());
+    }
+    reserve_rows(rows, names, full, count)?;
+    make_room(letters, bytes)?;
+    add_places(places, next, count)?;
+    Ok(())
 }
 
 // Puts rows after the first `at` ones, under the numbers from `next` on, and their names after the other names; there is room.

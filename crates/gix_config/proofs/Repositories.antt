@@ -33,7 +33,7 @@ use Rattle.gitconf_loaders.specs.Globals.{IsGlobal, IsGlobalCause}
 use Rattle.gitconf_loaders.proofs.Counts.{later, renumbered}
 use Rattle.gitconf_loaders.proofs.Several.{IsAppendRefusal, open_room, shut_room}
 use Rattle.gix_config.specs.Environment.{IsOverridesCause}
-use Rattle.gix_config.specs.Repository.{has_worktree, IsExpanded, IsGitCause, IsIncludeCause, IsJoined, IsOverridingCause, IsPutBehind, IsReadCause, IsReadOf, IsRepository, IsRepositoryCause, IsRestBehind, is_set_true, IsWorktree, folder_of, local_path, parts_of, repository_rules, RepositoryFiles, worktree_path}
+use Rattle.gix_config.specs.Repository.{has_worktree, IsExpanded, IsGitCause, IsIncludeCause, IsJoined, IsOverridingCause, IsPutBehind, IsReadCause, IsReadOf, IsRepository, IsRepositoryCause, AreOwnAndOverridesBehind, is_set_true, IsWorktree, folder_of, local_path, parts_of, repository_rules, RepositoryFiles, worktree_path}
 use Rattle.gix_config.specs.declared.file.init.repository.Parts.{Parts}
 use Rattle.gix_config.specs.Typed.{boolean_or_refusal, IsTyped}
 use Rattle.gix_config.proofs.Entries.{expanded_number}
@@ -321,10 +321,10 @@ module _ (variables : Option (List ℕ → VariableReport)) (places : Places) (t
   first_not_expanded e (Ok made) is err = absurd err
   first_not_expanded e (Err r) is err = (Err (includes_number e), expanded_number asks parts.globals (Err e) is, ap Err (ap git_number err ∙ of_includes e))
 
-  pub rest_not_put : (first : State) (e : Error) (result : Result State Error) → MakesOf includes_number asks (Ok first) (Ok parts.globals)
-      → IsRestBehind variables places table asks parts.local parts.worktree first (Err (git_number e)) → IsErrAnd result (λ r. r ≡ e) → Joins (numbered git_number result)
-  rest_not_put first e (Ok made) one is err = absurd err
-  rest_not_put first e (Err r) one is err = (Ok first, expanded_number asks parts.globals (Ok first) one, subst (λ x. IsRestBehind variables places table asks parts.local parts.worktree first (Err (git_number x))) (sym err) is)
+  pub own_not_put : (first : State) (e : Error) (result : Result State Error) → MakesOf includes_number asks (Ok first) (Ok parts.globals)
+      → AreOwnAndOverridesBehind variables places table asks parts.local parts.worktree first (Err (git_number e)) → IsErrAnd result (λ r. r ≡ e) → Joins (numbered git_number result)
+  own_not_put first e (Ok made) one is err = absurd err
+  own_not_put first e (Err r) one is err = (Ok first, expanded_number asks parts.globals (Ok first) one, subst (λ x. AreOwnAndOverridesBehind variables places table asks parts.local parts.worktree first (Err (git_number x))) (sym err) is)
 
-  pub all_joined : (first now : State) → MakesOf includes_number asks (Ok first) (Ok parts.globals) → IsRestBehind variables places table asks parts.local parts.worktree first (Ok now) → Joins (Ok now)
+  pub all_joined : (first now : State) → MakesOf includes_number asks (Ok first) (Ok parts.globals) → AreOwnAndOverridesBehind variables places table asks parts.local parts.worktree first (Ok now) → Joins (Ok now)
   all_joined first now one is = (Ok first, expanded_number asks parts.globals (Ok first) one, is)

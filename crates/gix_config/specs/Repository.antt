@@ -94,7 +94,7 @@ pub record RepositoryFiles : Type 0 where
 
 -- the files of a repository, as the code has them
 abbrev pub parts_of : Parts → RepositoryFiles
-parts_of parts = record { local = parts.local; worktree = parts.worktree; globals = parts.globals }
+parts_of parts = record { local = parts.own.local; worktree = parts.own.worktree; globals = parts.globals }
 
 module _ (variables : Option (List ℕ → VariableReport)) (places : Places) (table : Option (List ℕ → FileReport)) where
   -- The files are read: first the repository's, then that of its worktree, then those of the machine and of the user; memory may run out.
@@ -107,12 +107,12 @@ module _ (variables : Option (List ℕ → VariableReport)) (places : Places) (t
   AreOverridesBehind target = Then (IsOverrides variables places table) (IsPutBehind target)
 
   -- the repository's own files are appended to a file, and then the overrides
-  abbrev pub IsRestBehind : Asks → (local : State) → (worktree : Option State) → (target : State) → Result State ℕ → Type 0
-  IsRestBehind asks local worktree target = Then (IsOwnBehind asks local worktree target) AreOverridesBehind
+  abbrev pub AreOwnAndOverridesBehind : Asks → (local : State) → (worktree : Option State) → (target : State) → Result State ℕ → Type 0
+  AreOwnAndOverridesBehind asks local worktree target = Then (IsOwnBehind asks local worktree target) AreOverridesBehind
 
   -- All are expanded, each is appended to those before it, and the overrides come last.
   abbrev pub IsJoined : Asks → RepositoryFiles → Result State ℕ → Type 0
-  IsJoined asks parts = Then (IsExpanded asks parts.globals) (IsRestBehind asks parts.local parts.worktree)
+  IsJoined asks parts = Then (IsExpanded asks parts.globals) (AreOwnAndOverridesBehind asks parts.local parts.worktree)
 
   -- the configuration of the repository in that folder; memory may run out
   abbrev pub IsRepository : (dir : List ℕ) → (real : Option (List ℕ)) → Result State ℕ → Type 0

@@ -9,7 +9,8 @@ use gix_config::format::{Options, normalize};
 use gix_config::host::{Env, Files};
 use gix_config::lookup::existing;
 use gix_config::{File, KeyRef};
-use gixcfg_tasks::{Command, Query, Task, home_of, list, meta_of, task_of};
+use gixcfg_sources::places::{home_of, meta_at};
+use gixcfg_tasks::{Command, Query, Task, list, task_of};
 use gixcfg_texts::output::Output;
 use gixcfg_texts::streams::{put, read_all};
 use std::alloc::{AllocGlobal, Global};
@@ -101,7 +102,7 @@ fn load_path<F: Files, V: Env>(
 ) -> Result<File, Fault> {
     let home = home_of(env)?;
     let mut metas = Vec::new(alloc);
-    metas.push(meta_of(alloc, path)?)?;
+    metas.push(meta_at(alloc, path)?)?;
     let options = init::Options {
         includes: includes::Options::follow_without_conditional(home.as_deref(), None),
         lossy: true,

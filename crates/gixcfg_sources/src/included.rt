@@ -1,14 +1,10 @@
-//! The paths that a file includes, and the texts at paths.
+//! The paths that a file includes.
 
 use gitconf_text::NoMemory;
 use gitconf_values::Path;
 use gitconf_values::path::interpolate;
 use gitconf_views::section::{SectionRef, Sections};
-use gixcfg_files::{Fault, read};
-use std::alloc::{AllocGlobal, Global};
-use std::fs;
-use std::io::ErrorKind;
-use std::rt::Files;
+use std::alloc::Global;
 
 /// The paths that sections of the file at a path include, whatever their conditions are.
 pub fn included_by(
@@ -65,19 +61,5 @@ fn joined(alloc: Global, of: Option<&str>, path: String) -> Result<String, NoMem
             None => Ok(path),
         },
         _ => Ok(path),
-    }
-}
-
-/// The text of a regular file; none if it can't be read. No other is read twice, since a pipe gives its text once.
-pub fn text_at<R: Files + AllocGlobal>(rt: &R, path: &str) -> Result<Option<Vec<u8>>, NoMemory> {
-    match fs::metadata(rt, path) {
-        Ok(metadata) if metadata.is_file() => {}
-        Err(error) if error.kind() == ErrorKind::OutOfMemory => return Err(NoMemory),
-        _ => return Ok(None),
-    }
-    match read(rt, path) {
-        Ok(text) => Ok(text),
-        Err(Fault::Memory) => Err(NoMemory),
-        Err(_) => Ok(None),
     }
 }

@@ -6,3 +6,4 @@ pub mod conditions;
 pub mod included;
 pub mod places;
 pub mod refusals;
+pub mod texts;

@@ -3,12 +3,24 @@
 use gitconf_base::meta::Metadata;
 use gitconf_base::source::{Source, Trust};
 use gitconf_disk::Process;
-use gitconf_host::Places;
+use gitconf_host::{Env, EnvVar, Places};
 use gitconf_places::StorageLocation;
 use gitconf_text::NoMemory;
 use std::alloc::{AllocGlobal, Global};
 use std::rc::Rc;
-use std::rt::Env;
+use std::rt;
+
+/// The home folder that the variables tell, if there is one: `HOME`, which is asked once.
+///
+/// # Errors
+///
+/// Out of memory.
+pub fn home_of<V: Env>(env: &mut V) -> Result<Option<String>, NoMemory> {
+    match env.var("HOME")? {
+        EnvVar::Text(home) => Ok(Some(home)),
+        EnvVar::Unset | EnvVar::IllFormed => Ok(None),
+    }
+}
 
 /// The places of configuration on this system, with this home folder.
 fn places_of(alloc: Global, home: Option<&str>) -> Result<Places, NoMemory> {
@@ -25,7 +37,7 @@ fn places_of(alloc: Global, home: Option<&str>) -> Result<Places, NoMemory> {
 }
 
 /// Where the files of the system and of the user are.
-pub fn metas_of_user<R: Env + AllocGlobal>(
+pub fn metas_of_user<R: rt::Env + AllocGlobal>(
     rt: &R,
     home: Option<&str>,
 ) -> Result<Vec<Metadata>, NoMemory> {
@@ -61,10 +73,15 @@ pub fn paths_of(alloc: Global, metas: &[Metadata]) -> Result<Vec<String>, NoMemo
     Ok(paths)
 }
 
-/// Where a text comes from.
+/// Where the file at a path comes from: the caller, who trusts it.
+pub fn meta_at(alloc: Global, path: &str) -> Result<Metadata, NoMemory> {
+    Ok(Metadata::api().at(String::from_str(alloc, path)?))
+}
+
+/// Where a text comes from: the file at a path, or no file.
 pub fn meta_of(alloc: Global, path: Option<&str>) -> Result<Rc<Metadata>, NoMemory> {
     let meta = match path {
-        Some(path) => Metadata::api().at(String::from_str(alloc, path)?),
+        Some(path) => meta_at(alloc, path)?,
         None => Metadata::api(),
     };
     Ok(Rc::new(alloc, meta)?)

@@ -1,9 +1,8 @@
-//! Calls of `gixcfg` without options, as far as they need no loaded file: what the words ask for, where a file comes from, and how the
-//! entries of sections are told.
+//! Calls of `gixcfg` without options, as far as they need no loaded file: what the words ask for, and the lines of `list`.
 #![tactic(auto)]
 
-mod parts;
+mod listing;
 mod tasks;
 
-pub use parts::{home_of, list, meta_of};
+pub use listing::list;
 pub use tasks::{Command, Query, Task, task_of, understands};

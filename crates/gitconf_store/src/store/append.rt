@@ -5,7 +5,7 @@ ghost use Rattle.gitconf_lines.specs.Buffers.{Grows};
 ghost use Rattle.gitconf_text.specs.Sections.{no_number};
 ghost use Rattle.gitconf_state.specs.Edit.{with_used};
 ghost use Rattle.gitconf_state.specs.Edits.{Append, apply};
-ghost use Rattle.gitconf_store.specs.Appends.{appended_bytes, bytes_at, kept_at, line_at, put_at, IsLineAt};
+ghost use Rattle.gitconf_store.specs.Appends.{appended_bytes, bytes_at, kept_at, line_at, put_at, HasNoRoomAt, IsLineAt};
 
 use crate::store::Store;
 use gitconf_items::event::Span;
@@ -48,12 +48,37 @@ fn put_line_end(buffer: &mut Vec<u8>, line_end: &[u8]) -> Result<Option<Span>, s
     }
 }
 
-/// Adds a line ending and other bytes to a buffer, and copies to copies; and returns the span of the line ending, and how many copies
-/// there were.
+/// Adds another text's bytes to a buffer, and its copies to the copies; and returns how many copies there were.
 ///
 /// # Errors
 ///
 /// Those of [`append`], and of [`copies_before`]. The buffer may have grown.
+#[tactic(auto, using(gitconf_lines::proofs::Buffers::extending))]
+pub(crate) fn put_text(
+    buffer: &mut Vec<u8>,
+    copies: &mut Vec<u8>,
+    other: &[u8],
+    other_copies: &[u8],
+) -> Result<u32, span::Error>
+    requires room { length buffer.old.items < 2 ^ 32 }
+    ensures ok { OnOk result (buffer.new.items ≡ buffer.old.items ++ other.now) }
+    ensures count { IfOk result (λ count. count ≡ length copies.old.items) }
+    ensures fits { IfOk result (λ count. length other_copies.now ≤ 2 ^ 32 - 1 - count) }
+    ensures grows { Grows result (length other.now) buffer.old.items buffer.new.items }
+    ensures copies { OnOk result (copies.new.items ≡ copies.old.items ++ other_copies.now) }
+    ensures err { OnErr result (copies.new.items ≡ copies.old.items) }
+{
+    let count = copies_before(copies, other_copies)?;
+    append(buffer, other)?;
+    copies.extend_from_slice(other_copies)?;
+    Ok(count)
+}
+
+/// As [`put_text`], with a line ending before the other's bytes, whose span is returned too.
+///
+/// # Errors
+///
+/// Those of [`put_text`].
 #[tactic(auto, using(gitconf_lines::proofs::Buffers::extending))]
 fn put_bytes(
     buffer: &mut Vec<u8>,
@@ -71,10 +96,8 @@ fn put_bytes(
     ensures copies { OnOk result (copies.new.items ≡ copies.old.items ++ other_copies.now) }
     ensures err { OnErr result (copies.new.items ≡ copies.old.items) }
 {
-    let copies_by = copies_before(copies, other_copies)?;
     let line = put_line_end(buffer, line_end)?;
-    append(buffer, other)?;
-    copies.extend_from_slice(other_copies)?;
+    let copies_by = put_text(buffer, copies, other, other_copies)?;
     Ok((line, copies_by))
 }
 
@@ -108,9 +131,7 @@ impl Store {
         requires { at ≤ length self.now.sections - 1 }
         ensures bytes { IfOk result (λ line. line.now ≡ line_at at (bytes_of_line_end line_end) other.now self.now) }
         ensures short { IfOk result (λ line. length line.now ≤ 2) }
-        ensures too_large { IsErrOf result 3
-            ↔ ((2 ^ 32 ≤ self.now.used + bytes_at at (bytes_of_line_end line_end) other.now self.now)
-            ⊎ (no_number < self.now.next + length other.now.sections)) }
+        ensures too_large { IsErrOf result 3 ↔ HasNoRoomAt at (bytes_of_line_end line_end) other.now self.now }
         ensures known { IfErr result (λ e. e ≡ 3) }
     {
         if self.sections.numbers_left() < other.sections.len() {
@@ -142,8 +163,7 @@ impl Store {
         requires { at ≤ length self.old.sections - 1 }
         ensures ok { OnOk result (self.new ≡ put_at at (bytes_of_line_end line_end) other self.old) }
         ensures err { OnErr result (self.new ≡ with_used self.new.used self.old) }
-        ensures too_large { IsErrOf result 3
-            ↔ ((2 ^ 32 ≤ self.old.used + bytes_at at (bytes_of_line_end line_end) other self.old) ⊎ (no_number < self.old.next + length other.sections)) }
+        ensures too_large { IsErrOf result 3 ↔ HasNoRoomAt at (bytes_of_line_end line_end) other self.old }
         ensures grown { self.new.used ≤ self.old.used + bytes_at at (bytes_of_line_end line_end) other self.old }
         ensures known { IfErr result (λ e. (e ≡ 3) ⊎ (e ≡ 27)) }
     {

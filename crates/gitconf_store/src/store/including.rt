@@ -1,12 +1,11 @@
 //! Another file, put into a file that includes it.
-ghost use Rattle.std.specs.Prelude.{◌≡◌, ◌⊎◌, ◌↔◌, ◌+◌, ◌<◌, ◌≤◌, ◌^◌, is_some, length, option_map, slice_get, Some, IfErr, IsErrOf, OnErr, OnOk};
+ghost use Rattle.std.specs.Prelude.{◌≡◌, ◌⊎◌, ◌↔◌, ◌+◌, ◌<◌, ◌≤◌, is_some, length, option_map, slice_get, Some, IfErr, IsErrOf, OnErr, OnOk};
 ghost use Rattle.gitconf_text.specs.LineEnds.{bytes_of_line_end};
 ghost use Rattle.gitconf_items.specs.Items.{tokens_in};
 ghost use Rattle.gitconf_write.specs.LineEnds.{first_newline, first_newline_of_bodies};
 ghost use Rattle.gitconf_views.specs.Views.{shown};
-ghost use Rattle.gitconf_text.specs.Sections.{no_number};
 ghost use Rattle.gitconf_state.specs.Edit.{with_used};
-ghost use Rattle.gitconf_store.specs.Appends.{bytes_at, included};
+ghost use Rattle.gitconf_store.specs.Appends.{bytes_at, included, HasNoRoomAt};
 
 use crate::store::Store;
 use gitconf_finding::tokens;
@@ -64,8 +63,7 @@ impl Store {
         requires { position < length self.old.sections }
         ensures ok { OnOk result (self.new ≡ included position (bytes_of_line_end line_end) other self.old) }
         ensures err { OnErr result (self.new ≡ with_used self.new.used self.old) }
-        ensures too_large { IsErrOf result 3
-            ↔ ((2 ^ 32 ≤ self.old.used + bytes_at position (bytes_of_line_end line_end) other self.old) ⊎ (no_number < self.old.next + length other.sections)) }
+        ensures too_large { IsErrOf result 3 ↔ HasNoRoomAt position (bytes_of_line_end line_end) other self.old }
         ensures grown { self.new.used ≤ self.old.used + bytes_at position (bytes_of_line_end line_end) other self.old }
         ensures known { IfErr result (λ e. (e ≡ 3) ⊎ (e ≡ 27)) }
     {

@@ -5,9 +5,10 @@ ghost use Rattle.gitconf_state.specs.Edit.{with_used};
 ghost use Rattle.gitconf_state.specs.Edits.{Number, PushSection, answer, apply};
 
 use crate::store::Store;
+use crate::store::append::put_text;
 use gitconf_items::moving::moved_header;
-use gitconf_joining::shifted_sections::{copies_before, move_list, put_last};
-use gitconf_lines::buffer::{append, check_room};
+use gitconf_joining::shifted_sections::{move_list, put_last};
+use gitconf_lines::buffer::check_room;
 use gitconf_table::table::SectionId;
 use gitconf_text::parse::span;
 use gitconf_views::detached;
@@ -45,20 +46,20 @@ impl Store {
         ensures grown { self.new.used ≤ self.old.used + section.used }
         ensures known { IfErr result (λ e. (e ≡ 3) ⊎ (e ≡ 27)) }
     {
-        if self.sections.numbers_left() == 0 {
-            return Err(span::Error::too_large());
-        }
+        self.check_pushed(&section)?;
+        let by = self.buffer.len() as u32;
+        let copies_by = put_text(
+            &mut self.buffer,
+            &mut self.copies,
+            &section.buffer,
+            &section.copies,
+        )?;
         let detached::Section {
-            buffer,
-            copies,
+            buffer: _,
+            copies: _,
             id: _,
             section,
         } = section;
-        check_room(&self.buffer, buffer.len())?;
-        let by = self.buffer.len() as u32;
-        let copies_by = copies_before(&self.copies, &copies)?;
-        append(&mut self.buffer, &buffer)?;
-        self.copies.extend_from_slice(&copies)?;
         let header = moved_header(section.header, by, copies_by);
         let mut items = section.items;
         move_list(&mut items, by);

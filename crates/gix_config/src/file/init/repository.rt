@@ -7,7 +7,7 @@ ghost use Rattle.gitconf_loaders.specs.Causes.{IsFileCause};
 ghost use Rattle.gitconf_refusals.specs.Errors.{git_number, paths_number};
 ghost use Rattle.gitconf_loaders.specs.Paths.{CountsLoad, left_by, numbered};
 ghost use Rattle.gix_config.specs.Repository as spec;
-ghost use Rattle.gix_config.specs.Repository.{AreOverridesBehind, IsExpandedBehind, IsGitCause, IsIncludeCause, IsJoined, IsOverridingCause, IsOwnBehind, IsReadCause, IsReadOf, IsRepository, IsRepositoryCause, IsRestBehind, IsWorktree, IsWorktreeBehind, parts_of, repository_rules, worktree_path};
+ghost use Rattle.gix_config.specs.Repository.{AreOverridesBehind, AreOwnAndOverridesBehind, IsExpandedBehind, IsGitCause, IsIncludeCause, IsJoined, IsOverridingCause, IsOwnBehind, IsReadCause, IsReadOf, IsRepository, IsRepositoryCause, IsWorktree, IsWorktreeBehind, parts_of, repository_rules, worktree_path};
 
 use crate::file::File;
 use crate::file::init::environment::{expanded, overrides};
@@ -24,13 +24,19 @@ use gitconf_values::path::{interpolate, join, parent};
 use includes::conditional::{Context, GitDir};
 use std::alloc::Global;
 
-/// The files of a repository, before they are put together.
+/// The files that are a repository's own.
 #[derive(Drop)]
-struct Parts {
-    /// The repository's own configuration.
+struct Own {
+    /// The repository's configuration.
     local: File,
     /// The configuration of its worktree, if it has some.
     worktree: Option<File>,
+}
+
+/// The files that make a repository's configuration, before they are put together.
+#[derive(Drop)]
+struct Parts {
+    own: Own,
     /// The configuration of the machine and of the user.
     globals: File,
 }
@@ -179,14 +185,14 @@ fn put_own<F: Files>(
     files: &mut F,
     options: &Options<'_>,
     target: &mut File,
-    local: File,
-    worktree: Option<File>,
+    own: Own,
 ) -> Result<(), Error>
-    ensures put { IsOwnBehind (asks_of options.now (F.table files.old)) local worktree target.old (left_by git_number result target.new) }
+    ensures put { IsOwnBehind (asks_of options.now (F.table files.old)) own.local own.worktree target.old (left_by git_number result target.new) }
     ensures cause { IfErr result (IsIncludeCause options.now (F.table files.old)) }
     ensures table { F.table files.new ≡ F.table files.old }
     ensures counted { CountsLoad (numbered git_number result) (F.failures files.old) (F.failures files.new) }
 {
+    let Own { local, worktree } = own;
     put_behind(alloc, files, options, target, local)?;
     put_worktree(alloc, files, options, target, worktree)
 }
@@ -196,24 +202,23 @@ fn put_own<F: Files>(
 /// # Errors
 ///
 /// Those of [`put_behind`], and of the overrides.
-fn put_rest<F: Files, E: Env>(
+fn put_own_and_overrides<F: Files, E: Env>(
     alloc: Global,
     files: &mut F,
     env: &mut E,
     places: &Places,
     options: &Options<'_>,
     target: &mut File,
-    local: File,
-    worktree: Option<File>,
+    own: Own,
 ) -> Result<(), Error>
-    ensures put { IsRestBehind (E.variables env.old) places.now (F.table files.old) (asks_of options.now (F.table files.old)) local worktree target.old
-        (left_by git_number result target.new) }
+    ensures put { AreOwnAndOverridesBehind (E.variables env.old) places.now (F.table files.old) (asks_of options.now (F.table files.old))
+        own.local own.worktree target.old (left_by git_number result target.new) }
     ensures cause { IfErr result (IsGitCause (E.variables env.old) options.now places.now (F.table files.old)) }
     ensures table { F.table files.new ≡ F.table files.old }
     ensures counted { CountsLoad (numbered git_number result) (F.failures files.old) (F.failures files.new) }
     ensures stays { E.variables env.new ≡ E.variables env.old }
 {
-    put_own(alloc, files, options, target, local, worktree)?;
+    put_own(alloc, files, options, target, own)?;
     put_overrides(alloc, files, env, places, target)
 }
 
@@ -221,7 +226,7 @@ fn put_rest<F: Files, E: Env>(
 ///
 /// # Errors
 ///
-/// Those of [`put_rest`].
+/// Those of [`put_own_and_overrides`].
 fn joined<F: Files, E: Env>(
     alloc: Global,
     files: &mut F,
@@ -237,15 +242,9 @@ fn joined<F: Files, E: Env>(
     ensures counted { CountsLoad (numbered git_number result) (F.failures files.old) (F.failures files.new) }
     ensures stays { E.variables env.new ≡ E.variables env.old }
 {
-    let Parts {
-        local,
-        worktree,
-        globals,
-    } = parts;
+    let Parts { own, globals } = parts;
     let mut all = expanded(alloc, files, options, globals)?;
-    put_rest(
-        alloc, files, env, places, options, &mut all, local, worktree,
-    )?;
+    put_own_and_overrides(alloc, files, env, places, options, &mut all, own)?;
     Ok(all)
 }
 
@@ -276,8 +275,7 @@ fn read<F: Files, E: Env>(
         store: from_globals(alloc, files, env, places)?,
     };
     Ok(Parts {
-        local,
-        worktree,
+        own: Own { local, worktree },
         globals,
     })
 }

@@ -17,37 +17,26 @@ invariant_of-self c =
     let inside = c.self.inside in
     let b = inside.buffer.items in
     let copies = inside.copies.items in
-    let new = c.append.new.buffer.items in
-    longer_fits b new copies copies inside.front.items inside.meta.value inside.sections c.append.ensures.grows.extended ([], sym (append-nil copies)) c.append.ensures.grows.room c.self.invariant
+    let new = c.put_text.new.buffer.items in
+    longer_fits b new copies c.put_text.new.copies.items inside.front.items inside.meta.value inside.sections c.put_text.ensures.grows.extended
+    ([], c.in_err-copies_by.ensures.err ∙ sym (append-nil copies)) c.put_text.ensures.grows.room c.self.invariant
 
-pub invariant_of-self-in_err-extend_from_slice : goal.invariant_of-self-in_err-extend_from_slice
-invariant_of-self-in_err-extend_from_slice c =
+pub returns-in_err-copies_by-clause-err : goal.returns-in_err-copies_by-clause-err
+returns-in_err-copies_by-clause-err c =
     let inside = c.self.inside in
-    let b = inside.buffer.items in
-    let copies = inside.copies.items in
-    let new = c.append.new.buffer.items in
-    let same : c.extend_from_slice.new.self.items ≡ copies = search rules in
-    longer_fits b new copies c.extend_from_slice.new.self.items inside.front.items inside.meta.value inside.sections c.append.ensures.grows.extended ([], same ∙ sym (append-nil copies)) c.append.ensures.grows.room c.self.invariant
-
-pub returns-in_err-extend_from_slice-clause-err : goal.returns-in_err-extend_from_slice-clause-err
-returns-in_err-extend_from_slice-clause-err c =
-    let inside = c.self.inside in
-    let b = inside.buffer.items in
-    let copies = inside.copies.items in
-    let new = c.append.new.buffer.items in
-    rw (← c.self.view_is) (if_err_at_all c.from_residual-in_err-extend_from_slice.result
-    (longer_state b new copies inside.front.items inside.meta.value inside.sections c.append.ensures.grows.extended c.self.invariant))
+    rw (← c.self.view_is) (if_err_at_all c.from_residual-in_err-copies_by.result
+    (longer_state inside.buffer.items c.put_text.new.buffer.items inside.copies.items inside.front.items inside.meta.value inside.sections c.put_text.ensures.grows.extended c.self.invariant))
 
 pub move_list-requires : goal.move_list-requires
 move_list-requires c =
     let inside = c.self.inside in
     let b = inside.buffer.items in
     let copies = inside.copies.items in
-    let new = c.append.new.buffer.items in
+    let new = c.put_text.new.buffer.items in
     let theirs = c.section.inside.buffer.items in
     let is : new ≡ b ++ theirs = search rules in
     let by : c.len-by.result ≡ length b = search rules in
-    let room = c.append.ensures.grows.room in
+    let room = c.put_text.ensures.grows.room in
     items_up (length theirs) (4294967295 - c.len-by.result) (let l = ap length is in let k = length-append b theirs in omega (arith, l, k, by, room)) c.section.inside.section.items.items c.section.invariant.within
 
 pub put_last-requires-clause-header : goal.put_last-requires-clause-header
@@ -55,8 +44,8 @@ put_last-requires-clause-header c =
     let inside = c.self.inside in
     let b = inside.buffer.items in
     let copies = inside.copies.items in
-    let new = c.append.new.buffer.items in
-    let more = c.extend_from_slice.new.self.items in
+    let new = c.put_text.new.buffer.items in
+    let more = c.put_text.new.copies.items in
     let theirs = c.section.inside.buffer.items in
     let others = c.section.inside.copies.items in
     let s = c.section.inside.section in
@@ -67,15 +56,15 @@ put_last-requires-clause-header c =
     let copies_by : c.in_ok-copies_by.copies_by ≡ length copies = search rules in
     let moved : IsSectionMoved (length b) (length copies) (whole s) t = subst (λ n. IsSectionMoved n (length copies) (whole s) t) by (subst (λ m. IsSectionMoved c.len-by.result m (whole s) t) copies_by
     (record { header = c.moved_header-header.ensures; meta = refl; items = c.move_list.ensures; held = nothing_moved c.len-by.result })) in
-    rw (c.deref-6.ensures.value, c.deref-7.ensures.value) (shown_there b theirs copies others new more inside.front.items inside.meta.value inside.sections inside.sections c.section.inside.id s t is are c.self.invariant c.section.invariant moved)
+    rw (c.deref-3.ensures.value, c.deref-4.ensures.value) (shown_there b theirs copies others new more inside.front.items inside.meta.value inside.sections inside.sections c.section.inside.id s t is are c.self.invariant c.section.invariant moved)
 
 pub put_last-requires-clause-items : goal.put_last-requires-clause-items
 put_last-requires-clause-items c =
     let inside = c.self.inside in
     let b = inside.buffer.items in
     let copies = inside.copies.items in
-    let new = c.append.new.buffer.items in
-    let more = c.extend_from_slice.new.self.items in
+    let new = c.put_text.new.buffer.items in
+    let more = c.put_text.new.copies.items in
     let theirs = c.section.inside.buffer.items in
     let others = c.section.inside.copies.items in
     let s = c.section.inside.section in
@@ -86,30 +75,30 @@ put_last-requires-clause-items c =
     let copies_by : c.in_ok-copies_by.copies_by ≡ length copies = search rules in
     let moved : IsSectionMoved (length b) (length copies) (whole s) t = subst (λ n. IsSectionMoved n (length copies) (whole s) t) by (subst (λ m. IsSectionMoved c.len-by.result m (whole s) t) copies_by
     (record { header = c.moved_header-header.ensures; meta = refl; items = c.move_list.ensures; held = nothing_moved c.len-by.result })) in
-    rw c.deref-6.ensures.value (within_there b theirs copies others new more inside.front.items inside.meta.value inside.sections inside.sections c.section.inside.id s t is are c.self.invariant c.section.invariant moved)
+    rw c.deref-3.ensures.value (within_there b theirs copies others new more inside.front.items inside.meta.value inside.sections inside.sections c.section.inside.id s t is are c.self.invariant c.section.invariant moved)
 
 pub put_last-requires-clause-fits : goal.put_last-requires-clause-fits
 put_last-requires-clause-fits c =
     let inside = c.self.inside in
     let b = inside.buffer.items in
     let copies = inside.copies.items in
-    let new = c.append.new.buffer.items in
-    let more = c.extend_from_slice.new.self.items in
+    let new = c.put_text.new.buffer.items in
+    let more = c.put_text.new.copies.items in
     let theirs = c.section.inside.buffer.items in
     let others = c.section.inside.copies.items in
     let s = c.section.inside.section in
     let is : new ≡ b ++ theirs = search rules in
     let are : more ≡ copies ++ others = search rules in
-    rw (c.deref-6.ensures.value, c.deref-7.ensures.value) (sections_fit_more new copies more inside.sections.entries (others, are)
-    (sections_fit_in b new copies inside.sections.entries c.append.ensures.grows.extended c.self.invariant.sections_within))
+    rw (c.deref-3.ensures.value, c.deref-4.ensures.value) (sections_fit_more new copies more inside.sections.entries (others, are)
+    (sections_fit_in b new copies inside.sections.entries c.put_text.ensures.grows.extended c.self.invariant.sections_within))
 
 pub invariant_of-self-2 : goal.invariant_of-self-2
 invariant_of-self-2 c =
     let inside = c.self.inside in
     let b = inside.buffer.items in
     let copies = inside.copies.items in
-    let new = c.append.new.buffer.items in
-    let more = c.extend_from_slice.new.self.items in
+    let new = c.put_text.new.buffer.items in
+    let more = c.put_text.new.copies.items in
     let theirs = c.section.inside.buffer.items in
     let others = c.section.inside.copies.items in
     let s = c.section.inside.section in
@@ -121,17 +110,17 @@ invariant_of-self-2 c =
     let moved : IsSectionMoved (length b) (length copies) (whole s) t = subst (λ n. IsSectionMoved n (length copies) (whole s) t) by (subst (λ m. IsSectionMoved c.len-by.result m (whole s) t) copies_by
     (record { header = c.moved_header-header.ensures; meta = refl; items = c.move_list.ensures; held = nothing_moved c.len-by.result })) in
     ok_or_err c.put_last.result
-    (λ within put next. pushed_fits b theirs copies others new more inside.front.items inside.meta.value inside.sections c.put_last.new.table c.section.inside.id s t is are c.self.invariant c.section.invariant moved c.append.ensures.grows.room within put next)
-    (λ same. rw same (longer_fits b new copies more inside.front.items inside.meta.value inside.sections c.append.ensures.grows.extended (others, are) c.append.ensures.grows.room c.self.invariant))
-    (rw (c.deref-6.ensures.value, c.deref-7.ensures.value) at c.put_last.ensures.fits) (rw c.deref-6.ensures.value at c.put_last.ensures.sections) c.put_last.ensures.next c.put_last.ensures.err
+    (λ within put next. pushed_fits b theirs copies others new more inside.front.items inside.meta.value inside.sections c.put_last.new.table c.section.inside.id s t is are c.self.invariant c.section.invariant moved c.put_text.ensures.grows.room within put next)
+    (λ same. rw same (longer_fits b new copies more inside.front.items inside.meta.value inside.sections c.put_text.ensures.grows.extended (others, are) c.put_text.ensures.grows.room c.self.invariant))
+    (rw (c.deref-3.ensures.value, c.deref-4.ensures.value) at c.put_last.ensures.fits) (rw c.deref-3.ensures.value at c.put_last.ensures.sections) c.put_last.ensures.next c.put_last.ensures.err
 
 pub returns-clause-ok : goal.returns-clause-ok
 returns-clause-ok c =
     let inside = c.self.inside in
     let b = inside.buffer.items in
     let copies = inside.copies.items in
-    let new = c.append.new.buffer.items in
-    let more = c.extend_from_slice.new.self.items in
+    let new = c.put_text.new.buffer.items in
+    let more = c.put_text.new.copies.items in
     let theirs = c.section.inside.buffer.items in
     let others = c.section.inside.copies.items in
     let s = c.section.inside.section in
@@ -145,14 +134,14 @@ returns-clause-ok c =
     two_ok c.put_last.result
     (λ put next. pushed_state b theirs copies others new more inside.front.items inside.meta.value inside.sections c.put_last.new.table c.section.inside.id s t is are c.self.invariant c.section.invariant moved put next
     ∙ (λ i. with_used (length new) (with_last (c.section.view_is i).section (c.self.view_is i))))
-    (rw c.deref-6.ensures.value at c.put_last.ensures.sections) c.put_last.ensures.next
+    (rw c.deref-3.ensures.value at c.put_last.ensures.sections) c.put_last.ensures.next
 
 pub returns-clause-err : goal.returns-clause-err
 returns-clause-err c =
     let inside = c.self.inside in
     let b = inside.buffer.items in
     let copies = inside.copies.items in
-    let new = c.append.new.buffer.items in
+    let new = c.put_text.new.buffer.items in
     rw (← c.self.view_is) (on_err c.put_last.result
     (λ same. ap (state_of new inside.front.items inside.meta.value) same
-    ∙ longer_state b new copies inside.front.items inside.meta.value inside.sections c.append.ensures.grows.extended c.self.invariant) c.put_last.ensures.err)
+    ∙ longer_state b new copies inside.front.items inside.meta.value inside.sections c.put_text.ensures.grows.extended c.self.invariant) c.put_last.ensures.err)

@@ -6,12 +6,12 @@ use Rattle.gitconf_loaders.specs.Paths.{left_by, numbered}
 use Rattle.gitconf_refusals.specs.Errors.{git_number}
 use Rattle.gix_config.specs.Repository.{AreOverridesBehind, IsOverridingCause, IsOwnBehind}
 use Rattle.gix_config.proofs.Repositories.{include_cause, last_cause, then_stopped}
-use Rattle.gix_config.proofs.file.init.repository.put_rest.Goals as goal
+use Rattle.gix_config.proofs.file.init.repository.put_own_and_overrides.Goals as goal
 
 pub returns-in_err-put_own-clause-put : goal.returns-in_err-put_own-clause-put
 returns-in_err-put_own-clause-put g c =
     let table = g.F.Files.table c.args.files.now in
-    then_stopped (IsOwnBehind (asks_of c.args.options.now table) c.args.local c.args.worktree c.args.target.now) (AreOverridesBehind (g.E.Env.variables c.args.env.now) c.args.places.now table)
+    then_stopped (IsOwnBehind (asks_of c.args.options.now table) c.args.own.local c.args.own.worktree c.args.target.now) (AreOverridesBehind (g.E.Env.variables c.args.env.now) c.args.places.now table)
     c.in_err-put_own.field-0.0 c.from_residual.result c.put_own.new.target c.in_err-put_own.ensures.put c.from_residual.ensures.1
 
 pub returns-in_err-put_own-clause-cause : goal.returns-in_err-put_own-clause-cause

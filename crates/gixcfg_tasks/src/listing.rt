@@ -1,28 +1,9 @@
-//! What calls without options ask of the process, and what they tell of sections.
+//! What `list` tells of sections.
 
-use gitconf_base::meta::Metadata;
-use gitconf_host::{Env, EnvVar};
 use gitconf_text::NoMemory;
 use gitconf_views::section::{SectionRef, Sections};
 use gixcfg_answers::names::add_names;
 use std::alloc::Global;
-
-/// The home folder that the variables tell, if there is one: `HOME`, which is asked once.
-///
-/// # Errors
-///
-/// Out of memory.
-pub fn home_of<V: Env>(env: &mut V) -> Result<Option<String>, NoMemory> {
-    match env.var("HOME")? {
-        EnvVar::Text(home) => Ok(Some(home)),
-        EnvVar::Unset | EnvVar::IllFormed => Ok(None),
-    }
-}
-
-/// Where the file at a path comes from: the caller, who trusts it.
-pub fn meta_of(alloc: Global, path: &str) -> Result<Metadata, NoMemory> {
-    Ok(Metadata::api().at(String::from_str(alloc, path)?))
-}
 
 /// The entries of sections, each on a line.
 pub fn list(alloc: Global, sections: Sections<'_>) -> Result<Vec<u8>, NoMemory> {
