@@ -10,8 +10,8 @@ use Rattle.gitconf_includes.specs.declared.includes.Error.{Error}
 use Rattle.gitconf_includes.specs.declared.includes.Error.TheVariants as refusals
 use Rattle.gitconf_includes.specs.declared.init.Options.{Options}
 use Rattle.gitconf_includes.specs.Errors.{include_of_parse, includes_number}
-use Rattle.gitconf_parse.specs.EventResult.{IsRefused}
-use Rattle.gitconf_parse.specs.ParseError.{Refusal}
+use Rattle.gitconf_read.specs.EventResult.{IsRefused}
+use Rattle.gitconf_read.specs.ParseError.{Refusal}
 use Rattle.gitconf_state.specs.State.{State}
 use Rattle.gitconf_expansion.specs.Expansion.{Asks, IsFetched, IsLoaded, IsLoadOf, May, fault_number, included_meta}
 use Rattle.gitconf_expansion.specs.Outcomes.{told, IsCause, IsTextOf}

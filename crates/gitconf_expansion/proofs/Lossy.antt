@@ -9,7 +9,7 @@ use Rattle.gitconf_text.specs.Part.{Item}
 use Rattle.gitconf_base.specs.Metadata.{Meta}
 use Rattle.gitconf_glob.specs.Pattern.{matches}
 use Rattle.gitconf_items.specs.TokenDocument.{keeps_meaning}
-use Rattle.gitconf_parse.proofs.OneDocument.{one_document}
+use Rattle.gitconf_read.proofs.OneDocument.{one_document}
 use Rattle.gitconf_host.specs.Reports.{FileReport, is_there}
 use Rattle.gitconf_host.specs.declared.fault.FileFault.{FileFault}
 use Rattle.gitconf_includes.specs.Conditions.{holds}

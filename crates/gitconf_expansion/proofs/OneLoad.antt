@@ -6,9 +6,9 @@ use Rattle.gitconf_text.specs.Header.{Header}
 use Rattle.gitconf_text.specs.Part.{HeaderPart, Item, ItemPart, Part}
 use Rattle.gitconf_text.specs.Token.{tokens_of, Token}
 use Rattle.gitconf_base.specs.Metadata.{Meta}
-use Rattle.gitconf_parse.specs.EventResult.{IsRefused}
-use Rattle.gitconf_parse.specs.ParseError.{Refusal}
-use Rattle.gitconf_parse.proofs.OneDocument.{one_tokens}
+use Rattle.gitconf_read.specs.EventResult.{IsRefused}
+use Rattle.gitconf_read.specs.ParseError.{Refusal}
+use Rattle.gitconf_read.proofs.OneDocument.{one_tokens}
 use Rattle.gitconf_state.specs.Made.{IsMade}
 use Rattle.gitconf_state.specs.State.{SectionState, State}
 use Rattle.gitconf_state.proofs.Loading.Tokens.{own_parts, own_section_parts, own_tokens, same_parts}

@@ -8,8 +8,8 @@ use Rattle.gitconf_text.specs.Token.{Token, tokens_of}
 use Rattle.gitconf_base.specs.Metadata.{Meta}
 use Rattle.gitconf_items.specs.EventList.{keeps_token}
 use Rattle.gitconf_items.specs.TokenDocument.{keeps_meaning}
-use Rattle.gitconf_parse.specs.EventResult.{IsRefused}
-use Rattle.gitconf_parse.specs.ParseError.{Refusal}
+use Rattle.gitconf_read.specs.EventResult.{IsRefused}
+use Rattle.gitconf_read.specs.ParseError.{Refusal}
 use Rattle.gitconf_host.specs.Reports.{FileReport, is_there, read_of}
 pub use Rattle.gitconf_host.specs.Reports.{May}
 use Rattle.gitconf_host.specs.declared.fault.FileFault.{FileFault}

@@ -11,7 +11,7 @@ use Rattle.gitconf_includes.specs.declared.includes.Error.TheVariants as refusal
 use Rattle.gitconf_includes.specs.declared.init.Options.{Options}
 use Rattle.gitconf_includes.specs.Errors.{includes_number}
 use Rattle.gitconf_includes.specs.Rules.{rules_of}
-use Rattle.gitconf_parse.specs.EventResult.{IsRefused}
+use Rattle.gitconf_read.specs.EventResult.{IsRefused}
 use Rattle.gitconf_state.specs.Including.{whole}
 use Rattle.gitconf_state.specs.State.{SectionState, State}
 use Rattle.gitconf_expansion.specs.Expansion.{Asks, Leaves, May, On, Reached}

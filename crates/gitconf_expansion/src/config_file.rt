@@ -2,7 +2,7 @@
 
 use bstr::BString;
 use gitconf_base::meta::Metadata;
-use gitconf_parse::error as parse;
+use gitconf_read::error as parse;
 use gitconf_text::NoMemory;
 use gitconf_text::parse::span;
 use std::alloc::Global;
@@ -32,7 +32,7 @@ pub enum Visited {
 /// visited. Both are in file order.
 pub trait ConfigFile: Drop {
     ghost use Rattle.std.specs.Prelude.{◌≡◌, ◌↔◌, ◌⊎◌, List, [], ◌<◌, length, false, IfErr, IfOk, IsErrOf, OnErr, OnOk};
-    ghost use Rattle.gitconf_parse.specs.EventResult.{IsRefused};
+    ghost use Rattle.gitconf_read.specs.EventResult.{IsRefused};
     ghost use Rattle.gitconf_state.specs.Edit.{with_used};
     ghost use Rattle.gitconf_state.specs.Including.{has_room, spliced, whole};
     ghost use Rattle.gitconf_state.specs.State.{SectionState, State};

@@ -14,7 +14,7 @@ use Rattle.gitconf_finding.specs.declared.existing.Error.{Error}
 use Rattle.gitconf_views.specs.declared.section.SectionRef.{SectionRef}
 use Rattle.gitconf_finding.specs.Misses.{IsExisting}
 use Rattle.gitconf_views.specs.Views.{shown}
-pub use Rattle.gitconf_views.specs.Found.{IsFound, if_any}
+pub use Rattle.gitconf_base.specs.Found.{IsFound, if_any}
 
 -- the key of three names
 abbrev pub key_at : (section : List ℕ) → (subsection : Option (List ℕ)) → (name : List ℕ) → Key

@@ -11,9 +11,9 @@ use gitconf_items::entry::{AssignedRef, Entry};
 use gitconf_items::items::Item;
 use gitconf_lines::seeking::is_named;
 use gitconf_text::NoMemory;
-use gitconf_views::lists::put;
+use gitconf_base::lists::put;
 use gitconf_views::section::SectionRef;
-use gitconf_views::values::last_entry;
+use gitconf_entries::values::last_entry;
 
 /// The last entry of a key in a section, if it decides.
 pub fn deciding_entry<'a>(

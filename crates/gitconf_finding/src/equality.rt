@@ -15,11 +15,12 @@ ghost use Rattle.gitconf_finding.specs.RawBytes.{raw_left};
 ghost use Rattle.gitconf_finding.specs.Same as spec;
 ghost use Rattle.gitconf_views.specs.Views.{sections_left, shown, shown_header};
 
+use gitconf_entries::entries::next_entry;
 use gitconf_items::entry::{AssignedRef, Entry, Piece, Value};
 use gitconf_items::items::Item;
 use gitconf_text::parse::section::bytes::is_same_name;
 use gitconf_views::section::{SectionRef, Sections};
-use gitconf_views::views::{HeaderRef, next_entry};
+use gitconf_views::views::HeaderRef;
 
 /// The bytes of a raw text that are left: those of the current piece, of the pieces after it, and of the last piece.
 #[derive(Clone, Copy)]

@@ -16,7 +16,7 @@ use gitconf_items::items::Item;
 use gitconf_lines::seeking::{is_entry_of, last_place};
 use gitconf_table::table::SectionId;
 use gitconf_text::NoMemory;
-use gitconf_views::lists::put;
+use gitconf_base::lists::put;
 use gitconf_views::section::SectionRef;
 use std::alloc::Global;
 

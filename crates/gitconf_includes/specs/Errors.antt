@@ -3,7 +3,7 @@ use Rattle.std.specs.Prelude.{ℕ, ◌==◌, if◌then◌else◌}
 use Rattle.gitconf_values.specs.declared.path.interpolate.Error.{Error as Interpolate}
 use Rattle.gitconf_values.specs.declared.path.interpolate.Error.TheVariants as interpolate
 use Rattle.gitconf_values.specs.Homes.{interpolate_number}
-use Rattle.gitconf_parse.specs.ParseError.{Refusal}
+use Rattle.gitconf_read.specs.ParseError.{Refusal}
 use Rattle.gitconf_includes.specs.declared.includes.Error.{Error as Includes}
 use Rattle.gitconf_includes.specs.declared.includes.Error.TheVariants as includes
 use Rattle.gitconf_includes.specs.declared.init.Error.{Error as Init}

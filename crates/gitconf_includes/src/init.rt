@@ -2,7 +2,7 @@
 ghost use Rattle.std.specs.Prelude.{◌≡◌};
 
 use crate::includes;
-use gitconf_parse::error as parse;
+use gitconf_read::error as parse;
 use gitconf_text::NoMemory;
 use gitconf_text::parse::span;
 use gitconf_values::path::interpolate;

@@ -6,7 +6,7 @@ use Rattle.gitconf_text.specs.Value.{Piece}
 use Rattle.gitconf_text.specs.Part.{Assigned, BlanksItem, LineEndsItem, CommentItem, EntryItem, Part, ItemPart, HeaderPart, spelled}
 use Rattle.gitconf_text.specs.Token.{Token, CommentToken, NewlineToken, ValueDoneToken, WhitespaceToken, filled, piece_tokens, value_tokens, assigned_tokens, part_tokens, tokens_of}
 use Rattle.gitconf_text.specs.Document.{unmarked, IsText}
-use Rattle.gitconf_parse.proofs.OneDocument.{one_tokens}
+use Rattle.gitconf_read.proofs.OneDocument.{one_tokens}
 use Rattle.gitconf_state.specs.State.{SectionState, State, HasSectionItems, HasItems}
 use Rattle.gitconf_state.specs.Clean.{IsCleanSection, IsClean}
 use Rattle.gitconf_state.specs.Comments.{without_white_end, item_comments, part_comments, comments_of, comments_of_kept, comments}

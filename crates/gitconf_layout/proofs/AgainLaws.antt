@@ -9,7 +9,7 @@ use Rattle.gitconf_text.specs.Token.{tokens_of}
 use Rattle.gitconf_text.specs.Document.{IsText, gathered}
 use Rattle.gitconf_text.specs.Document.{unmarked}
 use Rattle.gitconf_items.specs.EventRef.{Shown}
-use Rattle.gitconf_parse.proofs.OneDocument.{one_tokens}
+use Rattle.gitconf_read.proofs.OneDocument.{one_tokens}
 use Rattle.gitconf_state.specs.Comments.{comments_of}
 use Rattle.gitconf_state.specs.Writing.{Closed}
 use Rattle.gitconf_state.proofs.Printing.ReadsBack.{is_text}

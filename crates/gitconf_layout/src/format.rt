@@ -1,7 +1,7 @@
 //! `normalize`, and its options.
 ghost use Rattle.std.specs.Prelude.{◌≡◌, IfOk, IfErr};
 ghost use Rattle.bstr.specs.Owned.{bstring_bytes};
-ghost use Rattle.gitconf_parse.specs.EventResult.{IsRefused};
+ghost use Rattle.gitconf_read.specs.EventResult.{IsRefused};
 ghost use Rattle.gitconf_parse.specs.EventIters.{events_left};
 ghost use Rattle.gitconf_layout.specs.Setting.{set_tokens};
 ghost use Rattle.gitconf_layout.specs.Layout.{default_options, IsLayout};
@@ -10,7 +10,7 @@ ghost use Rattle.gitconf_layout.specs.Layout as spec;
 use crate::setting::{line_end_of, set_tokens};
 use crate::trimming::end_with;
 use bstr::BString;
-use gitconf_parse::error::Error;
+use gitconf_read::error::Error;
 use gitconf_parse::events::{EventIter, Events};
 use gitconf_text::NoMemory;
 use std::alloc::Global;

@@ -5,3 +5,4 @@ pub mod Editors
 pub mod Standing
 pub mod Blanks
 pub mod Puts
+pub mod ValueErrors

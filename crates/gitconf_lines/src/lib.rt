@@ -8,4 +8,5 @@ pub mod editor;
 pub mod push;
 pub mod seeking;
 pub mod spacing;
+pub mod value;
 pub mod values;

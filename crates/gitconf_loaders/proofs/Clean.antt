@@ -17,7 +17,7 @@ use Rattle.gitconf_state.specs.Loads.{IsFullLoad}
 use Rattle.gitconf_state.specs.State.{entries_of, is_entry, SectionState, State}
 use Rattle.gitconf_state.proofs.Edits.Keep.{apply_clean, joined_passes, without_entries}
 use Rattle.gitconf_state.proofs.Loading.Clean.{full_is_clean}
-use Rattle.gitconf_parse.proofs.OneDocument.{one_document}
+use Rattle.gitconf_read.proofs.OneDocument.{one_document}
 use Rattle.gitconf_expansion.specs.Expansion.{Asks, Ended, IsLoaded, On}
 use Rattle.gitconf_expansion.specs.Laws.{AreHeaded}
 use Rattle.gitconf_expansion.proofs.States.{headed_stays, IsHeaded, loaded_headed}

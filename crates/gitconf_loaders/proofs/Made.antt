@@ -7,8 +7,8 @@ use Rattle.gitconf_includes.specs.declared.includes.Error.{Error}
 use Rattle.gitconf_includes.specs.declared.includes.Error.TheVariants as refusals
 use Rattle.gitconf_includes.specs.declared.init.Error.{Error as Init}
 use Rattle.gitconf_includes.specs.Errors.{includes_number, init_number, init_of_includes, init_of_parse}
-use Rattle.gitconf_parse.specs.EventResult.{IsRefused}
-use Rattle.gitconf_parse.specs.ParseError.{Refusal}
+use Rattle.gitconf_read.specs.EventResult.{IsRefused}
+use Rattle.gitconf_read.specs.ParseError.{Refusal}
 use Rattle.gitconf_state.specs.State.{State}
 use Rattle.gitconf_expansion.specs.Expansion.{Asks, Ended, Expands, IsLoaded, Leaves, On, Reached, Resolves}
 use Rattle.gitconf_expansion.proofs.Steps.{as_it_was, expands_wanting, leaves_refused}

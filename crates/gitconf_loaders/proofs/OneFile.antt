@@ -12,8 +12,8 @@ use Rattle.gitconf_host.specs.Reports.{FileReport, IsReadOf, IsTrustOf, May, rea
 use Rattle.gitconf_host.specs.declared.fault.FileFault.{FileFault}
 use Rattle.gitconf_host.specs.declared.fault.Stage.{Stage}
 use Rattle.gitconf_host.specs.declared.fault.Stage.TheVariants.{Open, Read, Memory}
-use Rattle.gitconf_parse.specs.EventResult.{IsRefused}
-use Rattle.gitconf_parse.specs.ParseError.{Refusal}
+use Rattle.gitconf_read.specs.EventResult.{IsRefused}
+use Rattle.gitconf_read.specs.ParseError.{Refusal}
 use Rattle.gitconf_state.specs.State.{State}
 use Rattle.gitconf_expansion.specs.Expansion.{IsLoadOf}
 use Rattle.gitconf_refusals.specs.declared.from_paths.Error.{Error}
@@ -21,11 +21,6 @@ use Rattle.gitconf_refusals.specs.declared.from_paths.Error.TheVariants as paths
 use Rattle.gitconf_loaders.specs.Causes.{IsFault, IsFileCause, load_refusal}
 use Rattle.gitconf_refusals.specs.Errors.{paths_number, paths_of_parse}
 use Rattle.gitconf_loaders.specs.Paths.{IsLoadedFrom, IsRead, load_fault, numbered}
-
--- what a call of the host says, the table may say
-pub may : {T : Type 0} (P : T → Type 0) (table : Option T) → IfSome table P → May table P
-may P None told = tt
-may P (Some t) told = told
 
 -- a text that is read is returned by the table
 pub answered : {Z : Type 0} (table : Option (List ℕ → FileReport)) (path : List ℕ) (text : Vec ℕ Z)

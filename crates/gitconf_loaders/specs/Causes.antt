@@ -13,7 +13,7 @@ use Rattle.gitconf_host.specs.declared.fault.FileFault.{FileFault}
 use Rattle.gitconf_host.specs.declared.fault.Stage.TheVariants.{Open, Read, Memory}
 use Rattle.gitconf_includes.specs.declared.init.Error.TheVariants as init
 use Rattle.gitconf_includes.specs.declared.init.Options.{Options}
-use Rattle.gitconf_parse.specs.EventResult.{IsRefused}
+use Rattle.gitconf_read.specs.EventResult.{IsRefused}
 use Rattle.gitconf_expansion.specs.Outcomes.{IsCause, IsFaultOf, IsTextOf}
 use Rattle.gitconf_refusals.specs.declared.from_paths.Error.{Error}
 use Rattle.gitconf_refusals.specs.declared.from_paths.Error.TheVariants as paths

@@ -1,6 +1,5 @@
 pub mod Paths
 pub mod Causes
 pub mod Globals
-pub mod Variables
 pub mod Resolving
 pub mod Urls

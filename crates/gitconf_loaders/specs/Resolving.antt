@@ -6,7 +6,7 @@ use Rattle.gitconf_includes.specs.declared.init.Error.{Error}
 use Rattle.gitconf_includes.specs.declared.init.Error.TheVariants.{Includes, Parse}
 use Rattle.gitconf_includes.specs.declared.init.Options.{Options}
 use Rattle.gitconf_includes.specs.Errors.{init_number}
-use Rattle.gitconf_parse.specs.EventResult.{IsRefused}
+use Rattle.gitconf_read.specs.EventResult.{IsRefused}
 use Rattle.gitconf_state.specs.State.{State}
 use Rattle.gitconf_expansion.specs.Expansion.{Asks, Ended, Expands, IsLoadOf, On, Reached}
 use Rattle.gitconf_expansion.specs.Outcomes.{CountsFault, IsCause}

@@ -1,7 +1,7 @@
 //! A store under expansion.
 ghost use Rattle.std.specs.Prelude.{◌≡◌, map, IfErr, IfOk};
 ghost use Rattle.bstr.specs.Owned.{bstring_bytes};
-ghost use Rattle.gitconf_parse.specs.EventResult.{IsRefused};
+ghost use Rattle.gitconf_read.specs.EventResult.{IsRefused};
 ghost use Rattle.gitconf_views.specs.Views.{shown};
 ghost use Rattle.gitconf_expansion.specs.Expansion.{IsLoaded};
 ghost use Rattle.gitconf_expansion.specs.Inclusion.{paths_of};
@@ -12,8 +12,8 @@ use bstr::BString;
 use gitconf_base::meta::Metadata;
 use gitconf_expansion::config_file::{ConfigFile, Directive, Visited};
 use gitconf_glob::wildmatch;
-use gitconf_parse::error as parse;
-use gitconf_store::gathering::Gathering;
+use gitconf_read::error as parse;
+use gitconf_gathering::gathering::Gathering;
 use gitconf_store::store::Store;
 use gitconf_text::NoMemory;
 use gitconf_text::parse::span;

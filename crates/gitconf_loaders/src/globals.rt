@@ -1,18 +1,17 @@
 //! The configuration of the machine and of the user.
-ghost use Rattle.std.specs.Prelude.{◌≡◌, ◌++◌, false, unwrap_or, List, IfErr, IfOk, OnOk};
-ghost use Rattle.gitconf_base.specs.Metadata.{api_meta, Meta};
+ghost use Rattle.std.specs.Prelude.{◌≡◌, false, unwrap_or, IfErr, IfOk};
+ghost use Rattle.gitconf_base.specs.Metadata.{api_meta};
 ghost use Rattle.gitconf_includes.specs.Rules.{rules_of};
 ghost use Rattle.gitconf_refusals.specs.Errors.{paths_number};
-ghost use Rattle.gitconf_loaders.specs.Globals.{empty_file, found_list, global_sources, home_rules, AreFound, IsFound, IsGlobal, IsGlobalCause};
+ghost use Rattle.gitconf_loaders.specs.Globals.{empty_file, home_rules, IsGlobal, IsGlobalCause};
 ghost use Rattle.gitconf_loaders.specs.Paths.{CountsLoad, numbered};
 
 use crate::paths::{from_paths, shared};
 use gitconf_base::meta::Metadata;
-use gitconf_base::source::{Source, Trust};
 use gitconf_host::{Env, Files, Places};
 use gitconf_includes::includes;
 use gitconf_includes::init::Options;
-use gitconf_places::StorageLocation;
+use gitconf_places::all_found;
 use gitconf_refusals::from_paths::Error;
 use gitconf_store::store::Store;
 use gitconf_text::NoMemory;
@@ -31,93 +30,6 @@ pub fn home_options(places: &Places) -> Options<'_>
         lossy: false,
         ignore_io_errors: false,
     }
-}
-
-/// Where the configuration of a source comes from, or `None` if no file is at its place.
-///
-/// # Errors
-///
-/// Out of memory.
-fn found<F: Files, E: Env>(
-    alloc: Global,
-    files: &mut F,
-    env: &mut E,
-    places: &Places,
-    source: Source,
-) -> Result<Option<Metadata>, NoMemory>
-    ensures found { IfOk result (λ meta. IsFound (E.variables env.old) places.now (F.table files.old) source (found_list meta)) }
-    ensures table { F.table files.new ≡ F.table files.old }
-    ensures counted { F.failures files.new ≡ F.failures files.old }
-    ensures stays { E.variables env.new ≡ E.variables env.old }
-{
-    let Some(path) = source.storage_location(alloc, env, places)? else {
-        return Ok(None);
-    };
-    if !files.is_file(&path) {
-        return Ok(None);
-    }
-    Ok(Some(Metadata {
-        path: Some(path),
-        source,
-        level: 0,
-        trust: Trust::Full,
-    }))
-}
-
-/// Adds the metadata of a source's file to that of the sources before, if there is a file.
-///
-/// # Errors
-///
-/// Out of memory.
-fn find<F: Files, E: Env>(
-    alloc: Global,
-    files: &mut F,
-    env: &mut E,
-    places: &Places,
-    source: Source,
-    metas: &mut Vec<Metadata>,
-) -> Result<(), NoMemory>
-    ensures found { OnOk result ((here : List Meta) × IsFound (E.variables env.old) places.now (F.table files.old) source here
-        × (metas.new.items ≡ metas.old.items ++ here)) }
-    ensures table { F.table files.new ≡ F.table files.old }
-    ensures counted { F.failures files.new ≡ F.failures files.old }
-    ensures stays { E.variables env.new ≡ E.variables env.old }
-{
-    if let Some(meta) = found(alloc, files, env, places, source)? {
-        metas.push(meta)?;
-    }
-    Ok(())
-}
-
-/// The same for all sources whose configuration is not that of one repository, in the order in which Git reads them.
-///
-/// # Errors
-///
-/// Out of memory.
-fn all_found<F: Files, E: Env>(
-    alloc: Global,
-    files: &mut F,
-    env: &mut E,
-    places: &Places,
-) -> Result<Vec<Metadata>, NoMemory>
-    ensures found { IfOk result (λ metas. AreFound (E.variables env.old) places.now (F.table files.old) global_sources metas.items) }
-    ensures table { F.table files.new ≡ F.table files.old }
-    ensures counted { F.failures files.new ≡ F.failures files.old }
-    ensures stays { E.variables env.new ≡ E.variables env.old }
-{
-    let mut metas = Vec::new(alloc);
-    find(
-        alloc,
-        files,
-        env,
-        places,
-        Source::GitInstallation,
-        &mut metas,
-    )?;
-    find(alloc, files, env, places, Source::System, &mut metas)?;
-    find(alloc, files, env, places, Source::Git, &mut metas)?;
-    find(alloc, files, env, places, Source::User, &mut metas)?;
-    Ok(metas)
 }
 
 /// The file, or an empty one from the calling program.

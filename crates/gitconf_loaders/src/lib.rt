@@ -1,5 +1,4 @@
-//! The includes of a file that a store keeps; files that are loaded by their paths or by the places of sources, and the entries that
-//! variables set.
+//! The includes of a file that a store keeps; files that are loaded by their paths or by the places of sources.
 #![tactic(auto)]
 
 mod expansion;
@@ -7,4 +6,3 @@ pub mod globals;
 pub mod laws;
 pub mod paths;
 pub mod resolving;
-pub mod variables;

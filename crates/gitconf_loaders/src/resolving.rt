@@ -13,7 +13,7 @@ use gitconf_host::Files;
 use gitconf_includes::includes::Error;
 use gitconf_includes::init;
 use gitconf_includes::init::Options;
-use gitconf_store::gathering::Gathering;
+use gitconf_gathering::gathering::Gathering;
 use gitconf_store::store::Store;
 use std::alloc::Global;
 use std::rc::Rc;

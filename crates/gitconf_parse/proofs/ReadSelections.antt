@@ -8,7 +8,7 @@ use Rattle.gitconf_items.specs.Events.{token_of}
 use Rattle.gitconf_items.specs.ShownEvents.{IsShown}
 use Rattle.gitconf_items.specs.EventList.{IsSelected, EventsFit}
 use Rattle.gitconf_items.proofs.Selections.{selection_all}
-use Rattle.gitconf_parse.specs.Parsing.{IsRead}
+use Rattle.gitconf_read.specs.Parsing.{IsRead}
 
 -- the events that were read of a text, in a buffer that is the text
 pub read_selected : (input buffer : List ℕ) (events others : List Event) → buffer ≡ input → IsRead input events → map (token_of buffer) others ≡ map (token_of buffer) events

@@ -3,7 +3,7 @@ use Rattle.std.specs.Prelude.{List, map}
 use Rattle.gitconf_parse.specs.declared.events.iters.EventIter.{EventIter}
 use Rattle.gitconf_parse.specs.declared.events.iters.SectionRef.{SectionRef}
 use Rattle.gitconf_parse.specs.declared.events.iters.SectionIter.{SectionIter}
-use Rattle.gitconf_parse.specs.Compact.{events_of}
+use Rattle.gitconf_read.specs.Compact.{events_of}
 use Rattle.gitconf_items.specs.EventRef.{Shown}
 use Rattle.gitconf_items.specs.ShownEvents.{shown_event}
 use Rattle.gitconf_items.specs.Sections.{is_header_event, sections_of}

@@ -1,9 +1,1 @@
-pub mod Compact
-pub mod Reading
-pub mod Parsing
-pub mod ParseError
-pub mod ParseCause
-pub mod EventResult
 pub mod EventIters
-pub mod Stretches
-pub mod ItemReading

@@ -1,27 +1,21 @@
 //! The events of a whole text, in a buffer of their own.
-ghost use Rattle.std.specs.Prelude.{◌≡◌, ◌↔◌, ◌≤◌, ◌<◌, ◌^◌, [], List, ℕ, Bool, true, length, map, IfOk, IfErr, IsOk, OnOk};
-ghost use Rattle.std.specs.Option.{ForSome, ForNone};
-ghost use Rattle.gitconf_text.specs.Document.{Document, Reads};
-ghost use Rattle.gitconf_text.specs.Stuck.{IsStuck};
-ghost use Rattle.gitconf_items.specs.EventRef.{Shown, shown};
-ghost use Rattle.gitconf_parse.specs.Parsing.{IsRead};
-ghost use Rattle.gitconf_parse.specs.ParseError.{too_large_input};
-ghost use Rattle.gitconf_items.specs.EventList.{IsParsed};
-ghost use Rattle.gitconf_parse.specs.EventResult.{IsRefusal, IsRefused};
+ghost use Rattle.std.specs.Prelude.{◌<◌, ◌^◌, length, IfOk, IfErr, OnOk};
+ghost use Rattle.gitconf_read.specs.Parsing.{IsRead};
+ghost use Rattle.gitconf_read.specs.EventResult.{IsRefused};
 
-pub(crate) mod decode;
 mod filter;
 mod iters;
 
-use crate::compact::EventVec;
-use crate::error::Error;
 use crate::grouping::grouped;
-use crate::reading::{Fault, ReadError, read};
 pub use filter::keeps_meaning;
 use filter::kept_events;
 use gitconf_items::event_ref::EventRef;
 use gitconf_items::few::FewItems;
 use gitconf_items::section_sink::SectionSink;
+use gitconf_read::compact::EventVec;
+use gitconf_read::error::Error;
+use crate::input::{check_len, copied, copied_with_room, refusal};
+use gitconf_read::reading::{ReadError, read};
 use gitconf_text::NoMemory;
 pub use iters::{EventIter, SectionIter, SectionRef};
 use std::alloc::Global;
@@ -40,13 +34,7 @@ pub struct Events {
 impl Drop for Events {
     // By hand, so that each way out of a function is one call: a derived one is proved there part by part.
     fn drop(self) {
-        let Events {
-            buffer,
-            copies,
-            events,
-            keeps_entries: _,
-        } = self;
-        drop((buffer, copies, events));
+        drop(self.into_parts());
     }
 }
 
@@ -64,57 +52,6 @@ impl Model for Events {
     } };
 
     ghost invariant = { λ e. EventsFit e.buffer.items e.copies.items e.events e.keeps_entries };
-}
-
-/// Refuses an input of more than 4294967295 bytes.
-///
-/// # Errors
-///
-/// Refusal 2, with that length.
-pub fn check_len(len: usize) -> Result<(), Error>
-    ensures large { IfErr result (λ e. e ≡ too_large_input len) }
-    ensures fits { IsOk result ↔ (len < 2 ^ 32) }
-{
-    if len > u32::MAX as usize {
-        return Err(Error::too_large(len));
-    }
-    Ok(())
-}
-
-/// The refusal of a text that can't be read on at a fault.
-pub(crate) fn refusal(alloc: Global, input: &[u8], fault: Fault) -> Error
-    requires { fault.at ≤ length input.now }
-    ensures { IsRefusal input.now fault result }
-{
-    let (before, remaining) = input.split_at(fault.at);
-    let line_feeds = before.iter().filter(|byte| **byte == b'\n').count();
-    match copied(alloc, remaining) {
-        Ok(remaining) => Error::unexpected(line_feeds + 1, fault.expected, remaining),
-        Err(_) => Error::memory(),
-    }
-}
-
-/// A copy of a text.
-fn copied(alloc: Global, input: &[u8]) -> Result<Vec<u8>, NoMemory>
-    ensures items { IfOk result (λ copy. copy.items ≡ input.now) }
-{
-    Ok(Vec::from_slice(alloc, input)?)
-}
-
-/// How much room, in bytes, a copy has for more: enough for some edits of the text.
-const ROOM: usize = 4096;
-
-/// A copy of a text with room after it, so that the first edits copy nothing.
-///
-/// # Errors
-///
-/// Out of memory.
-pub fn copied_with_room(alloc: Global, input: &[u8]) -> Result<Vec<u8>, NoMemory>
-    ensures items { IfOk result (λ copy. copy.items ≡ input.now) }
-{
-    let mut copy = Vec::with_capacity(alloc, input.len().saturating_add(ROOM))?;
-    copy.extend_from_slice(input)?;
-    Ok(copy)
 }
 
 /// The events of a text that has a document.
@@ -142,10 +79,25 @@ impl Events {
     ghost use Rattle.gitconf_items.specs.ShownEvents.{shown_token};
     ghost use Rattle.gitconf_items.specs.Sections.{is_shown_header, front_of, sections_of};
     ghost use Rattle.gitconf_parse.specs.EventIters.{events_left, sections_left};
-    ghost use Rattle.gitconf_items.specs.EventList.{IsParsed, IsWhole, IsFiltered, IsSelected};
-    ghost use Rattle.gitconf_parse.specs.EventResult.{IsRefused};
+    ghost use Rattle.gitconf_items.specs.EventList.{EventsFit, IsParsed, IsWhole, IsFiltered, IsSelected};
+    ghost use Rattle.gitconf_items.specs.Events.{token_of};
     ghost use Rattle.gitconf_items.specs.Items.{tokens_of_items};
     ghost use Rattle.gitconf_items.specs.ItemsFit.{AreItemsWithin};
+
+    /// The text, the decoded subsections, and the events.
+    fn into_parts(self) -> (Vec<u8>, Vec<u8>, EventVec)
+        ensures fits { EventsFit result.0.items result.1.items result.2 self.keeps_entries }
+        ensures tokens { map (token_of result.0.items) result.2 ≡ self.tokens }
+        ensures used { length result.0.items ≡ self.used }
+    {
+        let Events {
+            buffer,
+            copies,
+            events,
+            keeps_entries: _,
+        } = self;
+        (buffer, copies, events)
+    }
 
     /// All events of a text.
     fn whole(alloc: Global, input: &[u8]) -> Result<Events, Error>
@@ -174,20 +126,9 @@ impl Events {
         // With any filter.
         ensures selected { IfOk result (λ e. (input : List ℕ) → IsSelected input self → IsSelected input e) }
     {
-        let (events, keeps_entries) = kept_events(
-            alloc,
-            &self.buffer,
-            &self.copies,
-            self.events.as_slice(),
-            filter,
-        )?;
-        let Events {
-            buffer,
-            copies,
-            events: all,
-            keeps_entries: _,
-        } = self;
-        drop(all);
+        let (buffer, copies, all) = self.into_parts();
+        let (events, keeps_entries) =
+            kept_events(alloc, &buffer, &copies, all.as_slice(), filter)?;
         Ok(Events {
             buffer,
             copies,
@@ -267,14 +208,8 @@ impl Events {
         ensures used { IfOk result (λ r. length r.0.items ≡ self.used) }
         ensures fits { IfOk result (λ r. length r.0.items < 2 ^ 32) }
     {
-        let front = grouped(alloc, &self.buffer, self.events.as_slice(), sections)?;
-        let Events {
-            buffer,
-            copies,
-            events,
-            keeps_entries: _,
-        } = self;
-        drop((copies, events));
+        let (buffer, _, events) = self.into_parts();
+        let front = grouped(alloc, &buffer, events.as_slice(), sections)?;
         Ok((buffer, front))
     }
 

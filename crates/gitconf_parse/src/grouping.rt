@@ -7,9 +7,9 @@ ghost use Rattle.gitconf_items.specs.ItemsFit.{EventsWithin, AreItemsWithin, Ass
 ghost use Rattle.gitconf_items.specs.Items as spec;
 ghost use Rattle.gitconf_items.specs.Items.{item_of, assigned_of};
 ghost use Rattle.gitconf_items.specs.Grouping.{Between, BehindName, BehindNameBlanks, BehindSeparator, BehindSeparatorBlanks, BehindPiece, BehindPieceEnd, are_items, AreBehind};
-ghost use Rattle.gitconf_parse.specs.Compact.{events_of};
+ghost use Rattle.gitconf_read.specs.Compact.{events_of};
 
-use crate::compact::EventSlice;
+use gitconf_read::compact::EventSlice;
 use gitconf_items::entry::{Assigned, Entry, EntryParts, Piece, Value};
 use gitconf_items::event::{Event, Span, is_header};
 use gitconf_items::few::{FewItems, taken};

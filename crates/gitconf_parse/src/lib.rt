@@ -1,10 +1,8 @@
-//! The parser of git-config files: from bytes to events.
+//! The parser of git-config files: a text as events, or as items section by section.
 #![tactic(auto)]
 
-mod compact;
-pub mod error;
 pub mod events;
 mod grouping;
+pub mod input;
 pub mod laws;
 pub mod loading;
-mod reading;

@@ -3,19 +3,19 @@ ghost use Rattle.std.specs.Prelude.{◌≡◌, ◌<◌, ◌≤◌, ◌^◌, ◌+
 ghost use Rattle.gitconf_text.specs.Part.{Part};
 ghost use Rattle.gitconf_text.specs.Document.{IsText};
 ghost use Rattle.gitconf_text.specs.Token.{tokens_of};
-ghost use Rattle.gitconf_parse.specs.declared.reading.Expected.{Expected};
-ghost use Rattle.gitconf_parse.specs.declared.reading.Expected.TheVariants.{SectionHeader};
-ghost use Rattle.gitconf_parse.specs.EventResult.{IsRefused};
+ghost use Rattle.gitconf_read.specs.declared.reading.Expected.{Expected};
+ghost use Rattle.gitconf_read.specs.declared.reading.Expected.TheVariants.{SectionHeader};
+ghost use Rattle.gitconf_read.specs.EventResult.{IsRefused};
 ghost use Rattle.gitconf_items.specs.Items.{tokens_of_items};
 ghost use Rattle.gitconf_items.specs.ItemsFit.{AreItemsWithin};
-ghost use Rattle.gitconf_parse.specs.Parsing.{IsMisread};
-ghost use Rattle.gitconf_parse.specs.Stretches.{IsBreak, IsReadOn};
+ghost use Rattle.gitconf_read.specs.Parsing.{IsMisread};
+ghost use Rattle.gitconf_read.specs.Stretches.{IsBreak, IsReadOn};
 ghost use Rattle.gitconf_items.specs.TokenDocument.{tokens_kept};
 
-use crate::error::Error;
-use crate::events::refusal;
-use crate::reading::item::{header_first, push_items};
-use crate::reading::{Expected, ReadError, mark_len};
+use gitconf_read::error::Error;
+use crate::input::refusal;
+use gitconf_read::reading::item::{header_first, push_items};
+use gitconf_read::reading::{Expected, ReadError, mark_len};
 use gitconf_items::few::{FewItems, taken};
 use gitconf_items::items::{Item, Keep};
 use gitconf_items::section_sink::SectionSink;

@@ -2,7 +2,7 @@
 
 use gitconf_items::event::Span;
 use gitconf_items::sink::SinkFault;
-use gitconf_parse::error::{Error, Expected};
+use gitconf_read::error::{Error, Expected};
 use gitconf_text::parse::span;
 use std::alloc::{AllocError, Global};
 use std::test::Fail;

@@ -6,10 +6,10 @@ use Rattle.gitconf_text.specs.declared.parse.section.header.Error.TheVariants as
 use Rattle.gitconf_values.specs.Homes.{interpolate_number}
 use Rattle.gitconf_values.specs.declared.path.interpolate.Error.{Error as Interpolate}
 use Rattle.gitconf_values.specs.declared.path.interpolate.Error.TheVariants as interpolate
-use Rattle.gitconf_parse.specs.ParseError.{Refusal}
-use Rattle.gitconf_views.specs.ValueErrors.{value_number}
-use Rattle.gitconf_views.specs.declared.section.value.Error.{Error as Value}
-use Rattle.gitconf_views.specs.declared.section.value.Error.TheVariants as value
+use Rattle.gitconf_read.specs.ParseError.{Refusal}
+use Rattle.gitconf_lines.specs.ValueErrors.{value_number}
+use Rattle.gitconf_lines.specs.declared.value.Error.{Error as Value}
+use Rattle.gitconf_lines.specs.declared.value.Error.TheVariants as value
 use Rattle.gitconf_includes.specs.Errors.{includes_number, init_number}
 use Rattle.gitconf_includes.specs.declared.includes.Error.{Error as Includes}
 use Rattle.gitconf_includes.specs.declared.includes.Error.TheVariants as includes

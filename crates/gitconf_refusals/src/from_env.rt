@@ -5,7 +5,7 @@ use gitconf_includes::includes;
 use gitconf_text::NoMemory;
 use gitconf_text::parse::section::header;
 use gitconf_values::path::interpolate;
-use gitconf_views::section::value;
+use gitconf_lines::value;
 use thiserror::Error;
 
 /// Why the entries of variables of the environment are refused. Entries are counted from 0.

@@ -3,7 +3,7 @@ ghost use Rattle.std.specs.Prelude.{◌≡◌};
 
 use gitconf_host::FileFault;
 use gitconf_includes::init;
-use gitconf_parse::error as parse;
+use gitconf_read::error as parse;
 use gitconf_text::NoMemory;
 use gitconf_text::parse::span;
 use thiserror::Error;

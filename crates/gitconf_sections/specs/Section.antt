@@ -7,7 +7,7 @@ use Rattle.gitconf_base.specs.Metadata.{Meta}
 use Rattle.gitconf_items.specs.declared.event.Header.{Header}
 use Rattle.gitconf_items.specs.declared.items.Item.{Item}
 use Rattle.gitconf_items.specs.contracts.items.ItemClone.TheImpl as item
-use Rattle.gitconf_table.specs.Pairs.{EachTwo}
+use Rattle.gitconf_index.specs.Pairs.{EachTwo}
 use Rattle.gitconf_text.specs.Sections.{SectionEntry, Sections, edited_at}
 use Rattle.gitconf_sections.specs.declared.body.Body.{Body}
 use Rattle.gitconf_sections.specs.declared.body.Body.TheVariants.{Listed, Nothing, Own}

@@ -14,8 +14,8 @@ use gitconf_compared::setting::{Setting, Side};
 use gitconf_items::entry::Entry;
 use gitconf_text::NoMemory;
 use gitconf_views::section::{SectionRef, Sections};
-use gitconf_views::values::entry_value;
-use gitconf_views::views::next_entry;
+use gitconf_entries::values::entry_value;
+use gitconf_entries::entries::next_entry;
 use std::alloc::Global;
 
 /// A name as names are compared: in lower case.

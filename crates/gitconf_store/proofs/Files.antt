@@ -2,6 +2,4 @@
 pub mod Cloning
 pub mod Appending
 pub mod AppendedFiles
-pub mod GatheredLists
-pub mod Gathered
 pub mod Woven

@@ -8,5 +8,4 @@ pub mod RenameErrors
 pub mod Renamings
 pub mod NewSections
 pub mod Appends
-pub mod Gathering
 pub mod LeavingOut

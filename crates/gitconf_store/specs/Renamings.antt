@@ -45,10 +45,6 @@ with_headers header (at ∷ places) all = with_headers header places (edited_at 
 abbrev pub with_renamed : (marks : List Bool) → (name : List ℕ) → (subsection : Option (List ℕ)) → State → State
 with_renamed marks name subsection state = with_sections (marked marks (renamed name subsection) state.sections) state
 
--- the numbers of the refusals that making a header can have
-abbrev pub header_numbers : List ℕ
-header_numbers = 3 ∷ 4 ∷ 5 ∷ 27 ∷ []
-
 -- At most the bytes of a header are added to the buffer. Refusal 3 comes if and only if the names may be a header's and its bytes would
 -- pass the limit.
 pub record HeaderGrows {T : Type 0} (name : List ℕ) (subsection : Option (List ℕ)) (result : Result T HeaderError) (old new : ℕ) : Type 0 where

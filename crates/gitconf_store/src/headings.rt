@@ -13,7 +13,7 @@ use gitconf_items::event::Header;
 use gitconf_sections::sections::SectionList;
 use gitconf_table::table::SectionId;
 use gitconf_text::NoMemory;
-use gitconf_views::lists::put;
+use gitconf_base::lists::put;
 use std::alloc::Global;
 
 /// Adds the place of the section of a number, if one has it, to others.

@@ -2,7 +2,6 @@
 #![tactic(auto)]
 
 mod equality;
-pub mod gathering;
 mod headings;
 pub mod laws;
 pub mod rename_section;

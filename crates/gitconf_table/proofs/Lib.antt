@@ -1,12 +1,7 @@
 pub mod SectionLemmas
 pub mod TableClones
-pub mod Chains
-pub mod Moves
-pub mod LinkLemmas
-pub mod Walks
 pub mod TableLemmas
 pub mod RowLemmas
 pub mod RenamingLemmas
 pub mod Worked
-pub mod Woven
 pub mod WovenTables

@@ -5,10 +5,9 @@ use Rattle.std.specs.List.{AllByRecursion}
 use Rattle.gitconf_text.specs.Bytes.{fold}
 use Rattle.gitconf_table.specs.declared.letters.Names.{Names}
 use Rattle.gitconf_table.specs.declared.table.Row.{Row}
-use Rattle.gitconf_table.specs.declared.index.Link.{Link}
 use Rattle.gitconf_table.specs.Letters.{name_part, part_of, subsection_part, ArePut, NamesFit}
-use Rattle.gitconf_table.specs.Links.{words_of}
-use Rattle.gitconf_table.specs.Renames.{named_at, named_each, set_each, with_names_at}
+use Rattle.gitconf_index.specs.Words.{set_each}
+use Rattle.gitconf_table.specs.Renames.{named_at, named_each, with_names_at}
 use Rattle.gitconf_table.specs.Rows.{entries_of, entry_of_row, RowsFit}
 use Rattle.gitconf_text.specs.Sections.{SectionEntry, Sections, changed_at}
 use Rattle.gitconf_table.specs.Tables.{IsTable}
@@ -19,22 +18,6 @@ use Rattle.gitconf_table.proofs.TableLemmas.{table_renamed}
 -- places stay within a list as long
 pub places_within : (m n : ℕ) (places : List ℕ) → n ≡ m → AllByRecursion (λ at. at < m) places → AllByRecursion (λ at. at < n) places
 places_within m n places same all = subst (λ k. AllByRecursion (λ at. at < k) places) (sym same) all
-
-pub first_within : (n at : ℕ) (places rest : List ℕ) → places ≡ at ∷ rest → AllByRecursion (λ at. at < n) places → (at < n) × AllByRecursion (λ at. at < n) rest
-first_within n at places rest is all = let both : AllByRecursion (λ at. at < n) (at ∷ rest) = rw is at all in (both.0, both.1)
-
--- a step of the loop over words
-pub word_set : (words places rest : List ℕ) (at word : ℕ) → places ≡ at ∷ rest → set_each words places word ≡ set_each (set words at word) rest word
-word_set words places rest at word is = ap (λ ps. set_each words ps word) is
-
--- if there is no word, none is set
-none_each : (places : List ℕ) (word : ℕ) → [] ≡ set_each [] places word
-none_each [] word = refl
-none_each (at ∷ places) word = none_each places word
-
-pub none_set : (links : List Link) (places : List ℕ) (word : ℕ) → length links ≡ 0 → words_of links ≡ set_each (words_of links) places word
-none_set [] places word none = none_each places word
-none_set (l ∷ links) places word none = absurd (omega (arith, none))
 
 module _ {T : Type 0} where
   -- a step of the loop over rows

@@ -2,13 +2,6 @@ pub mod Letters
 pub mod Rows
 pub mod SectionIters
 pub mod SectionLoan
-pub mod Words
-pub mod Links
-pub mod Moves
-pub mod Walk
-pub mod WordIndexes
 pub mod Word
 pub mod Tables
 pub mod Renames
-pub mod Runs
-pub mod Pairs

@@ -1,5 +1,5 @@
 -- Several sections with other names.
-use Rattle.std.specs.Prelude.{ℕ, zero, suc, List, [], ◌∷◌, Option, slice_set}
+use Rattle.std.specs.Prelude.{ℕ, zero, suc, List, [], ◌∷◌, Option}
 use Rattle.gitconf_table.specs.declared.letters.Names.{Names}
 use Rattle.gitconf_table.specs.declared.table.Row.{Row}
 use Rattle.gitconf_text.specs.Sections.{Sections, with_names}
@@ -8,11 +8,6 @@ use Rattle.gitconf_text.specs.Sections.{Sections, with_names}
 abbrev pub with_names_at : {T : Type 0} → Sections T → (places : List ℕ) → (name : List ℕ) → (subsection : Option (List ℕ)) → Sections T
 with_names_at all [] name subsection = all
 with_names_at all (at ∷ places) name subsection = with_names_at (with_names all at name subsection) places name subsection
-
--- the words with another word at these places
-abbrev pub set_each : (words places : List ℕ) → (word : ℕ) → List ℕ
-set_each words [] word = words
-set_each words (at ∷ places) word = set_each (slice_set words at word) places word
 
 -- the rows with other places of names for one row
 abbrev pub named_at : {T : Type 0} → Names → List (Row T) → (at : ℕ) → List (Row T)

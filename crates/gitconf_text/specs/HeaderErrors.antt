@@ -1,5 +1,5 @@
 -- What the refusals of a made header are.
-use Rattle.std.specs.Prelude.{ℕ, ◌==◌, if◌then◌else◌}
+use Rattle.std.specs.Prelude.{ℕ, ◌==◌, List, [], ◌∷◌, if◌then◌else◌}
 use Rattle.gitconf_text.specs.declared.parse.section.header.Error.{Error}
 use Rattle.gitconf_text.specs.declared.parse.section.header.Error.TheVariants.{InvalidName, InvalidSubSection, Span, Memory}
 
@@ -13,3 +13,7 @@ header_number Memory = 27
 -- the refusal of a header for a refused span: running out of memory has a case of its own
 abbrev pub of_span : (number : ℕ) → Error
 of_span number = if number == 27 then Memory else Span number
+
+-- the numbers of the refusals that making a header can have
+abbrev pub header_numbers : List ℕ
+header_numbers = 3 ∷ 4 ∷ 5 ∷ 27 ∷ []

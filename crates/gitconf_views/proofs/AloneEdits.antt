@@ -30,8 +30,8 @@ use Rattle.gitconf_views.specs.Alone.{detached_of, made_alone, whole, with_items
 use Rattle.gitconf_copying.specs.Copies.{header_size, items_size}
 use Rattle.gitconf_views.specs.Growth.{UsedGrows}
 use Rattle.gitconf_views.specs.Store.{section_under}
-use Rattle.gitconf_views.specs.ValueErrors.{edit_numbers, of_span, value_number}
-use Rattle.gitconf_views.specs.declared.section.value.Error.TheVariants.{Memory, Span}
+use Rattle.gitconf_lines.specs.ValueErrors.{edit_numbers, of_span, value_number}
+use Rattle.gitconf_lines.specs.declared.value.Error.TheVariants.{Memory, Span}
 use Rattle.gitconf_views.proofs.Append.{header_more, header_shown_more}
 
 -- its header in the longer buffer

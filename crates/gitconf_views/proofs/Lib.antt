@@ -1,12 +1,9 @@
 pub mod Viewing
-pub mod BodyLaws
 pub mod Counting
 pub mod Texts
 pub mod Append
-pub mod Entries
 pub mod PoppedKeys
 pub mod SectionReads
-pub mod Outcomes
 pub mod Detaching
 pub mod AloneEdits
 pub mod AloneLaws

@@ -1,36 +1,19 @@
 -- The key of an entry that was taken out is a name.
-use Rattle.std.proofs.Common.{◌≡◌, ℕ, zero, suc, true, List, [], ◌∷◌, map, Option, Some, None, Result, Ok, Err, sym, subst, arith}
+use Rattle.std.proofs.Common.{◌≡◌, ℕ, zero, suc, true, List, [], ◌∷◌, map, Option, Some, None, Result, Ok, Err, sym, subst}
 use Rattle.std.specs.Prelude.{IfOk, IfSome}
-use Rattle.std.specs.Char.{is_ascii_alphabetic}
 use Rattle.std.specs.List.{AllByRecursion, list_all, slice_get}
 use Rattle.std.specs.Option.{option_map}
-use Rattle.std.specs.Str.{IsUtf8}
 use Rattle.std.specs.declared.alloc.Global.{Global}
 use Rattle.std.specs.declared.vec.Vec.{Vec}
-use Rattle.std.proofs.lemmas.Bool.Decides.{nat_tests}
-use Rattle.gitconf_text.specs.Bytes.{is_name_byte}
-use Rattle.gitconf_text.specs.Names.{is_made_name, is_value_name}
+use Rattle.gitconf_text.specs.Names.{is_value_name}
 use Rattle.gitconf_text.specs.Part as parts
-use Rattle.gitconf_text.proofs.NamesLaws.{IsUtf8-made_name}
-use Rattle.gitconf_text.proofs.Tests.{both_true}
 use Rattle.gitconf_text.specs.Sections.{SectionEntry}
 use Rattle.gitconf_state.specs.Editors.{popped_entry}
 use Rattle.gitconf_state.specs.State.{HasSectionItems, is_item}
 use Rattle.gitconf_state.proofs.Edits.EditorItems.{popped_named}
-use Rattle.gitconf_state.proofs.Loading.Filters.{both_hold}
 use Rattle.gitconf_items.specs.Items.{items_of}
 use Rattle.gitconf_sections.specs.Section.{Section}
 use Rattle.gitconf_views.specs.Store.{section_state}
-
--- a name of a value is text
-letter_names : (b : ℕ) → is_ascii_alphabetic b ≡ true → is_name_byte b ≡ true
-letter_names b letter = grind (arith, nat_tests)
-
-pub value_name_text : (name : List ℕ) → is_value_name name ≡ true → IsUtf8 name
-value_name_text [] named = absurd (cc)
-value_name_text (b ∷ bs) named =
-    let parts = both_true (is_ascii_alphabetic b) (is_made_name bs) named in
-    IsUtf8-made_name (b ∷ bs) (both_hold (is_name_byte b) (is_made_name bs) (letter_names b parts.0) parts.1)
 
 -- what the items of a section at a place are
 pub items_at : (b : List ℕ) (s : Section) (es : List (SectionEntry Section)) (at : ℕ) → AllByRecursion HasSectionItems (map (section_state b) es)

@@ -18,7 +18,7 @@ use Rattle.gitconf_items.specs.Items.{items_of}
 use Rattle.gitconf_copying.specs.Copies.{header_size, items_size}
 use Rattle.gitconf_sections.specs.Section.{Section}
 use Rattle.gitconf_views.specs.declared.section.Section.{Section as Own}
-use Rattle.gitconf_views.specs.ValueErrors.{edit_numbers}
+use Rattle.gitconf_lines.specs.ValueErrors.{edit_numbers}
 use Rattle.gitconf_views.specs.Store.{section_under}
 
 -- a section without what is held after it

@@ -1,12 +1,9 @@
 pub mod Store
 pub mod Viewed
-pub mod Bodies
 pub mod Views
 pub mod Counts
 pub mod Texts
 pub mod Alone
-pub mod ValueErrors
 pub mod AloneEditors
-pub mod Found
 pub mod Growth
 pub mod ItemMeanings

@@ -21,7 +21,7 @@ pub mod editor;
 mod editor_views;
 mod writing;
 
-use crate::lists::bytes_of;
+use gitconf_base::lists::bytes_of;
 use crate::section;
 use crate::section::{SectionRef, shared};
 use bstr::BString;

@@ -3,9 +3,6 @@
 
 mod debug;
 pub mod detached;
-pub mod lists;
-pub mod popped;
 pub mod section;
 pub mod tables;
-pub mod values;
 pub mod views;

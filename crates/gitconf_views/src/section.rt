@@ -4,10 +4,8 @@ ghost use Rattle.gitconf_sections.specs.Section.{seen_as};
 ghost use Rattle.gitconf_sections.specs.Walks as walks;
 ghost use Rattle.gitconf_views.specs.Viewed.{AreViewed, AreViewed-prop, IsViewed, IsViewed-prop};
 
-pub mod value;
-
 use crate::tables::view_of;
-use crate::values::entry_meaning;
+use gitconf_entries::values::entry_meaning;
 use bstr::BString;
 use gitconf_base::meta::Metadata;
 use gitconf_base::source::Trust;
@@ -90,7 +88,7 @@ impl<'a> SectionRef<'a> {
     ghost use Rattle.gitconf_items.specs.Items.{tokens_in};
     ghost use Rattle.gitconf_text.specs.LineEnds.{bytes_of_line_end};
     ghost use Rattle.gitconf_items.specs.ItemEvents.{events_left};
-    ghost use Rattle.gitconf_views.specs.Found.{IsFound};
+    ghost use Rattle.gitconf_base.specs.Found.{IsFound};
     ghost use Rattle.gitconf_views.specs.ItemMeanings.{meaning_at};
     ghost use Rattle.gitconf_views.specs.Texts.{whole_text};
     ghost use Rattle.gitconf_views.specs.Views.{shown};

@@ -1,100 +1,28 @@
 //! Views of a section's header and of its body, and walks over its entries.
-ghost use Rattle.std.specs.Prelude.{◌≡◌, ◌<◌, ℕ, List, true, length, IfSome, MatchOption, [], ◌∷◌};
-ghost use Rattle.std.specs.List.{count_by, list_all};
-ghost use Rattle.gitconf_lines.specs.Spacings.{is_stored_entry};
+ghost use Rattle.std.specs.Prelude.{◌≡◌, true, length, []};
+ghost use Rattle.std.specs.List.{list_all};
 ghost use Rattle.bstr.specs.Owned.{bstring_bytes};
 ghost use Rattle.gitconf_text.specs.Document.{document_entry};
 ghost use Rattle.gitconf_text.specs.Names.{is_value_name};
 ghost use Rattle.gitconf_items.specs.Events.{bytes_of};
 ghost use Rattle.gitconf_items.specs.Items.{entry_of, items_of};
 ghost use Rattle.gitconf_state.specs.State.{entries_of, is_item};
-ghost use Rattle.gitconf_views.specs.Bodies.{IsEntryItem, has_key, values_in, AreFound};
+ghost use Rattle.gitconf_entries.specs.Bodies.{IsEntryItem, has_key, values_in, AreFound};
 ghost use Rattle.gitconf_views.specs.Viewed.{IsHeaderViewed, IsHeaderViewed-prop};
 ghost use Rattle.std.proofs.Math.Bool.{Bool-set};
 
 use crate::section::SectionRef;
-use crate::values::{entry_meaning, entry_value, last_entry};
 use bstr::BString;
+use gitconf_entries::entries::{contains_key, entry_count, meanings, name_text, next_entry};
+use gitconf_entries::values::{entry_meaning, entry_value, last_entry};
 use gitconf_items::entry::Entry;
 use gitconf_items::event::Header;
 use gitconf_items::items::Item;
 use gitconf_items::lend::subsection_name;
-use gitconf_lines::seeking::is_named;
 use gitconf_text::NoMemory;
 use gitconf_write::sections::write_header;
 use std::alloc::Global;
 use std::iter::FusedIterator;
-
-/// The first entry of items, and the items after it.
-pub fn next_entry(items: &[Item]) -> Option<(&Entry, &[Item])>
-    ensures entry { (buffer : List ℕ) → MatchOption result (entries_of (items_of buffer items.now) ≡ [])
-        (λ r. entries_of (items_of buffer items.now) ≡ document_entry (entry_of buffer r.0.now) ∷ entries_of (items_of buffer r.1.now)) }
-    ensures fits { (buffer : List ℕ) → list_all is_item (items_of buffer items.now) ≡ true
-        → IfSome result (λ r. (is_value_name (bytes_of buffer r.0.now.name) ≡ true) × (list_all is_item (items_of buffer r.1.now) ≡ true)) }
-    ensures fewer { IfSome result (λ r. length r.1.now < length items.now) }
-{
-    let mut rest = items;
-    while let Some((item, behind)) = rest.split_first() {
-        if let Item::Entry(entry) = item {
-            return Some((entry, behind));
-        }
-        rest = behind;
-    }
-    None
-}
-
-/// The name of an entry, as text.
-fn name_text<'a>(buffer: &'a [u8], entry: &Entry) -> &'a str
-    requires { is_value_name (bytes_of buffer.now entry.now.name) ≡ true }
-    ensures { result.now ≡ bytes_of buffer.now entry.now.name }
-{
-    str::from_utf8(entry.name().bytes_in(buffer)).unwrap()
-}
-
-/// What all entries of a key mean, in order.
-fn meanings(
-    alloc: Global,
-    buffer: &[u8],
-    items: &[Item],
-    key: &[u8],
-) -> Result<Vec<BString>, NoMemory>
-    ensures { AreFound result (values_in key.now (entries_of (items_of buffer.now items.now))) }
-{
-    let mut values = Vec::new(alloc);
-    let mut rest = items;
-    while let Some((entry, behind)) = next_entry(rest) {
-        if is_named(buffer, entry.name(), key) {
-            let value = entry_meaning(alloc, buffer, entry)?;
-            values.push(value)?;
-        }
-        rest = behind;
-    }
-    Ok(values)
-}
-
-/// Whether there is an entry of a key.
-fn contains_key(buffer: &[u8], items: &[Item], key: &[u8]) -> bool
-    ensures { result ≡ has_key key.now (entries_of (items_of buffer.now items.now)) }
-{
-    let mut rest = items;
-    while let Some((entry, behind)) = next_entry(rest) {
-        if is_named(buffer, entry.name(), key) {
-            return true;
-        }
-        rest = behind;
-    }
-    false
-}
-
-/// How many of the items are entries.
-pub fn entry_count(items: &[Item]) -> usize
-    ensures { result ≡ count_by is_stored_entry items.now }
-{
-    items
-        .iter()
-        .filter(|item| matches!(item, Item::Entry(_)))
-        .count()
-}
 
 /// A view of a section's header.
 #[derive(Clone, Copy)]
@@ -167,9 +95,9 @@ impl<'a> BodyRef<'a> {
     ghost use Rattle.std.specs.Prelude.{◌≡◌, IfOk, length, map};
     ghost use Rattle.bstr.specs.Owned.{bstring_bytes};
     ghost use Rattle.gitconf_state.specs.State.{entries_of};
-    ghost use Rattle.gitconf_views.specs.Bodies.{has_key, implicit_value_in, value_in, values_in, AreFound, IsFoundImplicit};
+    ghost use Rattle.gitconf_entries.specs.Bodies.{has_key, implicit_value_in, value_in, values_in, AreFound, IsFoundImplicit};
     ghost use Rattle.gitconf_views.specs.Counts.{is_empty_body};
-    ghost use Rattle.gitconf_views.specs.Found.{IsFound};
+    ghost use Rattle.gitconf_base.specs.Found.{IsFound};
     ghost use Rattle.gitconf_views.specs.Views.{names_left, shown_body};
 
     /// The meaning of the last entry of the name, without ASCII case; `None` if there is no such entry, or if it has
@@ -283,7 +211,7 @@ impl<'a> Iterator for BodyRefIter<'a> {
     type Item = Result<(&'a str, BString), NoMemory>;
 
     ghost use Rattle.std.specs.Iterator.{item_count};
-    ghost use Rattle.gitconf_views.specs.Bodies.{GivesEntry};
+    ghost use Rattle.gitconf_entries.specs.Bodies.{GivesEntry};
     ghost use Rattle.gitconf_views.specs.Views.{entries_left};
 
     ghost next_gives = { λ before item behind. GivesEntry (entries_left before) item (entries_left behind) };
@@ -349,8 +277,8 @@ impl<'a> SectionRef<'a> {
     ghost use Rattle.std.specs.Prelude.{◌≡◌, length, map};
     ghost use Rattle.bstr.specs.Owned.{bstring_bytes};
     ghost use Rattle.gitconf_state.specs.State.{entries_of};
-    ghost use Rattle.gitconf_views.specs.Bodies.{has_key, implicit_value_in, value_in, values_in, AreFound, IsFoundImplicit};
-    ghost use Rattle.gitconf_views.specs.Found.{IsFound};
+    ghost use Rattle.gitconf_entries.specs.Bodies.{has_key, implicit_value_in, value_in, values_in, AreFound, IsFoundImplicit};
+    ghost use Rattle.gitconf_base.specs.Found.{IsFound};
     ghost use Rattle.gitconf_views.specs.Views.{names_left, shown, shown_body, shown_header};
 
     /// Its header.

@@ -19,7 +19,7 @@ use Rattle.gitconf_finding.specs.Picks.{picked}
 use Rattle.gitconf_loaders.specs.Resolving.{MakesOf}
 use Rattle.gitconf_loaders.specs.Globals.{empty_file, home_rules}
 use Rattle.gitconf_loaders.specs.Paths.{has_room_behind, IsBehind, IsLoadedFrom, Then}
-use Rattle.gitconf_loaders.specs.Variables.{reported_key, key_variable}
+use Rattle.gitconf_refusals.specs.Variables.{reported_key, key_variable}
 use Rattle.gitconf_loaders.proofs.Clean.{behind_headed, global_clean, path_headed}
 use Rattle.gix_config.specs.Environment.{AreNamed, ArePut, Edited, env_meta, IsEntryPut, IsFromEnv, IsOverrides, IsPushed, IsPut, IsPutUnder}
 use Rattle.gix_config.specs.Repository.{folder_of, has_worktree, IsExpandedBehind, IsJoined, IsPutBehind, IsRepository, IsWorktree, IsWorktreeBehind, local_path, repository_rules, RepositoryFiles, worktree_path}

@@ -4,13 +4,12 @@ use Rattle.std.specs.Prelude.{IfErr, IsErrAnd, unwrap_or, ◌||◌, if◌then◌
 use Rattle.std.specs.List.{list_any}
 use Rattle.std.specs.Result.{result_map_both}
 use Rattle.std.proofs.lemmas.Bool.{eqb-true}
-use Rattle.gitconf_text.specs.HeaderErrors.{header_number}
+use Rattle.gitconf_text.specs.HeaderErrors.{header_number, header_numbers as known_numbers}
 use Rattle.gitconf_text.specs.declared.parse.section.header.Error.{Error as HeaderError}
 use Rattle.gitconf_text.specs.declared.parse.section.header.Error.TheVariants as header
-use Rattle.gitconf_views.specs.ValueErrors.{edit_numbers, value_number}
-use Rattle.gitconf_store.specs.Renamings.{header_numbers as known_numbers}
-use Rattle.gitconf_views.specs.declared.section.value.Error.{Error as ValueError}
-use Rattle.gitconf_views.specs.declared.section.value.Error.TheVariants as value
+use Rattle.gitconf_lines.specs.ValueErrors.{edit_numbers, value_number}
+use Rattle.gitconf_lines.specs.declared.value.Error.{Error as ValueError}
+use Rattle.gitconf_lines.specs.declared.value.Error.TheVariants as value
 use Rattle.gitconf_base.specs.Key.{Key, parsed_key}
 use Rattle.gitconf_base.specs.Metadata.{api_meta, Meta}
 use Rattle.gitconf_host.specs.Reports.{FileReport, VariableReport}
@@ -29,7 +28,7 @@ use Rattle.gitconf_loaders.specs.Resolving.{MakesOf}
 use Rattle.gitconf_loaders.specs.Globals.{empty_file, home_rules}
 use Rattle.gitconf_loaders.specs.Paths.{CountsLoad, left_by, numbered, Then}
 use Rattle.gitconf_loaders.proofs.Counts.{fault_load, refused_else, renumbered, same}
-use Rattle.gitconf_loaders.specs.Variables.{IsCount, IsCountCause, IsEntryCause, IsKeyAt, IsValueAt}
+use Rattle.gitconf_refusals.specs.Variables.{IsCount, IsCountCause, IsEntryCause, IsKeyAt, IsValueAt}
 use Rattle.gitconf_refusals.specs.declared.from_env.Error.{Error}
 use Rattle.gitconf_refusals.specs.declared.from_env.Error.TheVariants as env
 use Rattle.gix_config.specs.Edited.{IsEdited}

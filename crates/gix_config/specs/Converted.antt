@@ -11,8 +11,8 @@ use Rattle.gitconf_views.specs.declared.section.SectionRef.{SectionRef}
 use Rattle.gitconf_finding.specs.Lookups.{miss_at, value_at, value_in, values_at, values_in}
 use Rattle.gitconf_finding.specs.Misses.{missing}
 use Rattle.gitconf_views.specs.Views.{shown}
-use Rattle.gix_config.specs.declared.lookup.Error.{Error}
-use Rattle.gix_config.specs.declared.lookup.Error.TheVariants.{ValueMissing, FailedConversion, Memory}
+use Rattle.gitconf_numbers.specs.declared.lookup.Error.{Error}
+use Rattle.gitconf_numbers.specs.declared.lookup.Error.TheVariants.{ValueMissing, FailedConversion, Memory}
 
 -- The type's own conversion gives this for the value, if there is one.
 abbrev pub IsGiven : {R : Type 0} → (gives : BString → R → Type 0) → Option (List ℕ) → R → Type 0

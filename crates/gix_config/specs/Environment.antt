@@ -20,11 +20,11 @@ use Rattle.gitconf_expansion.specs.Outcomes.{IsCause}
 use Rattle.gitconf_loaders.specs.Resolving.{MakesOf}
 use Rattle.gitconf_loaders.specs.Globals.{empty_file, home_rules, IsOrEmpty}
 use Rattle.gitconf_loaders.specs.Paths.{left_by, Then}
-use Rattle.gitconf_loaders.specs.Variables.{IsCount, IsCountCause, IsEntryCause, IsKeyAt, IsValueAt, reported_key, key_variable}
+use Rattle.gitconf_refusals.specs.Variables.{IsCount, IsCountCause, IsEntryCause, IsKeyAt, IsValueAt, reported_key, key_variable}
 use Rattle.gitconf_refusals.specs.declared.from_env.Error.{Error}
 use Rattle.gitconf_refusals.specs.declared.from_env.Error.TheVariants as env
-use Rattle.gitconf_views.specs.ValueErrors.{value_number}
-use Rattle.gitconf_views.specs.declared.section.value.Error.{Error as ValueError}
+use Rattle.gitconf_lines.specs.ValueErrors.{value_number}
+use Rattle.gitconf_lines.specs.declared.value.Error.{Error as ValueError}
 use Rattle.gix_config.specs.Edited.{IsEdited}
 use Rattle.gix_config.specs.SectionEditors.{editor_at, IsFoundOrMade}
 

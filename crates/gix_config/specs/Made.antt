@@ -3,7 +3,7 @@ use Rattle.std.specs.Prelude.{◌<◌, ◌^◌, ℕ, Bool, true, false, List, fi
 use Rattle.gitconf_text.specs.Part.{Part}
 use Rattle.gitconf_text.specs.Token.{Token, tokens_of}
 use Rattle.gitconf_items.specs.EventList.{keeps_token}
-use Rattle.gitconf_parse.specs.EventResult.{IsRefused}
+use Rattle.gitconf_read.specs.EventResult.{IsRefused}
 use Rattle.gitconf_items.specs.TokenDocument.{keeps_meaning}
 use Rattle.gitconf_includes.specs.declared.init.Error.{Error}
 use Rattle.gitconf_includes.specs.declared.init.Error.TheVariants.{Parse, Memory}

@@ -3,7 +3,7 @@ use Rattle.std.specs.Prelude.{◌≡◌, ◌≢◌, ◌↔◌, ◌==◌, ◌+◌
 use Rattle.std.specs.List.{list_any}
 use Rattle.std.specs.Option.{option_map}
 use Rattle.std.specs.Borrow.{GName}
-use Rattle.gitconf_text.specs.HeaderErrors.{header_number}
+use Rattle.gitconf_text.specs.HeaderErrors.{header_number, header_numbers}
 pub use Rattle.gitconf_text.specs.Bytes.{is_whitespace}
 use Rattle.gitconf_text.specs.Names.{is_made_name, is_valid_or_none}
 use Rattle.gitconf_text.specs.SectionKeys.{SectionKey}
@@ -21,7 +21,6 @@ use Rattle.gitconf_finding.specs.declared.existing.Error.TheVariants.{KeyMissing
 use Rattle.gitconf_finding.specs.Misses.{IsExisting}
 use Rattle.gitconf_store.specs.NewSections.{HasNoPlace}
 use Rattle.gitconf_finding.specs.Picks.{picked, HasSection, IsMissing}
-use Rattle.gitconf_store.specs.Renamings.{header_numbers}
 use Rattle.gix_config.specs.Puts.{put_bytes}
 use Rattle.gix_config.specs.declared.file.section_mut.SectionMut.{SectionMut}
 use Rattle.gix_config.specs.declared.file.section_mut.making.Error.{Error}

@@ -1,7 +1,7 @@
 //! Refusals of loads, as troubles.
 
 use gitconf_includes::{includes, init};
-use gitconf_parse::error::Error;
+use gitconf_read::error::Error;
 use gitconf_refusals::from_paths;
 use gixcfg_answers::trouble::Trouble;
 use std::alloc::Global;

@@ -3,7 +3,7 @@
 use bstr::BString;
 use gitconf_base::key::KeyRef;
 use gitconf_items::event_ref::EventRef;
-use gitconf_parse::error::Error;
+use gitconf_read::error::Error;
 use gitconf_parse::events::Events;
 use gitconf_text::NoMemory;
 use gixcfg_answers::trouble::Trouble;

@@ -1,7 +1,7 @@
 //! What lies outside of a call's words, and how a text from there is refused.
 
 use crate::streams::read_all;
-use gitconf_parse::error::Error;
+use gitconf_read::error::Error;
 use gixcfg_answers::trouble::Trouble;
 use gixcfg_files::read;
 use gixcfg_messages::{Refused, message};

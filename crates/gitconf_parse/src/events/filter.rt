@@ -1,14 +1,14 @@
 //! Events that a filter keeps.
 ghost use Rattle.std.specs.Prelude.{◌≡◌, ◌++◌, ◌∷◌, [], ℕ, Bool, true, List, map, if◌then◌else◌, IfOk, OnOk};
 ghost use Rattle.std.specs.List.{AllByRecursion};
-ghost use Rattle.gitconf_parse.specs.Compact.{events_of};
+ghost use Rattle.gitconf_read.specs.Compact.{events_of};
 ghost use Rattle.gitconf_items.specs.EventRef.{Shown, shown};
 ghost use Rattle.gitconf_items.specs.Events.{token_of};
 ghost use Rattle.gitconf_items.specs.ShownEvents.{IsShown};
 ghost use Rattle.gitconf_items.specs.TokenDocument as spec;
 ghost use Rattle.gitconf_items.specs.EventList.{is_entry_token, is_header_token, keeps_token, IsKept, IsSelection};
 
-use crate::compact::{EventSlice, EventVec};
+use gitconf_read::compact::{EventSlice, EventVec};
 use gitconf_items::event::Event;
 use gitconf_items::event_ref::EventRef;
 use gitconf_items::lend::event_ref;

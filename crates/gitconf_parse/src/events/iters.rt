@@ -1,10 +1,10 @@
 //! Iterators over events and sections.
 ghost use Rattle.std.specs.Prelude.{◌≡◌, ◌<◌, true, length};
-ghost use Rattle.gitconf_parse.specs.Compact.{events_of};
+ghost use Rattle.gitconf_read.specs.Compact.{events_of};
 ghost use Rattle.gitconf_items.specs.EventProps.{AreWithin, AreWithin-prop};
 ghost use Rattle.gitconf_items.specs.Sections.{is_header_event, is_cut};
 
-use crate::compact::EventSlice;
+use gitconf_read::compact::EventSlice;
 use gitconf_items::event_ref::EventRef;
 use gitconf_items::lend::event_ref;
 
@@ -19,7 +19,7 @@ pub struct EventIter<'a> {
 
 impl<'a> EventIter<'a> {
     ghost use Rattle.std.specs.Prelude.{◌≡◌, map};
-    ghost use Rattle.gitconf_parse.specs.Compact.{events_of};
+    ghost use Rattle.gitconf_read.specs.Compact.{events_of};
     ghost use Rattle.gitconf_items.specs.EventProps.{AreWithin};
     ghost use Rattle.gitconf_items.specs.ShownEvents.{shown_event};
     ghost use Rattle.gitconf_parse.specs.EventIters.{events_left};
@@ -115,7 +115,7 @@ pub struct SectionIter<'a> {
 
 impl<'a> SectionIter<'a> {
     ghost use Rattle.std.specs.Prelude.{◌≡◌, map};
-    ghost use Rattle.gitconf_parse.specs.Compact.{events_of};
+    ghost use Rattle.gitconf_read.specs.Compact.{events_of};
     ghost use Rattle.gitconf_items.specs.EventProps.{AreWithin};
     ghost use Rattle.gitconf_items.specs.ShownEvents.{shown_event};
     ghost use Rattle.gitconf_items.specs.Sections.{is_header_event, sections_of};

@@ -8,7 +8,7 @@ use Rattle.gitconf_items.specs.declared.items.Keep.{Keep}
 use Rattle.gitconf_items.specs.declared.items.Keep.TheVariants as keeps
 use Rattle.gitconf_items.specs.EventList.{EventList, IsSelected, IsSelection, IsWhole}
 use Rattle.gitconf_items.specs.TokenDocument.{keeps_meaning, tokens_kept}
-use Rattle.gitconf_parse.proofs.OneDocument.{one_tokens}
+use Rattle.gitconf_read.proofs.OneDocument.{one_tokens}
 use Rattle.gitconf_items.proofs.Selections.{filter_selection, selection_all}
 use Rattle.gitconf_items.proofs.TextLaws.{lossy_keeps_entries}
 use Rattle.gitconf_state.specs.State.{State, HasItems, document_of, entries_of}

@@ -122,7 +122,7 @@ impl Store {
     /// # Errors
     ///
     /// A [`span::Error`], number 3, if and only if [`Store::put_at`] returns it.
-    pub(crate) fn check_put(
+    pub fn check_put(
         &self,
         at: usize,
         line_end: LineEnd,

@@ -17,14 +17,14 @@ use gitconf_write::line_end::first_line_end;
 
 impl Store {
     /// How many sections there are.
-    pub(crate) fn section_count(&self) -> usize
+    pub fn section_count(&self) -> usize
         ensures { result ≡ length self.now.sections }
     {
         self.sections.len()
     }
 
     /// The section at a place.
-    pub(crate) fn section_at(&self, position: usize) -> SectionRef<'_>
+    pub fn section_at(&self, position: usize) -> SectionRef<'_>
         requires { position < length self.now.sections }
         ensures { slice_get self.now.sections position ≡ Some (shown result) }
     {
@@ -34,14 +34,14 @@ impl Store {
     }
 
     /// Whether the front has a newline.
-    pub(crate) fn front_tells(&self) -> bool
+    pub fn front_tells(&self) -> bool
         ensures { result ≡ is_some (first_newline (tokens_in self.now.front)) }
     {
         first_line_end(&self.buffer, &self.front).is_some()
     }
 
     /// The line ending of the first newline of the sections' bodies, if there is one.
-    pub(crate) fn bodies_line_end(&self) -> Option<LineEnd>
+    pub fn bodies_line_end(&self) -> Option<LineEnd>
         ensures { option_map bytes_of_line_end result ≡ first_newline_of_bodies self.now.sections }
     {
         tokens::bodies_line_end(self.sections())
@@ -54,7 +54,7 @@ impl Store {
     /// # Errors
     ///
     /// Those of [`Store::append`].
-    pub(crate) fn include(
+    pub fn include(
         &mut self,
         position: usize,
         line_end: LineEnd,

@@ -12,14 +12,13 @@ impl Store {
     ghost use Rattle.std.specs.List.{list_any};
     ghost use Rattle.std.specs.Option.{option_copied};
     ghost use Rattle.std.specs.Prelude.{◌≡◌, [], ◌==◌, ◌+◌, ◌≤◌, ◌^◌, ◌↔◌, true, false, length, IfOk, IfErr, IsErrAnd, IsErrOf, OnOk, OnErr};
-    ghost use Rattle.gitconf_text.specs.HeaderErrors.{header_number};
+    ghost use Rattle.gitconf_text.specs.HeaderErrors.{header_number, header_numbers};
     ghost use Rattle.gitconf_text.specs.Names.{is_made_name, is_valid_or_none};
     ghost use Rattle.gitconf_state.specs.Edit.{header_bytes, spacing_of, with_used};
     ghost use Rattle.gitconf_state.specs.Edits.{answer, apply, NewSection, Number};
     ghost use Rattle.gitconf_state.specs.LineEnds.{file_line_end};
     ghost use Rattle.gitconf_store.specs.Edits.{EditGrows};
     ghost use Rattle.gitconf_store.specs.NewSections.{IsSectionChecked};
-    ghost use Rattle.gitconf_store.specs.Renamings.{header_numbers};
 
     /// Makes a section after all others, whose body is one line ending, the file's; it has the file's metadata. Returns its number.
     ///

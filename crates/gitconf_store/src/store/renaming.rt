@@ -3,7 +3,7 @@ ghost use Rattle.std.specs.Fn.{ComputesKey};
 ghost use Rattle.std.specs.List.{list_any};
 ghost use Rattle.std.specs.Option.{option_copied};
 ghost use Rattle.std.specs.Prelude.{◌≡◌, ◌==◌, ◌<◌, ◌↔◌, ◌≤◌, ◌+◌, ◌^◌, Bool, List, false, map, true, IfErr, IfOk, IfSome, IsErrOf, IsOk, None, OnErr, OnOk};
-ghost use Rattle.gitconf_text.specs.HeaderErrors.{header_number};
+ghost use Rattle.gitconf_text.specs.HeaderErrors.{header_number, header_numbers};
 ghost use Rattle.gitconf_text.specs.Names.{is_made_name, is_valid_or_none};
 ghost use Rattle.gitconf_base.specs.Metadata.{Meta};
 ghost use Rattle.gitconf_state.specs.Edit.{header_bytes, is_target, with_used};
@@ -12,7 +12,7 @@ ghost use Rattle.gitconf_state.specs.Lookup.{is_named, listing};
 ghost use Rattle.gitconf_store.specs.Edits.{UsedGrows};
 ghost use Rattle.gitconf_finding.specs.declared.existing.Error.TheVariants.{KeyMissing};
 ghost use Rattle.gitconf_store.specs.declared.rename_section.Error.TheVariants.{Lookup};
-ghost use Rattle.gitconf_store.specs.Renamings.{header_numbers, marked_places, with_renamed, AreMarks, AreSomeRenamed, HeaderGrows, IsHeaderChecked, IsRenamed};
+ghost use Rattle.gitconf_store.specs.Renamings.{marked_places, with_renamed, AreMarks, AreSomeRenamed, HeaderGrows, IsHeaderChecked, IsRenamed};
 
 use crate::headings::{passing_places, set_headers};
 use crate::rename_section;

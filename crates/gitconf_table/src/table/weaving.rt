@@ -1,9 +1,9 @@
 //! Sections that were added at the end are moved to where they belong.
 ghost use Rattle.std.specs.Prelude.{◌≡◌, ◌-◌, ◌≤◌, length};
-ghost use Rattle.gitconf_table.specs.Runs.{woven, AreRuns};
+ghost use Rattle.gitconf_index.specs.Runs.{woven, AreRuns};
 
-use crate::lists::weave;
-use crate::runs::Run;
+use gitconf_index::lists::weave;
+use gitconf_index::runs::Run;
 use crate::table::{SectionTable, relocate};
 
 impl<T> SectionTable<T> {

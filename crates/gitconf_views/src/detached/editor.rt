@@ -1,9 +1,9 @@
 //! The editor of a section that is in no file.
 use crate::detached::Section;
 use crate::detached::writing::text_of;
-use crate::lists::bytes_of;
-use crate::popped::texts_of;
-use crate::section::value;
+use gitconf_base::lists::bytes_of;
+use gitconf_entries::popped::texts_of;
+use gitconf_lines::value;
 use bstr::BString;
 use gitconf_base::source::Trust;
 use gitconf_lines::blanks::Blanks;
@@ -88,7 +88,7 @@ impl<'a> DetachedSectionMut<'a> {
     ghost use Rattle.gitconf_lines.specs.Puts.{line_bytes, value_set_bytes};
     ghost use Rattle.gitconf_views.specs.Alone.{is_refusal_of_header, with_items, IsEditedAlone};
     ghost use Rattle.gitconf_views.specs.AloneEditors.{edited, editor, lent};
-    ghost use Rattle.gitconf_views.specs.ValueErrors.{value_number};
+    ghost use Rattle.gitconf_lines.specs.ValueErrors.{value_number};
 
     /// Pushes a line after the section's others: the blanks before a name, the name, and if a value is given `=` with the blanks around it
     /// and the value, as a file spells it; then the line ending, unless it is switched off. It looks at no item. Takes memory for what is

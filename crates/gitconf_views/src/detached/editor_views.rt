@@ -1,6 +1,6 @@
 //! What the editor of a section that is in no file shows of it, and of what it writes.
 use crate::detached::editor::DetachedSectionMut;
-use crate::lists::if_any;
+use gitconf_base::lists::if_any;
 use crate::section::SectionRef;
 use crate::views::{BodyRef, HeaderRef, ValueNames};
 use bstr::BString;
@@ -15,9 +15,9 @@ impl<'a> DetachedSectionMut<'a> {
     ghost use Rattle.gitconf_state.specs.Printing.{printed_section};
     ghost use Rattle.gitconf_state.specs.State.{entries_of};
     ghost use Rattle.gitconf_views.specs.AloneEditors.{edited, editor};
-    ghost use Rattle.gitconf_views.specs.Bodies.{has_key, implicit_value_in, value_in, values_in, AreFound, IsFoundImplicit};
+    ghost use Rattle.gitconf_entries.specs.Bodies.{has_key, implicit_value_in, value_in, values_in, AreFound, IsFoundImplicit};
     ghost use Rattle.gitconf_views.specs.Counts.{is_empty_body};
-    ghost use Rattle.gitconf_views.specs.Found.{if_any, IsFound};
+    ghost use Rattle.gitconf_base.specs.Found.{if_any, IsFound};
     ghost use Rattle.gitconf_views.specs.Views.{names_left, shown, shown_body, shown_header};
 
     /// The section as it now is. Constant time, and no memory.

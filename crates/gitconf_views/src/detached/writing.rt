@@ -3,7 +3,7 @@ ghost use Rattle.std.specs.Prelude.{◌≡◌, option_map};
 ghost use Rattle.bstr.specs.Owned.{bstring_bytes};
 
 use crate::detached::Section;
-use crate::section::value;
+use gitconf_lines::value;
 use bstr::BString;
 use gitconf_lines::editor::Editor;
 use gitconf_text::parse::section::ValueNameError;
@@ -31,7 +31,7 @@ impl Section {
     ghost use Rattle.gitconf_views.specs.Alone.{IsEditedAlone};
     ghost use Rattle.gitconf_lines.specs.Blanks.{given_editor, IsGiven, PutsAround};
     ghost use Rattle.gitconf_lines.specs.Puts.{line_bytes, value_set_bytes};
-    ghost use Rattle.gitconf_views.specs.ValueErrors.{value_number};
+    ghost use Rattle.gitconf_lines.specs.ValueErrors.{value_number};
 
     /// [`Section::push_entry`], for a name that may be invalid.
     #[tactic(auto, using(crate::proofs::AloneEdits::done_alone, crate::proofs::AloneEdits::done_with, crate::proofs::AloneEdits::refused_with, crate::proofs::AloneEdits::span_number, crate::proofs::AloneEdits::unnamed, gitconf_lines::proofs::Puts::line_is))]

@@ -13,7 +13,7 @@ use crate::lookup;
 use crate::lookup::existing;
 use bstr::BString;
 use gitconf_base::key::AsKey;
-use gitconf_views::lists::{put, with_room};
+use gitconf_base::lists::{put, with_room};
 
 /// The values of texts, up to the first that the type refuses.
 fn values_of<T: TryFrom<BString> + Drop>(

@@ -18,9 +18,9 @@ impl File {
     ghost use Rattle.gitconf_state.specs.Edits.{answer, apply, numbered, Entry, IsEditor, NewSection, Pop, Push, PushLineEnd, Raw, Remove, Rename, SetTrust, SetValue};
     ghost use Rattle.gitconf_state.specs.LineEnds.{file_line_end};
     ghost use Rattle.gitconf_text.specs.LineEnds.{bytes_of_line_end};
-    ghost use Rattle.gitconf_text.specs.HeaderErrors.{header_number};
+    ghost use Rattle.gitconf_text.specs.HeaderErrors.{header_number, header_numbers};
     ghost use Rattle.gitconf_store.specs.NewSections.{HasNoPlace};
-    ghost use Rattle.gitconf_store.specs.Renamings.{header_numbers, HeaderGrows};
+    ghost use Rattle.gitconf_store.specs.Renamings.{HeaderGrows};
     ghost use Rattle.gitconf_lines.specs.Blanks.{PutsAround};
     ghost use Rattle.gitconf_store.specs.Editors.{given_editor, IsGiven};
     ghost use Rattle.gitconf_views.specs.Views.{shown};

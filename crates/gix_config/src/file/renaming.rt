@@ -9,7 +9,7 @@ ghost use Rattle.gitconf_store.specs.Renamings.{AreSomeRenamed, IsRenamed};
 
 use crate::file::{File, Metadata, rename_section};
 use bstr::BString;
-use gitconf_views::lists::bytes_of;
+use gitconf_base::lists::bytes_of;
 
 impl File {
     /// Gives all sections that have the name, without ASCII case, and exactly the subsection, another name and subsection: they get new

@@ -16,8 +16,8 @@ use gitconf_text::line_end::LineEnd;
 use gitconf_text::parse::section::bytes::is_value_name;
 use gitconf_text::parse::section::{ValueNameError, header};
 use gitconf_text::parse::span;
-use gitconf_views::lists::bytes_of;
-use gitconf_views::popped::texts_of;
+use gitconf_base::lists::bytes_of;
+use gitconf_entries::popped::texts_of;
 pub use making::Error;
 
 /// An editor of one section of a file. What it writes besides names and values stays as it was when the editor was made, even while the

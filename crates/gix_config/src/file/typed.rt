@@ -20,7 +20,7 @@ use bstr::BString;
 use gitconf_base::key::{AsKey, KeyRef};
 use gitconf_text::{NoMemory, value};
 use gitconf_values::integer;
-use gitconf_views::lists::{put, with_room};
+use gitconf_base::lists::{put, with_room};
 
 /// The path that was found.
 fn found_path(found: Result<Option<BString>, NoMemory>) -> Result<Option<Path>, NoMemory>

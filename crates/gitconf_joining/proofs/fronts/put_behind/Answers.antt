@@ -1,4 +1,4 @@
-use Rattle.gitconf_views.proofs.Outcomes.{on_ok}
+use Rattle.gitconf_entries.proofs.Outcomes.{on_ok}
 use Rattle.gitconf_joining.proofs.fronts.put_behind.Goals as goal
 
 pub returns-then-is_empty-clause-ok : goal.returns-then-is_empty-clause-ok

@@ -2,7 +2,7 @@ use Rattle.std.proofs.Common.{◌++◌, length, refl, ap, ◌∙◌}
 use Rattle.gitconf_text.specs.Sections.{with_all}
 use Rattle.gitconf_sections.specs.Held.{line_end_item}
 use Rattle.gitconf_joining.proofs.Joined.{put_behind_none, same_sections}
-use Rattle.gitconf_views.proofs.Outcomes.{if_err_at_all}
+use Rattle.gitconf_entries.proofs.Outcomes.{if_err_at_all}
 use Rattle.gitconf_joining.proofs.fronts.put_behind_front.Goals as goal
 
 pub returns-in_err-reserve-clause-err : goal.returns-in_err-reserve-clause-err

@@ -1,7 +1,7 @@
 use Rattle.std.proofs.Common.{◌++◌}
 use Rattle.gitconf_sections.specs.Held.{line_end_item}
 use Rattle.gitconf_joining.proofs.Joined.{put_behind_held, same_sections}
-use Rattle.gitconf_views.proofs.Outcomes.{on_err, on_ok}
+use Rattle.gitconf_entries.proofs.Outcomes.{on_err, on_ok}
 use Rattle.gitconf_joining.proofs.fronts.put_behind_section.Goals as goal
 
 pub returns-clause-ok : goal.returns-clause-ok

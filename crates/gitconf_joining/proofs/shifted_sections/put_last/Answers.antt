@@ -2,7 +2,7 @@ use Rattle.std.proofs.Common.{refl, sym, append-nil, []}
 use Rattle.std.specs.Option.{option_copied}
 use Rattle.gitconf_sections.specs.Section.{made}
 use Rattle.gitconf_joining.proofs.Loading.{added_fits}
-use Rattle.gitconf_views.proofs.Outcomes.{on_ok}
+use Rattle.gitconf_entries.proofs.Outcomes.{on_ok}
 use Rattle.gitconf_joining.proofs.shifted_sections.put_last.Goals as goal
 
 pub returns-clause-fits : goal.returns-clause-fits

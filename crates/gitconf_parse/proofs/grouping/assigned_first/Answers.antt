@@ -1,6 +1,6 @@
 use Rattle.std.proofs.Common.{rules, length, map, Some, sym, subst}
 use Rattle.gitconf_text.specs.Token.{assigned_tokens}
-use Rattle.gitconf_parse.specs.Compact.{events_of}
+use Rattle.gitconf_read.specs.Compact.{events_of}
 use Rattle.gitconf_items.specs.Events.{bytes_of, token_of}
 use Rattle.gitconf_items.specs.Items.{value_of}
 use Rattle.gitconf_items.specs.Grouping.{Between, AreBehind}

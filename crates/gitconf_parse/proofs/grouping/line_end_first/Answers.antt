@@ -1,6 +1,6 @@
 use Rattle.std.proofs.Common.{◌≡◌, ◌∷◌, true, map}
 use Rattle.gitconf_text.specs.Token.{NewlineToken, filled}
-use Rattle.gitconf_parse.specs.Compact.{events_of}
+use Rattle.gitconf_read.specs.Compact.{events_of}
 use Rattle.gitconf_items.specs.Events.{bytes_of, token_of}
 use Rattle.gitconf_items.specs.Grouping.{BehindPiece, BehindPieceEnd, are_items, AreBehind}
 use Rattle.std.proofs.Common.{subst, sym, ap, ◌∙◌}

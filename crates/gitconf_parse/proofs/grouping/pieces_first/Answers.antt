@@ -1,7 +1,7 @@
 use Rattle.std.proofs.Common.{◌≡◌, ◌∷◌, map, subst, ap, ◌∙◌, arith}
 use Rattle.gitconf_text.specs.Token.{NewlineToken, filled}
 use Rattle.gitconf_items.specs.declared.event.Event.TheVariants as kinds
-use Rattle.gitconf_parse.specs.Compact.{events_of}
+use Rattle.gitconf_read.specs.Compact.{events_of}
 use Rattle.gitconf_items.specs.Events.{bytes_of, token_of}
 use Rattle.gitconf_items.specs.Grouping.{BehindPieceEnd, AreBehind}
 use Rattle.gitconf_parse.proofs.Groups.{value_ends}

@@ -1,7 +1,7 @@
 use Rattle.std.proofs.Common.{◌≡◌, ◌∷◌, ◌++◌, true, map, flat_map, length}
 use Rattle.gitconf_text.specs.Token.{ValueNotDoneToken, piece_tokens}
 use Rattle.std.specs.List.{AllByRecursion}
-use Rattle.gitconf_parse.specs.Compact.{events_of}
+use Rattle.gitconf_read.specs.Compact.{events_of}
 use Rattle.gitconf_items.specs.Events.{bytes_of, token_of, SpanFits}
 use Rattle.gitconf_items.specs.ItemsFit.{PieceFits, EventsWithin}
 use Rattle.gitconf_items.specs.Items.{piece_of}

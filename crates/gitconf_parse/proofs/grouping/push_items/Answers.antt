@@ -1,6 +1,6 @@
 use Rattle.std.proofs.Common.{◌∷◌, arith, map}
 use Rattle.std.proofs.lemmas.List.{length-map}
-use Rattle.gitconf_parse.specs.Compact.{events_of}
+use Rattle.gitconf_read.specs.Compact.{events_of}
 use Rattle.gitconf_items.specs.Events.{token_of}
 use Rattle.gitconf_items.specs.Items.{item_of}
 use Rattle.gitconf_parse.proofs.Groups.{fewer}

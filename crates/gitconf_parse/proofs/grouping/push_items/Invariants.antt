@@ -1,5 +1,5 @@
 use Rattle.std.proofs.Common.{◌≡◌, ◌++◌, true, map, length}
-use Rattle.gitconf_parse.specs.Compact.{events_of}
+use Rattle.gitconf_read.specs.Compact.{events_of}
 use Rattle.gitconf_items.specs.Events.{token_of}
 use Rattle.gitconf_items.specs.ItemsFit.{AreItemsWithin, EventsWithin}
 use Rattle.gitconf_items.specs.Items.{tokens_of_items}

@@ -1,6 +1,6 @@
 use Rattle.std.proofs.Common.{◌++◌, arith, length, map, ap}
 use Rattle.std.proofs.lemmas.List.{length-append, length-map}
-use Rattle.gitconf_parse.specs.Compact.{events_of}
+use Rattle.gitconf_read.specs.Compact.{events_of}
 use Rattle.gitconf_items.specs.Events.{token_of}
 use Rattle.gitconf_items.specs.Items.{tokens_of_items}
 use Rattle.gitconf_parse.proofs.grouping.push_sections.Goals as goal

@@ -1,5 +1,5 @@
 use Rattle.std.proofs.Common.{◌≡◌, ◌++◌, [], true, map, length}
-use Rattle.gitconf_parse.specs.Compact.{events_of}
+use Rattle.gitconf_read.specs.Compact.{events_of}
 use Rattle.gitconf_items.specs.Events.{token_of}
 use Rattle.gitconf_items.specs.ItemsFit.{EventsWithin}
 use Rattle.gitconf_items.specs.Sections.{is_header_event, is_cut}

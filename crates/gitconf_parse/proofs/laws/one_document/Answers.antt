@@ -1,6 +1,6 @@
 use Rattle.std.proofs.Common.{◌∙◌, sym}
 use Rattle.gitconf_text.specs.Document.{unmarked}
-use Rattle.gitconf_parse.proofs.OneDocument as one
+use Rattle.gitconf_read.proofs.OneDocument as one
 use Rattle.gitconf_parse.proofs.laws.one_document.Goals as goal
 
 pub returns-clause-document : goal.returns-clause-document

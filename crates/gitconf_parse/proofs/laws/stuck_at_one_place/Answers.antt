@@ -1,4 +1,4 @@
-use Rattle.gitconf_parse.proofs.OneFault.{one_fault}
+use Rattle.gitconf_read.proofs.OneFault.{one_fault}
 use Rattle.gitconf_parse.proofs.laws.stuck_at_one_place.Goals as goal
 
 pub returns : goal.returns

@@ -1,7 +1,7 @@
 use Rattle.std.proofs.Common.{◌≡◌, length, subst, arith}
 use Rattle.std.proofs.lemmas.Result.{err_from_is_err_and}
-use Rattle.gitconf_parse.specs.Stretches.{IsReadOn}
-use Rattle.gitconf_parse.proofs.Stretches.{both_stretches, broken_behind, none_read, section_read}
+use Rattle.gitconf_read.specs.Stretches.{IsReadOn}
+use Rattle.gitconf_read.proofs.Stretches.{both_stretches, broken_behind, none_read, section_read}
 use Rattle.gitconf_parse.proofs.loading.push_sections.Goals as goal
 
 pub loop-at-init : goal.loop-at-init

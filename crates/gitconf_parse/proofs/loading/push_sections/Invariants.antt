@@ -1,5 +1,5 @@
 use Rattle.std.proofs.Common.{◌≡◌, ◌-◌, ◌≤◌, ◌<◌, [], length, get_or}
-use Rattle.gitconf_parse.specs.Stretches.{IsReadOn}
+use Rattle.gitconf_read.specs.Stretches.{IsReadOn}
 use Rattle.gitconf_parse.proofs.loading.push_sections.Given as goal
 
 -- the sections up to here were read and handed over; here is a header, or the end

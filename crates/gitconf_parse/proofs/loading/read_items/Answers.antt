@@ -1,9 +1,9 @@
 use Rattle.std.proofs.Common.{sym, subst}
 use Rattle.std.proofs.lemmas.Result.{err_from_is_err_and}
-use Rattle.gitconf_parse.specs.declared.reading.Expected.TheVariants.{SectionHeader}
+use Rattle.gitconf_read.specs.declared.reading.Expected.TheVariants.{SectionHeader}
 use Rattle.gitconf_items.specs.Items.{tokens_of_items}
-use Rattle.gitconf_parse.specs.Stretches.{IsKeptStretch}
-use Rattle.gitconf_parse.proofs.Stretches.{all_read, broken_behind, misread}
+use Rattle.gitconf_read.specs.Stretches.{IsKeptStretch}
+use Rattle.gitconf_read.proofs.Stretches.{all_read, broken_behind, misread}
 use Rattle.gitconf_parse.proofs.loading.read_items.Goals as goal
 
 pub returns-in_err-at-clause-misread : goal.returns-in_err-at-clause-misread

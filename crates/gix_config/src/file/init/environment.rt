@@ -9,7 +9,7 @@ ghost use Rattle.gitconf_refusals.specs.Errors.{env_number};
 ghost use Rattle.gitconf_loaders.specs.Globals.{empty_file};
 ghost use Rattle.gitconf_loaders.specs.Resolving.{MakesOf};
 ghost use Rattle.gitconf_loaders.specs.Paths.{CountsLoad, left_by, numbered};
-ghost use Rattle.gitconf_loaders.specs.Variables.{IsEntryCause};
+ghost use Rattle.gitconf_refusals.specs.Variables.{IsEntryCause};
 ghost use Rattle.gix_config.specs.Environment.{ArePut, IsEntryPut, IsEnvCause, IsFromEnv, IsOverrides, IsOverridesCause, IsPushed, IsPut, IsPutUnder};
 ghost use Rattle.gix_config.specs.SectionEditors.{edited, lent, told};
 
@@ -23,7 +23,7 @@ use gitconf_includes::includes;
 use gitconf_includes::init::Options;
 use gitconf_loaders::globals::home_options;
 use gitconf_loaders::resolving::{Resolved, resolve};
-use gitconf_loaders::variables::{count, key_at, value_at};
+use gitconf_refusals::variables::{count, key_at, value_at};
 use gitconf_refusals::from_env::Error;
 use gitconf_text::NoMemory;
 use std::alloc::Global;

@@ -9,7 +9,7 @@ use gitconf_text::line_end::LineEnd;
 use gitconf_text::parse::section::header;
 use gitconf_text::parse::section::unvalidated::KeyRef;
 use gitconf_text::parse::span;
-use gitconf_views::lists::bytes_of;
+use gitconf_base::lists::bytes_of;
 use thiserror::Error;
 
 /// Why there is no editor.
@@ -55,7 +55,7 @@ impl File {
     ghost use Rattle.std.specs.Option.{option_copied, option_map};
     ghost use Rattle.std.specs.Prelude.{◌≡◌, ◌≢◌, ◌⊎◌, ◌↔◌, ◌==◌, ◌+◌, ◌≤◌, ◌^◌, Bool, false, true, IfErr, IfOk, IfSome, IsErrAnd, IsErrOf, MatchResult, None, OnErr};
     ghost use Rattle.gitconf_text.specs.declared.parse.section.header.Error.TheVariants.{InvalidName, InvalidSubSection};
-    ghost use Rattle.gitconf_text.specs.HeaderErrors.{header_number};
+    ghost use Rattle.gitconf_text.specs.HeaderErrors.{header_number, header_numbers};
     ghost use Rattle.gitconf_text.specs.Names.{is_made_name, is_valid_or_none};
     ghost use Rattle.gitconf_text.specs.SectionKeys.{parsed_section_key};
     ghost use Rattle.gitconf_base.specs.Metadata.{Meta};
@@ -68,7 +68,6 @@ impl File {
     ghost use Rattle.gitconf_finding.specs.Misses.{IsExisting};
     ghost use Rattle.gitconf_store.specs.NewSections.{HasNoPlace};
     ghost use Rattle.gitconf_finding.specs.Picks.{picked};
-    ghost use Rattle.gitconf_store.specs.Renamings.{header_numbers};
     ghost use Rattle.gitconf_finding.specs.SomeSections.{Filtered};
     ghost use Rattle.gix_config.specs.contracts.file.File.{the_row};
     ghost use Rattle.gix_config.specs.Edited.{has_number};

@@ -4,7 +4,7 @@ use crate::file::section_mut::SectionMut;
 use crate::file::{Metadata, SectionId, SectionRef};
 use bstr::BString;
 use gitconf_text::NoMemory;
-use gitconf_views::lists::if_any;
+use gitconf_base::lists::if_any;
 
 impl<'a> SectionMut<'a> {
     ghost use Rattle.std.specs.List.{list_all};
@@ -14,7 +14,7 @@ impl<'a> SectionMut<'a> {
     ghost use Rattle.gitconf_state.specs.Edits.{items_of_numbered, numbered};
     ghost use Rattle.gitconf_state.specs.Printing.{printed_section};
     ghost use Rattle.gitconf_state.specs.State.{entries_of};
-    ghost use Rattle.gitconf_views.specs.Bodies.{has_key, implicit_value_in, value_in, values_in, AreFound, IsFoundImplicit};
+    ghost use Rattle.gitconf_entries.specs.Bodies.{has_key, implicit_value_in, value_in, values_in, AreFound, IsFoundImplicit};
     ghost use Rattle.gitconf_views.specs.Counts.{is_empty_body};
     ghost use Rattle.gitconf_finding.specs.Lookups.{if_any, IsFound};
     ghost use Rattle.gitconf_views.specs.Views.{names_left, shown, shown_body, shown_header};

@@ -1,5 +1,5 @@
 use Rattle.std.proofs.Common.{rules, ◌≡◌}
-use Rattle.gitconf_views.proofs.Outcomes.{ok_three, on_ok}
+use Rattle.gitconf_entries.proofs.Outcomes.{ok_three, on_ok}
 use Rattle.gitconf_joining.proofs.Loading.{loading_more, tokens_more}
 use Rattle.gitconf_joining.proofs.load.LoadingSectionSink.take.Goals as goal
 

@@ -4,9 +4,9 @@ use Rattle.gitconf_parse.proofs.events.Events.filtered.Goals as goal
 
 pub invariant_of-result : goal.invariant_of-result
 invariant_of-result g c = record {
-  room = c.self.invariant.room;
+  room = c.into_parts-buffer.ensures.fits.room;
   shown = search rules;
-  selected = some_selected _ _ _ c.self.invariant.selected (search rules) (search rules) refl;
+  selected = some_selected _ _ _ c.into_parts-buffer.ensures.fits.selected c.requires.entries (search rules) refl;
 }
 
 pub returns-clause-selected : goal.returns-clause-selected

@@ -1,5 +1,5 @@
 use Rattle.std.proofs.Common.{◌++◌, ◌∷◌, [], ◌∙◌, append_assoc}
-use Rattle.gitconf_parse.specs.Compact.{events_of}
+use Rattle.gitconf_read.specs.Compact.{events_of}
 use Rattle.gitconf_items.proofs.Kept.{kept_step}
 use Rattle.gitconf_items.proofs.Selections.{selected_step}
 use Rattle.gitconf_text.proofs.Lists.{all_push_if}

@@ -1,7 +1,7 @@
 use Rattle.std.proofs.Common.{◌≡◌, ◌++◌, Bool, List, length, map}
 use Rattle.std.specs.List.{AllByRecursion}
 use Rattle.gitconf_items.specs.declared.event.Event.{Event}
-use Rattle.gitconf_parse.specs.Compact.{events_of}
+use Rattle.gitconf_read.specs.Compact.{events_of}
 use Rattle.gitconf_items.specs.EventRef.{Shown, shown}
 use Rattle.gitconf_items.specs.Events.{token_of}
 use Rattle.gitconf_items.specs.ShownEvents.{IsShown}

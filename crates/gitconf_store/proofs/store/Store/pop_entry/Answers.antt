@@ -16,7 +16,7 @@ use Rattle.gitconf_sections.proofs.Edits.{is_taken, taken_within}
 use Rattle.gitconf_views.specs.Store.{state_of, StoreFits}
 use Rattle.gitconf_store.proofs.Edits.Editing.{items_within_at, missing_stays, missing_told, numbered_kept, numbered_told, numbered_view, as_err, entry_inside, same_items}
 use Rattle.gitconf_views.proofs.PoppedKeys.{items_at, key_named}
-use Rattle.gitconf_views.proofs.Outcomes.{either_way}
+use Rattle.gitconf_entries.proofs.Outcomes.{either_way}
 use Rattle.gitconf_store.proofs.Edits.Setting.{HasOthers, kept_view}
 use Rattle.gitconf_store.proofs.store.Store.pop_entry.Goals as goal
 

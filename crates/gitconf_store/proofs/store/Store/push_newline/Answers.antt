@@ -11,7 +11,7 @@ use Rattle.gitconf_sections.proofs.Edits.{is_taken, taken_within}
 use Rattle.gitconf_store.specs.Editors.{given_editor, PutsIn}
 use Rattle.gitconf_views.specs.Store.{state_of, StoreFits}
 use Rattle.gitconf_store.proofs.Edits.Editing.{items_within_at, missing_stays, numbered_kept, numbered_view, puts_at, puts_none, puts_same, used_memory, used_refused}
-use Rattle.gitconf_views.proofs.Outcomes.{on_ok, on_err, either_way}
+use Rattle.gitconf_entries.proofs.Outcomes.{on_ok, on_err, either_way}
 use Rattle.gitconf_store.proofs.Edits.Setting.{HasOthers, kept_view}
 use Rattle.std.specs.Prelude.{IsErrOf}
 use Rattle.gitconf_store.proofs.store.Store.push_newline.Goals as goal

@@ -18,7 +18,7 @@ use Rattle.gitconf_sections.specs.Section.{Section, with_items, viewed}
 use Rattle.gitconf_sections.proofs.Edits.{is_taken, taken_within}
 use Rattle.gitconf_views.specs.Store.{state_of, StoreFits}
 use Rattle.gitconf_store.proofs.Edits.Editing.{unchanged_view, items_within_at, missing_stays, missing_told, numbered_kept, numbered_told, numbered_view, as_err, raw_inside, last_within, same_items}
-use Rattle.gitconf_views.proofs.Outcomes.{either_way}
+use Rattle.gitconf_entries.proofs.Outcomes.{either_way}
 use Rattle.gitconf_store.proofs.Edits.Setting.{HasOthers, kept_view}
 use Rattle.gitconf_store.proofs.store.Store.remove_entry.Goals as goal
 

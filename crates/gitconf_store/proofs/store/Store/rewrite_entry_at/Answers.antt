@@ -15,7 +15,7 @@ use Rattle.gitconf_store.specs.Edits.{UsedGrows}
 use Rattle.gitconf_views.specs.Store.{state_of, StoreFits}
 use Rattle.gitconf_finding.specs.ValuePlaces.{editor_of_numbered}
 use Rattle.gitconf_store.proofs.Edits.Editing.{items_within_at, missing_stays, never_missing, numbered_items_at, numbered_kept, numbered_view, puts_at, puts_none, puts_same, rewritten_count, same_items, used_memory, used_refused}
-use Rattle.gitconf_views.proofs.Outcomes.{on_ok, on_err, either_way}
+use Rattle.gitconf_entries.proofs.Outcomes.{on_ok, on_err, either_way}
 use Rattle.gitconf_store.proofs.Edits.Setting.{HasOthers, kept_view}
 use Rattle.gitconf_finding.proofs.ValuePlaces.{rewritten_items}
 use Rattle.gitconf_store.specs.Editors.{PutsIn}

@@ -12,7 +12,7 @@ use Rattle.gitconf_sections.specs.Section.{Section, with_items, viewed}
 use Rattle.gitconf_sections.proofs.Edits.{is_taken, taken_within}
 use Rattle.gitconf_store.specs.Edits.{UsedGrows}
 use Rattle.gitconf_views.specs.Store.{section_state, state_of, StoreFits}
-use Rattle.gitconf_views.proofs.Outcomes.{on_ok, on_err, either_way, if_ok}
+use Rattle.gitconf_entries.proofs.Outcomes.{on_ok, on_err, either_way, if_ok}
 use Rattle.gitconf_store.proofs.Edits.Setting.{HasOthers, set_view, kept_view, set_keeps, asked_at}
 use Rattle.gitconf_store.proofs.Edits.Editing.{items_within_at, same_items, used_memory, used_refused}
 use Rattle.gitconf_store.proofs.store.Store.set_at.Goals as goal

@@ -16,7 +16,7 @@ use Rattle.gitconf_store.specs.Editors.{given_editor, PutsIn}
 use Rattle.gitconf_views.specs.Store.{state_of, StoreFits}
 use Rattle.gitconf_views.proofs.GivenEditors.{given_fits, given_same}
 use Rattle.gitconf_store.proofs.Edits.Editing.{items_within_at, missing_stays, missing_told, numbered_items_at, numbered_kept, numbered_told, numbered_view, puts_at, puts_none, puts_same, same_items, used_memory, used_refused}
-use Rattle.gitconf_views.proofs.Outcomes.{on_ok, on_err, either_way, if_ok}
+use Rattle.gitconf_entries.proofs.Outcomes.{on_ok, on_err, either_way, if_ok}
 use Rattle.gitconf_store.proofs.Edits.Setting.{HasOthers, kept_view}
 use Rattle.gitconf_store.proofs.store.Store.set_entry.Goals as goal
 

@@ -8,7 +8,7 @@ use Rattle.gitconf_views.specs.declared.section.Section.{Section}
 use Rattle.gitconf_lines.specs.Blanks.{given_editor}
 use Rattle.gitconf_views.proofs.AloneEdits.{HasOwn, edited_alone, kept_alone, stands_still}
 use Rattle.gitconf_views.proofs.GivenEditors.{given_fits, given_same}
-use Rattle.gitconf_views.proofs.Outcomes.{on_ok, on_err, either_way}
+use Rattle.gitconf_entries.proofs.Outcomes.{on_ok, on_err, either_way}
 use Rattle.gitconf_views.proofs.detached.Section.push_entry.Goals as goal
 
 pub push-requires-clause-fits : goal.push-requires-clause-fits

@@ -5,7 +5,7 @@ use Rattle.gitconf_items.specs.Items.{items_of}
 use Rattle.gitconf_views.specs.declared.section.Section.{Section}
 use Rattle.gitconf_lines.specs.Blanks.{given_editor}
 use Rattle.gitconf_views.proofs.AloneEdits.{HasOwn, edited_alone, kept_alone, stands_still}
-use Rattle.gitconf_views.proofs.Outcomes.{on_ok, on_err, either_way}
+use Rattle.gitconf_entries.proofs.Outcomes.{on_ok, on_err, either_way}
 use Rattle.gitconf_views.proofs.detached.Section.push_newline.Goals as goal
 
 pub returns-clause-ok : goal.returns-clause-ok

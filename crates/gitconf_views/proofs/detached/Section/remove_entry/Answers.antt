@@ -10,7 +10,7 @@ use Rattle.gitconf_lines.proofs.Buffers.{same_extended}
 use Rattle.gitconf_views.specs.declared.section.Section.{Section}
 use Rattle.gitconf_views.specs.Alone.{detached_of, with_items}
 use Rattle.gitconf_views.proofs.AloneEdits.{HasOwn, edited_alone, kept_alone, stands_still}
-use Rattle.gitconf_views.proofs.Outcomes.{on_ok, on_err, either_way}
+use Rattle.gitconf_entries.proofs.Outcomes.{on_ok, on_err, either_way}
 use Rattle.gitconf_views.proofs.detached.Section.remove_entry.Goals as goal
 
 pub returns-clause-ok : goal.returns-clause-ok

@@ -10,7 +10,7 @@ use Rattle.gitconf_lines.specs.Blanks.{given_editor}
 use Rattle.gitconf_views.specs.Store.{section_under}
 use Rattle.gitconf_views.proofs.AloneEdits.{HasOwn, edited_alone, kept_alone, stands_still}
 use Rattle.gitconf_views.proofs.GivenEditors.{given_fits, given_same}
-use Rattle.gitconf_views.proofs.Outcomes.{on_ok, on_err, either_way}
+use Rattle.gitconf_entries.proofs.Outcomes.{on_ok, on_err, either_way}
 use Rattle.gitconf_views.proofs.detached.Section.set_entry.Goals as goal
 
 pub set-requires-clause-fits : goal.set-requires-clause-fits

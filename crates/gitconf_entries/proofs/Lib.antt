@@ -1,0 +1,3 @@
+pub mod BodyLaws
+pub mod LastEntry
+pub mod Outcomes

@@ -1,0 +1,2 @@
+pub mod GatheredLists
+pub mod Gathered

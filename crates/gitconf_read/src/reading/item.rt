@@ -1,0 +1,277 @@
+//! Items, read as they are in a text.
+ghost use Rattle.std.specs.Prelude.{◌≡◌, ◌≤◌, ◌<◌, ◌^◌, ◌==◌, ◌∷◌, ◌++◌, [], false, None, length, get_or, IfOk, IfErr, OnOk, IsOkUnless};
+ghost use Rattle.gitconf_text.specs.Token.{HeaderToken, item_tokens};
+ghost use Rattle.gitconf_text.specs.Part.{EntryItem};
+ghost use Rattle.gitconf_read.specs.declared.reading.Expected.TheVariants.{Name};
+ghost use Rattle.gitconf_read.specs.declared.reading.ReadError.TheVariants.{Memory};
+ghost use Rattle.gitconf_items.specs.Events.{bytes_of, header_of, SpanFits, HeaderFits};
+ghost use Rattle.gitconf_read.specs.ItemReading.{IsReadTo, IsRefusal, IsValueRead, IsValueRefusal, IsEntryWith, IsKeptRead};
+ghost use Rattle.gitconf_items.specs.Items.{entry_of, tokens_of_items, tokens_of_value};
+ghost use Rattle.gitconf_items.specs.ItemsFit.{AreItemsWithin, EntryFits, ValueFits};
+ghost use Rattle.gitconf_read.specs.Reading.{entry_at, part_at};
+ghost use Rattle.gitconf_read.specs.Stretches.{IsStretch, IsKeptStretch, IsBreak};
+
+use super::entry::is_assignment;
+use super::header::header;
+use super::part::{Opening, part_opening};
+use super::run::{Run, run_end};
+use super::value::{PieceEnd, piece_end};
+use super::{Expected, Fault, ReadError};
+use gitconf_items::entry::{Assigned, Entry, EntryParts, Piece, Value};
+use gitconf_items::event::{Header, Span};
+use gitconf_items::items::{Item, Keep};
+use gitconf_items::stripping::kept_entry;
+use smallvec::SmallVec;
+use std::alloc::Global;
+
+/// The value that begins at an offset, and the offset after it.
+fn value(alloc: Global, input: &[u8], first: usize) -> Result<(Value, usize), ReadError>
+    requires within { first ≤ length input.now }
+    requires fits { length input.now < 2 ^ 32 }
+    ensures found { IfOk result (λ r. IsValueRead input.now first r.1 (tokens_of_value input.now r.0)) }
+    ensures spans { IfOk result (λ r. ValueFits (length input.now) r.0) }
+    ensures behind { IfOk result (λ r. first ≤ r.1) }
+    ensures inside { IfOk result (λ r. r.1 ≤ length input.now) }
+    ensures refused { IfErr result (IsValueRefusal input.now first) }
+{
+    let mut pieces = SmallVec::new(alloc);
+    let mut from = first;
+    let mut quoted = false;
+    loop {
+        match piece_end(input, from, quoted) {
+            PieceEnd::Last(end) => {
+                let last = Span::between(from, end);
+                return Ok((Value { pieces, last }, end));
+            }
+            PieceEnd::GoesOn {
+                at,
+                line_end,
+                quoted: open,
+            } => {
+                let end = at + 1 + line_end;
+                pieces.push(Piece {
+                    text: Span::between(from, at),
+                    line_end: Span::between(at + 1, end),
+                })?;
+                from = end;
+                quoted = open;
+            }
+            PieceEnd::Unended(at) => {
+                pieces.push(Piece {
+                    text: Span::between(from, at),
+                    line_end: Span::NOTHING,
+                })?;
+                let last = Span::between(at + 1, at + 1);
+                return Ok((Value { pieces, last }, at + 1));
+            }
+            PieceEnd::Refused => {
+                return Err(ReadError::Fault(Fault {
+                    at: first,
+                    expected: Expected::Value,
+                }));
+            }
+        }
+    }
+}
+
+/// An entry whose value isn't short, or has several pieces.
+#[cold]
+fn long_entry(
+    alloc: Global,
+    input: &[u8],
+    name: Span,
+    blanks: Span,
+    behind: Span,
+    first: usize,
+) -> Result<(Entry, usize), ReadError>
+    requires within { first ≤ length input.now }
+    requires fits { length input.now < 2 ^ 32 }
+    requires spans { SpanFits (length input.now) name × SpanFits (length input.now) blanks × SpanFits (length input.now) behind }
+    ensures found { IfOk result (λ r. IsEntryWith input.now name blanks behind first r.0 r.1) }
+    ensures spans { IfOk result (λ r. EntryFits (length input.now) r.0) }
+    ensures behind { IfOk result (λ r. first ≤ r.1) }
+    ensures inside { IfOk result (λ r. r.1 ≤ length input.now) }
+    ensures refused { IfErr result (IsValueRefusal input.now first) }
+{
+    let (value, end) = value(alloc, input, first)?;
+    let parts = EntryParts {
+        name,
+        blanks,
+        assigned: Assigned::of_value(behind, value),
+    };
+    Ok((Entry::try_new(alloc, parts)?, end))
+}
+
+/// The entry with a name, the blanks after it and those after `=`, whose value begins at an offset, and the offset after it.
+#[inline(always)]
+fn assigned_entry(
+    alloc: Global,
+    input: &[u8],
+    name: Span,
+    blanks: Span,
+    behind: Span,
+    first: usize,
+) -> Result<(Entry, usize), ReadError>
+    requires within { first ≤ length input.now }
+    requires fits { length input.now < 2 ^ 32 }
+    requires spans { SpanFits (length input.now) name × SpanFits (length input.now) blanks × SpanFits (length input.now) behind }
+    ensures found { IfOk result (λ r. IsEntryWith input.now name blanks behind first r.0 r.1) }
+    ensures spans { IfOk result (λ r. EntryFits (length input.now) r.0) }
+    ensures behind { IfOk result (λ r. first ≤ r.1) }
+    ensures inside { IfOk result (λ r. r.1 ≤ length input.now) }
+    ensures refused { IfErr result (IsValueRefusal input.now first) }
+{
+    if let PieceEnd::Last(end) = piece_end(input, first, false) {
+        let last = Span::between(first, end);
+        if let Some(entry) = Entry::of_line(name, blanks, behind, last) {
+            return Ok((entry, end));
+        }
+    }
+    long_entry(alloc, input, name, blanks, behind, first)
+}
+
+/// An entry without a value. `input` is the text that its spans are offsets of.
+#[cold]
+fn bare_entry(alloc: Global, input: &[u8], name: Span, blanks: Span) -> Result<Entry, ReadError>
+    requires spans { SpanFits (length input.now) name × SpanFits (length input.now) blanks }
+    ensures told { IfOk result (λ e. entry_of input.now e ≡ record { name = bytes_of input.now name; blanks = bytes_of input.now blanks; assigned = None }) }
+    ensures spans { IfOk result (EntryFits (length input.now)) }
+    ensures memory { IsOkUnless result Memory }
+{
+    // Only the contract speaks of the text.
+    let _ = input;
+    let parts = EntryParts {
+        name,
+        blanks,
+        assigned: Assigned::Nothing,
+    };
+    Ok(Entry::try_new(alloc, parts)?)
+}
+
+/// The entry whose name begins, with a letter, at an offset, and the offset after it.
+#[inline(always)]
+fn entry(alloc: Global, input: &[u8], at: usize) -> Result<(Entry, usize), ReadError>
+    requires within { at < length input.now }
+    requires fits { length input.now < 2 ^ 32 }
+    ensures found { IfOk result (λ r. IsReadTo input.now (entry_at input.now at []) r.1 (item_tokens (EntryItem (entry_of input.now r.0)))) }
+    ensures spans { IfOk result (λ r. EntryFits (length input.now) r.0) }
+    ensures behind { IfOk result (λ r. at < r.1) }
+    ensures inside { IfOk result (λ r. r.1 ≤ length input.now) }
+    ensures refused { IfErr result (IsRefusal (entry_at input.now at [])) }
+{
+    let name_end = run_end(input, at + 1, Run::NameBytes);
+    let blanks_end = run_end(input, name_end, Run::Blanks);
+    let name = Span::between(at, name_end);
+    let blanks = Span::between(name_end, blanks_end);
+    if is_assignment(input, blanks_end) {
+        let first = run_end(input, blanks_end + 1, Run::Blanks);
+        let behind = Span::between(blanks_end + 1, first);
+        assigned_entry(alloc, input, name, blanks, behind, first)
+    } else {
+        let entry = bare_entry(alloc, input, name, blanks)?;
+        Ok((entry, blanks_end))
+    }
+}
+
+/// Adds what is kept of the item at an offset, where no header begins, and returns the offset after it; `wanted` is reported as
+/// looked for if no item is there.
+#[inline(always)]
+fn push_item(
+    alloc: Global,
+    input: &[u8],
+    at: usize,
+    wanted: Expected,
+    keep: Keep,
+    items: &mut Vec<Item>,
+) -> Result<usize, ReadError>
+    requires within { at < length input.now }
+    requires fits { length input.now < 2 ^ 32 }
+    requires no_header { (get_or input.now at 0 == 91) ≡ false }
+    ensures found { IfOk result (IsKeptRead keep input.now at wanted items.old.items items.new.items) }
+    ensures ahead { IfOk result (λ end. at < end) }
+    ensures inside { IfOk result (λ end. end ≤ length input.now) }
+    ensures refused { IfErr result (IsRefusal (part_at input.now at wanted [])) }
+{
+    match part_opening(input, at) {
+        Opening::Blanks => {
+            let end = run_end(input, at + 1, Run::Blanks);
+            match keep {
+                Keep::All => items.push(Item::Blanks(Span::between(at, end)))?,
+                Keep::Meaning => {}
+            }
+            Ok(end)
+        }
+        Opening::LineEnds => {
+            let end = run_end(input, at + 1, Run::LineEnds);
+            match keep {
+                Keep::All => items.push(Item::LineEnds(Span::between(at, end)))?,
+                Keep::Meaning => {}
+            }
+            Ok(end)
+        }
+        Opening::Comment => {
+            let end = run_end(input, at + 1, Run::CommentText);
+            let text = Span::between(at + 1, end);
+            let tag = input[at];
+            match keep {
+                Keep::All => items.push(Item::Comment { tag, text })?,
+                Keep::Meaning => {}
+            }
+            Ok(end)
+        }
+        Opening::Entry => {
+            let (entry, end) = entry(alloc, input, at)?;
+            items.push(Item::Entry(kept_entry(entry, keep)))?;
+            Ok(end)
+        }
+        Opening::Header | Opening::Nothing => Err(ReadError::Fault(Fault {
+            at,
+            expected: wanted,
+        })),
+    }
+}
+
+/// Adds what is kept of the items from an offset on, up to a header or the end, and returns the offset after them.
+pub fn push_items(
+    alloc: Global,
+    input: &[u8],
+    start: usize,
+    wanted: Expected,
+    keep: Keep,
+    items: &mut Vec<Item>,
+) -> Result<usize, ReadError>
+    requires within { start ≤ length input.now }
+    requires fits { length input.now < 2 ^ 32 }
+    requires empty { items.old.items ≡ [] }
+    ensures read { IfOk result (λ end. IsKeptStretch keep input.now start wanted end wanted (tokens_of_items input.now items.new.items)) }
+    ensures spans { OnOk result (AreItemsWithin (length input.now) items.new.items) }
+    ensures inside { IfOk result (λ end. end ≤ length input.now) }
+    ensures headed { IfOk result (λ end. end < length input.now → get_or input.now end 0 ≡ 91) }
+    ensures broken { IfErr result (IsBreak input.now start wanted) }
+{
+    let mut at = start;
+    while at < input.len() && input[at] != b'[' {
+        at = push_item(alloc, input, at, wanted, keep, items)?;
+    }
+    Ok(at)
+}
+
+/// The header whose bracket is at an offset, and the offset after it; `wanted` is reported as looked for if no header is there.
+pub fn header_first(input: &[u8], at: usize, wanted: Expected) -> Result<(Header, usize), ReadError>
+    requires within { at < length input.now }
+    requires headed { get_or input.now at 0 ≡ 91 }
+    requires fits { length input.now < 2 ^ 32 }
+    ensures read { IfOk result (λ r. IsStretch input.now at wanted r.1 Name (HeaderToken (header_of input.now r.0) ∷ [])) }
+    ensures spans { IfOk result (λ r. HeaderFits (length input.now) r.0) }
+    ensures ahead { IfOk result (λ r. at < r.1) }
+    ensures inside { IfOk result (λ r. r.1 ≤ length input.now) }
+    ensures broken { IfErr result (IsBreak input.now at wanted) }
+{
+    match header(input, at) {
+        Some(found) => Ok(found),
+        None => Err(ReadError::Fault(Fault {
+            at,
+            expected: wanted,
+        })),
+    }
+}
