@@ -7,13 +7,13 @@ ghost use Rattle.gitconf_finding.specs.Finding.{deciding_entry, place_of, places
 ghost use Rattle.gitconf_views.specs.Views.{shown};
 
 use crate::found::{Deciding, Found, copied};
+use gitconf_base::lists::put;
+use gitconf_entries::values::last_entry;
 use gitconf_items::entry::{AssignedRef, Entry};
 use gitconf_items::items::Item;
 use gitconf_lines::seeking::is_named;
 use gitconf_text::NoMemory;
-use gitconf_base::lists::put;
 use gitconf_views::section::SectionRef;
-use gitconf_entries::values::last_entry;
 
 /// The last entry of a key in a section, if it decides.
 pub fn deciding_entry<'a>(

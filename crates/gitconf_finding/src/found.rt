@@ -2,10 +2,10 @@
 ghost use Rattle.std.specs.Prelude.{◌≡◌, IfOk};
 
 use bstr::BString;
+use gitconf_entries::values::{entry_meaning, entry_value};
 use gitconf_items::entry::Entry;
 use gitconf_text::NoMemory;
 use gitconf_views::section::SectionRef;
-use gitconf_entries::values::{entry_meaning, entry_value};
 use std::alloc::Global;
 
 /// Which entries decide in their section, if they are the last of the key there.

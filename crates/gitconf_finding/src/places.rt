@@ -11,12 +11,12 @@ ghost use Rattle.gitconf_finding.specs.Walks.{named_left};
 
 use crate::filters::passes;
 use crate::walks::SectionsNamed;
+use gitconf_base::lists::put;
 use gitconf_base::meta::Metadata;
 use gitconf_items::items::Item;
 use gitconf_lines::seeking::{is_entry_of, last_place};
 use gitconf_table::table::SectionId;
 use gitconf_text::NoMemory;
-use gitconf_base::lists::put;
 use gitconf_views::section::SectionRef;
 use std::alloc::Global;
 

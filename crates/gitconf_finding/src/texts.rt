@@ -9,10 +9,10 @@ ghost use Rattle.gitconf_finding.specs.Lookups.{IsFound, shown_with, texts_of, i
 
 use crate::found::Found;
 use bstr::BString;
-use gitconf_text::NoMemory;
 use gitconf_base::lists::put;
-use gitconf_views::section::SectionRef;
 use gitconf_entries::values::entry_meaning;
+use gitconf_text::NoMemory;
+use gitconf_views::section::SectionRef;
 use std::alloc::Global;
 
 /// What an entry means, if one was found.

@@ -11,10 +11,10 @@ ghost use Rattle.gitconf_views.specs.Views.{sections_left};
 ghost use Rattle.gitconf_lines.specs.Spacings.{is_stored_entry};
 ghost use Rattle.gitconf_views.specs.Counts.{are_void, section_entries};
 
+use gitconf_entries::entries::entry_count;
 use gitconf_items::items::Item;
 use gitconf_text::line_end::LineEnd;
 use gitconf_views::section::Sections;
-use gitconf_entries::entries::entry_count;
 use gitconf_write::line_end::first_line_end;
 
 /// The line ending of the first newline of the sections' bodies, if there is one.

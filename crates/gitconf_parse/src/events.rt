@@ -7,6 +7,7 @@ mod filter;
 mod iters;
 
 use crate::grouping::grouped;
+use crate::input::{check_len, copied, copied_with_room, refusal};
 pub use filter::keeps_meaning;
 use filter::kept_events;
 use gitconf_items::event_ref::EventRef;
@@ -14,7 +15,6 @@ use gitconf_items::few::FewItems;
 use gitconf_items::section_sink::SectionSink;
 use gitconf_read::compact::EventVec;
 use gitconf_read::error::Error;
-use crate::input::{check_len, copied, copied_with_room, refusal};
 use gitconf_read::reading::{ReadError, read};
 use gitconf_text::NoMemory;
 pub use iters::{EventIter, SectionIter, SectionRef};
@@ -127,8 +127,7 @@ impl Events {
         ensures selected { IfOk result (λ e. (input : List ℕ) → IsSelected input self → IsSelected input e) }
     {
         let (buffer, copies, all) = self.into_parts();
-        let (events, keeps_entries) =
-            kept_events(alloc, &buffer, &copies, all.as_slice(), filter)?;
+        let (events, keeps_entries) = kept_events(alloc, &buffer, &copies, all.as_slice(), filter)?;
         Ok(Events {
             buffer,
             copies,

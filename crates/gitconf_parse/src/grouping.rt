@@ -9,12 +9,12 @@ ghost use Rattle.gitconf_items.specs.Items.{item_of, assigned_of};
 ghost use Rattle.gitconf_items.specs.Grouping.{Between, BehindName, BehindNameBlanks, BehindSeparator, BehindSeparatorBlanks, BehindPiece, BehindPieceEnd, are_items, AreBehind};
 ghost use Rattle.gitconf_read.specs.Compact.{events_of};
 
-use gitconf_read::compact::EventSlice;
 use gitconf_items::entry::{Assigned, Entry, EntryParts, Piece, Value};
 use gitconf_items::event::{Event, Span, is_header};
 use gitconf_items::few::{FewItems, taken};
 use gitconf_items::items::Item;
 use gitconf_items::section_sink::SectionSink;
+use gitconf_read::compact::EventSlice;
 use gitconf_text::NoMemory;
 use smallvec::SmallVec;
 use std::alloc::Global;

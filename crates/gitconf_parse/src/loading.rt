@@ -12,13 +12,13 @@ ghost use Rattle.gitconf_read.specs.Parsing.{IsMisread};
 ghost use Rattle.gitconf_read.specs.Stretches.{IsBreak, IsReadOn};
 ghost use Rattle.gitconf_items.specs.TokenDocument.{tokens_kept};
 
-use gitconf_read::error::Error;
 use crate::input::refusal;
-use gitconf_read::reading::item::{header_first, push_items};
-use gitconf_read::reading::{Expected, ReadError, mark_len};
 use gitconf_items::few::{FewItems, taken};
 use gitconf_items::items::{Item, Keep};
 use gitconf_items::section_sink::SectionSink;
+use gitconf_read::error::Error;
+use gitconf_read::reading::item::{header_first, push_items};
+use gitconf_read::reading::{Expected, ReadError, mark_len};
 use std::alloc::Global;
 
 /// Hands over the sections from the first header on, each with the items that are kept of it, as soon as it is read. The items of each go

@@ -2,10 +2,10 @@
 ghost use Rattle.std.specs.Prelude.{◌≡◌};
 
 use gitconf_includes::includes;
+use gitconf_lines::value;
 use gitconf_text::NoMemory;
 use gitconf_text::parse::section::header;
 use gitconf_values::path::interpolate;
-use gitconf_lines::value;
 use thiserror::Error;
 
 /// Why the entries of variables of the environment are refused. Entries are counted from 0.

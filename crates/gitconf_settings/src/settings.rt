@@ -11,11 +11,11 @@ ghost use Rattle.gitconf_settings.specs.Settings.{section_settings, setting_of, 
 
 use bstr::BString;
 use gitconf_compared::setting::{Setting, Side};
+use gitconf_entries::entries::next_entry;
+use gitconf_entries::values::entry_value;
 use gitconf_items::entry::Entry;
 use gitconf_text::NoMemory;
 use gitconf_views::section::{SectionRef, Sections};
-use gitconf_entries::values::entry_value;
-use gitconf_entries::entries::next_entry;
 use std::alloc::Global;
 
 /// A name as names are compared: in lower case.

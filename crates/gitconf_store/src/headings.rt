@@ -7,13 +7,13 @@ ghost use Rattle.gitconf_base.specs.Metadata.{Meta};
 ghost use Rattle.gitconf_text.specs.Sections.{is_named, place_of, IsNumbered};
 ghost use Rattle.gitconf_store.specs.Renamings.{marked_places, with_headers, AreMarks};
 
+use gitconf_base::lists::put;
 use gitconf_base::meta::Metadata;
 use gitconf_finding::filters::passes;
 use gitconf_items::event::Header;
 use gitconf_sections::sections::SectionList;
 use gitconf_table::table::SectionId;
 use gitconf_text::NoMemory;
-use gitconf_base::lists::put;
 use std::alloc::Global;
 
 /// Adds the place of the section of a number, if one has it, to others.

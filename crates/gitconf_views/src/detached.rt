@@ -21,10 +21,10 @@ pub mod editor;
 mod editor_views;
 mod writing;
 
-use gitconf_base::lists::bytes_of;
 use crate::section;
 use crate::section::{SectionRef, shared};
 use bstr::BString;
+use gitconf_base::lists::bytes_of;
 use gitconf_base::meta::Metadata;
 use gitconf_body::heading::put_header;
 use gitconf_copying::copying::{copied_header, copied_items};

@@ -5,10 +5,10 @@ ghost use Rattle.gitconf_sections.specs.Walks as walks;
 ghost use Rattle.gitconf_views.specs.Viewed.{AreViewed, AreViewed-prop, IsViewed, IsViewed-prop};
 
 use crate::tables::view_of;
-use gitconf_entries::values::entry_meaning;
 use bstr::BString;
 use gitconf_base::meta::Metadata;
 use gitconf_base::source::Trust;
+use gitconf_entries::values::entry_meaning;
 use gitconf_items::event::Header;
 use gitconf_items::events::ItemEvents;
 use gitconf_items::items::Item;

@@ -3,8 +3,8 @@
 use bstr::BString;
 use gitconf_base::key::KeyRef;
 use gitconf_items::event_ref::EventRef;
-use gitconf_read::error::Error;
 use gitconf_parse::events::Events;
+use gitconf_read::error::Error;
 use gitconf_text::NoMemory;
 use gixcfg_answers::trouble::Trouble;
 use std::alloc::Global;

@@ -8,10 +8,10 @@ ghost use Rattle.gitconf_items.specs.ShownEvents.{IsShown};
 ghost use Rattle.gitconf_items.specs.TokenDocument as spec;
 ghost use Rattle.gitconf_items.specs.EventList.{is_entry_token, is_header_token, keeps_token, IsKept, IsSelection};
 
-use gitconf_read::compact::{EventSlice, EventVec};
 use gitconf_items::event::Event;
 use gitconf_items::event_ref::EventRef;
 use gitconf_items::lend::event_ref;
+use gitconf_read::compact::{EventSlice, EventVec};
 use gitconf_text::NoMemory;
 use std::alloc::Global;
 

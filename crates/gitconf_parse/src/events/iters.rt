@@ -4,9 +4,9 @@ ghost use Rattle.gitconf_read.specs.Compact.{events_of};
 ghost use Rattle.gitconf_items.specs.EventProps.{AreWithin, AreWithin-prop};
 ghost use Rattle.gitconf_items.specs.Sections.{is_header_event, is_cut};
 
-use gitconf_read::compact::EventSlice;
 use gitconf_items::event_ref::EventRef;
 use gitconf_items::lend::event_ref;
+use gitconf_read::compact::EventSlice;
 
 /// Events in the order of their text.
 #[derive(Clone, Copy, Debug)]

@@ -2,9 +2,9 @@
 ghost use Rattle.std.specs.Prelude.{◌≡◌, ◌-◌, ◌≤◌, length};
 ghost use Rattle.gitconf_index.specs.Runs.{woven, AreRuns};
 
+use crate::table::{SectionTable, relocate};
 use gitconf_index::lists::weave;
 use gitconf_index::runs::Run;
-use crate::table::{SectionTable, relocate};
 
 impl<T> SectionTable<T> {
     /// Weaves the sections from `first` on among those before them; their numbers, their names and what they hold stay. Takes

@@ -1,12 +1,12 @@
 //! The editor of a section that is in no file.
 use crate::detached::Section;
 use crate::detached::writing::text_of;
-use gitconf_base::lists::bytes_of;
-use gitconf_entries::popped::texts_of;
-use gitconf_lines::value;
 use bstr::BString;
+use gitconf_base::lists::bytes_of;
 use gitconf_base::source::Trust;
+use gitconf_entries::popped::texts_of;
 use gitconf_lines::blanks::Blanks;
+use gitconf_lines::value;
 use gitconf_text::NoMemory;
 use gitconf_text::line_end::LineEnd;
 use gitconf_text::parse::section::header;

@@ -1,9 +1,9 @@
 //! What the editor of a section that is in no file shows of it, and of what it writes.
 use crate::detached::editor::DetachedSectionMut;
-use gitconf_base::lists::if_any;
 use crate::section::SectionRef;
 use crate::views::{BodyRef, HeaderRef, ValueNames};
 use bstr::BString;
+use gitconf_base::lists::if_any;
 use gitconf_base::meta::Metadata;
 use gitconf_table::table::SectionId;
 use gitconf_text::NoMemory;

@@ -3,9 +3,9 @@ ghost use Rattle.std.specs.Prelude.{◌≡◌, option_map};
 ghost use Rattle.bstr.specs.Owned.{bstring_bytes};
 
 use crate::detached::Section;
-use gitconf_lines::value;
 use bstr::BString;
 use gitconf_lines::editor::Editor;
+use gitconf_lines::value;
 use gitconf_text::parse::section::ValueNameError;
 use gitconf_text::parse::section::bytes::is_value_name;
 use gitconf_text::parse::span;

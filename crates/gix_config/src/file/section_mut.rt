@@ -9,15 +9,15 @@ mod reading;
 use crate::file::section::value;
 use crate::file::{File, SectionId};
 use bstr::BString;
+use gitconf_base::lists::bytes_of;
 use gitconf_base::source::Trust;
+use gitconf_entries::popped::texts_of;
 use gitconf_lines::blanks::Blanks;
 use gitconf_text::NoMemory;
 use gitconf_text::line_end::LineEnd;
 use gitconf_text::parse::section::bytes::is_value_name;
 use gitconf_text::parse::section::{ValueNameError, header};
 use gitconf_text::parse::span;
-use gitconf_base::lists::bytes_of;
-use gitconf_entries::popped::texts_of;
 pub use making::Error;
 
 /// An editor of one section of a file. What it writes besides names and values stays as it was when the editor was made, even while the

@@ -18,9 +18,9 @@ use crate::file::{File, Metadata};
 use crate::values::{Boolean, Path};
 use bstr::BString;
 use gitconf_base::key::{AsKey, KeyRef};
+use gitconf_base::lists::{put, with_room};
 use gitconf_text::{NoMemory, value};
 use gitconf_values::integer;
-use gitconf_base::lists::{put, with_room};
 
 /// The path that was found.
 fn found_path(found: Result<Option<BString>, NoMemory>) -> Result<Option<Path>, NoMemory>

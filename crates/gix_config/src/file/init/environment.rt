@@ -23,8 +23,8 @@ use gitconf_includes::includes;
 use gitconf_includes::init::Options;
 use gitconf_loaders::globals::home_options;
 use gitconf_loaders::resolving::{Resolved, resolve};
-use gitconf_refusals::variables::{count, key_at, value_at};
 use gitconf_refusals::from_env::Error;
+use gitconf_refusals::variables::{count, key_at, value_at};
 use gitconf_text::NoMemory;
 use std::alloc::Global;
 

@@ -3,13 +3,13 @@ use crate::file::section_mut::SectionMut;
 use crate::file::{File, Metadata, Section, SectionId};
 use crate::lookup::existing;
 use bstr::BString;
+use gitconf_base::lists::bytes_of;
 use gitconf_lines::blanks::Blanks;
 use gitconf_text::NoMemory;
 use gitconf_text::line_end::LineEnd;
 use gitconf_text::parse::section::header;
 use gitconf_text::parse::section::unvalidated::KeyRef;
 use gitconf_text::parse::span;
-use gitconf_base::lists::bytes_of;
 use thiserror::Error;
 
 /// Why there is no editor.

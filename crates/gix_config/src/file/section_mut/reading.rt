@@ -3,8 +3,8 @@ use crate::file::section::{BodyRef, HeaderRef, ValueNames};
 use crate::file::section_mut::SectionMut;
 use crate::file::{Metadata, SectionId, SectionRef};
 use bstr::BString;
-use gitconf_text::NoMemory;
 use gitconf_base::lists::if_any;
+use gitconf_text::NoMemory;
 
 impl<'a> SectionMut<'a> {
     ghost use Rattle.std.specs.List.{list_all};
