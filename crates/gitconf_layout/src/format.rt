@@ -10,8 +10,8 @@ ghost use Rattle.gitconf_layout.specs.Layout as spec;
 use crate::setting::{line_end_of, set_tokens};
 use crate::trimming::end_with;
 use bstr::BString;
-use gitconf_read::error::Error;
 use gitconf_parse::events::{EventIter, Events};
+use gitconf_read::error::Error;
 use gitconf_text::NoMemory;
 use std::alloc::Global;
 
