@@ -8,7 +8,7 @@
 
 PROGRAM = gixcfg
 
-PREFIX = /usr/local
+PREFIX ?= /usr/local
 prefix = $(PREFIX)
 exec_prefix = $(prefix)
 bindir = $(exec_prefix)/bin
@@ -50,4 +50,4 @@ uninstall:
 	rm -f "$(DESTDIR)$(bindir)/gixcfg" "$(DESTDIR)$(man1dir)/gixcfg.1" "$(DESTDIR)$(bashcompletiondir)/gixcfg" \
 		"$(DESTDIR)$(zshcompletiondir)/_gixcfg" "$(DESTDIR)$(fishcompletiondir)/gixcfg.fish"
 	for file in $(notdir $(licences)); do rm -f "$(DESTDIR)$(docdir)/$$file"; done
-	[ ! -d "$(DESTDIR)$(docdir)" ] || rmdir "$(DESTDIR)$(docdir)" || true
+	[ ! -d "$(DESTDIR)$(docdir)" ] || rmdir "$(DESTDIR)$(docdir)" 2>/dev/null || true

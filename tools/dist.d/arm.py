@@ -15,8 +15,6 @@ from release import PROGRAM, TOP, Lacking, built_program, kit, kit_line, run, so
 TARGET = "aarch64-unknown-linux-gnu"
 COMPILER = "aarch64-linux-gnu-gcc"
 
-# The packages whose files come to be in the program, or that write its bytes.
-PACKAGES = ("gcc-12-aarch64-linux-gnu", "binutils-aarch64-linux-gnu", "libc6-dev-arm64-cross")
 C_FILES = ("host.c", "heap.c")
 
 OUT = TOP / "crates/gixcfg/out/aarch64"
@@ -31,12 +29,11 @@ def lacking_tools():
 
 
 def linked_with():
-    """The packages that the program's bytes depend on beside the kit, each with its version."""
+    """The packages whose files come to be in the program, or that write its bytes, each with its version."""
     if shutil.which("dpkg-query") is None:
         return run(COMPILER, "--version").splitlines()[0]
-    found = subprocess.run(["dpkg-query", "-W", "-f", "${Package} ${Version}, ", *PACKAGES], stdout=subprocess.PIPE,
-                           stderr=subprocess.DEVNULL, text=True)
-    return found.stdout.rstrip(", ")
+    packages = [f"gcc-{run(COMPILER, '-dumpversion').strip()}-aarch64-linux-gnu", "binutils-aarch64-linux-gnu", "libc6-dev-arm64-cross"]
+    return ", ".join(run("dpkg-query", "-W", "-f", "${Package} ${Version}", package) for package in packages)
 
 
 def listed_crates():
@@ -60,7 +57,7 @@ def words_of(root):
             left += crates[name]
     for name, folder in below.items():
         if not (folder / f"{name}.rlib/format").is_file():
-            raise Lacking(f"the library {name} isn't in crates/{name}/out: ./gixcfg --build makes those below the program")
+            raise Lacking(f"the library {name} isn't in crates/{name}/out, where ./gixcfg --build or rt ci leaves it")
     words = ["--crate-name", "gixcfg", "src/main.rt"]
     for name in ["std", *crates["gixcfg"]]:
         words += ["--extern", f"{name}={below[name] if name in below else root / 'rlibs'}/{name}.rlib"]
