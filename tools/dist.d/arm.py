@@ -46,20 +46,26 @@ def listed_crates():
     return crates
 
 
-def words_of(root):
-    """The words that tell rattle of the program's crate, the libraries below it, and the program logic."""
+def libraries():
+    """The libraries below the program: those of this repository, and those of the kit that they name."""
     crates = listed_crates()
-    below, left = {}, list(crates["gixcfg"])
+    found, left = {}, list(crates["gixcfg"])
     while left:
         name = left.pop()
-        if name in crates and name not in below:
-            below[name] = TOP / "crates" / name / "out/rlib"
-            left += crates[name]
+        if name not in found:
+            found[name] = name in crates
+            left += crates.get(name, [])
+    return [name for name, is_ours in found.items() if is_ours], [name for name, is_ours in found.items() if not is_ours]
+
+
+def words_of(root):
+    """The words that tell rattle of the program's crate, the libraries below it, and the program logic."""
+    below = {name: TOP / "crates" / name / "out/rlib" for name in libraries()[0]}
     for name, folder in below.items():
         if not (folder / f"{name}.rlib/format").is_file():
             raise Lacking(f"the library {name} isn't in crates/{name}/out, where ./gixcfg --build or rt ci leaves it")
     words = ["--crate-name", "gixcfg", "src/main.rt"]
-    for name in ["std", *crates["gixcfg"]]:
+    for name in ["std", *listed_crates()["gixcfg"]]:
         words += ["--extern", f"{name}={below[name] if name in below else root / 'rlibs'}/{name}.rlib"]
     for folder in [root / "rlibs", *below.values()]:
         words += ["-L", f"dependency={folder}"]
