@@ -119,7 +119,7 @@ Description: {DESCRIPTION}
 def changelog(time):
     return f"""gixcfg ({version()}-1) unstable; urgency=medium
 
-  * CHANGELOG.md of the sources says what is new.
+  * The release {version()} of the project.
 
  -- {MAINTAINER}  {formatdate(time)}
 """
