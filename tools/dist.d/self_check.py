@@ -4,7 +4,10 @@ from dataclasses import replace
 from release import folder_of
 from sums import FILE, Sums, compare, read
 
-PROGRAMS = [f"{folder_of('x86_64')}/gixcfg", f"{folder_of('aarch64')}/gixcfg.o", f"{folder_of('aarch64')}/gixcfg"]
+
+def programs():
+    """The files that have a sum."""
+    return [f"{folder_of('x86_64')}/gixcfg", f"{folder_of('aarch64')}/gixcfg.o", f"{folder_of('aarch64')}/gixcfg"]
 
 
 def with_other_digit(sums, name):
@@ -21,25 +24,26 @@ def failing(wanted, got):
 
 def cases():
     """Each case: what it is, whether it holds."""
-    made = Sums("a kit", "a linker 1", {name: f"{at:064x}" for at, name in enumerate(PROGRAMS, 10)})
+    names = programs()
+    made = Sums("a kit", "a linker 1", {name: f"{at:064x}" for at, name in enumerate(names, 10)})
     written = read(made.text())
-    object_, linked = PROGRAMS[1:]
+    object_, linked = names[1:]
     yield "what was written is read again", written == made
     yield "the same sums pass", failing(written, made) == (set(), set())
-    for name in PROGRAMS:
+    for name in names:
         yield f"another sum of {name} there fails", failing(with_other_digit(written, name), made) == ({name}, set())
         yield f"another {name} here fails", failing(written, with_other_digit(made, name)) == ({name}, set())
         lacking = replace(written, files={it: sum for it, sum in written.files.items() if it != name})
         yield f"no sum of {name} fails", failing(lacking, made) == ({name}, set())
     other = replace(written, kit="another kit")
-    yield "under another kit nothing is said", failing(with_other_digit(other, linked), made) == (set(), set(PROGRAMS))
+    yield "under another kit nothing is said", failing(with_other_digit(other, linked), made) == (set(), set(names))
     relinked = replace(with_other_digit(with_other_digit(made, linked), object_), linked="a linker 2")
     yield "with another linker nothing is said of what it linked, and the object is compared", \
         failing(written, relinked) == ({object_}, {linked})
     yield "with another linker the same sum passes", failing(written, replace(made, linked="a linker 2")) == (set(), set())
     stands = read(FILE.read_text(encoding="utf-8"))
     yield "dist/SHA256SUMS names a kit and has the sum of each program of this version", \
-        bool(stands.kit) and [*stands.files] == PROGRAMS
+        bool(stands.kit) and [*stands.files] == names
 
 
 def run():
