@@ -150,6 +150,11 @@ def _places_of(rows):
     return places
 
 
+def ends_in_scope(rows):
+    """Whether a scope is open behind these rows."""
+    return bool(rows) and _places_of(rows)[-1].ends_in_scope
+
+
 def run(transcripts, start, shim, report, table):
     """Runs each transcript through programs that `start` makes, but for those that turn refusals on themselves."""
     for transcript in transcripts:

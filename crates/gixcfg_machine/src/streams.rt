@@ -1,7 +1,7 @@
 //! Streams in memory: an input that comes in pieces and may fail, an output that may be full.
 
 use crate::refusal::Refusal;
-use std::alloc::Global;
+use std::alloc::{AllocError, Global};
 use std::io;
 use std::io::{Read, Write};
 
@@ -51,6 +51,9 @@ impl Read for Source {
     }
 }
 
+/// How much a call writes before its output takes further memory.
+const LITTLE: usize = 4096;
+
 /// What a call writes: all of it, or as much as there is room for.
 #[derive(Drop)]
 pub struct Target {
@@ -59,12 +62,12 @@ pub struct Target {
 }
 
 impl Target {
-    /// Room for all, or for so many bytes.
-    pub fn new(alloc: Global, room: Option<usize>) -> Target {
-        Target {
-            text: Vec::new(alloc),
+    /// Room for all, or for so many bytes. What is little takes no memory when it is written.
+    pub fn new(alloc: Global, room: Option<usize>) -> Result<Target, AllocError> {
+        Ok(Target {
+            text: Vec::with_capacity(alloc, LITTLE)?,
             room: room.unwrap_or(usize::MAX),
-        }
+        })
     }
 
     /// What was written.

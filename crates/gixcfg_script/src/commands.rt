@@ -24,11 +24,13 @@ enum Command {
     Input,
     /// `room`
     Room,
+    /// `grow`
+    Grow,
     /// `call`
     Call,
 }
 
-static COMMANDS: [(&[u8], Command); 8] = [
+static COMMANDS: [(&[u8], Command); 9] = [
     (b"new", Command::New),
     (b"file", Command::File),
     (b"folder", Command::Folder),
@@ -36,6 +38,7 @@ static COMMANDS: [(&[u8], Command); 8] = [
     (b"set", Command::Set),
     (b"input", Command::Input),
     (b"room", Command::Room),
+    (b"grow", Command::Grow),
     (b"call", Command::Call),
 ];
 
@@ -80,6 +83,7 @@ fn set_up(
         Command::Set => set(session, words),
         Command::Input => set_input(alloc, session, words),
         Command::Room => set_room(session, words),
+        Command::Grow => grow(alloc, words),
         Command::Call => Err(Refusal::Unknown),
     }
 }
@@ -172,6 +176,17 @@ fn set_room(session: &mut Session, words: &[Word<'_>]) -> Result<(), Refusal> {
         b"out" => session.out = room,
         b"err" => session.err = room,
         _ => return Err(Refusal::NotUnderstood),
+    }
+    Ok(())
+}
+
+/// `grow N`: takes memory so many times, and gives it back. So a tool that may refuse one growth of the whole script can shift it.
+fn grow(alloc: Global, words: &[Word<'_>]) -> Result<(), Refusal> {
+    let [count] = words else {
+        return Err(Refusal::NotUnderstood);
+    };
+    for _ in 0..count.number()? {
+        let _block: Vec<u8> = Vec::with_capacity(alloc, 1)?;
     }
     Ok(())
 }

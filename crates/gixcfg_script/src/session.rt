@@ -46,8 +46,8 @@ impl Session {
     /// Runs a call of these words. It takes what is on standard input.
     pub fn call(&mut self, words: &[&str]) -> Result<Done, NoMemory> {
         let mut input = replace(&mut self.input, Source::of(Vec::new(self.alloc)));
-        let mut out = Target::new(self.alloc, self.out);
-        let mut err = Target::new(self.alloc, self.err);
+        let mut out = Target::new(self.alloc, self.out)?;
+        let mut err = Target::new(self.alloc, self.err)?;
         let streams = Streams {
             input: &mut input,
             out: &mut out,
