@@ -1,5 +1,5 @@
 """Rows on programs that `rt try` compiles of the sources, with nothing proved: the transcripts by gix_config_script, the runs of gixcfg by
-gixcfg_script, and some of these with a growth refused.
+gixcfg_script, and some of both with a growth refused.
 
 `rt try` takes most of a second to start a program, so many rows are joined to a script.
 """
@@ -15,8 +15,9 @@ import gixcfg_rows
 import on_machine
 import plain
 import refused
-import sample
-from unproved import Answers, NotCompiled, Played, Trial
+import refused_runs
+import refused_transcripts
+from unproved import Answers, NotCompiled, Trial
 
 # How long the lines of a script of runs and their answers are together: `rt try` takes no more than a megabyte of answers.
 MOST = 500_000
@@ -28,16 +29,20 @@ TURN = 15
 def run(crates, transcripts, runs, limit, report):
     """Runs all rows that can be run so, and tells how many can't."""
     runs = _that_fit(runs, report)
-    files, groups, cases = _by_file(transcripts), _groups_of(runs), sample.cases_of(runs)
-    on_files = Trial(crates / "gix_config_script", [_script_of(rows) for rows in files], limit)
-    on_machines = Trial(crates / "gixcfg_script", [_calls_of(rows) for rows in groups] + [case.script for case in cases], limit,
-                        sample.OPTIONS)
-    answered, called = _play([on_files, on_machines], report)
+    files, groups, cases = _by_file(transcripts), _groups_of(runs), refused_runs.cases_of(runs)
+    chosen = refused_transcripts.chosen(transcripts)
+    answered, refusing, called = _play(report, [
+        Trial("transcripts", crates / "gix_config_script", [_script_of(rows) for rows in files], limit),
+        Trial("transcripts with a growth refused", crates / "gix_config_script",
+              [[row.sent for row in transcript.rows] for transcript in chosen], limit, refused_transcripts.OPTIONS),
+        Trial("runs of gixcfg", crates / "gixcfg_script", [_calls_of(rows) for rows in groups] + [case.script for case in cases], limit,
+              refused_runs.OPTIONS)])
     for rows, played in zip(files, answered):
         _check_transcripts(rows, played, report)
     for rows, played in zip(groups, called):
         _check_runs(rows, played, report)
-    sample.check(cases, called[len(groups):], report)
+    refused_transcripts.check(chosen, refusing, report)
+    refused_runs.check(cases, called[len(groups):], report)
     report.tell("not proved: what ran was compiled by rt try of the sources as they are")
 
 
@@ -64,7 +69,7 @@ def _script_of(transcripts):
 def _behind(transcript):
     """The lines behind a transcript after which all is as at the start."""
     lines = ["reset"]
-    if any(row.word == "refusals" for row in transcript.rows):
+    if refused.turns_on(transcript):
         lines.insert(0, "refusals off")
     if refused.ends_in_scope(transcript.rows):
         lines.insert(0, "end")
@@ -88,11 +93,10 @@ def _calls_of(rows):
     return [line for row in rows for line in on_machine.script_of(row.run)]
 
 
-def _play(trials, report):
+def _play(report, trials):
     """What each program answered to its scripts, all side by side."""
-    trials_left = [trial for trial in trials if trial.count]
     ended = threading.Event()
-    teller = threading.Thread(target=_tell_progress, args=(trials_left, ended))
+    teller = threading.Thread(target=_tell_progress, args=([trial for trial in trials if trial.count], ended))
     teller.start()
     try:
         with ThreadPoolExecutor(len(trials)) as workers:
@@ -103,18 +107,24 @@ def _play(trials, report):
 
 
 def _played(trial, report):
+    """What a program answered to its scripts, or nothing where it can't be compiled, which is told as failed."""
     try:
         return trial.play() if trial.count else []
     except NotCompiled as fault:
-        report.fault(str(fault))
-        return [Played([], "it wasn't compiled")] * trial.count
+        report.fault(f"{trial.name}: {fault}\nThese rows are left out.")
+        return []
 
 
 def _tell_progress(trials, ended):
+    """Tells on standard error how far each is, until all have ended."""
     began = time.monotonic()
     while not ended.wait(TURN):
-        told = ", ".join(f"{trial.name}: {f'{trial.played} of {trial.count} scripts' if trial.played else 'compiling'}" for trial in trials)
-        print(f"rows, not proved, {time.monotonic() - began:.0f} s: {told}", file=sys.stderr, flush=True)
+        told = [f"{trial.name}: {_progress_of(trial)}" for trial in trials]
+        print(f"rows, not proved, {time.monotonic() - began:.0f} s", *told, sep="; ", file=sys.stderr, flush=True)
+
+
+def _progress_of(trial):
+    return f"{trial.played} of {trial.count} scripts" if trial.played else "compiling"
 
 
 def _check_transcripts(transcripts, played, report):

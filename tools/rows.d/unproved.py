@@ -17,6 +17,9 @@ from process import Stopped
 # `rt try` runs a program on an interpreter too, which can't read standard input; so it gets no time for that.
 QUICK = ["--steps", "1"]
 
+# What is wrong with the end of a script that was out of memory outside of its commands.
+OUT_OF_MEMORY = "it ended with status 5"
+
 _CASE = re.compile(r"case=(\S+) run=(\S+)(?: status=(\d+))?")
 _CAUSE = re.compile(r"checked: (.*)")
 
@@ -67,13 +70,14 @@ class Answers:
 
 
 class Trial:
-    """A program of the sources, compiled once, and started for each of some scripts. `played` counts those that have ended."""
+    """A program of the sources, compiled once, and started for each of some scripts. `played` counts those that have ended; the `name`
+    says what they are."""
 
-    def __init__(self, crate, scripts, limit, options=()):
+    def __init__(self, name, crate, scripts, limit, options=()):
         self._crate = crate
         self._scripts = scripts
         self._options = [*QUICK, "--seconds", str(max(1, int(limit))), *options]
-        self.name = crate.name
+        self.name = name
         self.count = len(scripts)
         self.played = 0
 

@@ -4,12 +4,13 @@
 K growths that are granted, and then makes the same runs: the K says which growth of these is the Nth of all.
 """
 
+from collections import Counter
 from typing import List, NamedTuple
 
 import on_machine
 from gixcfg_process import Failed
 from gixcfg_rows import ProgramRow
-from unproved import Answers
+from unproved import OUT_OF_MEMORY, Answers
 
 # The growth that is refused. No other script has as many.
 REFUSED = 400_000
@@ -19,8 +20,9 @@ OPTIONS = ["--fail-alloc", str(REFUSED)]
 STARTS = 40
 STRIDE = 47
 
-# How a script ends of which a growth was refused outside of a call.
-ENDED = "it ended with status 5"
+
+class Fault(Exception):
+    """A row, and what was got in place of what is right."""
 
 
 class Case(NamedTuple):
@@ -54,9 +56,17 @@ def _chosen(runs):
 
 def check(cases, played, report):
     """Checks the answers at each start, and tells how many growths were refused of what."""
-    refusals = [_check_one(case, answers, report) for case, answers in zip(cases, played)]
-    if not cases:
+    if not played:
         return
+    refusals, faults = [], Counter()
+    for case, answers in zip(cases, played):
+        try:
+            refusals.append(_refusal_in(case, answers))
+            report.row_passed()
+        except Fault as fault:
+            faults[fault.args] += 1
+    for (row, got), count in faults.items():
+        report.row_failed(row, f"{got}, with a growth refused, at {count} of {len(cases)} starts", count)
     told, ended = refusals.count("call"), refusals.count("script")
     report.tell(f"{told + ended} growths refused in {len(cases)} starts of the same {len(cases[0].rows)} runs of gixcfg: "
                 f"{told} of a call that told so, {ended} around the calls; the others weren't needed or didn't come")
@@ -64,24 +74,22 @@ def check(cases, played, report):
         report.fault("no growth of a call was refused at all")
 
 
-def _check_one(case, played, report):
-    """Counts a start. Answers what was refused: a growth of a `call`, one of the `script` around them, or None."""
+def _refusal_in(case, played):
+    """What was refused at a start: a growth of a `call`, one of the `script` around them, or None."""
     refused = None
     for row, part in zip(case.rows, played.parts(case.counts)[1:]):
-        if refused is None and part.fault == ENDED:
-            report.row_passed()
+        if refused is None and part.fault == OUT_OF_MEMORY:
             return "script"
-        try:
-            got = on_machine.ending(row, Answers(part))
-        except Failed as fault:
-            got = f"nothing: {fault}"
-        else:
-            if got.is_as(row.wanted):
-                continue
-            if refused is None and got.is_as(row.out_of_memory):
-                refused = "call"
-                continue
-        report.row_failed(row.row, f"{got}, with a growth refused behind `{case.script[0]}`")
-        return refused
-    report.row_passed()
+        got = _ending_in(row, part)
+        if refused is None and got.is_as(row.out_of_memory) and not got.is_as(row.wanted):
+            refused = "call"
+        elif not got.is_as(row.wanted):
+            raise Fault(row.row, str(got))
     return refused
+
+
+def _ending_in(row, part):
+    try:
+        return on_machine.ending(row, Answers(part))
+    except Failed as fault:
+        raise Fault(row.row, f"nothing: {fault}") from fault
