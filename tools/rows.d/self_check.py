@@ -180,14 +180,16 @@ def of_machines(lines):
         word, *others = line.split()
         if word == "new": given, files = "x", []
         if word == "input": given = others[0]
-        if word == "file": files.append(" ".join(["x2f772f" + others[0][1:], "x00" if FAULT == "text" else others[1], "1" if FAULT == "mode" else others[2]]))
+        if word == "file":
+            path, text, rights = others
+            files.append(" ".join(["x2f772f" + path[1:], "x00" if FAULT == "text" else text, "1" if FAULT == "mode" else rights]))
         if word != "call":
             yield "refused" if FAULT == "nofolder" and word == "folder" else "ok"
         elif refuses:
             refuses = False
             yield " ".join(["ok 5 x x" + (b"gixcfg: E1\n" if FAULT == "E1" else b"gixcfg: E27\n").hex() + " 0", *files])
         elif others[0] == "x676574":
-            out, err, status = {"output": given + "21"}.get(FAULT, given), "x3f" if FAULT == "error" else "x", "1" if FAULT == "status" else "0"
+            status, out, err = "1" if FAULT == "status" else "0", given + "21" * (FAULT == "output"), "x" + "3f" * (FAULT == "error")
             yield "garbled" if FAULT == "garbled" else " ".join(["ok", status, out, err, str(len(given) // 2), *files])
         else:
             yield "ok 2 x x7573616765 " + ("1" if FAULT == "reads" else "0")
@@ -379,7 +381,8 @@ def _check_case(case, tools, folder):
     called = [sys.executable, str(tools / case.tool), "--rows", str(rows), "--program", str(program), *words]
     if case.tool == "rows":
         called += ["--gixcfg", str(program), "--limit", "4"]
-    ran = subprocess.run(called, stdout=subprocess.PIPE, stderr=subprocess.STDOUT, env={**os.environ, "PATH": f"{folder}:{os.environ['PATH']}"})
+    variables = {**os.environ, "PATH": f"{folder}:{os.environ['PATH']}"}
+    ran = subprocess.run(called, stdout=subprocess.PIPE, stderr=subprocess.STDOUT, env=variables)
     told = ran.stdout.decode("utf-8", "replace")
     missing = [part for part in case.told if part not in told]
     is_right = told.endswith(f"{case.count}\n") and ran.returncode == (0 if case.count.endswith(" 0 failed") else 1)
