@@ -17,8 +17,8 @@ REFUSED = 400_000
 OPTIONS = ["--fail-alloc", str(REFUSED)]
 
 # How many starts there are, and how many growths of the runs lie between the refused ones of two starts.
-STARTS = 40
-STRIDE = 47
+STARTS = 60
+STRIDE = 43
 
 
 class Fault(Exception):

@@ -180,14 +180,16 @@ def of_machines(lines):
         word, *others = line.split()
         if word == "new": given, files = "x", []
         if word == "input": given = others[0]
-        if word == "file": files.append(" ".join(["x2f772f" + others[0][1:], "x00" if FAULT == "text" else others[1], "1" if FAULT == "mode" else others[2]]))
+        if word == "file":
+            path, text, rights = others
+            files.append(" ".join(["x2f772f" + path[1:], "x00" if FAULT == "text" else text, "1" if FAULT == "mode" else rights]))
         if word != "call":
             yield "refused" if FAULT == "nofolder" and word == "folder" else "ok"
         elif refuses:
             refuses = False
             yield " ".join(["ok 5 x x" + (b"gixcfg: E1\n" if FAULT == "E1" else b"gixcfg: E27\n").hex() + " 0", *files])
         elif others[0] == "x676574":
-            out, err, status = {"output": given + "21"}.get(FAULT, given), "x3f" if FAULT == "error" else "x", "1" if FAULT == "status" else "0"
+            status, out, err = "1" if FAULT == "status" else "0", given + "21" * (FAULT == "output"), "x" + "3f" * (FAULT == "error")
             yield "garbled" if FAULT == "garbled" else " ".join(["ok", status, out, err, str(len(given) // 2), *files])
         else:
             yield "ok 2 x x7573616765 " + ("1" if FAULT == "reads" else "0")
@@ -334,22 +336,22 @@ CASES = [
     tried("uncompiled", ("rt try started nothing", "error: it isn't Rattle"), "0 passed, 2 failed"),
     tried("E1", ('err E1 1 name "", with growth 120 refused',), "5 passed, 2 failed"),
     tried("never", ("no growth of a command was refused at all",), "6 passed, 1 failed"),
-    # Two runs, and 40 starts with a growth refused.
-    tried_run("right", ("40 growths refused in 40 starts of the same 1 runs of gixcfg: 40 of a call",), "42 passed, 0 failed"),
-    tried_run("output", ('program.txt:1: gixcfg "get" < "v"', 'wanted  0 "v" ""', 'got     0 "v!" ""'), "41 passed, 1 failed"),
-    tried_run("error", ('got     0 "v" "?"',), "41 passed, 1 failed"),
-    tried_run("status", ('got     1 "v" ""',), "41 passed, 1 failed"),
-    tried_run("reads", ("1 bytes of its standard input were read",), "41 passed, 1 failed"),
-    tried_run("garbled", ("got     nothing: no ending: garbled",), "41 passed, 1 failed"),
-    tried_run("more", ("it printed ['ok'] behind its answers",), "1 passed, 42 failed"),
-    tried_run("stops", ("got     nothing: fault: fault kind=index",), "0 passed, 43 failed"),
-    tried_run("E1", ('5 "" "gixcfg: E1\\n", with a growth refused',), "2 passed, 41 failed"),
-    tried_run("never", ("no growth of a call was refused at all",), "42 passed, 1 failed"),
-    tried_run("right", (), "41 passed, 0 failed", IN_FOLDER),
-    tried_run("text", ('file "d/m" "\\x00" mode 640',), "0 passed, 42 failed", IN_FOLDER),
+    # Two runs, and 60 starts with a growth refused.
+    tried_run("right", ("60 growths refused in 60 starts of the same 1 runs of gixcfg: 60 of a call",), "62 passed, 0 failed"),
+    tried_run("output", ('program.txt:1: gixcfg "get" < "v"', 'wanted  0 "v" ""', 'got     0 "v!" ""'), "61 passed, 1 failed"),
+    tried_run("error", ('got     0 "v" "?"',), "61 passed, 1 failed"),
+    tried_run("status", ('got     1 "v" ""',), "61 passed, 1 failed"),
+    tried_run("reads", ("1 bytes of its standard input were read",), "61 passed, 1 failed"),
+    tried_run("garbled", ("got     nothing: no ending: garbled",), "61 passed, 1 failed"),
+    tried_run("more", ("it printed ['ok'] behind its answers",), "1 passed, 62 failed"),
+    tried_run("stops", ("got     nothing: fault: fault kind=index",), "0 passed, 63 failed"),
+    tried_run("E1", ('5 "" "gixcfg: E1\\n", with a growth refused',), "2 passed, 61 failed"),
+    tried_run("never", ("no growth of a call was refused at all",), "62 passed, 1 failed"),
+    tried_run("right", (), "61 passed, 0 failed", IN_FOLDER),
+    tried_run("text", ('file "d/m" "\\x00" mode 640',), "0 passed, 62 failed", IN_FOLDER),
     # What a run leaves where memory was wanting has any rights.
-    tried_run("mode", ('file "d/m" "w" mode 1',), "40 passed, 1 failed", IN_FOLDER),
-    tried_run("nofolder", ("the machine doesn't take the line folder x64",), "0 passed, 42 failed", IN_FOLDER),
+    tried_run("mode", ('file "d/m" "w" mode 1',), "60 passed, 1 failed", IN_FOLDER),
+    tried_run("nofolder", ("the machine doesn't take the line folder x64",), "0 passed, 62 failed", IN_FOLDER),
     tried_run("right", ("1 runs of gixcfg need the built program: 1 for a pipe",), "0 passed, 0 failed",
               'gixcfg "get" in pipe "m" "x"\n  0 "" ""\n'),
     left("right", (), "1 passed, 0 failed"),
@@ -379,7 +381,8 @@ def _check_case(case, tools, folder):
     called = [sys.executable, str(tools / case.tool), "--rows", str(rows), "--program", str(program), *words]
     if case.tool == "rows":
         called += ["--gixcfg", str(program), "--limit", "4"]
-    ran = subprocess.run(called, stdout=subprocess.PIPE, stderr=subprocess.STDOUT, env={**os.environ, "PATH": f"{folder}:{os.environ['PATH']}"})
+    variables = {**os.environ, "PATH": f"{folder}:{os.environ['PATH']}"}
+    ran = subprocess.run(called, stdout=subprocess.PIPE, stderr=subprocess.STDOUT, env=variables)
     told = ran.stdout.decode("utf-8", "replace")
     missing = [part for part in case.told if part not in told]
     is_right = told.endswith(f"{case.count}\n") and ran.returncode == (0 if case.count.endswith(" 0 failed") else 1)
