@@ -24,6 +24,11 @@ class Failed(Exception):
     """The run didn't end, or read what it was to leave unread."""
 
 
+def unread(count):
+    """The fault of a run that read so many bytes that were to stay unread."""
+    return Failed(f"{count} bytes of its standard input were read")
+
+
 def ending(program, run, limit, variables=None, sees_files=False):
     """How a run of this program ends, with what its folder has where that is asked for. `limit` is the seconds that it has."""
     with contextlib.ExitStack() as stack:
@@ -39,7 +44,7 @@ def ending(program, run, limit, variables=None, sees_files=False):
             raise Failed(f"it can't be started: {fault}") from fault
         printed, told = _communicate(process, limit * HUGE if run.is_huge else limit)
         if run.input.stays_unread and source.tell() != 0:
-            raise Failed(f"{source.tell()} bytes of its standard input were read")
+            raise unread(source.tell())
         files = {name: Left(*file) for name, file in files_in(folder).items()} if sees_files else None
         return Ending(_status(process), _seen(run.out, out, printed), _seen(run.err, err, told), files)
 

@@ -39,11 +39,11 @@ def read_rows(path):
     return [ProgramRow(row, path.parent) for transcript in read(path) for row in transcript.rows]
 
 
-def run(rows, program, limit, report):
-    """Makes each run."""
+def run(rows, end, report):
+    """Makes each run. `end` makes one, and answers how it ends."""
     for row in rows:
         try:
-            got = ending(program, row.run, limit, sees_files=row.sees_files)
+            got = end(row)
         except Failed as fault:
             report.row_failed(row.row, f"nothing: {fault}")
             continue

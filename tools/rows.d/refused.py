@@ -150,10 +150,20 @@ def _places_of(rows):
     return places
 
 
+def turns_on(transcript):
+    """Whether a transcript turns refusals on itself."""
+    return any(row.word == "refusals" for row in transcript.rows)
+
+
+def ends_in_scope(rows):
+    """Whether a scope is open behind these rows."""
+    return bool(rows) and _places_of(rows)[-1].ends_in_scope
+
+
 def run(transcripts, start, shim, report, table):
     """Runs each transcript through programs that `start` makes, but for those that turn refusals on themselves."""
     for transcript in transcripts:
-        if any(row.word == "refusals" for row in transcript.rows):
+        if turns_on(transcript):
             report.tell(f"{transcript.rows[0].place}: passed over, since it turns refusals on itself: {transcript.title}")
             continue
         session = Session(transcript.rows, start, shim)
@@ -239,11 +249,14 @@ def _check_last(row, answer, refused):
 
 def _check_refusal(row, answer, number):
     """The answer is want of memory, or the full one where the call can do without."""
-    if answer in (OUT_OF_MEMORY, row.answer):
-        return
-    if row.word in WRITERS and _is_beginning(answer, row.answer):
+    if answer == row.answer or is_refusal(row, answer):
         return
     raise Fault(f"{to_transcript(answer)}, with growth {number} refused")
+
+
+def is_refusal(row, answer):
+    """Whether the answer is want of memory: by its number, or as the fault of a vector that is the writer."""
+    return answer == OUT_OF_MEMORY or row.word in WRITERS and _is_beginning(answer, row.answer)
 
 
 def _is_beginning(answer, full):

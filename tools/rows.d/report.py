@@ -14,9 +14,9 @@ class Report:
     def row_passed(self):
         self.passed += 1
 
-    def row_failed(self, row, got):
-        """Tells a row with what was got in place of the wanted answer, as a transcript has it."""
-        self.fault(f"{row.place}: {row.command}\n  wanted  {row.wanted}\n  got     {got}")
+    def row_failed(self, row, got, times=1):
+        """Tells a row with what was got, so many times, in place of the wanted answer, as a transcript has it."""
+        self.fault(f"{row.place}: {row.command}\n  wanted  {row.wanted}\n  got     {got}", times)
 
     def answer(self, row, got):
         """Counts a row by the program's answer."""
@@ -25,10 +25,10 @@ class Report:
         else:
             self.row_failed(row, to_transcript(got))
 
-    def fault(self, text):
-        """Tells something that failed."""
+    def fault(self, text, times=1):
+        """Tells something that failed, so many times."""
         self.tell(text)
-        self.failed += 1
+        self.failed += times
 
     def close(self):
         """Tells the count, and answers the exit status."""

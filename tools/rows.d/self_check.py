@@ -1,5 +1,6 @@
 """Shows by small false programs that each kind of fault is told as failed, and that what is right passes."""
 
+import os
 import subprocess
 import sys
 import tempfile
@@ -149,6 +150,59 @@ for line in sys.stdin:
     print(answer, flush=True)
 """
 
+# A command that is called as rt is: it plays a script for each file of a folder, as gix_config_script and as gixcfg_script. With
+# --fail-alloc it refuses the first load, and the first call of a script that begins with `grow`.
+TRIER = r"""#!PYTHON
+import os, sys
+FAULT = "WRONG"
+words = sys.argv[1:]
+is_refusing, folder = "--fail-alloc" in words, words[words.index("--cases") + 1]
+def of_files(lines):
+    held, refuses = "x", is_refusing and FAULT != "never"
+    for line in lines:
+        word, *others = line.split()
+        if word == "load" and refuses:
+            refuses = False
+            yield "err E1 1 name x" if FAULT == "E1" else "err E27"
+        elif word == "load":
+            held = others[0]
+            yield "ok"
+        elif word == "reset":
+            held = held if FAULT == "kept" else "x"
+            yield "unknown" if FAULT == "noreset" else "ok"
+        elif word == "count":
+            if FAULT != "missing": yield "ok 2" if FAULT == "changed" else "ok 1"
+        else:
+            yield "ok " + held
+def of_machines(lines):
+    given, files, refuses = "x", [], is_refusing and lines[0].startswith("grow") and FAULT != "never"
+    for line in lines:
+        word, *others = line.split()
+        if word == "new": given, files = "x", []
+        if word == "input": given = others[0]
+        if word == "file": files.append(" ".join(["x2f772f" + others[0][1:], "x00" if FAULT == "text" else others[1], "1" if FAULT == "mode" else others[2]]))
+        if word != "call":
+            yield "refused" if FAULT == "nofolder" and word == "folder" else "ok"
+        elif refuses:
+            refuses = False
+            yield " ".join(["ok 5 x x" + (b"gixcfg: E1\n" if FAULT == "E1" else b"gixcfg: E27\n").hex() + " 0", *files])
+        elif others[0] == "x676574":
+            out, err, status = {"output": given + "21"}.get(FAULT, given), "x3f" if FAULT == "error" else "x", "1" if FAULT == "status" else "0"
+            yield "garbled" if FAULT == "garbled" else " ".join(["ok", status, out, err, str(len(given) // 2), *files])
+        else:
+            yield "ok 2 x x7573616765 " + ("1" if FAULT == "reads" else "0")
+if FAULT == "uncompiled": sys.exit("error: it isn't Rattle")
+for name in sorted(os.listdir(folder)):
+    lines = open(os.path.join(folder, name)).read().split("\n")[:-1]
+    print("==", name, flush=True)
+    play = of_files if os.path.basename(os.getcwd()) == "gix_config_script" else of_machines
+    if FAULT == "stops":
+        print("checked: fault kind=index", "case=" + name + " run=fault proved=no", sep="\n", file=sys.stderr)
+        continue
+    print(*play(lines), *(["ok"] if FAULT == "more" else []), sep="\n", flush=True)
+    print("case=" + name, "run=ended", "status=" + ("5" if FAULT == "memory" else "0"), "runners=1 proved=no", file=sys.stderr)
+"""
+
 ROWS = '# one\nload "v"\n  ok\ncount\n  ok 1\nprint\n  ok "v"\n\n# two\nprint\n  ok ""\n'
 GROWING = '# one\nload "v"\n  ok\nprintif "a"\n  ok "v"\nappend "g"\n  unknown\nprint\n  ok "v"\n'
 SCOPE = '# one\nload "v"\n  ok\nedit "a" -\n  ok\npush "w"\n  ok\nend\n  ok\nprint\n  ok "w"\n'
@@ -160,6 +214,7 @@ RUNS = 'gixcfg "get" < "v"\n  0 "v" ""\n\ngixcfg "other" < "v" unread\n  2 "" "u
 AROUND = ('gixcfg "get" in file "m" "v" file "d/m" "w" times 2 pipe "p" "x" link "l" "m" locked "k" "y" sparse "s" 1 pipe "q" "z"'
           ' set "HOME" "h" unset "USER"\n  0 "v ww x v PermissionError \\x00 FileNotFoundError h None" ""\n')
 LEAVING = AROUND.replace("\\n\n", "").rstrip("\n") + ' leaves file "d/m" "ww" file "k" "y" mode 0 file "m" "v" file "s" "\\x00"\n'
+IN_FOLDER = 'gixcfg "get" in file "d/m" "w" mode 640 < "v"\n  0 "v" "" leaves file "d/m" "w" mode 640\n'
 EDIT = '# one\nset "a" - "k" "v"\n  ok\n'
 REASON = "# A reason.\nin rows.txt: one\n"
 
@@ -187,6 +242,14 @@ def refusals(fault, told, count, rows=GROWING):
 
 def program_run(fault, told, count):
     return Case(f"gixcfg, {fault}", GIXCFG.replace("WRONG", fault), "program.txt", RUNS, (), told, count)
+
+
+def tried(fault, told, count, file="rows.txt", rows=ROWS):
+    return Case(f"--try, {file}, {fault}", TRIER.replace("WRONG", fault), file, rows, ("--try",), told, count)
+
+
+def tried_run(fault, told, count, rows=RUNS):
+    return tried(fault, told, count, "program.txt", rows)
 
 
 def left(fault, told=(), count="0 passed, 1 failed"):
@@ -259,6 +322,36 @@ CASES = [
            "passed over:     2 of rows behind what"), "3 passed, 0 failed", LOADERS),
     other("one without a reason", "changed", "in rows.txt: one\ncount\n  ok 1\n  ok 2\n", ("has a reason",),
           "0 passed, 1 failed"),
+    # Four rows, and two transcripts with a growth refused.
+    tried("right", ("not proved:", "1 growths refused in 2 transcripts: 1 of a command"), "6 passed, 0 failed"),
+    tried("changed", ("rows.txt:4: count", "wanted  ok 1", "got     ok 2"), "5 passed, 1 failed"),
+    tried("kept", ('rows.txt:10: print', 'got     ok "v"'), "5 passed, 1 failed"),
+    tried("noreset", ("rows.txt:6: behind the last command: it printed ['unknown'] behind its answers",), "6 passed, 2 failed"),
+    tried("missing", ("rows.txt:4: count", 'got     ok "v"', "2 answers to 3 commands"), "2 passed, 7 failed"),
+    tried("more", ("behind the last command: it printed ['ok', 'ok']", "4 answers to 3 commands"), "4 passed, 4 failed"),
+    tried("memory", ("rows.txt:10: behind the last command: it ended with status 5",), "4 passed, 4 failed"),
+    tried("stops", ("rows.txt:2: load", "got     nothing: fault: fault kind=index"), "0 passed, 7 failed"),
+    tried("uncompiled", ("rt try started nothing", "error: it isn't Rattle"), "0 passed, 2 failed"),
+    tried("E1", ('err E1 1 name "", with growth 120 refused',), "5 passed, 2 failed"),
+    tried("never", ("no growth of a command was refused at all",), "6 passed, 1 failed"),
+    # Two runs, and 40 starts with a growth refused.
+    tried_run("right", ("40 growths refused in 40 starts of the same 1 runs of gixcfg: 40 of a call",), "42 passed, 0 failed"),
+    tried_run("output", ('program.txt:1: gixcfg "get" < "v"', 'wanted  0 "v" ""', 'got     0 "v!" ""'), "41 passed, 1 failed"),
+    tried_run("error", ('got     0 "v" "?"',), "41 passed, 1 failed"),
+    tried_run("status", ('got     1 "v" ""',), "41 passed, 1 failed"),
+    tried_run("reads", ("1 bytes of its standard input were read",), "41 passed, 1 failed"),
+    tried_run("garbled", ("got     nothing: no ending: garbled",), "41 passed, 1 failed"),
+    tried_run("more", ("it printed ['ok'] behind its answers",), "1 passed, 42 failed"),
+    tried_run("stops", ("got     nothing: fault: fault kind=index",), "0 passed, 43 failed"),
+    tried_run("E1", ('5 "" "gixcfg: E1\\n", with a growth refused',), "2 passed, 41 failed"),
+    tried_run("never", ("no growth of a call was refused at all",), "42 passed, 1 failed"),
+    tried_run("right", (), "41 passed, 0 failed", IN_FOLDER),
+    tried_run("text", ('file "d/m" "\\x00" mode 640',), "0 passed, 42 failed", IN_FOLDER),
+    # What a run leaves where memory was wanting has any rights.
+    tried_run("mode", ('file "d/m" "w" mode 1',), "40 passed, 1 failed", IN_FOLDER),
+    tried_run("nofolder", ("the machine doesn't take the line folder x64",), "0 passed, 42 failed", IN_FOLDER),
+    tried_run("right", ("1 runs of gixcfg need the built program: 1 for a pipe",), "0 passed, 0 failed",
+              'gixcfg "get" in pipe "m" "x"\n  0 "" ""\n'),
     left("right", (), "1 passed, 0 failed"),
     left("noheader", (), "1 passed, 0 failed"),
     left("refused", ('rows.txt:2: set "a" - "k" "v"', "is refused")),
@@ -275,7 +368,7 @@ CASES = [
 
 def _check_case(case, tools, folder):
     """What is wrong with what the tool tells of this case, or None."""
-    rows, program = folder / "rows", folder / "program"
+    rows, program = folder / "rows", folder / ("rt" if "--try" in case.words else "program")
     rows.mkdir()
     (rows / case.file).write_text(case.rows)
     words = list(case.words)
@@ -286,7 +379,7 @@ def _check_case(case, tools, folder):
     called = [sys.executable, str(tools / case.tool), "--rows", str(rows), "--program", str(program), *words]
     if case.tool == "rows":
         called += ["--gixcfg", str(program), "--limit", "4"]
-    ran = subprocess.run(called, stdout=subprocess.PIPE, stderr=subprocess.STDOUT)
+    ran = subprocess.run(called, stdout=subprocess.PIPE, stderr=subprocess.STDOUT, env={**os.environ, "PATH": f"{folder}:{os.environ['PATH']}"})
     told = ran.stdout.decode("utf-8", "replace")
     missing = [part for part in case.told if part not in told]
     is_right = told.endswith(f"{case.count}\n") and ran.returncode == (0 if case.count.endswith(" 0 failed") else 1)

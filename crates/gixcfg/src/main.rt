@@ -6,12 +6,7 @@ use gix_config::NoMemory;
 use gix_config::host::{Env, EnvVar};
 use gix_config::refusals::Refusal;
 use gixcfg_answers::trouble::MEMORY;
-use gixcfg_calls::run_call;
-use gixcfg_filter::run;
-use gixcfg_sources::places::home_of;
-use gixcfg_tasks::understands;
-use gixcfg_texts::outside::Outside;
-use gixcfg_words::call::has_options;
+use gixcfg_calls::{Streams, run_words};
 use std::alloc::Global;
 use std::env;
 use std::io::{ErrorKind, IsTerminal};
@@ -43,24 +38,16 @@ fn is_colored(rt: &HostRuntime) -> Result<bool, NoMemory> {
     }
 }
 
-/// Runs a call with options.
-fn run_with_options(rt: &HostRuntime, args: &[&str]) -> Result<u8, NoMemory> {
-    let home = home_of(&mut Process::new(*rt))?;
-    let outside = Outside {
-        is_colored: is_colored(rt)?,
-        home: home.as_deref(),
-    };
-    Ok(run_call(rt, args, outside, rt.reader(), rt.stdout(), rt.stderr()))
-}
-
 /// Runs the program with the words of the process, its three streams, its variables, and the files of the disk.
 fn run_process(rt: &HostRuntime) -> Result<u8, NoMemory> {
     let words = words_of(rt)?;
     let args = borrowed(rt.alloc(), &words)?;
-    if has_options(&args) && !understands(&args) {
-        return run_with_options(rt, &args);
-    }
-    Ok(run(rt, &args, rt.reader(), rt.stdout(), rt.stderr()))
+    let streams = Streams {
+        input: rt.reader(),
+        out: rt.stdout(),
+        err: rt.stderr(),
+    };
+    run_words(rt, &args, is_colored(rt)?, streams)
 }
 
 fn main(rt: HostRuntime) -> ExitCode {

@@ -1,9 +1,8 @@
 //! Calls that edit: what they leave in a file, and that all else is as it was.
 
-use crate::machine::{Machine, State};
-use crate::tree::{NEW, Tree};
 use crate::world::{OLD, called, machine};
 use gix_config::NoMemory;
+use gixcfg_machine::{Machine, NEW, State, Tree};
 use std::alloc::Global;
 use std::test::Fail;
 

@@ -6,12 +6,6 @@ mod edits;
 #[cfg(test)]
 mod failing;
 #[cfg(test)]
-mod loads;
-#[cfg(test)]
-mod machine;
-#[cfg(test)]
 mod reads;
-#[cfg(test)]
-mod tree;
 #[cfg(test)]
 mod world;

@@ -1,13 +1,8 @@
 //! The machine that calls are run on: a working folder below a repository's, the files of the user and of the system, and one file more.
 
-use crate::machine::{Machine, State};
-use crate::tree::{Node, Tree};
 use gix_config::NoMemory;
-use gixcfg_calls::run_call;
-use gixcfg_filter::run;
-use gixcfg_tasks::understands;
-use gixcfg_texts::outside::Outside;
-use gixcfg_words::call::has_options;
+use gixcfg_calls::{Streams, run_words};
+use gixcfg_machine::{Machine, Node, State, Tree};
 use std::alloc::{AllocError, AllocGlobal, Global};
 
 /// The rights that files have.
@@ -72,7 +67,11 @@ pub fn machine(alloc: Global, path: &str, text: Option<&str>) -> Result<State, A
     if let Some(text) = text {
         put_file(alloc, &mut tree, path, text)?;
     }
-    Ok(State::new(alloc, "/r/sub", &VARIABLES, tree))
+    let mut state = State::new(alloc, tree);
+    for (name, text) in &VARIABLES {
+        state.set(name, text.as_bytes())?;
+    }
+    Ok(state)
 }
 
 /// What a call returned and wrote.
@@ -98,15 +97,11 @@ pub fn called(state: &State, words: &str, input: &str) -> Result<Done, NoMemory>
     let alloc = machine.alloc();
     let words: Vec<&str> = words.split(' ').collect(alloc)?;
     let (mut out, mut err) = (Vec::new(alloc), Vec::new(alloc));
-    let outside = Outside {
-        is_colored: false,
-        home: Some("/h"),
+    let streams = Streams {
+        input: input.as_bytes(),
+        out: &mut out,
+        err: &mut err,
     };
-    let input = input.as_bytes();
-    let status = if has_options(&words) && !understands(&words) {
-        run_call(&machine, &words, outside, input, &mut out, &mut err)
-    } else {
-        run(&machine, &words, input, &mut out, &mut err)
-    };
+    let status = run_words(&machine, &words, false, streams)?;
     Ok(Done { status, out, err })
 }

@@ -9,5 +9,5 @@ pub mod help;
 pub mod nearest;
 pub mod options;
 
-/// What `--version` prints.
-pub const VERSION: &str = "gixcfg 0.1.0\n";
+/// What `--version` prints: the name, the version, and the toolchain that the sources are proved with (`rt version`).
+pub const VERSION: &str = "gixcfg 0.1.0 (rattle-kit-13f logic dac8208d650f15bf)\n";

@@ -1,15 +1,18 @@
-//! Files, folders and symbolic links in memory, by their paths.
+//! Files, folders and symbolic links in memory, by their paths. Links are followed where a path ends, and not on its way.
 
+use crate::refusal::Refusal;
 use std::alloc::{AllocError, Global};
 use std::fs::Metadata;
 use std::io;
-use std::io::ErrorKind;
 
 /// How many links in a row are followed.
 const MOST: usize = 8;
 
 /// The rights of a file that a program makes.
 pub const NEW: u32 = 0o600;
+
+/// The bit of a file's rights by which its owner may read it.
+const MAY_READ: u32 = 0o400;
 
 /// What is at a path.
 #[derive(Drop)]
@@ -79,6 +82,11 @@ impl Tree {
         })
     }
 
+    /// The folder in which relative paths begin.
+    pub fn folder(&self) -> &str {
+        &self.folder
+    }
+
     /// Puts something at a path where nothing is, and returns its number.
     pub fn put(&mut self, path: &str, node: Node) -> Result<usize, AllocError> {
         let number = self.made.saturating_add(1);
@@ -102,6 +110,21 @@ impl Tree {
         self.entries.len()
     }
 
+    /// The file that is there as the thing of this place, counted from 0: its path from the root, its text, and its rights. None if that is
+    /// no file.
+    pub fn file_at(&self, place: usize) -> Option<(&str, &[u8], u32)> {
+        match self.entries.get(place) {
+            Some(
+                Entry {
+                    path,
+                    node: Node::File(text, mode),
+                    ..
+                },
+            ) => Some((path, text, *mode)),
+            _ => None,
+        }
+    }
+
     /// What is at a path from the root.
     fn at(&self, path: &str) -> Option<&Entry> {
         self.entries
@@ -109,26 +132,45 @@ impl Tree {
             .find(|entry| entry.path.as_str() == path)
     }
 
+    /// What is at a path from the root.
+    fn node_at(&self, path: &str) -> Option<&Node> {
+        match self.at(path) {
+            Some(entry) => Some(&entry.node),
+            None => None,
+        }
+    }
+
     /// What has a number.
     fn numbered(&self, number: usize) -> Option<&Entry> {
         self.entries.iter().find(|entry| entry.number == number)
     }
 
+    /// Why nothing is at a path from the root.
+    fn missing(&self, path: &str) -> io::Error {
+        match self.node_at(folder_of(path)) {
+            Some(Node::File(..)) => Refusal::NoFolder.error(),
+            _ => Refusal::Missing.error(),
+        }
+    }
+
+    /// A path from the root. The empty path leads nowhere.
+    fn whole(&self, path: &str) -> io::Result<String> {
+        if path.is_empty() {
+            return Err(Refusal::Missing.error());
+        }
+        Ok(absolute(self.alloc, &self.folder, path)?)
+    }
+
     /// The path from the root at which the links that begin at a path end.
     fn end_of(&self, path: &str) -> io::Result<String> {
-        let mut path = absolute(self.alloc, &self.folder, path)?;
+        let mut path = self.whole(path)?;
         for _ in 0..MOST {
-            match self.at(&path) {
-                Some(
-                    Entry {
-                        node: Node::Link(to),
-                        ..
-                    },
-                ) => path = absolute(self.alloc, folder_of(&path), to)?,
+            match self.node_at(&path) {
+                Some(Node::Link(to)) => path = absolute(self.alloc, folder_of(&path), to)?,
                 _ => return Ok(path),
             }
         }
-        Err(io::Error::from(ErrorKind::Other))
+        Err(Refusal::Loop.error())
     }
 
     /// What the links that begin at a path end at.
@@ -136,29 +178,28 @@ impl Tree {
         let path = self.end_of(path)?;
         match self.at(&path) {
             Some(entry) => Ok(entry),
-            None => Err(io::Error::from(ErrorKind::NotFound)),
+            None => Err(self.missing(&path)),
         }
     }
 
-    /// The number of the file or folder that a path leads to.
+    /// The number of the file or folder that a path leads to, which may be read.
     pub fn open(&self, path: &str) -> io::Result<usize> {
-        Ok(self.found(path)?.number)
+        let entry = self.found(path)?;
+        match &entry.node {
+            Node::File(_, mode) if *mode & MAY_READ == 0 => Err(Refusal::Forbidden.error()),
+            _ => Ok(entry.number),
+        }
     }
 
     /// Makes an empty file at a path, in a folder that is there, and returns its number.
     pub fn create(&mut self, path: &str) -> io::Result<usize> {
-        let whole = absolute(self.alloc, &self.folder, path)?;
+        let whole = self.whole(path)?;
         if self.at(&whole).is_some() {
-            return Err(io::Error::from(ErrorKind::AlreadyExists));
+            return Err(Refusal::Taken.error());
         }
-        match self.at(folder_of(&whole)) {
-            Some(
-                Entry {
-                    node: Node::Folder,
-                    ..
-                },
-            ) => Ok(self.put(path, Node::File(Vec::new(self.alloc), NEW))?),
-            _ => Err(io::Error::from(ErrorKind::NotFound)),
+        match self.node_at(folder_of(&whole)) {
+            Some(Node::Folder) => Ok(self.put(path, Node::File(Vec::new(self.alloc), NEW))?),
+            _ => Err(self.missing(&whole)),
         }
     }
 
@@ -169,9 +210,10 @@ impl Tree {
 
     /// What is said of what is at a path, even a link.
     pub fn symlink_metadata(&self, path: &str) -> io::Result<Metadata> {
-        match self.at(&absolute(self.alloc, &self.folder, path)?) {
-            Some(entry) => Ok(metadata_of(&entry.node)),
-            None => Err(io::Error::from(ErrorKind::NotFound)),
+        let path = self.whole(path)?;
+        match self.node_at(&path) {
+            Some(node) => Ok(metadata_of(node)),
+            None => Err(self.missing(&path)),
         }
     }
 
@@ -182,15 +224,11 @@ impl Tree {
 
     /// What a link has.
     pub fn link_at(&self, path: &str) -> io::Result<&str> {
-        match self.at(&absolute(self.alloc, &self.folder, path)?) {
-            Some(
-                Entry {
-                    node: Node::Link(to),
-                    ..
-                },
-            ) => Ok(to),
-            Some(_) => Err(io::Error::from(ErrorKind::InvalidInput)),
-            None => Err(io::Error::from(ErrorKind::NotFound)),
+        let path = self.whole(path)?;
+        match self.node_at(&path) {
+            Some(Node::Link(to)) => Ok(to),
+            Some(_) => Err(Refusal::NoLink.error()),
+            None => Err(self.missing(&path)),
         }
     }
 
@@ -203,8 +241,8 @@ impl Tree {
                     ..
                 },
             ) => Ok(text),
-            Some(_) => Err(io::Error::from(ErrorKind::IsADirectory)),
-            None => Err(io::Error::from(ErrorKind::NotFound)),
+            Some(_) => Err(Refusal::Folder.error()),
+            None => Err(Refusal::Missing.error()),
         }
     }
 
@@ -227,11 +265,11 @@ impl Tree {
             if entry.number == number {
                 return match &mut entry.node {
                     Node::File(text, _) => Ok(text.extend_from_slice(more)?),
-                    _ => Err(io::Error::from(ErrorKind::IsADirectory)),
+                    _ => Err(Refusal::Folder.error()),
                 };
             }
         }
-        Err(io::Error::from(ErrorKind::NotFound))
+        Err(Refusal::Missing.error())
     }
 
     /// Gives the file of a number these rights.
@@ -247,20 +285,20 @@ impl Tree {
 
     /// Removes what is at a path, even a link.
     pub fn remove(&mut self, path: &str) -> io::Result<()> {
-        let path = absolute(self.alloc, &self.folder, path)?;
+        let path = self.whole(path)?;
         for at in 0..self.entries.len() {
             if self.entries[at].path == path {
                 drop(self.entries.remove(at));
                 return Ok(());
             }
         }
-        Err(io::Error::from(ErrorKind::NotFound))
+        Err(self.missing(&path))
     }
 
     /// Gives what is at a path another one, in place of what is there.
     pub fn rename(&mut self, from: &str, to: &str) -> io::Result<()> {
-        let number = self.open(from)?;
-        let path = absolute(self.alloc, &self.folder, to)?;
+        let number = self.found(from)?.number;
+        let path = self.whole(to)?;
         let _ = self.remove(to);
         for entry in &mut self.entries {
             if entry.number == number {
@@ -268,7 +306,7 @@ impl Tree {
                 return Ok(());
             }
         }
-        Err(io::Error::from(ErrorKind::NotFound))
+        Err(Refusal::Missing.error())
     }
 }
 

@@ -9,6 +9,8 @@ use gix_config::source::Trust;
 use gix_config::{File, NoMemory};
 use gixcfg_reads::Loads;
 use std::alloc::{AllocGlobal, Global};
+use std::io;
+use std::io::ErrorKind;
 use std::rc::Rc;
 
 /// The files of a machine as they were.
@@ -30,23 +32,31 @@ impl Files for Copied {
     }
 
     fn read(&mut self, path: &str) -> Result<Vec<u8>, FileFault> {
-        let Some((text, _)) = self.tree.file(path) else {
-            return Err(FileFault {
-                stage: Stage::Open,
-                not_found: true,
-            });
-        };
-        match Vec::from_slice(self.alloc, text) {
+        match text_at(self.alloc, &self.tree, path) {
             Ok(text) => Ok(text),
-            Err(_) => Err(FileFault {
-                stage: Stage::Memory,
-                not_found: false,
-            }),
+            Err(error) => Err(fault_of(error.kind())),
         }
     }
 
     fn trust(&mut self, _path: &str) -> Result<Trust, FileFault> {
         Ok(Trust::Full)
+    }
+}
+
+/// The text of what is at a path.
+fn text_at(alloc: Global, tree: &Tree, path: &str) -> io::Result<Vec<u8>> {
+    let number = tree.open(path)?;
+    Ok(Vec::from_slice(alloc, tree.text_of(number)?)?)
+}
+
+/// The fault of an error of this kind, as the disk has it: what can't be read can't be opened.
+fn fault_of(kind: ErrorKind) -> FileFault {
+    FileFault {
+        stage: match kind {
+            ErrorKind::OutOfMemory => Stage::Memory,
+            _ => Stage::Open,
+        },
+        not_found: matches!(kind, ErrorKind::NotFound),
     }
 }
 
@@ -61,13 +71,21 @@ fn files_of(machine: &Machine<'_>) -> Result<Copied, NoMemory> {
     })
 }
 
+/// What a variable of this text is.
+fn value_of(alloc: Global, text: &[u8]) -> Result<EnvVar, NoMemory> {
+    match str::from_utf8(text) {
+        Ok(text) => Ok(EnvVar::Text(String::from_str(alloc, text)?)),
+        Err(_) => Ok(EnvVar::IllFormed),
+    }
+}
+
 /// A copy of a machine's variables.
 fn variables_of(machine: &Machine<'_>) -> Result<MemEnv, NoMemory> {
     let alloc = machine.alloc();
     let mut variables = MemEnv::new(alloc);
-    for (name, value) in machine.state.variables {
-        let value = EnvVar::Text(String::from_str(alloc, value)?);
-        variables.insert(String::from_str(alloc, name)?, value)?;
+    for variable in machine.state.variables() {
+        let name = String::from_str(alloc, &variable.name)?;
+        variables.insert(name, value_of(alloc, &variable.text)?)?;
     }
     Ok(variables)
 }

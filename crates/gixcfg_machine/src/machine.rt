@@ -1,8 +1,9 @@
 //! A runtime in memory: files, variables and a working folder, with the file operation that fails.
 ghost use Rattle.std.specs.Io.{WritesAtMost};
 
-use crate::tree::Tree;
-use std::alloc::{Allocator, Global};
+use crate::refusal::Refusal;
+use crate::tree::{Node, Tree};
+use std::alloc::{AllocError, Allocator, Global};
 use std::cell::{Cell, Ref, RefCell, RefMut};
 use std::env::FillError;
 use std::fs::{Metadata, OpenFile, OpenOptions, Permissions};
@@ -15,12 +16,18 @@ use std::rt::{Env, Files};
 /// The bits of a mode that say who may do what.
 const RIGHTS: u32 = 0o777;
 
+/// A variable: its name and its text, which need not be UTF-8.
+#[derive(Drop)]
+pub struct Variable {
+    pub name: String,
+    pub text: Vec<u8>,
+}
+
 /// What a machine has, and what was asked of it.
 #[derive(Drop)]
 pub struct State {
     alloc: Global,
-    folder: &'static str,
-    pub variables: &'static [(&'static str, &'static str)],
+    variables: Vec<Variable>,
     tree: RefCell<Tree>,
     /// How many file operations come before the one that fails.
     left: Cell<Option<usize>>,
@@ -29,21 +36,35 @@ pub struct State {
 }
 
 impl State {
-    /// A machine of these files, in which none was changed.
-    pub fn new(
-        alloc: Global,
-        folder: &'static str,
-        variables: &'static [(&'static str, &'static str)],
-        tree: Tree,
-    ) -> State {
+    /// A machine of these files, in which none was changed, without variables. Its working folder is that in which paths of the tree
+    /// begin.
+    pub fn new(alloc: Global, tree: Tree) -> State {
         State {
             alloc,
-            folder,
-            variables,
+            variables: Vec::new(alloc),
             tree: RefCell::new(tree),
             left: Cell::new(None),
             changes: Cell::new(0),
         }
+    }
+
+    /// Puts something at a path where nothing is.
+    pub fn put(&mut self, path: &str, node: Node) -> Result<(), AllocError> {
+        self.tree.get_mut().put(path, node)?;
+        Ok(())
+    }
+
+    /// Adds a variable, which isn't set yet.
+    pub fn set(&mut self, name: &str, text: &[u8]) -> Result<(), AllocError> {
+        let name = String::from_str(self.alloc, name)?;
+        let text = Vec::from_slice(self.alloc, text)?;
+        self.variables.push(Variable { name, text })?;
+        Ok(())
+    }
+
+    /// The variables that are set.
+    pub fn variables(&self) -> &[Variable] {
+        &self.variables
     }
 
     /// Lets the file operation fail that comes after so many others.
@@ -74,7 +95,7 @@ impl<'a> Machine<'a> {
         match self.state.left.get() {
             Some(0) => {
                 self.state.left.set(None);
-                Err(io::Error::from(ErrorKind::PermissionDenied))
+                Err(Refusal::Forbidden.error())
             }
             Some(count) => {
                 self.state.left.set(Some(count.saturating_sub(1)));
@@ -118,14 +139,14 @@ impl Alloc for Machine<'_> {
 }
 
 /// Copies a text to the start of a buffer, and returns its length.
-fn filled(text: &str, buf: &mut [u8]) -> Result<usize, FillError>
+fn filled(text: &[u8], buf: &mut [u8]) -> Result<usize, FillError>
     ensures { WritesAtMost result buf.new }
 {
     let count = text.len();
     if count > buf.len() {
         return Err(FillError::TooLong);
     }
-    buf[..count].copy_from_slice(text.as_bytes());
+    buf[..count].copy_from_slice(text);
     Ok(count)
 }
 
@@ -135,9 +156,9 @@ impl Env for Machine<'_> {
     }
 
     fn var(&self, name: &str, buf: &mut [u8]) -> Result<usize, FillError> {
-        for (it, value) in self.state.variables {
-            if *it == name {
-                return filled(value, buf);
+        for variable in &self.state.variables {
+            if variable.name.as_str() == name {
+                return filled(&variable.text, buf);
             }
         }
         Err(FillError::NotPresent)
@@ -148,7 +169,8 @@ impl Env for Machine<'_> {
     }
 
     fn current_dir(&self, buf: &mut [u8]) -> io::Result<usize> {
-        match filled(self.state.folder, buf) {
+        let tree = self.tree()?;
+        match filled(tree.folder().as_bytes(), buf) {
             Ok(count) => Ok(count),
             Err(_) => Err(io::Error::from(ErrorKind::InvalidFilename)),
         }
@@ -190,17 +212,17 @@ impl Write for Opened<'_> {
 
 impl Seek for Opened<'_> {
     fn seek(&mut self, _to: SeekFrom) -> io::Result<u64> {
-        Err(unsupported())
+        Err(Refusal::Unknown.error())
     }
 }
 
 impl OpenFile for Opened<'_> {
     fn metadata(&self) -> io::Result<Metadata> {
-        Err(unsupported())
+        Err(Refusal::Unknown.error())
     }
 
     fn set_len(&self, _size: u64) -> io::Result<()> {
-        Err(unsupported())
+        Err(Refusal::Unknown.error())
     }
 
     fn sync_all(&self) -> io::Result<()> {
@@ -218,11 +240,6 @@ impl OpenFile for Opened<'_> {
         tree.set_mode(self.number, perm.mode() & RIGHTS);
         Ok(())
     }
-}
-
-/// The error of what no call of the program asks for.
-fn unsupported() -> io::Error {
-    io::Error::from(ErrorKind::Unsupported)
 }
 
 impl<'a> Files for Machine<'a> {
@@ -246,7 +263,7 @@ impl<'a> Files for Machine<'a> {
     }
 
     fn open_dir(&self, _path: &str) -> io::Result<&'static [u8]> {
-        Err(unsupported())
+        Err(Refusal::Unknown.error())
     }
 
     fn metadata(&self, path: &str) -> io::Result<Metadata> {
@@ -260,7 +277,7 @@ impl<'a> Files for Machine<'a> {
     }
 
     fn copy(&self, _from: &str, _to: &str) -> io::Result<u64> {
-        Err(unsupported())
+        Err(Refusal::Unknown.error())
     }
 
     fn rename(&self, from: &str, to: &str) -> io::Result<()> {
@@ -274,15 +291,15 @@ impl<'a> Files for Machine<'a> {
     }
 
     fn create_dir(&self, _path: &str) -> io::Result<()> {
-        Err(unsupported())
+        Err(Refusal::Unknown.error())
     }
 
     fn remove_dir(&self, _path: &str) -> io::Result<()> {
-        Err(unsupported())
+        Err(Refusal::Unknown.error())
     }
 
     fn remove_dir_all<B: Allocator>(&self, _alloc: B, _path: &str) -> io::Result<()> {
-        Err(unsupported())
+        Err(Refusal::Unknown.error())
     }
 
     fn canonicalize<B: Allocator>(&self, alloc: B, path: &str) -> io::Result<PathBuf<B>> {

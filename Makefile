@@ -1,0 +1,36 @@
+# GNU's targets over the project's own commands; `make help` lists them. dist/install.mk has install and uninstall.
+
+.PHONY: build check prove dist clean help
+.DEFAULT_GOAL = all
+
+include dist/install.mk
+
+PROGRAM = crates/gixcfg/out/gixcfg
+
+all: build
+
+# (the launcher sees for itself whether the program is there and newer than its sources)
+build:
+	./gixcfg --build
+
+check:
+	./test
+
+prove:
+	./prove
+
+dist: build
+	tools/dist $(DIST)
+
+# What was proved stays where the kit keeps it, so the next build takes it from there.
+clean:
+	rm -rf crates/*/out
+
+help:
+	@echo 'make            proves and builds the program ($(PROGRAM))'
+	@echo 'make check      the tests of a fresh clone, some minutes: ./test'
+	@echo 'make prove      the whole gate: ./prove'
+	@echo 'make install    the program, its manual, completions and licences, below PREFIX (/usr/local) and DESTDIR; builds first'
+	@echo 'make uninstall  removes just these'
+	@echo 'make dist       archives and Debian packages, in the folder DIST (outside the repository); docs/releases.md'
+	@echo 'make clean      removes what was built'

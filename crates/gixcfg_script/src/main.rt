@@ -1,0 +1,15 @@
+//! The program `gixcfg_script`: on standard input what a machine in memory has, and the words of calls that are run on it as `gixcfg` runs
+//! them on the system; on standard output one line of answer for each line. rows/README.md has the language.
+#![tactic(auto)]
+
+mod answers;
+mod commands;
+mod program;
+mod session;
+
+use program::run;
+use std::process::ExitCode;
+
+fn main(rt: HostRuntime) -> ExitCode {
+    ExitCode::from(run(rt.alloc(), rt.reader(), rt.stdout()))
+}

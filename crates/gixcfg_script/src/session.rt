@@ -1,0 +1,73 @@
+//! What the lines of a script work on: a machine, and the streams of its next call.
+
+use gix_config::NoMemory;
+use gixcfg_calls::{Streams, run_words};
+use gixcfg_machine::{Machine, Node, Source, State, Target, Tree};
+use std::alloc::{AllocError, Global};
+use std::mem::replace;
+
+/// The working folder of each machine.
+const FOLDER: &str = "/w";
+
+/// A machine, and the streams of its next call.
+#[derive(Drop)]
+pub struct Session {
+    alloc: Global,
+    pub state: State,
+    pub input: Source,
+    /// How many bytes there is room for on standard output, if not for all.
+    pub out: Option<usize>,
+    /// The same of standard error.
+    pub err: Option<usize>,
+}
+
+/// How a call ended.
+#[derive(Drop)]
+pub struct Done {
+    pub status: u8,
+    pub out: Target,
+    pub err: Target,
+    /// How many bytes of standard input were read.
+    pub read: usize,
+}
+
+impl Session {
+    /// An empty working folder, no variable, nothing on standard input and room for all output.
+    pub fn new(alloc: Global) -> Result<Session, AllocError> {
+        Ok(Session {
+            alloc,
+            state: machine(alloc)?,
+            input: Source::of(Vec::new(alloc)),
+            out: None,
+            err: None,
+        })
+    }
+
+    /// Runs a call of these words. It takes what is on standard input.
+    pub fn call(&mut self, words: &[&str]) -> Result<Done, NoMemory> {
+        let mut input = replace(&mut self.input, Source::of(Vec::new(self.alloc)));
+        let mut out = Target::new(self.alloc, self.out)?;
+        let mut err = Target::new(self.alloc, self.err)?;
+        let streams = Streams {
+            input: &mut input,
+            out: &mut out,
+            err: &mut err,
+        };
+        let machine = Machine { state: &self.state };
+        let status = run_words(&machine, words, false, streams)?;
+        let read = input.count();
+        Ok(Done {
+            status,
+            out,
+            err,
+            read,
+        })
+    }
+}
+
+/// A machine that has its working folder alone.
+fn machine(alloc: Global) -> Result<State, AllocError> {
+    let mut tree = Tree::new(alloc, FOLDER)?;
+    tree.put(FOLDER, Node::Folder)?;
+    Ok(State::new(alloc, tree))
+}

@@ -1,0 +1,79 @@
+/* What libgit2 makes of a configuration file, for docs/comparison.md and beside the times of docs/measurements.md.
+
+       libgit2 list FILE            prints each entry
+       libgit2 get FILE KEY         prints the value of a key
+       libgit2 set FILE KEY VALUE   sets a value in place
+       libgit2 load ROUNDS FILE     opens the file and frees it, so often; prints the nanoseconds of each time
+
+   cc -O2 tools/bench/libgit2.c -o libgit2 -lgit2, with Debian's libgit2-dev. What fails is told in libgit2's words, with status 1. */
+#define _POSIX_C_SOURCE 200809L
+#include <git2.h>
+#include <stdio.h>
+#include <stdlib.h>
+#include <string.h>
+#include <time.h>
+
+static int tell_error(void) {
+    const git_error *error = git_error_last();
+    fprintf(stderr, "libgit2: %s\n", error ? error->message : "no message");
+    return 1;
+}
+
+static long long nanoseconds(void) {
+    struct timespec now;
+    clock_gettime(CLOCK_MONOTONIC, &now);
+    return now.tv_sec * 1000000000LL + now.tv_nsec;
+}
+
+static int load(const char *path, long rounds) {
+    for (long round = 0; round < rounds; round++) {
+        long long began = nanoseconds();
+        git_config *config;
+        if (git_config_open_ondisk(&config, path) < 0)
+            return tell_error();
+        git_config_free(config);
+        printf("%lld\n", nanoseconds() - began);
+    }
+    return 0;
+}
+
+static int print_entry(const git_config_entry *entry, void *unused) {
+    (void)unused;
+    printf("%s=%s\n", entry->name, entry->value ? entry->value : "");
+    return 0;
+}
+
+static int get(git_config *config, const char *key) {
+    git_config_entry *entry;
+    int status = git_config_get_entry(&entry, config, key);
+    if (status < 0)
+        return status;
+    puts(entry->value ? entry->value : "");
+    git_config_entry_free(entry);
+    return 0;
+}
+
+/* Does what the words ask of the file that the second one names. Below 0 is a failure, as in libgit2. */
+static int work(git_config *config, int count, char **words) {
+    if (count == 3 && strcmp(words[1], "list") == 0)
+        return git_config_foreach(config, print_entry, NULL);
+    if (count == 4 && strcmp(words[1], "get") == 0)
+        return get(config, words[3]);
+    if (count == 5 && strcmp(words[1], "set") == 0)
+        return git_config_set_string(config, words[3], words[4]);
+    fputs("libgit2: list FILE, get FILE KEY, set FILE KEY VALUE or load ROUNDS FILE\n", stderr);
+    exit(2);
+}
+
+int main(int count, char **words) {
+    git_config *config;
+    if (git_libgit2_init() < 0)
+        return tell_error();
+    if (count == 4 && strcmp(words[1], "load") == 0)
+        return load(words[3], atol(words[2]));
+    if (git_config_open_ondisk(&config, count > 2 ? words[2] : "") < 0 || work(config, count, words) < 0)
+        return tell_error();
+    git_config_free(config);
+    git_libgit2_shutdown();
+    return 0;
+}

@@ -1,0 +1,145 @@
+"""The program for aarch64: proved and compiled by the kit, and linked by Debian's compiler for that processor.
+
+The kit's rt has no word for another processor, and its rattle has (`rattle help build`). That proves the program's own crate for the
+target, over the libraries below it as `rt ci` gives them: in a copy, where it takes what it kept of the same files on this machine,
+and proves what it didn't. The kit has no C library for aarch64, so dist/c/ has the few functions that its own C files define for
+x86_64, and gcc links all to glibc.
+"""
+import os
+import shutil
+import subprocess
+import sys
+import tempfile
+import time
+from pathlib import Path
+
+from release import PROGRAM, TOP, Lacking, built_program, kit, kit_line, run, source_newer_than, sum_of
+
+TARGET = "aarch64-unknown-linux-gnu"
+COMPILER = "aarch64-linux-gnu-gcc"
+C_FILES = ("host.c", "heap.c")
+
+OUT = TOP / "crates/gixcfg/out/aarch64"
+OBJECT, LINKED, STAMP, LOG = OUT / "gixcfg.o", OUT / "gixcfg", OUT / "stamp", OUT / "log"
+
+
+def lacking_tools():
+    """Why the program for aarch64 can't be linked here, if it can't."""
+    if shutil.which(COMPILER) is None:
+        return f"{COMPILER} isn't installed (Debian's packages gcc-aarch64-linux-gnu and libc6-dev-arm64-cross; tools/packages)"
+    return None
+
+
+def linked_with():
+    """The packages whose files come to be in the program, or that write its bytes, each with its version."""
+    if shutil.which("dpkg-query") is None:
+        return run(COMPILER, "--version").splitlines()[0]
+    packages = [f"gcc-{run(COMPILER, '-dumpversion').strip()}-aarch64-linux-gnu", "binutils-aarch64-linux-gnu", "libc6-dev-arm64-cross"]
+    return ", ".join(run("dpkg-query", "-W", "-f", "${Package} ${Version}", package) for package in packages)
+
+
+def listed_crates():
+    """Each crate of crates.txt: its line, and the libraries that this names."""
+    crates = {}
+    for line in (TOP / "crates.txt").read_text(encoding="utf-8").splitlines():
+        head, colon, named = line.partition("#")[0].partition(":")
+        if colon:
+            crates[head.split()[0]] = line, named.split()
+    return crates
+
+
+def libraries():
+    """The libraries below the program: those of this repository, and those of the kit that they name."""
+    crates = listed_crates()
+    found, left = {}, list(crates["gixcfg"][1])
+    while left:
+        name = left.pop()
+        if name not in found:
+            found[name] = name in crates
+            left += crates[name][1] if name in crates else []
+    return [name for name, is_ours in found.items() if is_ours], [name for name, is_ours in found.items() if not is_ours]
+
+
+def copy_crates(room):
+    """Puts the program's crate and those of the libraries below it into a repository of their own, whose crates.txt has the latter."""
+    names, crates = libraries()[0], listed_crates()
+    for name in [*names, "gixcfg"]:
+        shutil.copytree(TOP / "crates" / name, room / "crates" / name, ignore=shutil.ignore_patterns("out", "must-fail"))
+    (room / "crates.txt").write_text("".join(f"{crates[name][0]}\n" for name in names), encoding="utf-8")
+    shutil.copy(TOP / "HANDLES", room)
+    # (so it is the top of a repository, as rt wants it)
+    (room / ".git").mkdir()
+
+
+def words_of(room, root):
+    """The words that tell rattle of the program's crate, the libraries below it, and the program logic."""
+    below = {name: room / "crates" / name / "out/rlib" for name in libraries()[0]}
+    words = ["--crate-name", "gixcfg", "src/main.rt"]
+    for name in ["std", *listed_crates()["gixcfg"][1]]:
+        words += ["--extern", f"{name}={below.get(name, root / 'rlibs')}/{name}.rlib"]
+    for folder in [root / "rlibs", *below.values()]:
+        words += ["-L", f"dependency={folder}"]
+    words += ["--antt-project", f"{root}/rattle/logic/antt-project.json", "--logic-built", f"{root}/logic_built"]
+    return [*words, "--links", "gixcfg=", "--target", TARGET, "--toolchain", f"{root}/toolchain"]
+
+
+def logged(log, where, *words):
+    """Runs a command, whose words go to the log, and says whether it succeeded."""
+    log.write(f"== {' '.join(map(str, words[:2]))}\n")
+    log.flush()
+    return subprocess.run(words, cwd=where, stdin=subprocess.DEVNULL, stdout=log, stderr=subprocess.STDOUT).returncode == 0
+
+
+def prove():
+    """Proves the program's crate for aarch64, and compiles it to an object."""
+    root, began, new = kit(), time.time(), OUT / "new.o"
+    print("dist: proves and compiles the program for aarch64, some four minutes on four processors where rt ci kept the libraries",
+          file=sys.stderr, flush=True)
+    with tempfile.TemporaryDirectory(prefix="gixcfg-aarch64-") as name, open(LOG, "w", encoding="utf-8") as log:
+        room = Path(name)
+        copy_crates(room)
+        jobs = str(min(4, os.cpu_count()))
+        is_made = (logged(log, room, "rt", "ci")
+                   and logged(log, room / "crates/gixcfg", root / "bin/rattle", "build", *words_of(room, root), "--jobs", jobs, "-o", new))
+    # (the program's verdict is the last of the log)
+    verdicts = [line for line in LOG.read_text(encoding="utf-8", errors="replace").splitlines() if line.startswith("logic=")]
+    if not is_made or not verdicts[-1].startswith("logic=proved ") or f" target={TARGET} " not in verdicts[-1]:
+        raise Lacking(f"the program was not proved and compiled for aarch64: {LOG} has what rt and rattle wrote")
+    # An edit during the proof is newer than the object.
+    os.utime(new, (began, began))
+    new.rename(OBJECT)
+    print(f"dist: proved and compiled for aarch64 after {time.time() - began:.0f} s", file=sys.stderr, flush=True)
+
+
+def link():
+    """Links the object with the C files. No path of this machine comes into the program: they are named as they lie in their folder."""
+    new = OUT / "new"
+    run(COMPILER, "-std=c11", "-O2", "-Wall", "-Wextra", "-Werror", "-fPIE", "-pie", "-Wl,-z,relro,-z,now", *C_FILES, OBJECT, "-o", new,
+        cwd=TOP / "dist/c")
+    new.rename(LINKED)
+
+
+def stamp():
+    """What the program for aarch64 that is kept was made with; where it differs, it is made anew."""
+    c_files = [sum_of(TOP / "dist/c" / name) for name in C_FILES]
+    return "\n".join([kit_line(), linked_with(), sum_of(PROGRAM), *c_files])
+
+
+def is_kept():
+    """Whether what an earlier call made still stands for these sources."""
+    return (all(path.is_file() for path in (OBJECT, LINKED, STAMP)) and STAMP.read_text(encoding="utf-8") == stamp()
+            and source_newer_than(OBJECT) is None)
+
+
+def build():
+    """The object for aarch64 and the program that is linked of it, kept from an earlier call or made."""
+    lacking = lacking_tools()
+    if lacking:
+        raise Lacking(lacking)
+    built_program()
+    if not is_kept():
+        OUT.mkdir(exist_ok=True)
+        prove()
+        link()
+        STAMP.write_text(stamp(), encoding="utf-8")
+    return OBJECT, LINKED

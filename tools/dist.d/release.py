@@ -1,0 +1,92 @@
+"""What a release is called, and where its parts are."""
+import hashlib
+import os
+import re
+import shutil
+import subprocess
+from pathlib import Path
+
+TOP = Path(__file__).resolve().parents[2]
+PROGRAM = TOP / "crates/gixcfg/out/gixcfg"
+PROCESSORS = ("x86_64", "aarch64")
+
+# What a crate is proved and compiled of.
+PARTS = ("src", "specs", "proofs")
+
+
+class Lacking(Exception):
+    """Something that a release is made of or with isn't here; the text says what, and where it comes from."""
+
+
+def run(*words, **how):
+    """Runs a command, and returns what it writes; where it fails, what it said is raised."""
+    ran = subprocess.run(words, stdout=subprocess.PIPE, stderr=subprocess.PIPE, text=True, stdin=subprocess.DEVNULL, **how)
+    if ran.returncode:
+        raise Lacking(f"{' '.join(map(str, words[:2]))} failed with {ran.returncode}: {(ran.stderr or ran.stdout)[-900:].strip()}")
+    return ran.stdout
+
+
+def said_version():
+    """What `gixcfg --version` prints: the one place where the version stands."""
+    source = TOP / "crates/gixcfg_words/src/lib.rt"
+    found = re.search(r'^pub const VERSION: &str = "gixcfg ([\w.+~-]+)(?: \((.*)\))?\\n";$', source.read_text(encoding="utf-8"), re.MULTILINE)
+    if found is None:
+        raise Lacking(f"{source} has no line `pub const VERSION: &str = \"gixcfg VERSION (KIT)\\n\";`")
+    return found.groups()
+
+
+def version():
+    return said_version()[0]
+
+
+def kit():
+    """The folder of the kit."""
+    if shutil.which("rt") is None:
+        raise Lacking("the kit's command rt is not on the PATH")
+    return Path(run("rt", "doc").strip()).parent
+
+
+def kit_line():
+    """The line of the kit that is here, as `rt version` prints it."""
+    if shutil.which("rt") is None:
+        raise Lacking("the kit's command rt is not on the PATH")
+    return run("rt", "version").strip()
+
+
+def sum_of(file):
+    """The sha256 sum of a file."""
+    return hashlib.sha256(file.read_bytes()).hexdigest()
+
+
+def folder_of(processor):
+    """What the folder in the archive for a processor is called."""
+    return f"gixcfg-{version()}-{processor}-linux"
+
+
+def time_of_release():
+    """The time that files of a release have: SOURCE_DATE_EPOCH, else that of the last commit."""
+    return int(os.environ.get("SOURCE_DATE_EPOCH") or run("git", "-C", str(TOP), "log", "-1", "--format=%ct"))
+
+
+def sources():
+    """The files that the program is proved and compiled of."""
+    yield TOP / "crates.txt"
+    for crate in (TOP / "crates").iterdir():
+        for part in PARTS:
+            yield from (path for path in (crate / part).rglob("*") if path.is_file())
+
+
+def source_newer_than(file):
+    """A source that was changed after a file was made, if there is one."""
+    made = file.stat().st_mtime_ns
+    return next((path for path in sources() if path.stat().st_mtime_ns > made), None)
+
+
+def built_program():
+    """The program for x86_64 as the kit linked it, if it is newer than its sources."""
+    if not PROGRAM.is_file():
+        raise Lacking(f"{PROGRAM.relative_to(TOP)} is not there: ./gixcfg --build makes it")
+    newer = source_newer_than(PROGRAM)
+    if newer is not None:
+        raise Lacking(f"{PROGRAM.relative_to(TOP)} is older than {newer.relative_to(TOP)}: ./gixcfg --build makes it anew")
+    return PROGRAM
