@@ -7,7 +7,7 @@ use Rattle.gixcfg_answers.specs.declared.typed.Fault.TheVariants as types
 use Rattle.gixcfg_answers.specs.declared.trouble.Trouble.{Trouble}
 use Rattle.gixcfg_answers.specs.declared.trouble.Trouble.TheVariants as kinds
 
--- 1 for what is missing or named in a way that isn't allowed, and for a text that isn't laid out; 2 for a word that is no key; 3 for a
+-- 1 for what is missing or named in a way that isn't allowed, and for a text that isn't laid out; 2 for a word that is no key or names no section; 3 for a
 -- text, an edit or a value that is refused; 4 for a file or a stream that failed; 5 for several entries or none, and for memory
 abbrev pub status_of : Trouble → ℕ
 status_of kinds.Missing = 1
@@ -15,6 +15,7 @@ status_of kinds.Different = 1
 status_of kinds.NoSection = 1
 status_of (kinds.BadName number) = 1
 status_of kinds.NoKey = 2
+status_of kinds.Nameless = 2
 status_of (kinds.Text message) = 3
 status_of (kinds.Refused number) = 3
 status_of kinds.Uncommented = 3

@@ -25,6 +25,8 @@ pub enum Trouble {
     Different,
     /// A word is no key.
     NoKey,
+    /// A key or a section that is to be has neither a section's name nor a subsection: no file could hold it.
+    Nameless,
     /// There is no such section.
     NoSection,
     /// A name can't be had: the number of the refusal, 4 to 6.
@@ -65,7 +67,7 @@ impl Trouble {
     {
         match self {
             Trouble::Missing | Trouble::Different | Trouble::NoSection | Trouble::BadName(_) => 1,
-            Trouble::NoKey => 2,
+            Trouble::NoKey | Trouble::Nameless => 2,
             Trouble::Text(_) | Trouble::Refused(_) | Trouble::Uncommented | Trouble::Untyped(_) =>
                 3,
             Trouble::File(_)
@@ -121,12 +123,18 @@ impl From<files::Fault> for Trouble {
 ///
 /// # Errors
 ///
-/// [`Trouble::NoKey`] if the word has no dot.
+/// [`Trouble::NoKey`] if the word has no dot, [`Trouble::Nameless`] if nothing stands before its only one.
 pub fn key_of(word: &str) -> Result<KeyRef<'_>, Trouble> {
     match KeyRef::parse_unvalidated(word.as_bytes()) {
+        Some(key) if is_nameless(key.section_name, key.subsection_name) => Err(Trouble::Nameless),
         Some(key) => Ok(key),
         None => Err(Trouble::NoKey),
     }
+}
+
+/// Whether a section of these names has neither a name nor a subsection. Its header would be `[]`, which no file may have.
+pub fn is_nameless(name: &str, subsection_name: Option<&[u8]>) -> bool {
+    name.is_empty() && subsection_name.is_none()
 }
 
 /// The trouble that a refusal of an edit is, by its number.
@@ -151,6 +159,7 @@ pub fn tell<E: Write>(trouble: &Trouble, name: &str, err: &mut E) {
         Trouble::Input => err.write_all(b"gixcfg: standard input: not read\n"),
         Trouble::Output => err.write_all(b"gixcfg: standard output: not written [E28]\n"),
         Trouble::NoKey => err.write_all(b"gixcfg: not a key, it has no dot\n"),
+        Trouble::Nameless => err.write_all(b"gixcfg: no section is named\n"),
         _ => tell_of_file(trouble, name, err),
     };
 }

@@ -7,7 +7,7 @@ use gix_config::format::{self, normalize};
 use gix_config::lookup::existing;
 use gix_config::refusals::Refusal;
 use gix_config::{File, KeyRef};
-use gixcfg_answers::trouble::{Trouble, key_of, of_number};
+use gixcfg_answers::trouble::{Trouble, is_nameless, key_of, of_number};
 use gixcfg_answers::typed::typed;
 use gixcfg_files::Lock;
 use gixcfg_texts::comments;
@@ -117,10 +117,26 @@ fn edited(
     let read = File::try_from_bytes(alloc, text);
     let mut file = accepted(alloc, call.options.file_name(), text, read, outside)?;
     if let (Command::RemoveSection, [name]) = (call.command, call.words.as_slice()) {
-        return text_without(alloc, &file, &names_of(name));
+        return marked(alloc, text, text_without(alloc, &file, &names_of(name))?);
     }
-    apply(alloc, &mut file, call, outside)?;
-    printed(alloc, &file, call)
+    let is_open = !text.ends_with(b"\n");
+    match apply(alloc, &mut file, call, outside, is_open)? {
+        Change::None => Ok(BString::new(text.to_vec(alloc)?)),
+        Change::Done => marked(alloc, text, printed(alloc, &file, call)?),
+    }
+}
+
+/// The mark that a text in UTF-8 may begin with.
+static MARK: [u8; 3] = *b"\xef\xbb\xbf";
+
+/// An edited text behind the mark that the text before began with, which the library drops and git keeps.
+fn marked(alloc: Global, before: &[u8], edited: BString) -> Result<BString, Trouble> {
+    if !before.starts_with(&MARK) {
+        return Ok(edited);
+    }
+    let mut text = Vec::from_slice(alloc, &MARK)?;
+    text.extend_from_slice(edited.as_bytes())?;
+    Ok(BString::new(text))
 }
 
 /// A text, laid out as the options ask for it.
@@ -177,82 +193,128 @@ fn layout_of(options: &Options<'_>) -> format::Options {
     layout
 }
 
-/// Edits a file.
+/// Whether an edit changes anything.
+#[derive(Clone, Copy)]
+enum Change {
+    /// The file has it already.
+    None,
+    /// The file is changed.
+    Done,
+}
+
+/// Edits a file, whose text ends within a line or not.
 fn apply(
     alloc: Global,
     file: &mut File,
     call: &Call<'_>,
     outside: Outside<'_>,
-) -> Result<(), Trouble> {
+    is_open: bool,
+) -> Result<Change, Trouble> {
     match (call.command, call.words.as_slice()) {
-        (Command::Set, [key, value]) => set(alloc, file, key, value, &call.options, outside),
-        (Command::Unset, [key]) => unset(alloc, file, key_of(key)?, call.options.all),
-        (Command::RenameSection, [old, new]) => rename(alloc, file, old, new),
+        (Command::Set, [key, value]) => {
+            let key = key_of(key)?;
+            let value = value_of(alloc, value, call.options.kind, outside)?;
+            let entry = Entry {
+                key,
+                value: &value,
+                is_open,
+            };
+            put_value(alloc, file, &entry, &call.options)
+        }
+        (Command::Unset, [key]) => {
+            unset(alloc, file, key_of(key)?, call.options.all)?;
+            Ok(Change::Done)
+        }
+        (Command::RenameSection, [old, new]) => {
+            rename(alloc, file, old, new)?;
+            Ok(Change::Done)
+        }
         _ => Err(Trouble::NoKey),
     }
 }
 
-/// Gives a key a value, in the type that is asked for.
-fn set(
+/// A value as it is stored: in the type that is asked for, but for a path, which is stored as given.
+fn value_of(
     alloc: Global,
-    file: &mut File,
-    key: &str,
     value: &str,
-    options: &Options<'_>,
+    kind: Option<Kind>,
     outside: Outside<'_>,
-) -> Result<(), Trouble> {
-    let key = key_of(key)?;
-    match options.kind {
-        None | Some(Kind::Path) => put_value(alloc, file, key, value.as_bytes(), options),
-        Some(kind) => {
-            let value = typed(alloc, Some(value.as_bytes()), kind, outside.home)?;
-            put_value(alloc, file, key, value.as_bytes(), options)
-        }
+) -> Result<BString, Trouble> {
+    match kind {
+        None | Some(Kind::Path) => Ok(BString::new(value.as_bytes().to_vec(alloc)?)),
+        Some(kind) => Ok(typed(alloc, Some(value.as_bytes()), kind, outside.home)?),
     }
+}
+
+/// What is set.
+#[derive(Clone, Copy)]
+struct Entry<'a> {
+    key: KeyRef<'a>,
+    value: &'a [u8],
+    /// Whether the text of the file ends within a line.
+    is_open: bool,
 }
 
 /// Gives a key a value: the only one, one in place of all, or one more.
 fn put_value(
     alloc: Global,
     file: &mut File,
-    key: KeyRef<'_>,
-    value: &[u8],
+    entry: &Entry<'_>,
     options: &Options<'_>,
-) -> Result<(), Trouble> {
+) -> Result<Change, Trouble> {
     if options.append {
-        return append(file, key, value);
+        add(file, entry)?;
+        return Ok(Change::Done);
     }
-    let holders = holders_of(alloc, file, key)?;
+    let holders = holders_of(alloc, file, entry.key)?;
     match count_of(&holders) {
-        0 => put_new(file, key, value),
-        1 => rewrite(file, key, value),
+        0 => add(file, entry)?,
+        1 if options.comment.is_none() && has_value(file, entry)? => return Ok(Change::None),
+        1 => rewrite(file, entry.key, entry.value)?,
         _ if options.all => {
-            remove_entries(file, &holders, key.value_name, 1)?;
-            rewrite(file, key, value)
+            remove_entries(file, &holders, entry.key.value_name, 1)?;
+            rewrite(file, entry.key, entry.value)?;
         }
-        _ => Err(Trouble::Several),
+        _ => return Err(Trouble::Several),
+    }
+    Ok(Change::Done)
+}
+
+/// Whether the last value of a key is the one that is set.
+fn has_value(file: &File, entry: &Entry<'_>) -> Result<bool, Trouble> {
+    match file.raw_value(entry.key) {
+        Ok(value) => Ok(value.as_bytes() == entry.value),
+        Err(existing::Error::Memory) => Err(Trouble::Memory),
+        Err(_) => Ok(false),
     }
 }
 
-/// Gives a key that has no entry a value.
-fn put_new(file: &mut File, key: KeyRef<'_>, value: &[u8]) -> Result<(), Trouble> {
-    match file.set_raw_value(key, value) {
-        Ok(old) => {
-            drop(old);
-            Ok(())
-        }
-        Err(refusal) => Err(of_number(refusal.number())),
-    }
-}
-
-/// Adds an entry of a key, in the last section of its name.
-fn append(file: &mut File, key: KeyRef<'_>, value: &[u8]) -> Result<(), Trouble> {
+/// Adds an entry, in the last section of its name. A line that the section ends within is ended first.
+fn add(file: &mut File, entry: &Entry<'_>) -> Result<(), Trouble> {
+    let key = entry.key;
+    let is_open = entry.is_open && ends_within_line(file, key)?;
     match file.section_mut_or_create_new(key.section_name, key.subsection_name) {
-        Ok(mut section) => match section.push(key.value_name, Some(value)) {
-            Ok(()) => Ok(()),
-            Err(refusal) => Err(of_number(refusal.number())),
-        },
+        Ok(mut section) => {
+            if is_open {
+                if let Err(refusal) = section.push_newline() {
+                    return Err(of_number(refusal.number()));
+                }
+            }
+            match section.push(key.value_name, Some(entry.value)) {
+                Ok(()) => Ok(()),
+                Err(refusal) => Err(of_number(refusal.number())),
+            }
+        }
         Err(refusal) => Err(of_number(refusal.number())),
+    }
+}
+
+/// Whether the last section of a key's names is there, and its text ends within a line.
+fn ends_within_line(file: &File, key: KeyRef<'_>) -> Result<bool, Trouble> {
+    match file.section(key.section_name, key.subsection_name) {
+        Ok(section) => Ok(!section.to_bstring()?.ends_with(b"\n")),
+        Err(existing::Error::Memory) => Err(Trouble::Memory),
+        Err(_) => Ok(false),
     }
 }
 
@@ -300,6 +362,9 @@ fn names_of(word: &str) -> Names<'_> {
 /// Gives the sections of a name another one.
 fn rename(alloc: Global, file: &mut File, old: &str, new: &str) -> Result<(), Trouble> {
     let (old, new) = (names_of(old), names_of(new));
+    if is_nameless(new.name, new.subsection_name) {
+        return Err(Trouble::Nameless);
+    }
     let new_subsection_name = match new.subsection_name {
         Some(bytes) => Some(BString::new(bytes.to_vec(alloc)?)),
         None => None,

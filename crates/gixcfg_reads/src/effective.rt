@@ -66,14 +66,23 @@ fn load<R: Files + Loads + AllocGlobal>(
     }
 }
 
-/// The file of the variables, if they have entries.
+/// The file of the variables, if they have entries. The library takes a key that names no section, and git doesn't.
 fn variables_of<R: Loads + AllocGlobal>(
     rt: &R,
     options: init::Options<'_>,
 ) -> Result<Option<File>, Trouble> {
     match rt.from_variables(options) {
+        Ok(Some(file)) if file.section("", None).is_ok() => Err(nameless(rt.alloc())),
         Ok(file) => Ok(file),
         Err(refusal) => Err(trouble_of(rt.alloc(), refusal.number(), &refusal)),
+    }
+}
+
+/// The trouble with a variable whose key names no section.
+fn nameless(alloc: Global) -> Trouble {
+    match format!(in alloc; "gixcfg: a key of GIT_CONFIG_KEY_n names no section\n") {
+        Ok(message) => Trouble::Text(message),
+        Err(_) => Trouble::Memory,
     }
 }
 
