@@ -55,9 +55,10 @@ def _chosen(runs):
 
 
 def check(cases, played, report):
-    """Checks the answers at each start, and tells how many growths were refused of what."""
+    """Checks the answers at each start, and tells how many growths were refused of what. Answers how many of a call, or None without
+    answers."""
     if not played:
-        return
+        return None
     refusals, faults = [], Counter()
     for case, answers in zip(cases, played):
         try:
@@ -70,8 +71,7 @@ def check(cases, played, report):
     told, ended = refusals.count("call"), refusals.count("script")
     report.tell(f"{told + ended} growths refused in {len(cases)} starts of the same {len(cases[0].rows)} runs of gixcfg: "
                 f"{told} of a call that told so, {ended} around the calls; the others weren't needed or didn't come")
-    if not told:
-        report.fault("no growth of a call was refused at all")
+    return told
 
 
 def _refusal_in(case, played):

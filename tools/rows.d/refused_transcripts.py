@@ -23,15 +23,15 @@ def chosen(transcripts):
 
 
 def check(transcripts, played, report):
-    """Checks the answers to each, and tells how many growths were refused of what."""
+    """Checks the answers to each, and tells how many growths were refused of what. Answers how many of a command, or None without
+    answers."""
     if not played:
-        return
+        return None
     refusals = [_check_one(transcript.rows, answers, report) for transcript, answers in zip(transcripts, played)]
     told, ended = refusals.count("command"), refusals.count("script")
     report.tell(f"{told + ended} growths refused in {len(transcripts)} transcripts: {told} of a command that told so, "
                 f"{ended} between commands; the others weren't needed or didn't come")
-    if not told:
-        report.fault("no growth of a command was refused at all")
+    return told
 
 
 def _check_one(rows, played, report):

@@ -335,7 +335,7 @@ CASES = [
     tried("stops", ("rows.txt:2: load", "got     nothing: fault: fault kind=index"), "0 passed, 7 failed"),
     tried("uncompiled", ("rt try started nothing", "error: it isn't Rattle"), "0 passed, 2 failed"),
     tried("E1", ('err E1 1 name "", with growth 120 refused',), "5 passed, 2 failed"),
-    tried("never", ("no growth of a command was refused at all",), "6 passed, 1 failed"),
+    tried("never", ("no growth of a command, or of a call, was refused at all",), "6 passed, 1 failed"),
     # Two runs, and 60 starts with a growth refused.
     tried_run("right", ("60 growths refused in 60 starts of the same 1 runs of gixcfg: 60 of a call",), "62 passed, 0 failed"),
     tried_run("output", ('program.txt:1: gixcfg "get" < "v"', 'wanted  0 "v" ""', 'got     0 "v!" ""'), "61 passed, 1 failed"),
@@ -346,7 +346,7 @@ CASES = [
     tried_run("more", ("it printed ['ok'] behind its answers",), "1 passed, 62 failed"),
     tried_run("stops", ("got     nothing: fault: fault kind=index",), "0 passed, 63 failed"),
     tried_run("E1", ('5 "" "gixcfg: E1\\n", with a growth refused',), "2 passed, 61 failed"),
-    tried_run("never", ("no growth of a call was refused at all",), "62 passed, 1 failed"),
+    tried_run("never", ("no growth of a command, or of a call, was refused at all",), "62 passed, 1 failed"),
     tried_run("right", (), "61 passed, 0 failed", IN_FOLDER),
     tried_run("text", ('file "d/m" "\\x00" mode 640',), "0 passed, 62 failed", IN_FOLDER),
     # What a run leaves where memory was wanting has any rights.

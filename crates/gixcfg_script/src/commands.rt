@@ -62,8 +62,9 @@ pub fn answer_to(
 
 /// The command that a line begins with, and the words after it.
 fn command_of<'a, 'b>(words: &'a [Word<'b>]) -> Option<(Command, &'a [Word<'b>])> {
-    match words {
-        [Word::Plain(word), others @ ..] => Some((named_in(&COMMANDS, word)?, others)),
+    let (first, others) = words.split_first()?;
+    match first {
+        Word::Plain(word) => Some((named_in(&COMMANDS, word)?, others)),
         _ => None,
     }
 }
