@@ -60,11 +60,15 @@ def libraries():
     return [name for name, is_ours in found.items() if is_ours], [name for name, is_ours in found.items() if not is_ours]
 
 
-def copy_crates(room):
-    """Puts the program's crate and those of the libraries below it into a repository of their own, whose crates.txt has the latter."""
+def copy_crate(name, room):
+    shutil.copytree(TOP / "crates" / name, room / "crates" / name, ignore=shutil.ignore_patterns("out", "must-fail"))
+
+
+def copy_libraries(room):
+    """Puts the libraries below the program into a repository of their own."""
     names, crates = libraries()[0], listed_crates()
-    for name in [*names, "gixcfg"]:
-        shutil.copytree(TOP / "crates" / name, room / "crates" / name, ignore=shutil.ignore_patterns("out", "must-fail"))
+    for name in names:
+        copy_crate(name, room)
     (room / "crates.txt").write_text("".join(f"{crates[name][0]}\n" for name in names), encoding="utf-8")
     shutil.copy(TOP / "HANDLES", room)
     # (so it is the top of a repository, as rt wants it)
@@ -83,11 +87,14 @@ def words_of(room, root):
     return [*words, "--links", "gixcfg=", "--target", TARGET, "--toolchain", f"{root}/toolchain"]
 
 
-def logged(log, where, *words):
-    """Runs a command, whose words go to the log, and says whether it succeeded."""
-    log.write(f"== {' '.join(map(str, words[:2]))}\n")
-    log.flush()
-    return subprocess.run(words, cwd=where, stdin=subprocess.DEVNULL, stdout=log, stderr=subprocess.STDOUT).returncode == 0
+def logged(where, *words):
+    """Runs a command, what it writes goes to the log, and returns that."""
+    ran = subprocess.run(words, cwd=where, stdin=subprocess.DEVNULL, stdout=subprocess.PIPE, stderr=subprocess.STDOUT, text=True, errors="replace")
+    with open(LOG, "a", encoding="utf-8") as log:
+        log.write(f"== {words[0]} {words[1]}\n{ran.stdout}")
+    if ran.returncode:
+        raise Lacking(f"the program was not proved and compiled for aarch64: {LOG} has what {words[0]} {words[1]} wrote")
+    return ran.stdout
 
 
 def prove():
@@ -95,16 +102,18 @@ def prove():
     root, began, new = kit(), time.time(), OUT / "new.o"
     print("dist: proves and compiles the program for aarch64, some four minutes on four processors where rt ci kept the libraries",
           file=sys.stderr, flush=True)
-    with tempfile.TemporaryDirectory(prefix="gixcfg-aarch64-") as name, open(LOG, "w", encoding="utf-8") as log:
+    LOG.unlink(missing_ok=True)
+    with tempfile.TemporaryDirectory(prefix="gixcfg-aarch64-") as name:
         room = Path(name)
-        copy_crates(room)
+        copy_libraries(room)
+        logged(room, "rt", "ci")
+        # (rt ci refuses a crate that crates.txt doesn't have)
+        copy_crate("gixcfg", room)
         jobs = str(min(4, os.cpu_count()))
-        is_made = (logged(log, room, "rt", "ci")
-                   and logged(log, room / "crates/gixcfg", root / "bin/rattle", "build", *words_of(room, root), "--jobs", jobs, "-o", new))
-    # (the program's verdict is the last of the log)
-    verdicts = [line for line in LOG.read_text(encoding="utf-8", errors="replace").splitlines() if line.startswith("logic=")]
-    if not is_made or not verdicts[-1].startswith("logic=proved ") or f" target={TARGET} " not in verdicts[-1]:
-        raise Lacking(f"the program was not proved and compiled for aarch64: {LOG} has what rt and rattle wrote")
+        said = logged(room / "crates/gixcfg", root / "bin/rattle", "build", *words_of(room, root), "--jobs", jobs, "-o", new)
+    verdict = [line for line in said.splitlines() if line.startswith("logic=")][-1:]
+    if not verdict or not verdict[0].startswith("logic=proved ") or f" target={TARGET} " not in verdict[0]:
+        raise Lacking(f"rattle gave no verdict of a proof for aarch64: {LOG} has what it wrote")
     # An edit during the proof is newer than the object.
     os.utime(new, (began, began))
     new.rename(OBJECT)
