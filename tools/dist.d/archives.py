@@ -21,6 +21,7 @@ FILES = {
     "LICENSE-APACHE": "LICENSE-APACHE",
     "dist/copyright": "dist/copyright",
     "README.md": "README.md",
+    "CHANGELOG.md": "CHANGELOG.md",
     "INSTALL": "dist/INSTALL",
     "Makefile": "dist/install.mk",
 }
