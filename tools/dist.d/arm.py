@@ -100,7 +100,7 @@ def logged(where, *words):
 def prove():
     """Proves the program's crate for aarch64, and compiles it to an object."""
     root, began, new = kit(), time.time(), OUT / "new.o"
-    print("dist: proves and compiles the program for aarch64, some four minutes on four processors where rt ci kept the libraries",
+    print("dist: proves and compiles the program for aarch64, some three minutes on four processors where rt ci kept the libraries",
           file=sys.stderr, flush=True)
     LOG.unlink(missing_ok=True)
     with tempfile.TemporaryDirectory(prefix="gixcfg-aarch64-") as name:
