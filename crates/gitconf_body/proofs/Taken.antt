@@ -10,6 +10,7 @@ use Rattle.gitconf_items.specs.ItemsFit.{AreItemsWithin, ItemFits}
 use Rattle.gitconf_state.specs.State.{cut_last, is_entry}
 use Rattle.gitconf_state.specs.Edit.{is_entry_of, old_value}
 use Rattle.gitconf_state.specs.Editors.{key_and_meaning, removed, popped, popped_entry, without_last_blanks, without_first_line_ends}
+use Rattle.gitconf_state.proofs.Edits.Cuts.{cut_at, cut_none}
 use Rattle.gitconf_state.proofs.Edits.Places.{old_value_at}
 use Rattle.gitconf_lines.specs.Places.{IsLastAt}
 use Rattle.gitconf_lines.specs.Spacings.{is_stored_entry}
@@ -100,20 +101,6 @@ line_ends_shown buffer (items.LineEnds run ∷ is) = refl
 line_ends_shown buffer (items.Comment tag text ∷ is) = refl
 line_ends_shown buffer (items.Entry e ∷ is) = refl
 
--- The last that passes, as a cut.
-cut_none : (test : parts.Item → Bool) (is : List parts.Item) → list_any test is ≡ false → cut_last test is ≡ None
-cut_none test [] none = refl
-cut_none test (i ∷ is) none = go (test i) refl (cut_none test is)
-  where
-    go : (t : Bool) → test i ≡ t → (list_any test is ≡ false → cut_last test is ≡ None) → cut_last test (i ∷ is) ≡ None
-    go true e later = absurd (let h = rw e at none in cc)
-    go false e later = rw (later (rw e at none), e, cut_last) refl
-
-pub cut_at : (test : parts.Item → Bool) (before : List parts.Item) (i : parts.Item) (behind : List parts.Item) → test i ≡ true → list_any test behind ≡ false
-    → cut_last test (before ++ i ∷ behind) ≡ Some (before, (i, behind))
-cut_at test [] i behind passes none = rw (cut_none test behind none, passes, cut_last) refl
-cut_at test (j ∷ before) i behind passes none = rw (cut_at test before i behind passes none, cut_last) refl
-
 take_front : {A : Type 0} (before behind : List A) → take (length before) (before ++ behind) ≡ before
 take_front [] behind = refl
 take_front (x ∷ before) behind = ap (λ t. x ∷ t) (take_front before behind)
@@ -155,7 +142,7 @@ blanks_all limit (items.Comment tag text ∷ []) all = all
 blanks_all limit (items.Entry e ∷ []) all = all
 blanks_all limit (i ∷ j ∷ is) all = (all.0, blanks_all limit (j ∷ is) all.1)
 
-line_ends_all : (limit : ℕ) (is : List Item) → AreItemsWithin limit is → AreItemsWithin limit (behind_line_ends is)
+pub line_ends_all : (limit : ℕ) (is : List Item) → AreItemsWithin limit is → AreItemsWithin limit (behind_line_ends is)
 line_ends_all limit [] all = tt
 line_ends_all limit (items.Blanks run ∷ is) all = all
 line_ends_all limit (items.LineEnds run ∷ is) all = all.1

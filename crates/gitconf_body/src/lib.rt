@@ -3,6 +3,7 @@
 
 pub mod entry;
 pub mod heading;
+pub mod marked;
 pub mod section;
 pub mod set;
 pub mod take_out;

@@ -5,6 +5,7 @@ pub mod NamedSpans
 pub mod Raw
 pub mod Spacings
 pub mod Entries
+pub mod Gaps
 pub mod Editors
 pub mod Standing
 pub mod Puts

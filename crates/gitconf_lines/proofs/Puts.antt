@@ -9,8 +9,9 @@ use Rattle.gitconf_lines.specs.declared.editor.Leading.{Leading}
 use Rattle.gitconf_lines.specs.declared.editor.Leading.TheVariants as leadings
 use Rattle.gitconf_lines.specs.Blanks.{given_editor, IsGiven, IsGivenLeading, PutsAround}
 use Rattle.gitconf_lines.specs.Editors.{changed_put, comment_put, end_put, leading_in, leading_put, line_put, set_put, value_put}
+use Rattle.gitconf_lines.specs.Below.{below_put, lacking_put}
 use Rattle.gitconf_lines.specs.Puts as puts
-use Rattle.gitconf_lines.specs.Puts.{assigned_bytes, changed_bytes, line_bytes, value_set_bytes}
+use Rattle.gitconf_lines.specs.Puts.{after_last_bytes, assigned_bytes, changed_bytes, line_bytes, value_set_bytes}
 
 -- blanks that are bytes are put as they are
 leading_is : (l : Leading) → IsGivenLeading l → leading_put l ≡ puts.run_bytes (leading_in [] l)
@@ -26,6 +27,10 @@ pub line_is : (e : Editor) (key : List ℕ) (value comment : Option (List ℕ)) 
     → line_put e key value comment ≡ line_bytes (given_editor e) key value comment
 line_is e key value comment given around =
     λ i. leading_is e.leading given.0 i + (length key + (value_is e value around i + (comment_put comment + end_put e)))
+
+pub below_is : (e : Editor) (key : List ℕ) (value : Option (List ℕ)) (items : List Item) → IsGiven e → PutsAround e
+    → below_put e key value items ≡ after_last_bytes (given_editor e) key value items
+below_is e key value items given around = ap (λ n. lacking_put e items + n) (line_is e key value None given around)
 
 changed_is : (e : Editor) (value : List ℕ) (i : Item) → PutsAround e → changed_put e.around value i ≡ changed_bytes (given_editor e).spacing value i
 changed_is e value (BlanksItem run) around = refl

@@ -1,3 +1,4 @@
+pub mod Below
 pub mod Buffers
 pub mod Places
 pub mod Spacings

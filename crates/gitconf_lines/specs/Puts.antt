@@ -5,7 +5,7 @@ use Rattle.std.specs.List.{last_or}
 use Rattle.gitconf_text.specs.Part.{Item, EntryItem}
 use Rattle.gitconf_text.specs.Value.{escaped}
 use Rattle.gitconf_state.specs.Edit.{Spacing, is_entry_of}
-use Rattle.gitconf_state.specs.Editors.{Editor}
+use Rattle.gitconf_state.specs.Editors.{Editor, lacks_line_end}
 use Rattle.gitconf_lines.specs.Editors.{comment_put}
 
 -- how many bytes for blanks, if there are any
@@ -23,6 +23,10 @@ abbrev pub line_bytes : Editor → (key : List ℕ) → (value comment : Option 
 line_bytes editor key value comment =
     run_bytes editor.spacing.leading
     + (length key + (assigned_bytes editor.spacing value + (comment_put comment + (if editor.ends then length editor.line_end else 0))))
+
+-- how many bytes for a line below the last entry: also those of a line ending, if the line before it has none
+abbrev pub after_last_bytes : Editor → (key : List ℕ) → (value : Option (List ℕ)) → List Item → ℕ
+after_last_bytes editor key value items = (if lacks_line_end items then length editor.line_end else 0) + line_bytes editor key value None
 
 -- how many bytes for the value that an entry gets: also the blanks of the editor, if the entry has no `=`
 abbrev pub changed_bytes : Spacing → (value : List ℕ) → Item → ℕ

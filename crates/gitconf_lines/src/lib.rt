@@ -6,6 +6,7 @@ pub mod blanks;
 pub mod buffer;
 pub mod editor;
 pub mod push;
+pub mod push_below;
 pub mod seeking;
 pub mod spacing;
 pub mod value;

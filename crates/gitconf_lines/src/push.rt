@@ -210,7 +210,7 @@ fn put_end(buffer: &mut Vec<u8>, editor: &Editor<'_>) -> Result<Option<Span>, sp
 
 /// The parts of a line that is pushed.
 #[derive(Drop)]
-struct Line {
+pub(crate) struct Line {
     leading: Option<Span>,
     entry: Entry,
     comment: Option<Comment>,
@@ -219,7 +219,7 @@ struct Line {
 
 /// The parts of a line, added to the buffer.
 #[tactic(auto, using(crate::proofs::Buffers::extending))]
-fn put_line(
+pub(crate) fn put_line(
     buffer: &mut Vec<u8>,
     editor: &Editor<'_>,
     key: &[u8],
@@ -246,7 +246,7 @@ fn put_line(
 }
 
 /// Adds the items of a line after the others. Takes one growth.
-fn push_items(items: &mut Vec<Item>, line: Line) -> Result<(), NoMemory>
+pub(crate) fn push_items(items: &mut Vec<Item>, line: Line) -> Result<(), NoMemory>
     ensures ok { OnOk result (items.new.items ≡ items.old.items ++ line_items line) }
     ensures err { OnErr result (items.new.items ≡ items.old.items) }
 {
@@ -321,7 +321,12 @@ fn end_len(editor: &Editor<'_>) -> usize
 }
 
 /// How many bytes [`put_line`] adds to the buffer, or `usize::MAX` if there are more.
-fn line_len(editor: &Editor<'_>, key: &[u8], value: Option<&[u8]>, comment: Option<&[u8]>) -> usize
+pub(crate) fn line_len(
+    editor: &Editor<'_>,
+    key: &[u8],
+    value: Option<&[u8]>,
+    comment: Option<&[u8]>,
+) -> usize
     ensures { result ≡ min (spec.line_put editor.now key.now (option_copied value.entry) (option_copied comment.entry)) (2 ^ 64 - 1) }
 {
     leading_len(&editor.leading)

@@ -36,10 +36,14 @@ pub enum SectionChange {
     Push,
     /// `pushc`
     PushWithComment,
+    /// `pushlast`
+    PushAfterLast,
     /// `set`
     Set,
     /// `remove`
     Remove,
+    /// `removemarked`
+    RemoveMarked,
     /// `pop`
     Pop,
     /// `nl`
@@ -164,11 +168,13 @@ fn section_line_named(word: &[u8]) -> Option<SectionLine> {
     None
 }
 
-static SECTION_CHANGES: [(&[u8], SectionChange); 7] = [
+static SECTION_CHANGES: [(&[u8], SectionChange); 9] = [
     (b"push", SectionChange::Push),
     (b"pushc", SectionChange::PushWithComment),
+    (b"pushlast", SectionChange::PushAfterLast),
     (b"set", SectionChange::Set),
     (b"remove", SectionChange::Remove),
+    (b"removemarked", SectionChange::RemoveMarked),
     (b"pop", SectionChange::Pop),
     (b"nl", SectionChange::LineEnd),
     (b"header", SectionChange::Header),

@@ -1,5 +1,6 @@
 -- What edits do to a state, and what they leave.
 pub mod Lists
+pub mod Cuts
 pub mod Items
 pub mod Places
 pub mod Values

@@ -1,6 +1,6 @@
 -- What editors of a section change among its items: lines that are pushed, values that are set, entries that are removed.
 -- Source: gix-config; that separator blanks keep their order, and that an entry without `=` gets one, are this project's own rules.
-use Rattle.std.specs.Prelude.{ℕ, ◌+◌, Bool, true, false, not, List, [], ◌∷◌, ◌++◌, ◌==◌, map, take, drop, Option, Some, None, if◌then◌else◌}
+use Rattle.std.specs.Prelude.{ℕ, ◌+◌, Bool, true, false, not, List, [], ◌∷◌, ◌++◌, ◌==◌, filter, length, map, take, drop, Option, Some, None, if◌then◌else◌}
 use Rattle.std.specs.List.{list_any}
 use Rattle.gitconf_text.specs.Bytes.{is_whitespace}
 use Rattle.gitconf_text.specs.Text.{begins}
@@ -89,6 +89,35 @@ removed key items = elim (cut_last (is_entry_of key) items) [
   | Some c ↦ without_last_blanks c.0 ++ without_first_line_ends c.1.1
 ]
 
+-- each item with whether it is marked: of the entries of the key the first has the first mark, and so on; those behind the last mark have none
+abbrev pub marked : (key : List ℕ) → (marks : List Bool) → List Item → List (Bool × Item)
+marked key marks [] = []
+marked key marks (i ∷ items) = elim (is_entry_of key i) [
+  | false ↦ (false, i) ∷ marked key marks items
+  | true ↦ elim marks [ [] ↦ (false, i) ∷ marked key [] items | m ∷ ms ↦ (m, i) ∷ marked key ms items ]
+]
+
+-- a marked item comes first
+abbrev pub begins_marked : List (Bool × Item) → Bool
+begins_marked [] = false
+begins_marked (p ∷ ps) = p.0
+
+-- the items without those that are marked, without blanks directly before one and without line endings directly after one
+abbrev pub without_marked : List (Bool × Item) → List Item
+without_marked [] = []
+without_marked (p ∷ ps) = elim p.0 [
+  | true ↦ without_first_line_ends (without_marked ps)
+  | false ↦ (if begins_marked ps then unless_blanks p.1 else p.1 ∷ []) ++ without_marked ps
+]
+
+-- the key's marked entries are removed, each as `removed` does
+abbrev pub removed_marked : (key : List ℕ) → (marks : List Bool) → List Item → List Item
+removed_marked key marks items = without_marked (marked key marks items)
+
+-- how many entries `removed_marked` removes
+abbrev pub marked_count : (key : List ℕ) → (marks : List Bool) → List Item → ℕ
+marked_count key marks items = length (filter (λ p. p.0) (marked key marks items))
+
 -- the last entry is removed, with the blanks directly before it and everything after it; without an entry, all items are
 abbrev pub popped : List Item → List Item
 popped items = elim (cut_last is_entry items) [ None ↦ [] | Some c ↦ without_last_blanks c.0 ]
@@ -152,3 +181,37 @@ written_at editor place instead key value items = take place items ++ entry_made
 -- only the entry at a place is removed
 abbrev pub deleted_at : (place : ℕ) → List Item → List Item
 deleted_at place items = take place items ++ drop (place + 1) items
+
+-- an item of line endings
+abbrev pub is_line_ends : Item → Bool
+is_line_ends (LineEndsItem run) = true
+is_line_ends i = false
+
+-- the items behind the last entry; all of them if there is none
+abbrev pub behind_last_entry : List Item → List Item
+behind_last_entry items = elim (cut_last is_entry items) [ None ↦ items | Some c ↦ c.1.1 ]
+
+-- the line of the last entry, or of the header, is the last one and has no line ending
+abbrev pub lacks_line_end : List Item → Bool
+lacks_line_end items = not (list_any is_line_ends (behind_last_entry items))
+
+-- how many bytes the first line ending of a run has
+abbrev pub end_bytes : List ℕ → ℕ
+end_bytes run = if begins (λ b. b == 13) run then 2 else 1
+
+-- the items with others put in below their first line; a line that has no line ending gets one
+abbrev pub put_below : (line_end : List ℕ) → (line items : List Item) → List Item
+put_below line_end line [] = LineEndsItem line_end ∷ line
+put_below line_end line (LineEndsItem run ∷ items) = LineEndsItem (take (end_bytes run) run) ∷ (line ++ (line_end_item (drop (end_bytes run) run) ++ items))
+put_below line_end line (i ∷ items) = i ∷ put_below line_end line items
+
+-- the items with others put in below the line of the last entry, or below the header's line if there is no entry
+abbrev pub put_after_last : (line_end : List ℕ) → (line items : List Item) → List Item
+put_after_last line_end line items = elim (cut_last is_entry items) [
+  | None ↦ put_below line_end line items
+  | Some c ↦ c.0 ++ c.1.0 ∷ put_below line_end line c.1.1
+]
+
+-- a line that is pushed there
+abbrev pub pushed_after_last : Editor → (key : List ℕ) → (value : Option (List ℕ)) → List Item → List Item
+pushed_after_last editor key value items = put_after_last editor.line_end (line_made editor key value None) items

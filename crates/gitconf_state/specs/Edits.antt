@@ -9,7 +9,7 @@ use Rattle.gitconf_text.specs.Names.{is_made_name, is_same_name, is_valid_or_non
 use Rattle.gitconf_text.specs.Text.{begins, are_line_ends}
 use Rattle.gitconf_text.specs.Part.{Item, BlanksItem, LineEndsItem, CommentItem, EntryItem}
 use Rattle.gitconf_text.specs.Header.{spelled_header}
-use Rattle.gitconf_text.specs.Token.{Token, item_tokens}
+use Rattle.gitconf_text.specs.Token.{item_tokens}
 use Rattle.gitconf_base.specs.Metadata.{Meta}
 use Rattle.gitconf_base.specs.declared.source.Trust.{Trust}
 pub use Rattle.gitconf_state.specs.State.{with_last, with_sections}
@@ -19,7 +19,7 @@ use Rattle.gitconf_state.specs.LineEnds.{file_line_end, ends_line}
 use Rattle.gitconf_state.specs.Clean.{is_nameless, IsClean, IsCleanSection}
 pub use Rattle.gitconf_state.specs.Edit.{value_set_tokens}
 use Rattle.gitconf_state.specs.Edit.{made_header, new_section, is_target, is_entry_of, set_raw_value, set_raw_value_tokens, replaced_value, old_value, token_bytes}
-use Rattle.gitconf_state.specs.Editors.{Editor, InsteadOf, entry_made, pushed, line_made, line_end_pushed, value_set, removed, popped, popped_entry, written_at, deleted_at}
+use Rattle.gitconf_state.specs.Editors.{Editor, InsteadOf, entry_made, pushed, pushed_after_last, lacks_line_end, line_made, line_end_pushed, value_set, removed, removed_marked, marked_count, popped, popped_entry, written_at, deleted_at}
 
 -- a section that is in no file, and how many bytes its buffer has
 pub record Detached : Type 0 where
@@ -92,9 +92,11 @@ appended other state = record state {
 pub data Edit : Type 0 where
   SetRawValue : (name : List ℕ) (subsection : Option (List ℕ)) (key : List ℕ) (keeps : Meta → Bool) (value : List ℕ) → Edit
   Push : (number : ℕ) (editor : Editor) (key : List ℕ) (value comment : Option (List ℕ)) → Edit
+  PushAfterLast : (number : ℕ) (editor : Editor) (key : List ℕ) (value : Option (List ℕ)) → Edit
   PushLineEnd : (number : ℕ) (editor : Editor) → Edit
   SetValue : (number : ℕ) (editor : Editor) (key value : List ℕ) → Edit
   Remove : (number : ℕ) (key : List ℕ) → Edit
+  RemoveMarked : (number : ℕ) (key : List ℕ) (marks : List Bool) → Edit
   Pop : (number : ℕ) → Edit
   WriteAt : (number : ℕ) (editor : Editor) (place : ℕ) (instead : InsteadOf) (key value : List ℕ) → Edit
   DeleteAt : (number place : ℕ) → Edit
@@ -112,9 +114,11 @@ pub data Edit : Type 0 where
 abbrev pub apply : Edit → State → State
 apply (SetRawValue name subsection key keeps value) state = set_raw_value name subsection key keeps value state
 apply (Push number editor key value comment) state = change_items number (pushed editor key value comment) state
+apply (PushAfterLast number editor key value) state = change_items number (pushed_after_last editor key value) state
 apply (PushLineEnd number editor) state = change_items number (line_end_pushed editor) state
 apply (SetValue number editor key value) state = change_items number (value_set editor key value) state
 apply (Remove number key) state = change_items number (removed key) state
+apply (RemoveMarked number key marks) state = change_items number (removed_marked key marks) state
 apply (Pop number) state = change_items number popped state
 apply (WriteAt number editor place instead key value) state = change_items number (written_at editor place instead key value) state
 apply (DeleteAt number place) state = change_items number (deleted_at place) state
@@ -141,12 +145,18 @@ numbered number state = last_or None (filter (λ s. s.number == number) state.se
 abbrev pub said_in_section : {A : Type 0} → (number : ℕ) → (List Item → Option A) → State → Option A
 said_in_section number told state = elim (numbered number state) [ None ↦ None | Some s ↦ told s.items ]
 
--- what edits return: nothing, a raw text that was there, a key and a meaning, a number, a section that was removed
+-- the items of the section of a number
+abbrev pub items_of_numbered : (number : ℕ) → State → List Item
+items_of_numbered number state = elim (numbered number state) [ None ↦ [] | Some s ↦ s.items ]
+
+-- what edits return: nothing, a raw text that was there, a key and a meaning, the number of a section, how many entries were removed, a section
+-- that was removed
 pub data Answer : Type 0 where
   Done : Answer
   Raw : Option (List ℕ) → Answer
   Entry : Option (List ℕ × List ℕ) → Answer
   Number : ℕ → Answer
+  Count : ℕ → Answer
   Gone : Option SectionState → Answer
 
 -- what an edit returns, by the state before it
@@ -154,6 +164,7 @@ abbrev pub answer : Edit → State → Answer
 answer (SetRawValue name subsection key keeps value) state = Raw (replaced_value name subsection key keeps state)
 answer (SetValue number editor key value) state = Raw (said_in_section number (old_value key) state)
 answer (Remove number key) state = Raw (said_in_section number (old_value key) state)
+answer (RemoveMarked number key marks) state = Count (marked_count key marks (items_of_numbered number state))
 answer (Pop number) state = Entry (said_in_section number popped_entry state)
 answer (NewSection name subsection) state = Number state.next
 answer (PushSection detached) state = Number state.next
@@ -161,14 +172,12 @@ answer (RemoveSection name subsection keeps) state = Gone (last_or None (filter 
 answer (RemoveNumbered number) state = Gone (numbered number state)
 answer _ state = Done
 
--- the items of the section of a number
-abbrev pub items_of_numbered : (number : ℕ) → State → List Item
-items_of_numbered number state = elim (numbered number state) [ None ↦ [] | Some s ↦ s.items ]
-
 -- How many bytes the tokens have that an edit adds; for a section or a file that is put in, the bytes of its buffer and of a line ending.
 abbrev pub new_bytes : Edit → State → ℕ
 new_bytes (SetRawValue name subsection key keeps value) state = token_bytes (set_raw_value_tokens name subsection key keeps value state)
 new_bytes (Push number editor key value comment) state = token_bytes (flat_map item_tokens (line_made editor key value comment))
+new_bytes (PushAfterLast number editor key value) state =
+    token_bytes (flat_map item_tokens (line_made editor key value None)) + (if lacks_line_end (items_of_numbered number state) then length editor.line_end else 0)
 new_bytes (PushLineEnd number editor) state = length editor.line_end
 new_bytes (SetValue number editor key value) state = token_bytes (value_set_tokens editor key value (items_of_numbered number state))
 new_bytes (WriteAt number editor place instead key value) state = token_bytes (item_tokens (entry_made editor.spacing key (Some value)))
@@ -194,6 +203,7 @@ pub record IsEditor (editor : Editor) : Type 0 where
 abbrev pub IsEdit : Edit → State → Type 0
 IsEdit (SetRawValue name subsection key keeps value) state = (is_value_name key && finds_or_makes name subsection keeps state) ≡ true
 IsEdit (Push number editor key value comment) state = IsEditor editor × (is_value_name key ≡ true)
+IsEdit (PushAfterLast number editor key value) state = IsEditor editor × (is_value_name key ≡ true)
 IsEdit (PushLineEnd number editor) state = IsEditor editor
 IsEdit (SetValue number editor key value) state = IsEditor editor × (is_value_name key ≡ true)
 IsEdit (WriteAt number editor place instead key value) state = IsEditor editor × (is_value_name key ≡ true)
@@ -213,6 +223,7 @@ has_blank_leading editor = elim editor.spacing.leading [ None ↦ true | Some ru
 abbrev pub IsCleanEdit : Edit → Type 0
 IsCleanEdit (SetRawValue name subsection key keeps value) = is_nameless (made_header name subsection) ≡ false
 IsCleanEdit (Push number editor key value comment) = has_blank_leading editor ≡ true
+IsCleanEdit (PushAfterLast number editor key value) = has_blank_leading editor ≡ true
 IsCleanEdit (SetValue number editor key value) = has_blank_leading editor ≡ true
 IsCleanEdit (Rename number name subsection) = is_nameless (made_header name subsection) ≡ false
 IsCleanEdit (RenameAll name subsection keeps new_name new_subsection) = is_nameless (made_header new_name new_subsection) ≡ false
@@ -234,9 +245,11 @@ AreCleanEdits (edit ∷ edits) = IsCleanEdit edit × AreCleanEdits edits
 -- the number of the section that an editor's edit is about
 abbrev pub edited_number : Edit → Option ℕ
 edited_number (Push number editor key value comment) = Some number
+edited_number (PushAfterLast number editor key value) = Some number
 edited_number (PushLineEnd number editor) = Some number
 edited_number (SetValue number editor key value) = Some number
 edited_number (Remove number key) = Some number
+edited_number (RemoveMarked number key marks) = Some number
 edited_number (Pop number) = Some number
 edited_number (WriteAt number editor place instead key value) = Some number
 edited_number (DeleteAt number place) = Some number
@@ -274,9 +287,11 @@ abbrev pub is_about : Edit → (name : List ℕ) → (subsection : Option (List 
 is_about (SetRawValue edited edited_subsection edited_key keeps value) name subsection key state =
     is_same_name edited_key key && is_same_section edited edited_subsection name subsection
 is_about (Push number editor edited_key value comment) name subsection key state = is_there number name subsection (λ items. is_same_name edited_key key) state
+is_about (PushAfterLast number editor edited_key value) name subsection key state = is_there number name subsection (λ items. is_same_name edited_key key) state
 is_about (PushLineEnd number editor) name subsection key state = false
 is_about (SetValue number editor edited_key value) name subsection key state = is_there number name subsection (λ items. is_same_name edited_key key) state
 is_about (Remove number edited_key) name subsection key state = is_there number name subsection (λ items. is_same_name edited_key key) state
+is_about (RemoveMarked number edited_key marks) name subsection key state = is_there number name subsection (λ items. is_same_name edited_key key) state
 is_about (Pop number) name subsection key state = is_there number name subsection (is_last_of key) state
 is_about (WriteAt number editor place instead edited_key value) name subsection key state =
     is_there number name subsection (λ items. is_same_name edited_key key || is_one_at place key items) state

@@ -1,6 +1,6 @@
 -- Entries of a key, the blanks that a body uses, and an entry with another value.
 -- Source: gix-config; that an entry without `=` gets one is this project's own rule.
-use Rattle.std.specs.Prelude.{ℕ, Bool, true, false, List, [], ◌∷◌, filter, Option, Some, None}
+use Rattle.std.specs.Prelude.{ℕ, Bool, true, false, List, [], ◌∷◌, Option, Some, None}
 use Rattle.std.specs.List.{slice_index_or, filter_map, last_or, list_any}
 use Rattle.std.specs.Option.{option_map}
 use Rattle.gitconf_text.specs.Names.{is_same_name}

@@ -73,9 +73,11 @@ set_fits e key value items = go (last_or None (filter (is_entry_of key) items)) 
 pub puts_within : (edit : Edit) (state : State) → put_bytes edit state ≤ new_bytes edit state
 puts_within (edits.SetRawValue name subsection key keeps value) state = omega arith
 puts_within (edits.Push number editor key value comment) state = line_fits editor key value comment
+puts_within (edits.PushAfterLast number editor key value) state = let line = line_fits editor key value None in omega (arith, line)
 puts_within (edits.PushLineEnd number editor) state = omega arith
 puts_within (edits.SetValue number editor key value) state = set_fits editor key value (items_of_numbered number state)
 puts_within (edits.Remove number key) state = omega arith
+puts_within (edits.RemoveMarked number key marks) state = omega arith
 puts_within (edits.Pop number) state = omega arith
 puts_within (edits.WriteAt number editor place instead key value) state = entry_fits editor.spacing key (Some value)
 puts_within (edits.DeleteAt number place) state = omega arith

@@ -3,7 +3,7 @@ use Rattle.std.specs.Prelude.{◌≡◌, ◌==◌, ◌+◌, ◌≤◌, ◌^◌, 
 use Rattle.std.specs.List.{list_any}
 use Rattle.gitconf_text.specs.Names.{is_value_name}
 use Rattle.gitconf_state.specs.Edit.{with_used}
-use Rattle.gitconf_state.specs.Edits.{Edit, Push, SetValue, apply}
+use Rattle.gitconf_state.specs.Edits.{Edit, Push, PushAfterLast, SetValue, apply}
 use Rattle.gitconf_state.specs.State.{State}
 pub use Rattle.gitconf_lines.specs.ValueErrors.{edit_numbers, value_number}
 use Rattle.gix_config.specs.Puts.{put_bytes}
@@ -15,6 +15,7 @@ has_number number state = list_any (λ s. s.number == number) state.sections
 -- the value name that an edit pushes or sets is valid; true for an edit without one
 abbrev pub has_name : Edit → Bool
 has_name (Push number editor key value comment) = is_value_name key
+has_name (PushAfterLast number editor key value) = is_value_name key
 has_name (SetValue number editor key value) = is_value_name key
 has_name _ = true
 

@@ -2,6 +2,7 @@
 
 use crate::calls::{TEXT, Told, change, is_api, is_local, is_refused};
 use bstr::BString;
+use gix_config::file::section::value;
 use gix_config::file::{Metadata, SectionMut};
 use gix_config::lookup::existing;
 use gix_config::source::Trust;
@@ -53,6 +54,75 @@ fn by_a_key(rt: HostRuntime) -> Result<(), Fail> {
         take_out_by_key,
         b"[a]\nk = 0\n[A]\n",
     )
+}
+
+/// Whether so many were removed; `None` when out of memory.
+fn is_count(answer: Result<usize, NoMemory>, wanted: usize) -> Told {
+    match answer {
+        Ok(count) => Some(count == wanted),
+        Err(NoMemory) => None,
+    }
+}
+
+/// Whether a line was pushed; `None` when out of memory.
+fn is_pushed(answer: Result<(), value::Error>) -> Told {
+    match answer {
+        Ok(()) => Some(true),
+        Err(refusal) => is_refused(&refusal, 0),
+    }
+}
+
+fn take_out_marked(file: &mut File) -> Told {
+    match file.section_mut("a", None) {
+        Ok(mut editor) => is_count(editor.remove_marked("K", &[true, true]), 1),
+        Err(refusal) => is_refused(&refusal, 0),
+    }
+}
+
+fn take_out_unmarked(file: &mut File) -> Told {
+    match file.section_mut("a", None) {
+        Ok(mut editor) => is_count(editor.remove_marked("k", &[false]), 0),
+        Err(refusal) => is_refused(&refusal, 0),
+    }
+}
+
+fn push_below(file: &mut File) -> Told {
+    match file.section_mut("a", None) {
+        Ok(mut editor) => is_pushed(editor.push_after_last("j", Some(b"1"))),
+        Err(refusal) => is_refused(&refusal, 0),
+    }
+}
+
+fn push_no_name(file: &mut File) -> Told {
+    match file.section_mut("a", None) {
+        Ok(mut editor) => match editor.push_after_last("j j", None) {
+            Ok(()) => Some(false),
+            Err(refusal) => is_refused(&refusal, 6),
+        },
+        Err(refusal) => is_refused(&refusal, 0),
+    }
+}
+
+#[test]
+fn below_the_last_entry(rt: HostRuntime) -> Result<(), Fail> {
+    change(
+        rt.alloc(),
+        "a line below the last entry",
+        push_below,
+        b"[a]\nk = 0\n[A]\nk = 2\nj = 1\n",
+    )?;
+    change(rt.alloc(), "a name that is none", push_no_name, TEXT)
+}
+
+#[test]
+fn by_marks(rt: HostRuntime) -> Result<(), Fail> {
+    change(
+        rt.alloc(),
+        "the marked entries",
+        take_out_marked,
+        b"[a]\nk = 0\n[A]\n",
+    )?;
+    change(rt.alloc(), "no marked entry", take_out_unmarked, TEXT)
 }
 
 /// What is left after the program's value is removed.

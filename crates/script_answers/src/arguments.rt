@@ -17,6 +17,15 @@ pub fn bytes_of_all<'a>(alloc: Global, words: &'a [Word<'_>]) -> Result<Vec<&'a 
     Ok(all)
 }
 
+/// B..: a flag for each word.
+pub fn flags_of_all(alloc: Global, words: &[Word<'_>]) -> Result<Vec<bool>, Refusal> {
+    let mut all = Vec::with_capacity(alloc, words.len())?;
+    for word in words {
+        all.push(word.flag()?)?;
+    }
+    Ok(all)
+}
+
 /// A subsection, or blanks, with memory of their own.
 pub fn owned(alloc: Global, bytes: Option<&[u8]>) -> Result<Option<BString>, Refusal> {
     match bytes {

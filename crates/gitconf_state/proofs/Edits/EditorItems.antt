@@ -1,18 +1,19 @@
 -- What editors write is items of a state, and leaves them; blanks that stand alone stay spaces and tabs.
 use Rattle.std.proofs.Common.{◌≡◌, ℕ, zero, suc, ◌+◌, Bool, true, false, not, List, [], ◌∷◌, ◌++◌, take, drop, Option, Some, None, refl, ap, sym, subst, ◌∙◌}
-use Rattle.std.specs.Prelude.{◌==◌, ◌&&◌, map, if◌then◌else◌}
+use Rattle.std.specs.Prelude.{◌==◌, ◌&&◌, ◌||◌, map, if◌then◌else◌}
 use Rattle.std.specs.List.{list_all, list_any}
 use Rattle.gitconf_text.specs.Bytes.{is_blank, is_whitespace}
-use Rattle.gitconf_text.specs.Text.{begins, ends, is_line_end}
+use Rattle.gitconf_text.specs.Text.{begins, begins_line_end, ends, are_line_ends, is_line_end}
 use Rattle.gitconf_text.specs.Names.{is_value_name}
 use Rattle.gitconf_text.specs.Unit.{is_white}
 use Rattle.gitconf_text.specs.Value.{Piece, spelled_value, value_units, are_paired}
 use Rattle.gitconf_text.specs.Part.{Assigned, Item, BlanksItem, LineEndsItem, CommentItem, EntryItem}
+use Rattle.std.proofs.lemmas.Bool.{eqb-true}
 use Rattle.gitconf_text.proofs.Tests.{both_true}
 use Rattle.gitconf_state.specs.State.{is_item, is_piece, is_value, is_assigned, is_entry, Cut, cut_last}
 use Rattle.gitconf_state.specs.Clean.{has_blanks}
 use Rattle.gitconf_state.specs.Edit.{Spacing, leading_item, with_value, is_entry_of}
-use Rattle.gitconf_state.specs.Editors.{Editor, entry_made, comment_text, comment_made, end_made, line_made, pushed, line_end_pushed, value_set, without_last_blanks, without_first_line_ends, removed, popped, popped_entry, key_and_meaning, unless_empty, last_line_end, is_before_comment, line_end_item, kept_line_end, InsteadOf, OfNothing, OfEntry, OfEntryButLineEnd, behind_written, written_at, deleted_at}
+use Rattle.gitconf_state.specs.Editors.{Editor, entry_made, comment_text, comment_made, end_made, line_made, pushed, line_end_pushed, value_set, without_last_blanks, without_first_line_ends, unless_blanks, removed, marked, begins_marked, without_marked, removed_marked, end_bytes, put_below, put_after_last, pushed_after_last, popped, popped_entry, key_and_meaning, unless_empty, last_line_end, is_before_comment, line_end_item, kept_line_end, InsteadOf, OfNothing, OfEntry, OfEntryButLineEnd, behind_written, written_at, deleted_at}
 use Rattle.gitconf_state.specs.Edits.{IsEditor, has_blank_leading}
 use Rattle.gitconf_state.proofs.Loading.Filters.{both_hold}
 use Rattle.gitconf_state.proofs.Edits.Lists.{update_last_all}
@@ -82,6 +83,40 @@ removed_all p key items all = go (cut_last (is_entry_of key) items) refl
     go (Some c) e =
         let parts = cut_passes p (is_entry_of key) items all c e in
         rw (e, removed) (all_append p (without_last_blanks c.0) (without_first_line_ends c.1.1) (last_blanks_all p c.0 parts.before) (first_line_ends_all p c.1.1 parts.behind))
+
+-- What is left where marked entries are removed.
+marked_all : (p : Item → Bool) (key : List ℕ) (marks : List Bool) (items : List Item) → list_all p items ≡ true → list_all (λ (q : Bool × Item). p q.1) (marked key marks items) ≡ true
+marked_all p key marks [] all = refl
+marked_all p key marks (i ∷ items) all =
+    let b = both_true (p i) (list_all p items) all in
+    go (is_entry_of key i) marks refl b.0 (λ ms. marked_all p key ms items b.1)
+  where
+    go : (t : Bool) (ms : List Bool) → is_entry_of key i ≡ t → p i ≡ true → ((ks : List Bool) → list_all (λ (q : Bool × Item). p q.1) (marked key ks items) ≡ true)
+        → list_all (λ (q : Bool × Item). p q.1) (marked key ms (i ∷ items)) ≡ true
+    go false ms e one later = rw (e, marked) (both_hold (p i) (list_all (λ (q : Bool × Item). p q.1) (marked key ms items)) one (later ms))
+    go true [] e one later = rw (e, marked) (both_hold (p i) (list_all (λ (q : Bool × Item). p q.1) (marked key [] items)) one (later []))
+    go true (m ∷ ms) e one later = rw (e, marked) (both_hold (p i) (list_all (λ (q : Bool × Item). p q.1) (marked key ms items)) one (later ms))
+
+unless_blanks_all : (p : Item → Bool) (t : Bool) (i : Item) → p i ≡ true → list_all p (if t then unless_blanks i else i ∷ []) ≡ true
+unless_blanks_all p false i one = rw one refl
+unless_blanks_all p true (BlanksItem run) one = refl
+unless_blanks_all p true (LineEndsItem run) one = rw one refl
+unless_blanks_all p true (CommentItem tag text) one = rw one refl
+unless_blanks_all p true (EntryItem e) one = rw one refl
+
+without_marked_all : (p : Item → Bool) (ps : List (Bool × Item)) → list_all (λ (q : Bool × Item). p q.1) ps ≡ true → list_all p (without_marked ps) ≡ true
+without_marked_all p [] all = refl
+without_marked_all p (q ∷ ps) all =
+    let b = both_true (p q.1) (list_all (λ (r : Bool × Item). p r.1) ps) all in
+    go q.0 b.0 (without_marked_all p ps b.1)
+  where
+    go : (t : Bool) → p q.1 ≡ true → list_all p (without_marked ps) ≡ true
+        → list_all p (elim t as (λ _. List Item) [ true ↦ without_first_line_ends (without_marked ps) | false ↦ (if begins_marked ps then unless_blanks q.1 else q.1 ∷ []) ++ without_marked ps ]) ≡ true
+    go true one later = first_line_ends_all p (without_marked ps) later
+    go false one later = all_append p (if begins_marked ps then unless_blanks q.1 else q.1 ∷ []) (without_marked ps) (unless_blanks_all p (begins_marked ps) q.1 one) later
+
+pub removed_marked_all : (p : Item → Bool) (key : List ℕ) (marks : List Bool) (items : List Item) → list_all p items ≡ true → list_all p (removed_marked key marks items) ≡ true
+removed_marked_all p key marks items all = without_marked_all p (marked key marks items) (marked_all p key marks items all)
 
 pub popped_all : (p : Item → Bool) (items : List Item) → list_all p items ≡ true → list_all p (popped items) ≡ true
 popped_all p items all = go (cut_last is_entry items) refl
@@ -156,6 +191,73 @@ line_made_is editor key value comment is named =
 pub pushed_is : (editor : Editor) (key : List ℕ) (value comment : Option (List ℕ)) (items : List Item) → IsEditor editor → is_value_name key ≡ true → list_all is_item items ≡ true
     → list_all is_item (pushed editor key value comment items) ≡ true
 pushed_is editor key value comment items is named all = all_append is_item items (line_made editor key value comment) all (line_made_is editor key value comment is named)
+
+-- one line ending of a run, and those behind it
+run_cut : (run : List ℕ) → is_item (LineEndsItem run) ≡ true → (is_item (LineEndsItem (take (end_bytes run) run)) ≡ true) × (list_all is_item (line_end_item (drop (end_bytes run) run)) ≡ true)
+run_cut [] is = absurd (cc)
+run_cut (b ∷ run) is = go (b == 13) refl (both_true (begins_line_end (b ∷ run)) (are_line_ends run) is)
+  where
+    after_cr : (b : ℕ) (t : Bool) → b ≡ 13 → (b == 10 || b == 13 && t) ≡ true → t ≡ true
+    after_cr b t cr some = rw cr at some
+
+    alone : (s t u : Bool) → t ≡ false → (s || t && u) ≡ true → s ≡ true
+    alone true t u none some = refl
+    alone false t u none some = absurd (let h = rw none at some in cc)
+
+    rest : (ends : List ℕ) → are_line_ends ends ≡ true → list_all is_item (line_end_item ends) ≡ true
+    rest [] are = refl
+    rest (c ∷ ends) are = rw are refl
+
+    pair : (ends : List ℕ) → begins (λ c. c == 10) ends ≡ true → are_line_ends ends ≡ true → b ≡ 13
+        → (is_item (LineEndsItem (take 2 (b ∷ ends))) ≡ true) × (list_all is_item (line_end_item (drop 2 (b ∷ ends))) ≡ true)
+    pair [] lf are cr = absurd (cc)
+    pair (c ∷ ends) lf are cr =
+        let ten : c ≡ 10 = eqb-true c 10 lf in
+        (rw (cr, ten) refl, rest ends (both_true (begins_line_end (c ∷ ends)) (are_line_ends ends) are).1)
+
+    go : (t : Bool) → (b == 13) ≡ t → (begins_line_end (b ∷ run) ≡ true) × (are_line_ends run ≡ true)
+        → (is_item (LineEndsItem (take (if t then 2 else 1) (b ∷ run))) ≡ true) × (list_all is_item (line_end_item (drop (if t then 2 else 1) (b ∷ run))) ≡ true)
+    go true e parts =
+        let cr : b ≡ 13 = eqb-true b 13 e in
+        pair run (after_cr b (begins (λ c. c == 10) run) cr parts.0) parts.1 cr
+    go false e parts = (rw (alone (b == 10) (b == 13) (begins (λ c. c == 10) run) e parts.0) refl, rest run parts.1)
+
+put_below_all : (p : Item → Bool) (line_end : List ℕ) (line : List Item)
+    → ((run : List ℕ) → p (LineEndsItem run) ≡ true → (p (LineEndsItem (take (end_bytes run) run)) ≡ true) × (list_all p (line_end_item (drop (end_bytes run) run)) ≡ true))
+    → p (LineEndsItem line_end) ≡ true → list_all p line ≡ true → (items : List Item) → list_all p items ≡ true → list_all p (put_below line_end line items) ≡ true
+put_below_all p line_end line cut closes made [] all = both_hold (p (LineEndsItem line_end)) (list_all p line) closes made
+put_below_all p line_end line cut closes made (LineEndsItem run ∷ items) all =
+    let b = both_true (p (LineEndsItem run)) (list_all p items) all in
+    let parts = cut run b.0 in
+    both_hold (p (LineEndsItem (take (end_bytes run) run))) (list_all p (line ++ (line_end_item (drop (end_bytes run) run) ++ items))) parts.0
+    (all_append p line (line_end_item (drop (end_bytes run) run) ++ items) made (all_append p (line_end_item (drop (end_bytes run) run)) items parts.1 b.1))
+put_below_all p line_end line cut closes made (BlanksItem run ∷ items) all =
+    let b = both_true (p (BlanksItem run)) (list_all p items) all in
+    both_hold (p (BlanksItem run)) (list_all p (put_below line_end line items)) b.0 (put_below_all p line_end line cut closes made items b.1)
+put_below_all p line_end line cut closes made (CommentItem tag text ∷ items) all =
+    let b = both_true (p (CommentItem tag text)) (list_all p items) all in
+    both_hold (p (CommentItem tag text)) (list_all p (put_below line_end line items)) b.0 (put_below_all p line_end line cut closes made items b.1)
+put_below_all p line_end line cut closes made (EntryItem e ∷ items) all =
+    let b = both_true (p (EntryItem e)) (list_all p items) all in
+    both_hold (p (EntryItem e)) (list_all p (put_below line_end line items)) b.0 (put_below_all p line_end line cut closes made items b.1)
+
+after_last_all : (p : Item → Bool) (editor : Editor) (key : List ℕ) (value : Option (List ℕ)) (items : List Item)
+    → ((run : List ℕ) → p (LineEndsItem run) ≡ true → (p (LineEndsItem (take (end_bytes run) run)) ≡ true) × (list_all p (line_end_item (drop (end_bytes run) run)) ≡ true))
+    → p (LineEndsItem editor.line_end) ≡ true → list_all p (line_made editor key value None) ≡ true → list_all p items ≡ true → list_all p (pushed_after_last editor key value items) ≡ true
+after_last_all p editor key value items cut closes made all = go (cut_last is_entry items) refl
+  where
+    go : (o : Cut) → cut_last is_entry items ≡ o → list_all p (pushed_after_last editor key value items) ≡ true
+    go None e = rw (e, put_after_last) (put_below_all p editor.line_end (line_made editor key value None) cut closes made items all)
+    go (Some c) e =
+        let parts = cut_passes p is_entry items all c e in
+        rw (e, put_after_last) (all_append p c.0 (c.1.0 ∷ put_below editor.line_end (line_made editor key value None) c.1.1) parts.before
+        (both_hold (p c.1.0) (list_all p (put_below editor.line_end (line_made editor key value None) c.1.1)) parts.found
+        (put_below_all p editor.line_end (line_made editor key value None) cut closes made c.1.1 parts.behind)))
+
+pub pushed_after_last_is : (editor : Editor) (key : List ℕ) (value : Option (List ℕ)) (items : List Item) → IsEditor editor → is_value_name key ≡ true → list_all is_item items ≡ true
+    → list_all is_item (pushed_after_last editor key value items) ≡ true
+pushed_after_last_is editor key value items is named all =
+    after_last_all is_item editor key value items run_cut (rw is.line_end refl) (line_made_is editor key value None is named) all
 
 pub line_end_pushed_is : (editor : Editor) (items : List Item) → IsEditor editor → list_all is_item items ≡ true → list_all is_item (line_end_pushed editor items) ≡ true
 line_end_pushed_is editor items is all = all_append is_item items (LineEndsItem editor.line_end ∷ []) all (rw is.line_end refl)
@@ -251,6 +353,10 @@ end_made_blank editor = go editor.ends
     go true = refl
     go false = refl
 
+line_end_item_blank : (run : List ℕ) → list_all has_blanks (line_end_item run) ≡ true
+line_end_item_blank [] = refl
+line_end_item_blank (b ∷ run) = refl
+
 pub pushed_blank : (editor : Editor) (key : List ℕ) (value comment : Option (List ℕ)) (items : List Item) → has_blank_leading editor ≡ true → list_all has_blanks items ≡ true
     → list_all has_blanks (pushed editor key value comment items) ≡ true
 pushed_blank editor key value comment items blank all =
@@ -259,6 +365,11 @@ pushed_blank editor key value comment items blank all =
     (leading_item_blank editor.spacing.leading blank)
     (both_hold (has_blanks (entry_made editor.spacing key value)) (list_all has_blanks (comment_made comment ++ end_made editor)) (entry_made_blank editor.spacing key value)
     (all_append has_blanks (comment_made comment) (end_made editor) (comment_made_blank comment) (end_made_blank editor))))
+
+pub pushed_after_last_blank : (editor : Editor) (key : List ℕ) (value : Option (List ℕ)) (items : List Item) → has_blank_leading editor ≡ true → list_all has_blanks items ≡ true
+    → list_all has_blanks (pushed_after_last editor key value items) ≡ true
+pushed_after_last_blank editor key value items blank all =
+    after_last_all has_blanks editor key value items (λ run is. (refl, line_end_item_blank (drop (end_bytes run) run))) refl (pushed_blank editor key value None [] blank refl) all
 
 pub line_end_pushed_blank : (editor : Editor) (items : List Item) → list_all has_blanks items ≡ true → list_all has_blanks (line_end_pushed editor items) ≡ true
 line_end_pushed_blank editor items all = all_append has_blanks items (LineEndsItem editor.line_end ∷ []) all refl
@@ -270,10 +381,6 @@ value_set_blank editor key value items blank all = go (list_any (is_entry_of key
     go : (t : Bool) → list_any (is_entry_of key) items ≡ t → list_all has_blanks (value_set editor key value items) ≡ true
     go true e = rw (e, value_set) (update_last_all (is_entry_of key) (with_value editor.spacing value) has_blanks (with_value_blank editor.spacing value) items all)
     go false e = rw (e, value_set) (pushed_blank editor key (Some value) None items blank all)
-
-line_end_item_blank : (run : List ℕ) → list_all has_blanks (line_end_item run) ≡ true
-line_end_item_blank [] = refl
-line_end_item_blank (b ∷ run) = refl
 
 kept_line_end_blank : (o : Option Assigned) (behind : List Item) → list_all has_blanks (kept_line_end o behind) ≡ true
 kept_line_end_blank None behind = refl

@@ -11,14 +11,14 @@ use Rattle.gitconf_state.specs.State.{SectionState, State, is_item, entries_of, 
 use Rattle.gitconf_state.specs.LineEnds.{file_line_end, ends_line}
 use Rattle.gitconf_state.specs.Clean.{is_nameless, has_blanks, IsCleanSection, IsClean, stand_apart}
 use Rattle.gitconf_state.specs.Edit.{made_header, new_section, is_target, section_with, set_raw_value}
-use Rattle.gitconf_state.specs.Editors.{pushed, line_end_pushed, value_set, removed, popped, written_at, deleted_at}
-use Rattle.gitconf_state.specs.Edits.{change_numbered, change_items, renamed, with_trust, picked, without_numbered, begins_with, between, joined, held_behind_last, numbered_from, appended, Edit, SetRawValue, Push, PushLineEnd, SetValue, Remove, Pop, WriteAt, DeleteAt, Rename, RenameAll, NewSection, PushSection, RemoveSection, RemoveNumbered, Append, SetTrust, SetMeta, apply, apply_all, finds_or_makes, IsEdit, IsCleanEdit, AreEdits, AreCleanEdits}
+use Rattle.gitconf_state.specs.Editors.{pushed, pushed_after_last, line_end_pushed, value_set, removed, removed_marked, popped, written_at, deleted_at}
+use Rattle.gitconf_state.specs.Edits.{change_numbered, change_items, renamed, with_trust, picked, without_numbered, begins_with, between, joined, held_behind_last, numbered_from, appended, Edit, SetRawValue, Push, PushAfterLast, PushLineEnd, SetValue, Remove, RemoveMarked, Pop, WriteAt, DeleteAt, Rename, RenameAll, NewSection, PushSection, RemoveSection, RemoveNumbered, Append, SetTrust, SetMeta, apply, apply_all, finds_or_makes, IsEdit, IsCleanEdit, AreEdits, AreCleanEdits}
 use Rattle.gitconf_state.specs.Writing.{Open, Closed, after, stand_apart_behind, may_stand_behind}
 use Rattle.gitconf_state.proofs.Loading.Filters.{both_hold}
 use Rattle.gitconf_state.proofs.Loading.Clean.{stand_anywhere}
 use Rattle.gitconf_state.proofs.Edits.Lists.{update_last_holds}
 use Rattle.gitconf_state.proofs.Edits.Items.{section_with_is, file_line_end_is, new_section_is, may_be_made, made_header_is, section_with_clean, one_line_end, all_append}
-use Rattle.gitconf_state.proofs.Edits.EditorItems.{pushed_is, line_end_pushed_is, value_set_is, written_at_is, removed_all, popped_all, deleted_all, pushed_blank, line_end_pushed_blank, value_set_blank, written_at_blank}
+use Rattle.gitconf_state.proofs.Edits.EditorItems.{pushed_is, pushed_after_last_is, pushed_after_last_blank, line_end_pushed_is, value_set_is, written_at_is, removed_all, removed_marked_all, popped_all, deleted_all, pushed_blank, line_end_pushed_blank, value_set_blank, written_at_blank}
 use Rattle.gitconf_state.proofs.Printing.Written.{names_apart}
 
 -- what holds of each section holds of those that are changed, and of some of them
@@ -222,9 +222,11 @@ apply_items (SetRawValue name subsection key keeps value) state is has =
     let b = both_true (is_value_name key) (finds_or_makes name subsection keeps state) is in
     raw_items name subsection key keeps value state b.0 b.1 has
 apply_items (Push number editor key value comment) state is has = items_items number (pushed editor key value comment) (λ items all. pushed_is editor key value comment items is.0 is.1 all) state has
+apply_items (PushAfterLast number editor key value) state is has = items_items number (pushed_after_last editor key value) (λ items all. pushed_after_last_is editor key value items is.0 is.1 all) state has
 apply_items (PushLineEnd number editor) state is has = items_items number (line_end_pushed editor) (λ items all. line_end_pushed_is editor items is all) state has
 apply_items (SetValue number editor key value) state is has = items_items number (value_set editor key value) (λ items all. value_set_is editor key value items is.0 is.1 all) state has
 apply_items (Remove number key) state is has = items_items number (removed key) (λ items all. removed_all is_item key items all) state has
+apply_items (RemoveMarked number key marks) state is has = items_items number (removed_marked key marks) (λ items all. removed_marked_all is_item key marks items all) state has
 apply_items (Pop number) state is has = items_items number popped (λ items all. popped_all is_item items all) state has
 apply_items (WriteAt number editor place instead key value) state is has =
     items_items number (written_at editor place instead key value) (λ items all. written_at_is editor place instead key value items is.0 is.1 all) state has
@@ -255,9 +257,11 @@ apply_items (SetMeta meta) state is has = record { front = has.front; sections =
 pub apply_clean : (edit : Edit) (state : State) → IsCleanEdit edit → IsClean state → IsClean (apply edit state)
 apply_clean (SetRawValue name subsection key keeps value) state is clean = raw_clean name subsection key keeps value state is clean
 apply_clean (Push number editor key value comment) state is clean = items_clean number (pushed editor key value comment) (λ items all. pushed_blank editor key value comment items is all) state clean
+apply_clean (PushAfterLast number editor key value) state is clean = items_clean number (pushed_after_last editor key value) (λ items all. pushed_after_last_blank editor key value items is all) state clean
 apply_clean (PushLineEnd number editor) state is clean = items_clean number (line_end_pushed editor) (λ items all. line_end_pushed_blank editor items all) state clean
 apply_clean (SetValue number editor key value) state is clean = items_clean number (value_set editor key value) (λ items all. value_set_blank editor key value items is all) state clean
 apply_clean (Remove number key) state is clean = items_clean number (removed key) (λ items all. removed_all has_blanks key items all) state clean
+apply_clean (RemoveMarked number key marks) state is clean = items_clean number (removed_marked key marks) (λ items all. removed_marked_all has_blanks key marks items all) state clean
 apply_clean (Pop number) state is clean = items_clean number popped (λ items all. popped_all has_blanks items all) state clean
 apply_clean (WriteAt number editor place instead key value) state is clean =
     items_clean number (written_at editor place instead key value) (λ items all. written_at_blank editor place instead key value items all) state clean

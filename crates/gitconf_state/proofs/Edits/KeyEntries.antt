@@ -10,7 +10,7 @@ use Rattle.gitconf_text.specs.Part.{Assigned, Item, BlanksItem, LineEndsItem, Co
 use Rattle.gitconf_text.specs.Document.{DocumentEntry}
 use Rattle.gitconf_state.specs.State.{item_entries, is_entry, Cut, cut_last}
 use Rattle.gitconf_state.specs.Edit.{is_entry_of, Spacing, leading_item, with_value, update_last}
-use Rattle.gitconf_state.specs.Editors.{Editor, entry_made, comment_made, end_made, line_made, pushed, value_set, without_last_blanks, without_first_line_ends, removed, popped, last_line_end, is_before_comment, line_end_item, kept_line_end, InsteadOf, OfNothing, OfEntry, OfEntryButLineEnd, behind_written, written_at, deleted_at}
+use Rattle.gitconf_state.specs.Editors.{Editor, entry_made, comment_made, end_made, line_made, pushed, value_set, without_last_blanks, without_first_line_ends, unless_blanks, removed, marked, begins_marked, without_marked, removed_marked, end_bytes, put_below, put_after_last, pushed_after_last, popped, last_line_end, is_before_comment, line_end_item, kept_line_end, InsteadOf, OfNothing, OfEntry, OfEntryButLineEnd, behind_written, written_at, deleted_at}
 use Rattle.gitconf_state.specs.Edits.{is_last_of, is_one_at}
 use Rattle.gitconf_state.proofs.Edits.Lists.{last_passing}
 use Rattle.gitconf_state.proofs.Edits.Values.{of_key, of_key-none, with_value_written}
@@ -160,6 +160,70 @@ removed_leaves edited key apart items = go (cut_last (is_entry_of edited) items)
         of_key-append key (without_last_blanks c.0) (without_first_line_ends c.1.1)
         ∙ ap (λ es. es ++ of_key key (without_first_line_ends c.1.1)) (last_blanks_leave key c.0)
         ∙ ap (λ es. of_key key c.0 ++ es) (first_line_ends_leave key c.1.1 ∙ sym (passed_by key c.1.0 c.1.1 (other_entry edited key apart c.1.0 cut.passes)))
+        ∙ sym (of_key-append key c.0 (c.1.0 ∷ c.1.1))
+        ∙ ap (of_key key) (sym cut.is))
+
+unless_blanks_leave : (key : List ℕ) (t : Bool) (i : Item) → of_key key (if t then unless_blanks i else i ∷ []) ≡ of_key key (i ∷ [])
+unless_blanks_leave key false i = refl
+unless_blanks_leave key true (BlanksItem run) = refl
+unless_blanks_leave key true (LineEndsItem run) = refl
+unless_blanks_leave key true (CommentItem tag text) = refl
+unless_blanks_leave key true (EntryItem e) = refl
+
+-- an item that stays before others, and one that goes
+stays : (key : List ℕ) (i : Item) (ps : List (Bool × Item)) (items : List Item) → of_key key (without_marked ps) ≡ of_key key items → of_key key (without_marked ((false, i) ∷ ps)) ≡ of_key key (i ∷ items)
+stays key i ps items later =
+    of_key-append key (if begins_marked ps then unless_blanks i else i ∷ []) (without_marked ps)
+    ∙ ap (λ es. es ++ of_key key (without_marked ps)) (unless_blanks_leave key (begins_marked ps) i)
+    ∙ ap (λ es. of_key key (i ∷ []) ++ es) later
+    ∙ sym (of_key-append key (i ∷ []) items)
+
+goes : (key : List ℕ) (i : Item) (ps : List (Bool × Item)) (items : List Item) → is_entry_of key i ≡ false → of_key key (without_marked ps) ≡ of_key key items
+    → of_key key (without_marked ((true, i) ∷ ps)) ≡ of_key key (i ∷ items)
+goes key i ps items other later = first_line_ends_leave key (without_marked ps) ∙ later ∙ sym (passed_by key i items other)
+
+pub removed_marked_leaves : (edited key : List ℕ) → ((name : List ℕ) → is_same_name edited name ≡ true → is_same_name key name ≡ false) → (marks : List Bool) (items : List Item)
+    → of_key key (removed_marked edited marks items) ≡ of_key key items
+removed_marked_leaves edited key apart marks [] = refl
+removed_marked_leaves edited key apart marks (i ∷ items) = go (is_entry_of edited i) marks refl (λ ms. removed_marked_leaves edited key apart ms items)
+  where
+    go : (t : Bool) (ms : List Bool) → is_entry_of edited i ≡ t → ((ks : List Bool) → of_key key (removed_marked edited ks items) ≡ of_key key items)
+        → of_key key (without_marked (marked edited ms (i ∷ items))) ≡ of_key key (i ∷ items)
+    go false ms e later = rw (e, marked) (stays key i (marked edited ms items) items (later ms))
+    go true [] e later = rw (e, marked) (stays key i (marked edited [] items) items (later []))
+    go true (false ∷ ms) e later = rw (e, marked) (stays key i (marked edited ms items) items (later ms))
+    go true (true ∷ ms) e later = rw (e, marked) (goes key i (marked edited ms items) items (other_entry edited key apart i e) (later ms))
+
+-- a line that is put in has entries of its key alone
+line_end_item_none : (key run : List ℕ) (items : List Item) → of_key key (line_end_item run ++ items) ≡ of_key key items
+line_end_item_none key [] items = refl
+line_end_item_none key (b ∷ run) items = refl
+
+put_below_leaves : (key line_end : List ℕ) (line : List Item) → of_key key line ≡ [] → (items : List Item) → of_key key (put_below line_end line items) ≡ of_key key items
+put_below_leaves key line_end line none [] = none
+put_below_leaves key line_end line none (LineEndsItem run ∷ items) =
+    of_key-append key line (line_end_item (drop (end_bytes run) run) ++ items)
+    ∙ ap (λ es. es ++ of_key key (line_end_item (drop (end_bytes run) run) ++ items)) none
+    ∙ line_end_item_none key (drop (end_bytes run) run) items
+put_below_leaves key line_end line none (BlanksItem run ∷ items) = put_below_leaves key line_end line none items
+put_below_leaves key line_end line none (CommentItem tag text ∷ items) = put_below_leaves key line_end line none items
+put_below_leaves key line_end line none (EntryItem e ∷ items) = behind_same key (EntryItem e) (put_below line_end line items) items (put_below_leaves key line_end line none items)
+
+pub pushed_after_last_leaves : (key edited : List ℕ) (editor : Editor) (value : Option (List ℕ)) (items : List Item) → is_same_name key edited ≡ false
+    → of_key key (pushed_after_last editor edited value items) ≡ of_key key items
+pushed_after_last_leaves key edited editor value items other = go (cut_last is_entry items) refl
+  where
+    none : of_key key (line_made editor edited value None) ≡ []
+    none = line_made_none key edited editor value None other
+
+    go : (o : Cut) → cut_last is_entry items ≡ o → of_key key (pushed_after_last editor edited value items) ≡ of_key key items
+    go None e = rw (e, put_after_last) (put_below_leaves key editor.line_end (line_made editor edited value None) none items)
+    go (Some c) e =
+        let cut = cut_is is_entry items c e in
+        rw (e, put_after_last) (
+        of_key-append key c.0 (c.1.0 ∷ put_below editor.line_end (line_made editor edited value None) c.1.1)
+        ∙ ap (λ es. of_key key c.0 ++ es) (behind_same key c.1.0 (put_below editor.line_end (line_made editor edited value None) c.1.1) c.1.1
+        (put_below_leaves key editor.line_end (line_made editor edited value None) none c.1.1))
         ∙ sym (of_key-append key c.0 (c.1.0 ∷ c.1.1))
         ∙ ap (of_key key) (sym cut.is))
 

@@ -16,11 +16,11 @@ use Rattle.gitconf_state.specs.State.{SectionState, State}
 use Rattle.gitconf_state.specs.LineEnds.{file_line_end}
 use Rattle.gitconf_state.specs.Lookup.{is_named, listing, listed, Said, said}
 use Rattle.gitconf_state.specs.Edit.{made_header, new_section, is_target}
-use Rattle.gitconf_state.specs.Editors.{pushed, line_end_pushed, value_set, removed, popped, written_at, deleted_at}
-use Rattle.gitconf_state.specs.Edits.{change_numbered, change_items, renamed, with_trust, picked, without_numbered, held_behind_last, numbered_from, Edit, SetRawValue, Push, PushLineEnd, SetValue, Remove, Pop, WriteAt, DeleteAt, Rename, RenameAll, NewSection, PushSection, RemoveSection, RemoveNumbered, Append, SetTrust, SetMeta, apply, finds_or_makes, IsEdit, is_same_section, is_there, is_last_of, is_one_at, is_about}
+use Rattle.gitconf_state.specs.Editors.{pushed, pushed_after_last, line_end_pushed, value_set, removed, removed_marked, popped, written_at, deleted_at}
+use Rattle.gitconf_state.specs.Edits.{change_numbered, change_items, renamed, with_trust, picked, without_numbered, held_behind_last, numbered_from, Edit, SetRawValue, Push, PushAfterLast, PushLineEnd, SetValue, Remove, RemoveMarked, Pop, WriteAt, DeleteAt, Rename, RenameAll, NewSection, PushSection, RemoveSection, RemoveNumbered, Append, SetTrust, SetMeta, apply, finds_or_makes, IsEdit, is_same_section, is_there, is_last_of, is_one_at, is_about}
 use Rattle.gitconf_state.proofs.Edits.Values.{of_key, same_name, made_name, made_subsection, same_subsection}
 use Rattle.gitconf_state.proofs.Edits.Others.{other_key, nothing_given, same_said, nothing_said, unnamed_said, named_once, set_value_leaves_keys, set_value_leaves_sections}
-use Rattle.gitconf_state.proofs.Edits.KeyEntries.{added, pushed_leaves, value_set_leaves, removed_leaves, popped_leaves, deleted_leaves, written_leaves}
+use Rattle.gitconf_state.proofs.Edits.KeyEntries.{added, pushed_leaves, pushed_after_last_leaves, value_set_leaves, removed_leaves, removed_marked_leaves, popped_leaves, deleted_leaves, written_leaves}
 use Rattle.gitconf_state.proofs.Listings.{says, said_is}
 
 -- of two tests the second fails where the first passes
@@ -184,6 +184,8 @@ module _ (name : List ℕ) (subsection : Option (List ℕ)) (key : List ℕ) whe
           (set_value_leaves_sections edited edited_subsection edited_key keeps value state name subsection may (differ_so edited edited_subsection name subsection differ))
   leaves (Push number editor edited value comment) state is not_about =
       items_changed number (pushed editor edited value comment) (λ items. is_same_name edited key) (λ items differ. pushed_leaves key edited editor value comment items (turned edited differ)) state not_about
+  leaves (PushAfterLast number editor edited value) state is not_about =
+      items_changed number (pushed_after_last editor edited value) (λ items. is_same_name edited key) (λ items differ. pushed_after_last_leaves key edited editor value items (turned edited differ)) state not_about
   leaves (PushLineEnd number editor) state is not_about =
       by_sections (apply (PushLineEnd number editor) state).sections state.sections (mapped_said say (λ s. false) _ (λ s never. one s) state.sections (none_passes state.sections))
     where
@@ -197,6 +199,8 @@ module _ (name : List ℕ) (subsection : Option (List ℕ)) (key : List ℕ) whe
       items_changed number (value_set editor edited value) (λ items. is_same_name edited key) (λ items differ. value_set_leaves key edited editor value items (turned edited differ) (apart edited differ)) state not_about
   leaves (Remove number edited) state is not_about =
       items_changed number (removed edited) (λ items. is_same_name edited key) (λ items differ. removed_leaves edited key (apart edited differ) items) state not_about
+  leaves (RemoveMarked number edited marks) state is not_about =
+      items_changed number (removed_marked edited marks) (λ items. is_same_name edited key) (λ items differ. removed_marked_leaves edited key (apart edited differ) marks items) state not_about
   leaves (Pop number) state is not_about = items_changed number popped (is_last_of key) (popped_leaves key) state not_about
   leaves (WriteAt number editor place instead edited value) state is not_about =
       items_changed number (written_at editor place instead edited value) (λ items. is_same_name edited key || is_one_at place key items)

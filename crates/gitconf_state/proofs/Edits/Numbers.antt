@@ -9,7 +9,7 @@ use Rattle.gitconf_state.specs.LineEnds.{file_line_end}
 use Rattle.gitconf_state.specs.Edit.{update_last, new_section, is_target, section_with, set_raw_value}
 use Rattle.gitconf_base.specs.Metadata.{Meta}
 use Rattle.gitconf_state.proofs.Edits.Lists.{update_last_holds}
-use Rattle.gitconf_state.specs.Edits.{change_numbered, renamed, with_trust, picked, without_numbered, held_behind_last, numbered_from, Edit, SetRawValue, Push, PushLineEnd, SetValue, Remove, Pop, WriteAt, DeleteAt, Rename, RenameAll, NewSection, PushSection, RemoveSection, RemoveNumbered, Append, SetTrust, SetMeta, apply, apply_all, edited_number, IsOneChanged}
+use Rattle.gitconf_state.specs.Edits.{change_numbered, renamed, with_trust, picked, without_numbered, held_behind_last, numbered_from, Edit, SetRawValue, Push, PushAfterLast, PushLineEnd, SetValue, Remove, RemoveMarked, Pop, WriteAt, DeleteAt, Rename, RenameAll, NewSection, PushSection, RemoveSection, RemoveNumbered, Append, SetTrust, SetMeta, apply, apply_all, edited_number, IsOneChanged}
 
 -- sections that are changed keep their numbers
 apart_mapped : (number : ℕ) (change : SectionState → SectionState) → ((s : SectionState) → (change s).number ≡ s.number) → (sections : List SectionState) → AllByRecursion (λ t. (t.number == number) ≡ false) sections
@@ -129,9 +129,11 @@ raw_numbers name subsection key keeps value state all = go (list_any (is_target 
 pub apply_numbers : (edit : Edit) (state : State) → AreNumbered state.next state.sections → AreNumbered (apply edit state).next (apply edit state).sections
 apply_numbers (SetRawValue name subsection key keeps value) state all = raw_numbers name subsection key keeps value state all
 apply_numbers (Push number editor key value comment) state all = change_numbers number _ (λ s. refl) state all
+apply_numbers (PushAfterLast number editor key value) state all = change_numbers number _ (λ s. refl) state all
 apply_numbers (PushLineEnd number editor) state all = change_numbers number _ (λ s. refl) state all
 apply_numbers (SetValue number editor key value) state all = change_numbers number _ (λ s. refl) state all
 apply_numbers (Remove number key) state all = change_numbers number _ (λ s. refl) state all
+apply_numbers (RemoveMarked number key marks) state all = change_numbers number _ (λ s. refl) state all
 apply_numbers (Pop number) state all = change_numbers number _ (λ s. refl) state all
 apply_numbers (WriteAt number editor place instead key value) state all = change_numbers number _ (λ s. refl) state all
 apply_numbers (DeleteAt number place) state all = change_numbers number _ (λ s. refl) state all
@@ -208,9 +210,11 @@ one_changed number change keeps state = record {
 pub edited_one : (edit : Edit) (number : ℕ) (state : State) → edited_number edit ≡ Some number → IsOneChanged number state (apply edit state)
 edited_one (SetRawValue name subsection key keeps value) number state is = absurd (cc)
 edited_one (Push n editor key value comment) number state is = let same : n ≡ number = cc in rw same (one_changed number _ (λ s. refl) state)
+edited_one (PushAfterLast n editor key value) number state is = let same : n ≡ number = cc in rw same (one_changed number _ (λ s. refl) state)
 edited_one (PushLineEnd n editor) number state is = let same : n ≡ number = cc in rw same (one_changed number _ (λ s. refl) state)
 edited_one (SetValue n editor key value) number state is = let same : n ≡ number = cc in rw same (one_changed number _ (λ s. refl) state)
 edited_one (Remove n key) number state is = let same : n ≡ number = cc in rw same (one_changed number _ (λ s. refl) state)
+edited_one (RemoveMarked n key marks) number state is = let same : n ≡ number = cc in rw same (one_changed number _ (λ s. refl) state)
 edited_one (Pop n) number state is = let same : n ≡ number = cc in rw same (one_changed number _ (λ s. refl) state)
 edited_one (WriteAt n editor place instead key value) number state is = let same : n ≡ number = cc in rw same (one_changed number _ (λ s. refl) state)
 edited_one (DeleteAt n place) number state is = let same : n ≡ number = cc in rw same (one_changed number _ (λ s. refl) state)

@@ -3,7 +3,7 @@ use Rattle.std.proofs.Common.{◌≡◌, ℕ, Bool, true, false, List, [], ◌�
 use Rattle.std.specs.List.{list_any}
 use Rattle.gitconf_state.specs.State.{State}
 use Rattle.gitconf_state.specs.Edit.{is_target, set_raw_value, with_used}
-use Rattle.gitconf_state.specs.Edits.{picked, without_numbered, Edit, SetRawValue, Push, PushLineEnd, SetValue, Remove, Pop, WriteAt, DeleteAt, Rename, RenameAll, NewSection, PushSection, RemoveSection, RemoveNumbered, Append, SetTrust, SetMeta, apply, apply_all, IsEdit, AreEdits}
+use Rattle.gitconf_state.specs.Edits.{picked, without_numbered, Edit, SetRawValue, Push, PushAfterLast, PushLineEnd, SetValue, Remove, RemoveMarked, Pop, WriteAt, DeleteAt, Rename, RenameAll, NewSection, PushSection, RemoveSection, RemoveNumbered, Append, SetTrust, SetMeta, apply, apply_all, IsEdit, AreEdits}
 
 apply_used : (edit : Edit) (used : ℕ) (state : State) → apply edit (with_used used state) ≡ with_used used (apply edit state)
 apply_used (SetRawValue name subsection key keeps value) used state = go (list_any (is_target name subsection keeps) state.sections) refl
@@ -19,9 +19,11 @@ apply_used (RemoveSection name subsection keeps) used state = go (picked name su
     go None = refl
     go (Some number) = refl
 apply_used (Push number editor key value comment) used state = refl
+apply_used (PushAfterLast number editor key value) used state = refl
 apply_used (PushLineEnd number editor) used state = refl
 apply_used (SetValue number editor key value) used state = refl
 apply_used (Remove number key) used state = refl
+apply_used (RemoveMarked number key marks) used state = refl
 apply_used (Pop number) used state = refl
 apply_used (WriteAt number editor place instead key value) used state = refl
 apply_used (DeleteAt number place) used state = refl
@@ -41,9 +43,11 @@ apply_all_used (edit ∷ edits) used state = ap (apply_all edits) (apply_used ed
 is_edit_used : (edit : Edit) (used : ℕ) (state : State) → IsEdit edit state → IsEdit edit (with_used used state)
 is_edit_used (SetRawValue name subsection key keeps value) used state is = is
 is_edit_used (Push number editor key value comment) used state is = is
+is_edit_used (PushAfterLast number editor key value) used state is = is
 is_edit_used (PushLineEnd number editor) used state is = is
 is_edit_used (SetValue number editor key value) used state is = is
 is_edit_used (Remove number key) used state is = is
+is_edit_used (RemoveMarked number key marks) used state is = is
 is_edit_used (Pop number) used state is = is
 is_edit_used (WriteAt number editor place instead key value) used state is = is
 is_edit_used (DeleteAt number place) used state is = is

@@ -11,7 +11,7 @@ use Rattle.gitconf_state.specs.State.{SectionState, State, cut_last}
 use Rattle.gitconf_state.specs.Printing.{printed}
 use Rattle.gitconf_state.specs.Edit.{is_entry_of}
 use Rattle.gitconf_state.specs.Editors.{Editor, OfNothing, OfEntry, OfEntryButLineEnd, editor_of}
-use Rattle.gitconf_state.specs.Edits.{Detached, Edit, Push, PushLineEnd, SetValue, Remove, Pop, WriteAt, DeleteAt, Rename, RenameAll, NewSection, PushSection, RemoveSection, RemoveNumbered, Append, SetTrust, SetMeta, Raw, Entry, Number, answer, apply, apply_all, numbered}
+use Rattle.gitconf_state.specs.Edits.{Detached, Edit, Push, PushAfterLast, PushLineEnd, SetValue, Remove, RemoveMarked, Pop, WriteAt, DeleteAt, Rename, RenameAll, NewSection, PushSection, RemoveSection, RemoveNumbered, Append, SetTrust, SetMeta, Raw, Entry, Number, Count, answer, apply, apply_all, numbered}
 
 abbrev blanks : String → Item
 blanks run = BlanksItem (codes run)
@@ -107,6 +107,28 @@ push_of_names_and_line_ends = refl
 push_keeps_the_order_of_blanks : printed (edited 0 ((λ e. Push 0 e (codes "j") (Some (codes "w")) None) ∷ []) (file ([]) 1 (section 0 (PlainHeader (codes "a")) (line_ends "\n" ∷ valued "k" "\t" " " "v" ∷ line_ends "\n" ∷ []) ∷ []))) ≡ codes "[a]\nk\t= v\nj\t= w\n"
 push_keeps_the_order_of_blanks = refl
 
+-- lines that are pushed below the last entry
+push_below_an_entry : printed (edited 0 ((λ e. PushAfterLast 0 e (codes "j") (Some (codes "w"))) ∷ []) (file ([]) 1 (section 0 (PlainHeader (codes "a")) (line_ends "\n" ∷ blanks "\t" ∷ valued "k" " " " " "1" ∷ blanks " " ∷ comment " c" ∷ line_ends "\n\n" ∷ comment " b" ∷ line_ends "\n" ∷ []) ∷ []))) ≡ codes "[a]\n\tk = 1 # c\n\tj = w\n\n# b\n"
+push_below_an_entry = refl
+
+push_below_a_header : printed (edited 0 ((λ e. PushAfterLast 0 e (codes "j") (Some (codes "w"))) ∷ []) (file ([]) 1 (section 0 (PlainHeader (codes "a")) (line_ends "\n\n" ∷ comment " b" ∷ line_ends "\n" ∷ []) ∷ []))) ≡ codes "[a]\n\tj = w\n\n# b\n"
+push_below_a_header = refl
+
+push_below_a_header_in_no_line : printed (edited 0 ((λ e. PushAfterLast 0 e (codes "j") (Some (codes "w"))) ∷ []) (file ([]) 1 (section 0 (PlainHeader (codes "a")) ([]) ∷ []))) ≡ codes "[a]\n\tj = w\n"
+push_below_a_header_in_no_line = refl
+
+push_below_a_line_without_an_end : printed (edited 0 ((λ e. PushAfterLast 0 e (codes "j") (Some (codes "w"))) ∷ []) (file ([]) 1 (section 0 (PlainHeader (codes "a")) (line_ends "\n" ∷ valued "k" " " " " "v" ∷ []) ∷ []))) ≡ codes "[a]\nk = v\nj = w\n"
+push_below_a_line_without_an_end = refl
+
+push_below_carriage_returns : printed (edited 0 ((λ e. PushAfterLast 0 e (codes "j") (Some (codes "w"))) ∷ []) (file ([]) 1 (section 0 (PlainHeader (codes "a")) (line_ends "\r\n" ∷ valued "k" "" "" "1" ∷ line_ends "\r\n\r\n" ∷ comment " b" ∷ line_ends "\r\n" ∷ []) ∷ []))) ≡ codes "[a]\r\nk=1\r\nj=w\r\n\r\n# b\r\n"
+push_below_carriage_returns = refl
+
+push_below_pieces : printed (edited 0 ((λ e. PushAfterLast 0 e (codes "j") (Some (codes "w"))) ∷ []) (file ([]) 1 (section 0 (PlainHeader (codes "a")) (line_ends "\n" ∷ pieces_valued "k" " " " " (piece "x" "\n" ∷ []) " y" ∷ line_ends "\n" ∷ comment " b" ∷ line_ends "\n" ∷ []) ∷ []))) ≡ codes "[a]\nk = x\\\n y\nj = w\n# b\n"
+push_below_pieces = refl
+
+push_below_without_a_value : printed (edited 0 ((λ e. PushAfterLast 0 e (codes "j") (None)) ∷ []) (file ([]) 1 (section 0 (PlainHeader (codes "a")) (line_ends "\n" ∷ alone "k" "" ∷ line_ends "\n" ∷ comment " b" ∷ line_ends "\n" ∷ []) ∷ []))) ≡ codes "[a]\nk\nj\n# b\n"
+push_below_without_a_value = refl
+
 -- an editor keeps the blanks of when it was made
 an_editor_keeps_its_blanks : printed (edited 0 ((λ e. Push 0 e (codes "k") None None) ∷ (λ e. SetValue 0 e (codes "j") (codes "w")) ∷ []) (file ([]) 1 (section 0 (PlainHeader (codes "a")) (line_ends "\n" ∷ []) ∷ []))) ≡ codes "[a]\n\tk\n\tj = w\n"
 an_editor_keeps_its_blanks = refl
@@ -173,6 +195,32 @@ remove_the_last = refl
 
 remove_all : printed (edited 0 ((λ e. Remove 0 (codes "k")) ∷ (λ e. Remove 0 (codes "k")) ∷ (λ e. Remove 0 (codes "k")) ∷ []) (file ([]) 1 (section 0 (PlainHeader (codes "a")) (line_ends "\n" ∷ valued "k" "" "" "1" ∷ line_ends "\n" ∷ valued "k" "" "" "2" ∷ line_ends "\n" ∷ []) ∷ []))) ≡ codes "[a]\n"
 remove_all = refl
+
+-- entries that are marked
+remove_marked_first_and_last : printed (edited 0 ((λ e. RemoveMarked 0 (codes "k") (true ∷ false ∷ true ∷ [])) ∷ []) (file ([]) 1 (section 0 (PlainHeader (codes "a")) (line_ends "\n" ∷ blanks "\t" ∷ valued "k" " " " " "1" ∷ line_ends "\n" ∷ blanks "\t" ∷ valued "j" " " " " "x" ∷ line_ends "\n" ∷ blanks "\t" ∷ valued "K" " " " " "2" ∷ blanks " " ∷ comment " c" ∷ line_ends "\n" ∷ blanks "\t" ∷ valued "k" " " " " "3" ∷ line_ends "\n" ∷ []) ∷ []))) ≡ codes "[a]\n\tj = x\n\tK = 2 # c\n"
+remove_marked_first_and_last = refl
+
+remove_marked_all : printed (edited 0 ((λ e. RemoveMarked 0 (codes "k") (true ∷ true ∷ true ∷ [])) ∷ []) (file ([]) 1 (section 0 (PlainHeader (codes "a")) (line_ends "\n" ∷ blanks "\t" ∷ valued "k" " " " " "1" ∷ line_ends "\n" ∷ blanks "\t" ∷ valued "j" " " " " "x" ∷ line_ends "\n" ∷ blanks "\t" ∷ valued "K" " " " " "2" ∷ blanks " " ∷ comment " c" ∷ line_ends "\n" ∷ blanks "\t" ∷ valued "k" " " " " "3" ∷ line_ends "\n" ∷ []) ∷ []))) ≡ codes "[a]\n\tj = x\n # c\n"
+remove_marked_all = refl
+
+remove_marked_with_few_marks : printed (edited 0 ((λ e. RemoveMarked 0 (codes "k") (true ∷ [])) ∷ []) (file ([]) 1 (section 0 (PlainHeader (codes "a")) (line_ends "\n" ∷ blanks "\t" ∷ valued "k" " " " " "1" ∷ line_ends "\n" ∷ blanks "\t" ∷ valued "j" " " " " "x" ∷ line_ends "\n" ∷ blanks "\t" ∷ valued "K" " " " " "2" ∷ blanks " " ∷ comment " c" ∷ line_ends "\n" ∷ blanks "\t" ∷ valued "k" " " " " "3" ∷ line_ends "\n" ∷ []) ∷ []))) ≡ codes "[a]\n\tj = x\n\tK = 2 # c\n\tk = 3\n"
+remove_marked_with_few_marks = refl
+
+remove_marked_with_no_marks : printed (edited 0 ((λ e. RemoveMarked 0 (codes "k") ([])) ∷ []) (file ([]) 1 (section 0 (PlainHeader (codes "a")) (line_ends "\n" ∷ blanks "\t" ∷ valued "k" " " " " "1" ∷ line_ends "\n" ∷ blanks "\t" ∷ valued "j" " " " " "x" ∷ line_ends "\n" ∷ blanks "\t" ∷ valued "K" " " " " "2" ∷ blanks " " ∷ comment " c" ∷ line_ends "\n" ∷ blanks "\t" ∷ valued "k" " " " " "3" ∷ line_ends "\n" ∷ []) ∷ []))) ≡ codes "[a]\n\tk = 1\n\tj = x\n\tK = 2 # c\n\tk = 3\n"
+remove_marked_with_no_marks = refl
+
+remove_marked_with_more_marks : printed (edited 0 ((λ e. RemoveMarked 0 (codes "k") (false ∷ false ∷ false ∷ true ∷ [])) ∷ []) (file ([]) 1 (section 0 (PlainHeader (codes "a")) (line_ends "\n" ∷ blanks "\t" ∷ valued "k" " " " " "1" ∷ line_ends "\n" ∷ blanks "\t" ∷ valued "j" " " " " "x" ∷ line_ends "\n" ∷ blanks "\t" ∷ valued "K" " " " " "2" ∷ blanks " " ∷ comment " c" ∷ line_ends "\n" ∷ blanks "\t" ∷ valued "k" " " " " "3" ∷ line_ends "\n" ∷ []) ∷ []))) ≡ codes "[a]\n\tk = 1\n\tj = x\n\tK = 2 # c\n\tk = 3\n"
+remove_marked_with_more_marks = refl
+
+-- one mark, for the last entry, does what `Remove` does
+remove_marked_as_remove : apply (RemoveMarked 0 (codes "k") (false ∷ false ∷ true ∷ [])) (file ([]) 1 (section 0 (PlainHeader (codes "a")) (line_ends "\n" ∷ blanks "\t" ∷ valued "k" " " " " "1" ∷ line_ends "\n" ∷ blanks "\t" ∷ valued "j" " " " " "x" ∷ line_ends "\n" ∷ blanks "\t" ∷ valued "K" " " " " "2" ∷ blanks " " ∷ comment " c" ∷ line_ends "\n" ∷ blanks "\t" ∷ valued "k" " " " " "3" ∷ line_ends "\n" ∷ []) ∷ [])) ≡ apply (Remove 0 (codes "k")) (file ([]) 1 (section 0 (PlainHeader (codes "a")) (line_ends "\n" ∷ blanks "\t" ∷ valued "k" " " " " "1" ∷ line_ends "\n" ∷ blanks "\t" ∷ valued "j" " " " " "x" ∷ line_ends "\n" ∷ blanks "\t" ∷ valued "K" " " " " "2" ∷ blanks " " ∷ comment " c" ∷ line_ends "\n" ∷ blanks "\t" ∷ valued "k" " " " " "3" ∷ line_ends "\n" ∷ []) ∷ []))
+remove_marked_as_remove = refl
+
+remove_marked_tells_how_many : answer (RemoveMarked 0 (codes "k") (true ∷ false ∷ true ∷ [])) (file ([]) 1 (section 0 (PlainHeader (codes "a")) (line_ends "\n" ∷ blanks "\t" ∷ valued "k" " " " " "1" ∷ line_ends "\n" ∷ blanks "\t" ∷ valued "j" " " " " "x" ∷ line_ends "\n" ∷ blanks "\t" ∷ valued "K" " " " " "2" ∷ blanks " " ∷ comment " c" ∷ line_ends "\n" ∷ blanks "\t" ∷ valued "k" " " " " "3" ∷ line_ends "\n" ∷ []) ∷ [])) ≡ Count 2
+remove_marked_tells_how_many = refl
+
+remove_marked_in_one_line : printed (edited 0 ((λ e. RemoveMarked 0 (codes "k") (true ∷ true ∷ [])) ∷ []) (file ([]) 1 (section 0 (PlainHeader (codes "a")) (line_ends "\n" ∷ blanks " " ∷ alone "k" " " ∷ alone "k" "" ∷ line_ends "\n\n" ∷ comment " c" ∷ line_ends "\n" ∷ []) ∷ []))) ≡ codes "[a]\n# c\n"
+remove_marked_in_one_line = refl
 
 -- entries that are popped
 pop_a_comment : printed (edited 0 ((λ e. Pop 0) ∷ []) (file ([]) 1 (section 0 (PlainHeader (codes "a")) (line_ends "\n" ∷ blanks "\t" ∷ valued "k" " " " " "v" ∷ blanks " " ∷ comment " c" ∷ line_ends "\n" ∷ []) ∷ []))) ≡ codes "[a]\n"

@@ -168,6 +168,12 @@ missing_told {A} b front meta table id told none = go (numbered id (state_of b f
     go : (o : Option SectionState) → o ≡ None → elim o as (λ _. Option A) [ None ↦ None | Some s ↦ told s.items ] ≡ None
     go o e = rw e refl
 
+pub missing_items : (b : List ℕ) (front : List Item) (meta : Meta) (table : Sections Section) (id : ℕ) → place_of id table ≡ None → items_of_numbered id (state_of b front meta table) ≡ []
+missing_items b front meta table id none = go (numbered id (state_of b front meta table)) (others_untold b id None table.entries (missing id table.entries none))
+  where
+    go : (o : Option SectionState) → o ≡ None → elim o as (λ _. List parts.Item) [ None ↦ [] | Some s ↦ s.items ] ≡ []
+    go o e = rw e refl
+
 -- So it does where its items are those of an edit, and where they are as they were.
 pub numbered_kept : (b new copies : List ℕ) (front : List Item) (meta : Meta) (table : Sections Section) (id at : ℕ) (s t : Section) (change : List parts.Item → List parts.Item)
     → IsExtended b new → length new < 2 ^ 32 → HasOthers (length new) s t → StoreFits b copies front meta table → AreNumbered table.next table.entries
@@ -223,6 +229,13 @@ pub puts_none : {T : Type 0} (b : List ℕ) (front : List Item) (meta : Meta) (t
 puts_none b front meta table id r count none =
     let no : numbered id (state_of b front meta table) ≡ None = others_untold b id None table.entries (missing id table.entries none) in
     record { there = rw no tt; missing = λ _. refl }
+
+-- what was put into a state is what was put into the same one, where the count goes by it
+pub puts_seen : {T : Type 0} (id : ℕ) (count : State → ℕ) (r : Result T ℕ) (old now new : State) → old ≡ now → PutsIn id r (count old) old new → PutsIn id r (count now) now new
+puts_seen id count r old now new is puts = subst (λ s. PutsIn id r (count s) s new) is puts
+
+pub puts_nothing_seen : {T : Type 0} (id : ℕ) (count : State → ℕ) (r : Result T ℕ) (old now : State) → old ≡ now → PutsIn id r (count old) old old → PutsIn id r (count now) now now
+puts_nothing_seen id count r old now is puts = subst (λ s. PutsIn id r (count s) s s) is puts
 
 -- the section there is not missing
 pub never_missing : (b : List ℕ) (front : List Item) (meta : Meta) (table : Sections Section) (id at : ℕ) (s : Section)

@@ -1,9 +1,9 @@
 //! Edits of the section of a number, for the editor of a section.
 use crate::store::Store;
-use gitconf_body::{set, take_out};
+use gitconf_body::{marked, set, take_out};
 use gitconf_lines::editor::Editor;
-use gitconf_lines::push;
 use gitconf_lines::seeking::last_place;
+use gitconf_lines::{push, push_below};
 use gitconf_table::table::SectionId;
 use gitconf_text::NoMemory;
 use gitconf_text::parse::span;
@@ -13,8 +13,9 @@ impl Store {
     ghost use Rattle.std.specs.Prelude.{◌≡◌, true, IfOk, IfSome, IsOk, None, OnOk, OnErr, length, option_map};
     ghost use Rattle.gitconf_text.specs.Names.{is_value_name};
     ghost use Rattle.gitconf_state.specs.Edit.{with_used};
-    ghost use Rattle.gitconf_state.specs.Edits.{answer, apply, items_of_numbered, Entry, IsEditor, Pop, Push, PushLineEnd, Raw, Remove, SetValue};
+    ghost use Rattle.gitconf_state.specs.Edits.{answer, apply, items_of_numbered, Count, Entry, IsEditor, Pop, Push, PushAfterLast, PushLineEnd, Raw, Remove, RemoveMarked, SetValue};
     ghost use Rattle.gitconf_text.specs.LineEnds.{bytes_of_line_end};
+    ghost use Rattle.gitconf_lines.specs.Below.{below_put};
     ghost use Rattle.gitconf_lines.specs.Editors.{line_put, set_put};
     ghost use Rattle.gitconf_store.specs.Editors.{given_editor, IsGiven, PutsIn};
 
@@ -51,6 +52,49 @@ impl Store {
         push::check_push(&self.buffer, editor, key, value, comment)?;
         let mut items = self.sections.take_items(at)?;
         let pushed = push::push_checked(&mut self.buffer, &mut *items, editor, key, value, comment);
+        self.sections.put_items(at, items);
+        pushed
+    }
+
+    /// Pushes a line below that of the last entry of the section of a number, whatever its key, or below the header's line if it has no
+    /// entry, before the comments and blank lines that come after it. The line is as [`Store::push_entry`] pushes it without a comment. If
+    /// the line before it has no line ending, it gets the editor's one first. All else stays as it is; if no section has the number,
+    /// everything does.
+    ///
+    /// The section is found in constant time; two walks from its end up to its last entry. Takes memory for what is added to the buffer, for
+    /// the new items and for those behind them.
+    ///
+    /// # Errors
+    ///
+    /// Those of [`Store::push_entry`].
+    pub fn push_entry_after_last(
+        &mut self,
+        id: SectionId,
+        editor: &Editor<'_>,
+        key: &[u8],
+        value: Option<&[u8]>,
+    ) -> Result<(), span::Error>
+        requires given { IsGiven editor.now }
+        requires editor { IsEditor (given_editor editor.now) }
+        requires key { is_value_name key.now ≡ true }
+        ensures ok { OnOk result (self.new ≡ with_used self.new.used
+            (apply (PushAfterLast id (given_editor editor.now) key.now (option_copied value.entry)) self.old)) }
+        ensures err { OnErr result (self.new ≡ with_used self.new.used self.old) }
+        ensures used { PutsIn id result (below_put editor.now key.now (option_copied value.entry) (items_of_numbered id self.old)) self.old self.new }
+    {
+        let Some(at) = self.sections.position(id) else {
+            return Ok(());
+        };
+        let section = self.sections.at(at);
+        push_below::check_push_after_last(&self.buffer, section.items, editor, key, value)?;
+        let mut items = self.sections.take_items(at)?;
+        let pushed = push_below::push_after_last_checked(
+            &mut self.buffer,
+            &mut *items,
+            editor,
+            key,
+            value,
+        );
         self.sections.put_items(at, items);
         pushed
     }
@@ -143,6 +187,35 @@ impl Store {
         let removed = take_out::remove_at(&self.buffer, &mut *items, place);
         self.sections.put_items(at, items);
         Ok(Some(removed?))
+    }
+
+    /// Removes the marked entries of a key in the section of a number: the first of its entries goes if the first mark is `true`, and so
+    /// on; those behind the last mark stay. Each goes as [`Store::remove_entry`] removes one. All else stays as it is; if no section has
+    /// the number, everything does. Returns how many went.
+    ///
+    /// The section is found in constant time; two walks over its items, which take memory for a list of as many; no byte is added to the
+    /// buffer.
+    ///
+    /// # Errors
+    ///
+    /// Out of memory. The file is then as it was.
+    pub fn remove_marked_entries(
+        &mut self,
+        id: SectionId,
+        key: &[u8],
+        marks: &[bool],
+    ) -> Result<usize, NoMemory>
+        ensures ok { OnOk result (self.new ≡ apply (RemoveMarked id key.now marks.now) self.old) }
+        ensures answer { IfOk result (λ n. Count n ≡ answer (RemoveMarked id key.now marks.now) self.old) }
+        ensures err { OnErr result (self.new ≡ self.old) }
+    {
+        let Some(at) = self.sections.position(id) else {
+            return Ok(0);
+        };
+        let mut items = self.sections.take_items(at)?;
+        let removed = marked::remove_marked(&self.buffer, &mut *items, key, marks);
+        self.sections.put_items(at, items);
+        removed
     }
 
     /// Removes the last entry of the section of a number, whatever its key, with the blanks directly before it and everything after

@@ -5,9 +5,9 @@ use crate::detached::Section;
 use crate::section::trusted;
 use gitconf_base::source::Trust;
 use gitconf_body::heading::put_header;
-use gitconf_body::{set, take_out};
+use gitconf_body::{marked, set, take_out};
 use gitconf_lines::editor::Editor;
-use gitconf_lines::push;
+use gitconf_lines::{push, push_below};
 use gitconf_text::NoMemory;
 use gitconf_text::line_end::LineEnd;
 use gitconf_text::parse::section::header;
@@ -20,10 +20,11 @@ impl Section {
     ghost use Rattle.gitconf_text.specs.Names.{is_made_name, is_valid_or_none, is_value_name};
     ghost use Rattle.gitconf_text.specs.declared.parse.section.header.Error.TheVariants.{InvalidName, InvalidSubSection, Span};
     ghost use Rattle.gitconf_state.specs.Edit.{header_bytes, old_value};
-    ghost use Rattle.gitconf_state.specs.Editors.{line_end_pushed, popped, popped_entry, pushed, removed, value_set};
+    ghost use Rattle.gitconf_state.specs.Editors.{line_end_pushed, marked_count, popped, popped_entry, pushed, pushed_after_last, removed, removed_marked, value_set};
     ghost use Rattle.gitconf_state.specs.Edits.{renamed, with_trust, IsEditor};
     ghost use Rattle.gitconf_state.specs.LineEnds.{section_line_end};
     ghost use Rattle.gitconf_text.specs.LineEnds.{bytes_of_line_end};
+    ghost use Rattle.gitconf_lines.specs.Below.{below_put};
     ghost use Rattle.gitconf_lines.specs.Editors.{line_put, set_put};
     ghost use Rattle.gitconf_views.specs.Alone.{is_refusal_of_header, with_items};
     ghost use Rattle.gitconf_views.specs.Growth.{UsedGrows};
@@ -68,6 +69,38 @@ impl Section {
             key,
             value,
             comment,
+        )
+    }
+
+    /// Pushes a line below that of the last entry, whatever its key, or below the header's line if there is no entry, before the comments
+    /// and blank lines that come after it. The line is as [`Section::push_entry`] pushes it without a comment. If the line before it has no
+    /// line ending, it gets the editor's one first. All else stays as it is.
+    ///
+    /// It walks from the end up to the last entry. Takes memory for what is added to the buffer, for the new items and for those behind them.
+    ///
+    /// # Errors
+    ///
+    /// Those of [`Section::push_entry`].
+    pub fn push_entry_after_last(
+        &mut self,
+        editor: &Editor<'_>,
+        key: &[u8],
+        value: Option<&[u8]>,
+    ) -> Result<(), span::Error>
+        requires given { IsGiven editor.now }
+        requires editor { IsEditor (given_editor editor.now) }
+        requires key { is_value_name key.now ≡ true }
+        ensures ok { OnOk result (self.new.section ≡ with_items
+            (pushed_after_last (given_editor editor.now) key.now (option_copied value.entry)) self.old.section) }
+        ensures err { OnErr result (self.new.section ≡ self.old.section) }
+        ensures used { UsedGrows result (below_put editor.now key.now (option_copied value.entry) self.old.section.items) self.old.used self.new.used }
+    {
+        push_below::push_after_last(
+            &mut self.buffer,
+            &mut self.section.items,
+            editor,
+            key,
+            value,
         )
     }
 
@@ -136,6 +169,22 @@ impl Section {
         ensures err { OnErr result (self.new ≡ self.old) }
     {
         take_out::remove(&self.buffer, &mut self.section.items, key)
+    }
+
+    /// Removes the marked entries of a key: the first of its entries goes if the first mark is `true`, and so on; those behind the last
+    /// mark stay. Each goes as [`Section::remove_entry`] removes one. All else stays as it is. Returns how many went.
+    ///
+    /// Two walks over the items, which take memory for a list of as many; no byte is added to the buffer.
+    ///
+    /// # Errors
+    ///
+    /// Out of memory. The section is then as it was.
+    pub fn remove_marked_entries(&mut self, key: &[u8], marks: &[bool]) -> Result<usize, NoMemory>
+        ensures ok { OnOk result (self.new ≡ record { section = with_items (removed_marked key.now marks.now) self.old.section; used = self.old.used }) }
+        ensures answer { IfOk result (λ n. n ≡ marked_count key.now marks.now self.old.section.items) }
+        ensures err { OnErr result (self.new ≡ self.old) }
+    {
+        marked::remove_marked(&self.buffer, &mut self.section.items, key, marks)
     }
 
     /// Removes the last entry, whatever its key, with the blanks directly before it and everything after it; everything in the body

@@ -83,9 +83,9 @@ impl<'a> DetachedSectionMut<'a> {
     ghost use Rattle.gitconf_text.specs.Names.{is_made_name, is_valid_or_none, is_value_name};
     ghost use Rattle.gitconf_text.specs.declared.parse.section.header.Error.TheVariants.{InvalidName, InvalidSubSection, Span};
     ghost use Rattle.gitconf_state.specs.Edit.{header_bytes, old_value};
-    ghost use Rattle.gitconf_state.specs.Editors.{line_end_pushed, popped, popped_entry, pushed, removed, value_set};
+    ghost use Rattle.gitconf_state.specs.Editors.{line_end_pushed, marked_count, popped, popped_entry, pushed, pushed_after_last, removed, removed_marked, value_set};
     ghost use Rattle.gitconf_state.specs.Edits.{renamed, with_trust};
-    ghost use Rattle.gitconf_lines.specs.Puts.{line_bytes, value_set_bytes};
+    ghost use Rattle.gitconf_lines.specs.Puts.{after_last_bytes, line_bytes, value_set_bytes};
     ghost use Rattle.gitconf_views.specs.Alone.{is_refusal_of_header, with_items, IsEditedAlone};
     ghost use Rattle.gitconf_views.specs.AloneEditors.{edited, editor, lent};
     ghost use Rattle.gitconf_lines.specs.ValueErrors.{value_number};
@@ -129,6 +129,30 @@ impl<'a> DetachedSectionMut<'a> {
         let editor = self.blanks.editor(self.line_end, self.ends);
         self.section
             .push_line(&editor, value_name, value, Some(comment))
+    }
+
+    /// Pushes a line below that of the section's last entry, whatever its name, or below the header's line if it has none: comments and
+    /// blank lines that come after it come after the new one too. The line is as [`DetachedSectionMut::push`] pushes it. If the line before
+    /// it has no line ending, it gets the editor's one first. It walks from the end up to the last entry. Takes memory for what is added to
+    /// the section's buffer, for the new items and for those behind them.
+    ///
+    /// # Errors
+    ///
+    /// Those of [`DetachedSectionMut::push`].
+    pub fn push_after_last(
+        &mut self,
+        value_name: &str,
+        value: Option<&[u8]>,
+    ) -> Result<(), value::Error>
+        ensures same_section { lent self.new ≡ lent self.old }
+        ensures same_editor { editor self.new ≡ editor self.old }
+        ensures done { IsEditedAlone (pushed_after_last (editor self.old) value_name.now (option_copied value.entry)) (is_value_name value_name.now)
+            (after_last_bytes (editor self.old) value_name.now (option_copied value.entry) (edited self.old).section.items) value_number result
+            (edited self.old) (edited self.new) }
+    {
+        let editor = self.blanks.editor(self.line_end, self.ends);
+        self.section
+            .push_line_after_last(&editor, value_name, value)
     }
 
     /// Pushes the line ending, even if it is switched off after lines.
@@ -187,6 +211,27 @@ impl<'a> DetachedSectionMut<'a> {
     {
         let old = self.section.remove_entry(value_name.as_bytes())?;
         Ok(text_of(old))
+    }
+
+    /// Removes the marked entries of the name: the first of its entries goes if the first mark is `true`, and so on; those behind the last
+    /// mark stay. Each goes as [`DetachedSectionMut::remove`] removes one. Returns how many went. Two walks over the items, which take
+    /// memory for a list of as many.
+    ///
+    /// # Errors
+    ///
+    /// Out of memory. The section is then as it was.
+    pub fn remove_marked(&mut self, value_name: &str, marks: &[bool]) -> Result<usize, NoMemory>
+        ensures same_section { lent self.new ≡ lent self.old }
+        ensures same_editor { editor self.new ≡ editor self.old }
+        ensures ok { OnOk result (edited self.new ≡ record {
+          section = with_items (removed_marked value_name.now marks.now) (edited self.old).section;
+          used = (edited self.old).used;
+        }) }
+        ensures answer { IfOk result (λ n. n ≡ marked_count value_name.now marks.now (edited self.old).section.items) }
+        ensures err { OnErr result (edited self.new ≡ edited self.old) }
+    {
+        self.section
+            .remove_marked_entries(value_name.as_bytes(), marks)
     }
 
     /// Removes the last entry, whatever its name, with the blanks directly before it and everything after it; everything in the body

@@ -26,11 +26,11 @@ impl Section {
     ghost use Rattle.bstr.specs.Owned.{bstring_bytes};
     ghost use Rattle.gitconf_text.specs.Names.{is_value_name};
     ghost use Rattle.gitconf_state.specs.Edit.{old_value};
-    ghost use Rattle.gitconf_state.specs.Editors.{line_end_pushed, pushed, value_set};
+    ghost use Rattle.gitconf_state.specs.Editors.{line_end_pushed, pushed, pushed_after_last, value_set};
     ghost use Rattle.gitconf_state.specs.Edits.{IsEditor};
     ghost use Rattle.gitconf_views.specs.Alone.{IsEditedAlone};
     ghost use Rattle.gitconf_lines.specs.Blanks.{given_editor, IsGiven, PutsAround};
-    ghost use Rattle.gitconf_lines.specs.Puts.{line_bytes, value_set_bytes};
+    ghost use Rattle.gitconf_lines.specs.Puts.{after_last_bytes, line_bytes, value_set_bytes};
     ghost use Rattle.gitconf_lines.specs.ValueErrors.{value_number};
 
     /// [`Section::push_entry`], for a name that may be invalid.
@@ -55,6 +55,29 @@ impl Section {
             return Err(value::Error::ValueName(ValueNameError::invalid()));
         }
         self.push_entry(editor, key, value, comment)?;
+        Ok(())
+    }
+
+    /// [`Section::push_entry_after_last`], for a name that may be invalid.
+    #[tactic(auto, using(crate::proofs::AloneEdits::done_alone, crate::proofs::AloneEdits::done_with, crate::proofs::AloneEdits::refused_with, crate::proofs::AloneEdits::span_number, crate::proofs::AloneEdits::unnamed, gitconf_lines::proofs::Puts::below_is))]
+    pub fn push_line_after_last(
+        &mut self,
+        editor: &Editor<'_>,
+        value_name: &str,
+        value: Option<&[u8]>,
+    ) -> Result<(), value::Error>
+        requires given { IsGiven editor.now }
+        requires puts { PutsAround editor.now }
+        requires editor { IsEditor (given_editor editor.now) }
+        ensures done { IsEditedAlone (pushed_after_last (given_editor editor.now) value_name.now (option_copied value.entry)) (is_value_name value_name.now)
+            (after_last_bytes (given_editor editor.now) value_name.now (option_copied value.entry) self.old.section.items) value_number result
+            self.old self.new }
+    {
+        let key = value_name.as_bytes();
+        if !is_value_name(key) {
+            return Err(value::Error::ValueName(ValueNameError::invalid()));
+        }
+        self.push_entry_after_last(editor, key, value)?;
         Ok(())
     }
 

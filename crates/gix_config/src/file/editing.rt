@@ -15,7 +15,7 @@ impl File {
     ghost use Rattle.gitconf_text.specs.declared.parse.section.header.Error.TheVariants.{InvalidName, InvalidSubSection};
     ghost use Rattle.gitconf_text.specs.Names.{is_made_name, is_valid_or_none, is_value_name};
     ghost use Rattle.gitconf_state.specs.Edit.{spacing_of, with_used};
-    ghost use Rattle.gitconf_state.specs.Edits.{answer, apply, numbered, Entry, IsEditor, NewSection, Pop, Push, PushLineEnd, Raw, Remove, Rename, SetTrust, SetValue};
+    ghost use Rattle.gitconf_state.specs.Edits.{answer, apply, numbered, Count, Entry, IsEditor, NewSection, Pop, Push, PushAfterLast, PushLineEnd, Raw, Remove, RemoveMarked, Rename, SetTrust, SetValue};
     ghost use Rattle.gitconf_state.specs.LineEnds.{file_line_end};
     ghost use Rattle.gitconf_text.specs.LineEnds.{bytes_of_line_end};
     ghost use Rattle.gitconf_text.specs.HeaderErrors.{header_number, header_numbers};
@@ -46,6 +46,25 @@ impl File {
         ensures stands { has_number id self.new ≡ true }
     {
         self.store.push_entry(id, editor, key, value, comment)
+    }
+
+    /// [`Store::push_entry_after_last`](gitconf_store::store::Store::push_entry_after_last).
+    pub(crate) fn push_entry_after_last(
+        &mut self,
+        id: SectionId,
+        editor: &Editor<'_>,
+        key: &[u8],
+        value: Option<&[u8]>,
+    ) -> Result<(), span::Error>
+        requires stands { has_number id self.old ≡ true }
+        requires given { IsGiven editor.now }
+        requires puts { PutsAround editor.now }
+        requires editor { IsEditor (given_editor editor.now) }
+        requires key { is_value_name key.now ≡ true }
+        ensures done { IsEdited (PushAfterLast id (given_editor editor.now) key.now (option_copied value.entry)) (λ e. e) result self.old self.new }
+        ensures stands { has_number id self.new ≡ true }
+    {
+        self.store.push_entry_after_last(id, editor, key, value)
     }
 
     /// [`Store::push_newline`](gitconf_store::store::Store::push_newline).
@@ -96,6 +115,22 @@ impl File {
         ensures stands { has_number id self.new ≡ true }
     {
         self.store.remove_entry(id, key)
+    }
+
+    /// [`Store::remove_marked_entries`](gitconf_store::store::Store::remove_marked_entries).
+    pub(crate) fn remove_marked_entries(
+        &mut self,
+        id: SectionId,
+        key: &[u8],
+        marks: &[bool],
+    ) -> Result<usize, NoMemory>
+        requires stands { has_number id self.old ≡ true }
+        ensures ok { OnOk result (self.new ≡ apply (RemoveMarked id key.now marks.now) self.old) }
+        ensures answer { IfOk result (λ n. Count n ≡ answer (RemoveMarked id key.now marks.now) self.old) }
+        ensures err { OnErr result (self.new ≡ self.old) }
+        ensures stands { has_number id self.new ≡ true }
+    {
+        self.store.remove_marked_entries(id, key, marks)
     }
 
     /// [`Store::pop_entry`](gitconf_store::store::Store::pop_entry).

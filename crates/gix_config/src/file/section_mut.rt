@@ -63,7 +63,7 @@ impl<'a> SectionMut<'a> {
     ghost use Rattle.gitconf_text.specs.declared.parse.section.header.Error.TheVariants.{InvalidName, InvalidSubSection};
     ghost use Rattle.gitconf_state.specs.Edit.{with_used};
     ghost use Rattle.gitconf_store.specs.Renamings.{HeaderGrows};
-    ghost use Rattle.gitconf_state.specs.Edits.{answer, apply, Entry, Pop, Push, PushLineEnd, Raw, Remove, Rename, SetTrust, SetValue};
+    ghost use Rattle.gitconf_state.specs.Edits.{answer, apply, Count, Entry, Pop, Push, PushAfterLast, PushLineEnd, Raw, Remove, RemoveMarked, Rename, SetTrust, SetValue};
     ghost use Rattle.gix_config.specs.Edited.{IsEdited, value_number};
     ghost use Rattle.gix_config.specs.SectionEditors.{edited, editor, lent, number_of, with_leading};
 
@@ -131,6 +131,40 @@ impl<'a> SectionMut<'a> {
             value_number result (edited self.old) (edited self.new) }
     {
         self.push_line(value_name, value, Some(comment))
+    }
+
+    /// Pushes a line below that of the section's last entry, whatever its name, or below the header's line if it has none: comments and
+    /// blank lines that come after it, and may introduce the next section, come after the new one too. The line is as
+    /// [`SectionMut::push`] pushes it. If the line before it has no line ending, it gets the file's one first.
+    ///
+    /// It is where `git config` puts a new entry.
+    ///
+    /// Two walks from the section's end up to its last entry. Takes memory for what is added to the file's buffer, for the new items and for
+    /// those behind them.
+    ///
+    /// # Errors
+    ///
+    /// Those of [`SectionMut::push`].
+    pub fn push_after_last(
+        &mut self,
+        value_name: &str,
+        value: Option<&[u8]>,
+    ) -> Result<(), value::Error>
+        ensures same_file { lent self.new ≡ lent self.old }
+        ensures same_section { number_of self.new ≡ number_of self.old }
+        ensures same_editor { editor self.new ≡ editor self.old }
+        ensures invalid { IsErrAnd result (λ e. value_number e ≡ 6) ↔ (is_value_name value_name.now ≡ false) }
+        ensures done { IsEdited (PushAfterLast (number_of self.old) (editor self.old) value_name.now (option_copied value.entry))
+            value_number result (edited self.old) (edited self.new) }
+    {
+        let key = value_name.as_bytes();
+        if !is_value_name(key) {
+            return Err(value::Error::ValueName(ValueNameError::invalid()));
+        }
+        let editor = self.blanks.editor(self.line_end, self.ends);
+        self.file
+            .push_entry_after_last(self.id, &editor, key, value)?;
+        Ok(())
     }
 
     /// Pushes the line ending, even if it is switched off after lines.
@@ -201,6 +235,28 @@ impl<'a> SectionMut<'a> {
             Some(old) => Ok(Some(BString::new(old))),
             None => Ok(None),
         }
+    }
+
+    /// Removes the marked entries of the name: the first of its entries goes if the first mark is `true`, and so on; those behind the last
+    /// mark stay, and so do all entries of other names. Each goes as [`SectionMut::remove`] removes one. Returns how many went.
+    ///
+    /// It is what `git config --unset-all` does, with a mark for each value that matches.
+    ///
+    /// Two walks over the section's items, however many go, which take memory for a list of as many.
+    ///
+    /// # Errors
+    ///
+    /// Out of memory. The file is then as it was.
+    pub fn remove_marked(&mut self, value_name: &str, marks: &[bool]) -> Result<usize, NoMemory>
+        ensures same_file { lent self.new ≡ lent self.old }
+        ensures same_section { number_of self.new ≡ number_of self.old }
+        ensures same_editor { editor self.new ≡ editor self.old }
+        ensures ok { OnOk result (edited self.new ≡ apply (RemoveMarked (number_of self.old) value_name.now marks.now) (edited self.old)) }
+        ensures answer { IfOk result (λ n. Count n ≡ answer (RemoveMarked (number_of self.old) value_name.now marks.now) (edited self.old)) }
+        ensures err { OnErr result (edited self.new ≡ edited self.old) }
+    {
+        self.file
+            .remove_marked_entries(self.id, value_name.as_bytes(), marks)
     }
 
     /// Removes the last entry, whatever its name, with the blanks directly before it and everything after it; everything in the section

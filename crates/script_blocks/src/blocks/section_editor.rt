@@ -21,6 +21,9 @@ pub trait SectionEditor {
     fn push_line(&mut self, line: PushedLine<'_>) -> Result<(), value::Error>
         ensures { held self.new ≡ held self.old };
 
+    fn push_after_last(&mut self, name: &str, value: Option<&[u8]>) -> Result<(), value::Error>
+        ensures { held self.new ≡ held self.old };
+
     fn push_newline(&mut self) -> Result<(), span::Error>
         ensures { held self.new ≡ held self.old };
 
@@ -28,6 +31,9 @@ pub trait SectionEditor {
         ensures { held self.new ≡ held self.old };
 
     fn remove(&mut self, name: &str) -> Result<Option<BString>, NoMemory>
+        ensures { held self.new ≡ held self.old };
+
+    fn remove_marked(&mut self, name: &str, marks: &[bool]) -> Result<usize, NoMemory>
         ensures { held self.new ≡ held self.old };
 
     fn pop(&mut self) -> Result<Option<(String, BString)>, NoMemory>
@@ -70,6 +76,10 @@ impl SectionEditor for SectionMut<'_> {
         }
     }
 
+    fn push_after_last(&mut self, name: &str, value: Option<&[u8]>) -> Result<(), value::Error> {
+        SectionMut::push_after_last(self, name, value)
+    }
+
     fn push_newline(&mut self) -> Result<(), span::Error> {
         SectionMut::push_newline(self)
     }
@@ -80,6 +90,10 @@ impl SectionEditor for SectionMut<'_> {
 
     fn remove(&mut self, name: &str) -> Result<Option<BString>, NoMemory> {
         SectionMut::remove(self, name)
+    }
+
+    fn remove_marked(&mut self, name: &str, marks: &[bool]) -> Result<usize, NoMemory> {
+        SectionMut::remove_marked(self, name, marks)
     }
 
     fn pop(&mut self) -> Result<Option<(String, BString)>, NoMemory> {
@@ -140,6 +154,10 @@ impl SectionEditor for DetachedSectionMut<'_> {
         }
     }
 
+    fn push_after_last(&mut self, name: &str, value: Option<&[u8]>) -> Result<(), value::Error> {
+        DetachedSectionMut::push_after_last(self, name, value)
+    }
+
     fn push_newline(&mut self) -> Result<(), span::Error> {
         DetachedSectionMut::push_newline(self)
     }
@@ -150,6 +168,10 @@ impl SectionEditor for DetachedSectionMut<'_> {
 
     fn remove(&mut self, name: &str) -> Result<Option<BString>, NoMemory> {
         DetachedSectionMut::remove(self, name)
+    }
+
+    fn remove_marked(&mut self, name: &str, marks: &[bool]) -> Result<usize, NoMemory> {
+        DetachedSectionMut::remove_marked(self, name, marks)
     }
 
     fn pop(&mut self) -> Result<Option<(String, BString)>, NoMemory> {

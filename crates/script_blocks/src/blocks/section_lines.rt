@@ -17,7 +17,7 @@ use gitconf_script::editors::{
 use gitconf_script::play::{Fault, Streams};
 use gitconf_script::words::{Word, words_of};
 use script_answers::answer::{Answer, Outcome};
-use script_answers::arguments::owned;
+use script_answers::arguments::{flags_of_all, owned};
 use script_answers::gix_config::file::is_whitespace;
 use script_answers::refusal::Refusal;
 use script_answers::rendering::line_of;
@@ -93,8 +93,10 @@ fn change_outcome<'a, E: SectionEditor>(
     match change {
         SectionChange::Push => push(editor, pushed_line(words)?),
         SectionChange::PushWithComment => push(editor, commented_line(words)?),
+        SectionChange::PushAfterLast => pushlast(editor, words),
         SectionChange::Set => set(editor, words),
         SectionChange::Remove => remove(editor, words),
+        SectionChange::RemoveMarked => removemarked(alloc, editor, words),
         SectionChange::LineEnd => nl(editor, words),
         SectionChange::Pop => pop(editor, words),
         SectionChange::Header => header(alloc, editor, words),
@@ -141,6 +143,15 @@ fn push<'a, E: SectionEditor>(editor: &mut E, line: PushedLine<'_>) -> Outcome<'
     Ok(Answer::Done)
 }
 
+/// `pushlast BYTES OPT`: a line below the last entry.
+fn pushlast<'a, E: SectionEditor>(editor: &mut E, words: &[Word<'_>]) -> Outcome<'a>
+    ensures { E.held editor.new ≡ E.held editor.old }
+{
+    let line = pushed_line(words)?;
+    editor.push_after_last(line.name, line.value)?;
+    Ok(Answer::Done)
+}
+
 /// `set BYTES BYTES`: gives the last entry of the name a value, or pushes one; the old raw value.
 fn set<'a, E: SectionEditor>(editor: &mut E, words: &[Word<'_>]) -> Outcome<'a>
     ensures { E.held editor.new ≡ E.held editor.old }
@@ -155,6 +166,21 @@ fn remove<'a, E: SectionEditor>(editor: &mut E, words: &[Word<'_>]) -> Outcome<'
 {
     let name = text(words)?;
     Ok(Answer::found(editor.remove(name)?))
+}
+
+/// `removemarked BYTES B..`: removes the entries of the name whose mark is `true`; how many.
+fn removemarked<'a, E: SectionEditor>(
+    alloc: Global,
+    editor: &mut E,
+    words: &[Word<'_>],
+) -> Outcome<'a>
+    ensures { E.held editor.new ≡ E.held editor.old }
+{
+    let Some((name, marks)) = words.split_first() else {
+        return Err(Refusal::Line);
+    };
+    let marks = flags_of_all(alloc, marks)?;
+    Ok(Answer::Number(editor.remove_marked(name.text()?, &marks)?))
 }
 
 /// `pop`: removes the last entry and everything after it; its name and what it means.
