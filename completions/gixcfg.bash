@@ -3,7 +3,8 @@
 _gixcfg() {
     local word=${COMP_WORDS[COMP_CWORD]} before=${COMP_WORDS[COMP_CWORD-1]} command=${COMP_WORDS[1]} words=""
     local commands="get set unset list rename-section remove-section fmt check diff help"
-    local places="-f --file --global --system --local --worktree"
+    local places="-f --file --global --system --local --worktree" values="--value --fixed-value"
+    local shown="--effective --includes --no-includes -t --type -z --null --show-origin --show-scope --show-names --name-only"
     COMPREPLY=()
     # bash takes --type=bool apart, into three words.
     if [ "$word" = "=" ]; then
@@ -19,25 +20,25 @@ _gixcfg() {
         _gixcfg_files "$word"
         return
         ;;
-    --comment | --default) return ;;
-    --type) words="bool int bool-or-int path" ;;
+    --comment | --default | --value | --url) return ;;
+    -t | --type) words="bool int bool-or-int bool-or-str path expiry-date color" ;;
     --newline) words="lf crlf detect" ;;
     --indent) words="tabs:1 spaces:2 spaces:4 spaces:8" ;;
     *)
         case $command:$word in
         :-*) words="--version -h --help" ;;
-        get:-*) words="$places --effective --includes --no-includes --all --default --type -z --null --show-origin --show-scope --show-names -h --help" ;;
-        set:-*) words="$places --all --append --type --comment -h --help" ;;
-        unset:-*) words="$places --all -h --help" ;;
-        list:-*) words="$places --effective --includes --no-includes --type -z --null --name-only --show-origin --show-scope -h --help" ;;
+        get:-*) words="$places $values $shown --all --regexp --url --default -h --help" ;;
+        set:-*) words="$places $values --all --append -t --type --comment -h --help" ;;
+        unset:-*) words="$places $values --all -h --help" ;;
+        list:-*) words="$places $shown -h --help" ;;
         rename-section:-* | remove-section:-*) words="$places -h --help" ;;
         fmt:-*) words="$places --check --indent --newline -h --help" ;;
-        check:-*) words="-q --quiet -h --help" ;;
+        check:-*) words="-q --quiet --lenient -h --help" ;;
         diff:-*) words="-q --quiet -z --null -h --help" ;;
         help:-*) words="-h --help" ;;
         :*) words="$commands all bool int print load" ;;
         help:*) words=$commands ;;
-        check:* | diff:*)
+        check:* | diff:* | fmt:*)
             _gixcfg_files "$word"
             return
             ;;

@@ -22,8 +22,8 @@ complete -c gixcfg -n '__gixcfg_has 1' -a unset -d 'Remove a key\'s entry'
 complete -c gixcfg -n '__gixcfg_has 1' -a list -d 'Print all entries'
 complete -c gixcfg -n '__gixcfg_has 1' -a rename-section -d 'Give a section another name'
 complete -c gixcfg -n '__gixcfg_has 1' -a remove-section -d 'Remove a section'
-complete -c gixcfg -n '__gixcfg_has 1' -a fmt -d 'Lay a file out'
-complete -c gixcfg -n '__gixcfg_has 1' -a check -d 'Report the first fault of each file'
+complete -c gixcfg -n '__gixcfg_has 1' -a fmt -d 'Lay files out'
+complete -c gixcfg -n '__gixcfg_has 1' -a check -d 'Report the faults of files'
 complete -c gixcfg -n '__gixcfg_has 1' -a diff -d 'Print what two files mean differently'
 complete -c gixcfg -n '__gixcfg_has 1' -a help -d 'Show how a command is used'
 complete -c gixcfg -n '__gixcfg_has 1' -a all -d 'Print each value of a key of standard input'
@@ -47,11 +47,15 @@ complete -c gixcfg -n '__gixcfg_is get list' -l no-includes -d 'Not what is incl
 complete -c gixcfg -n '__gixcfg_is get list diff' -s z -l null -d 'End each entry with a byte 0'
 complete -c gixcfg -n '__gixcfg_is get list' -l show-origin -d 'The file before each value'
 complete -c gixcfg -n '__gixcfg_is get list' -l show-scope -d 'The scope before each value'
-complete -c gixcfg -n '__gixcfg_is get' -l show-names -d 'The key before each value'
-complete -c gixcfg -n '__gixcfg_is list' -l name-only -d 'Keys without values'
-complete -c gixcfg -n '__gixcfg_is get set list' -l type -xa 'bool int bool-or-int path' -d 'The type of the value'
+complete -c gixcfg -n '__gixcfg_is get list' -l show-names -d 'The key before each value'
+complete -c gixcfg -n '__gixcfg_is get list' -l name-only -d 'Keys without values'
+complete -c gixcfg -n '__gixcfg_is get set list' -s t -l type -xa 'bool int bool-or-int bool-or-str path expiry-date color' -d 'The type of the value'
 complete -c gixcfg -n '__gixcfg_is get' -l all -d 'All values of the key'
 complete -c gixcfg -n '__gixcfg_is get' -l default -x -d 'The value if the key is not there'
+complete -c gixcfg -n '__gixcfg_is get' -l regexp -d 'The key is a pattern'
+complete -c gixcfg -n '__gixcfg_is get' -l url -x -d 'The entry that is for a URL'
+complete -c gixcfg -n '__gixcfg_is get set unset' -l value -x -d 'Only values in which a pattern is found'
+complete -c gixcfg -n '__gixcfg_is get set unset' -l fixed-value -d 'Only values that are that text'
 complete -c gixcfg -n '__gixcfg_is set' -l all -d 'One entry in place of all of the key'
 complete -c gixcfg -n '__gixcfg_is set' -l append -d 'One more entry of the key'
 complete -c gixcfg -n '__gixcfg_is set' -l comment -x -d 'A comment after the value'
@@ -60,9 +64,10 @@ complete -c gixcfg -n '__gixcfg_is fmt' -l check -d 'Write nothing, and say whet
 complete -c gixcfg -n '__gixcfg_is fmt' -l indent -xa 'tabs:1 spaces:2 spaces:4 spaces:8' -d 'What comes before an entry'
 complete -c gixcfg -n '__gixcfg_is fmt' -l newline -xa 'lf crlf detect' -d 'What lines end with'
 complete -c gixcfg -n '__gixcfg_is check' -s q -l quiet -d 'Print nothing'
+complete -c gixcfg -n '__gixcfg_is check' -l lenient -d 'Ask only what gixcfg makes of a file, not git'
 complete -c gixcfg -n '__gixcfg_is diff' -s q -l quiet -d 'Print no differences'
 
-complete -c gixcfg -n '__gixcfg_is check diff' -F
+complete -c gixcfg -n '__gixcfg_is check diff fmt' -F
 complete -c gixcfg -n '__gixcfg_is load; and __gixcfg_has 2' -F
 complete -c gixcfg -n '__gixcfg_is load; and __gixcfg_has 3' -a get
 complete -c gixcfg -n '__gixcfg_is help; and __gixcfg_has 2' -a "$on_file check diff help"

@@ -1,14 +1,16 @@
 /* A shim that is loaded before a program (LD_PRELOAD) and makes system calls of it fail.
 
    FAIL_CALLS=write:2:28 makes the second call of write fail with error 28, and do nothing; a close that fails has closed the
-   file all the same, as the kernel's does. With error 0 a read or a write does only half of what it is asked for. Several
-   that fail are divided by commas. FAIL_LOG.write is the file that is made when that call fails, so that whoever set the
-   variables can tell.
+   file all the same, as the kernel's does. With error 0 a read or a write does only half of what it is asked for. With -2 the
+   process gets signal 2 before the call. The name `any` counts the calls of all names. Several that fail are divided by
+   commas. FAIL_LOG.write is the file that is made when that call fails, so that whoever set the variables can tell.
 
    The real calls are made by their numbers, so that nothing is looked up here. */
 #define _GNU_SOURCE
+#include <dirent.h>
 #include <errno.h>
 #include <fcntl.h>
+#include <signal.h>
 #include <stdarg.h>
 #include <stdio.h>
 #include <stdlib.h>
@@ -34,7 +36,7 @@ __attribute__((constructor)) static void start(void) {
     const char *text = getenv("FAIL_CALLS");
     while (text && *text && count < MOST) {
         struct failing *next = &failing[count++];
-        if (sscanf(text, "%15[a-z]:%lu:%d", next->name, &next->number, &next->error) != 3)
+        if (sscanf(text, "%15[a-z0-9]:%lu:%d", next->name, &next->number, &next->error) != 3)
             abort();
         text = strchr(text, ',');
         if (text)
@@ -55,14 +57,18 @@ static void tell(const char *name) {
 
 /* The error with which this call fails, 0 where it does half, -1 where it is made as it is. */
 static int error_of(const char *name) {
+    int error = -1;
     for (int at = 0; at < count; at++) {
         struct failing *call = &failing[at];
-        if (strcmp(call->name, name) != 0 || ++call->made != call->number)
+        if ((strcmp(call->name, name) != 0 && strcmp(call->name, "any") != 0) || ++call->made != call->number)
             continue;
-        tell(name);
-        return call->error;
+        tell(call->name);
+        if (call->error < 0)
+            syscall(SYS_kill, getpid(), -call->error);
+        else
+            error = call->error;
     }
-    return -1;
+    return error;
 }
 
 /* Whether this call fails; its error is then in its place. */
@@ -79,6 +85,19 @@ int open(const char *path, int flags, ...) {
     mode_t mode = flags & O_CREAT ? va_arg(more, mode_t) : 0;
     va_end(more);
     return fails("open") ? -1 : syscall(SYS_openat, AT_FDCWD, path, flags, mode);
+}
+
+/* By this folders are opened. */
+int openat(int folder, const char *path, int flags, ...) {
+    va_list more;
+    va_start(more, flags);
+    mode_t mode = flags & O_CREAT ? va_arg(more, mode_t) : 0;
+    va_end(more);
+    return fails("openat") ? -1 : syscall(SYS_openat, folder, path, flags, mode);
+}
+
+ssize_t getdents64(int folder, void *names, size_t size) {
+    return fails("getdents64") ? -1 : syscall(SYS_getdents64, folder, names, size);
 }
 
 int close(int file) {
@@ -118,6 +137,10 @@ ssize_t readlink(const char *path, char *bytes, size_t size) {
 
 int statx(int folder, const char *path, int flags, unsigned mask, struct statx *told) {
     return fails("statx") ? -1 : syscall(SYS_statx, folder, path, flags, mask, told);
+}
+
+int lchown(const char *path, uid_t owner, gid_t group) {
+    return fails("lchown") ? -1 : syscall(SYS_lchown, path, owner, group);
 }
 
 int fchmod(int file, mode_t mode) { return fails("fchmod") ? -1 : syscall(SYS_fchmod, file, mode); }

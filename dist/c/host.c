@@ -1,9 +1,11 @@
 /*
- * What the program asks of its process: words, environment variables and errno. What each function is asked and has to answer stands
+ * What the program asks of its process: words, environment variables, errno, and folders to be listed. What each function is asked and has to answer stands
  * in the kit, in rattle/os/src/c.rt, which the proofs take as given; nothing proves this file. Of the functions that stand there these
  * are the ones that the program calls; if it comes to call another one, the linker names it.
  */
+#define _POSIX_C_SOURCE 200809L
 #include <errno.h>
+#include <fcntl.h>
 #include <stddef.h>
 #include <stdlib.h>
 
@@ -11,6 +13,7 @@ int rattle_errno(void);
 void rattle_set_errno(int error);
 ptrdiff_t rattle_arg(size_t at, unsigned char *buffer, size_t room);
 ptrdiff_t rattle_env(const char *name, unsigned char *buffer, size_t room);
+int rattle_open_dir_at(int dir, const char *name);
 
 enum { MISSING = -1, TOO_LONG = -2 };
 
@@ -56,4 +59,9 @@ int rattle_errno(void)
 void rattle_set_errno(int error)
 {
     errno = error;
+}
+
+int rattle_open_dir_at(int dir, const char *name)
+{
+    return openat(dir, name, O_RDONLY | O_DIRECTORY | O_NOFOLLOW | O_CLOEXEC);
 }

@@ -1,9 +1,9 @@
 """The program for aarch64: proved and compiled by the kit, and linked by Debian's compiler for that processor.
 
 The kit's rt has no word for another processor, and its rattle has (`rattle help build`). That proves the program's own crate for the
-target, over the libraries below it as `rt ci` gives them: in a copy, where it takes what it kept of the same files on this machine,
-and proves what it didn't. The kit has no C library for aarch64, so dist/c/ has the few functions that its own C files define for
-x86_64, and gcc links all to glibc.
+target, over the libraries below it as `rt ci` gives them: those that it left in this clone, where they are newer than all sources,
+else those that it makes in a copy. The kit has no C library for aarch64, so dist/c/ has the few functions that its own C files define
+for x86_64, and gcc links all to glibc.
 """
 import os
 import shutil
@@ -75,9 +75,20 @@ def copy_libraries(room):
     (room / ".git").mkdir()
 
 
-def words_of(room, root):
-    """The words that tell rattle of the program's crate, the libraries below it, and the program logic."""
-    below = {name: room / "crates" / name / "out/rlib" for name in libraries()[0]}
+def proved_library(name, top):
+    """The proved library of a crate, as `rt ci` leaves it in a repository."""
+    return top / "crates" / name / "out/rlib" / f"{name}.rlib"
+
+
+def has_libraries():
+    """Whether `rt ci` left all libraries below the program in this clone, and none is older than a source."""
+    files = [proved_library(name, TOP) for name in libraries()[0]]
+    return all(file.is_file() and source_newer_than(file) is None for file in files)
+
+
+def words_of(top, root):
+    """The words that tell rattle of the program's crate, the libraries below it, which lie in a repository, and the program logic."""
+    below = {name: proved_library(name, top).parent for name in libraries()[0]}
     words = ["--crate-name", "gixcfg", "src/main.rt"]
     for name in ["std", *listed_crates()["gixcfg"][1]]:
         words += ["--extern", f"{name}={below.get(name, root / 'rlibs')}/{name}.rlib"]
@@ -100,17 +111,19 @@ def logged(where, *words):
 def prove():
     """Proves the program's crate for aarch64, and compiles it to an object."""
     root, began, new = kit(), time.time(), OUT / "new.o"
-    print("dist: proves and compiles the program for aarch64, some three minutes on four processors where rt ci kept the libraries",
+    print("dist: proves and compiles the program for aarch64, some three minutes on four processors where the libraries are proved",
           file=sys.stderr, flush=True)
     LOG.unlink(missing_ok=True)
     with tempfile.TemporaryDirectory(prefix="gixcfg-aarch64-") as name:
         room = Path(name)
-        copy_libraries(room)
-        logged(room, "rt", "ci")
+        top = TOP if has_libraries() else room
+        if top == room:
+            copy_libraries(room)
+            logged(room, "rt", "ci")
         # (rt ci refuses a crate that crates.txt doesn't have)
         copy_crate("gixcfg", room)
         jobs = str(min(4, os.cpu_count()))
-        said = logged(room / "crates/gixcfg", root / "bin/rattle", "build", *words_of(room, root), "--jobs", jobs, "-o", new)
+        said = logged(room / "crates/gixcfg", root / "bin/rattle", "build", *words_of(top, root), "--jobs", jobs, "-o", new)
     verdict = [line for line in said.splitlines() if line.startswith("logic=")][-1:]
     if not verdict or not verdict[0].startswith("logic=proved ") or f" target={TARGET} " not in verdict[0]:
         raise Lacking(f"rattle gave no verdict of a proof for aarch64: {LOG} has what it wrote")

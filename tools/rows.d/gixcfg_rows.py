@@ -5,10 +5,15 @@ import os
 from concurrent.futures import ThreadPoolExecutor
 
 from gixcfg_process import Failed, ending
-from gixcfg_runs import Ending, Left, ending_of, run_of
+from gixcfg_runs import Left, ending_of, run_of
 from transcripts import read
 from words import Malformed
 
+# Calls that take one file after the other.
+OF_FILES = (b"check", b"diff", b"fmt")
+
+# What is told where memory is wanting.
+OUT_OF_MEMORY = b"gixcfg: E27\n"
 
 
 class ProgramRow:
@@ -27,11 +32,29 @@ class ProgramRow:
         """Whether it tells what its folder has in the end."""
         return self.wanted.files is not None
 
+    def is_out_of_memory(self, got):
+        """Whether it ends so where memory is wanting: its files are as they were, and nothing else is told. But a call of several
+        files has told of the first ones what it found there, and done them."""
+        ended = (got.status, got.out) == ("5", b"") and (got.err or b"").endswith(OUT_OF_MEMORY)
+        return ended and self._is_told(got.err[:-len(OUT_OF_MEMORY)]) and (not self.sees_files or self._has_first_done(got))
+
     @property
-    def out_of_memory(self):
-        """How it ends where memory is wanting: its files are then as they were."""
+    def _named(self):
+        """The files that a call of several files names, in their order."""
+        verb, *words = self.run.words or [b""]
+        named = [word for word in words if not word.startswith(b"-")]
+        return named if verb in OF_FILES and len(named) > 1 else []
+
+    def _is_told(self, told):
+        """Whether these are the first lines that it tells on standard error; none, if it isn't a call of several files."""
+        return told == b"" or bool(self._named) and told.endswith(b"\n") and (self.wanted.err or b"").startswith(told)
+
+    def _has_first_done(self, got):
+        """Whether the first files that it names, so many as may be, are as wanted, and the others as they were given."""
         given = {entry.name: Left(entry.content) for entry in self.run.entries if entry.kind in ("file", "locked")}
-        return Ending("5", b"", b"gixcfg: E27\n", given if self.sees_files else None)
+        states = [{**given, **{name: self.wanted.files[name] for name in self._named[:done] if name in self.wanted.files}}
+                  for done in range(len(self._named) + 1)]
+        return any(got.has(files) for files in states)
 
 
 def read_rows(path):
@@ -76,7 +99,7 @@ def _refuse_one(row, program, limit, shim):
         except Failed as fault:
             return f"nothing: {fault}", number - 1
         was_refused = shim.was_refused(variables)
-        if not got.is_as(row.wanted) and not (was_refused and got.is_as(row.out_of_memory)):
+        if not got.is_as(row.wanted) and not (was_refused and row.is_out_of_memory(got)):
             return f"{got}, with growth {number} refused" if was_refused else got, number - 1
         if not was_refused:
             return None, number - 1

@@ -81,7 +81,7 @@ def _refusal_in(case, played):
         if refused is None and part.fault == OUT_OF_MEMORY:
             return "script"
         got = _ending_in(row, part)
-        if refused is None and got.is_as(row.out_of_memory) and not got.is_as(row.wanted):
+        if refused is None and row.is_out_of_memory(got) and not got.is_as(row.wanted):
             refused = "call"
         elif not got.is_as(row.wanted):
             raise Fault(row.row, str(got))

@@ -95,6 +95,16 @@ int main(int count, char **words) {
 }
 """
 
+# A program that tells of its files, one after the other, where it has memory.
+TELLER = GROWER.replace("""        const char *text = grows() ? "v\\n" : "gixcfg: E27\\n";
+        int status = text[0] == 'v' ? 0 : 5;
+        return write(status ? 2 : 1, text, strlen(text)) < 0 ? 4 : status;
+""", """        int status = grows() ? 1 : 5;
+        const char *text = status == 1 ? "m: x\\nn: y\\n" : "m: x\\ngixcfg: E27\\n";
+        return write(2, text, strlen(text)) < 0 ? 4 : status;
+""")
+TOLD = 'gixcfg "check" "m" "n"\n  1 "" "m: x\\nn: y\\n"\n'
+
 # A program that is called as gixcfg is, and prints what FAULT says in the place of one thing.
 GIXCFG = r"""#!PYTHON
 import sys, time
@@ -291,6 +301,12 @@ CASES = [
     Case("--refused, a whole process that ends otherwise", GROWER.replace("E27", "E1"), "program.txt",
          'gixcfg "get"\n  0 "v\\n" ""\n', ("--refused",), ('got     5 "" "gixcfg: E1\\n", with growth 1 refused',),
          "0 passed, 1 failed"),
+    Case("--refused, of several files the first one done", TELLER, "program.txt", TOLD, ("--refused",),
+         ("2 growths refused in 1 commands",), "1 passed, 0 failed"),
+    Case("--refused, of several files another one told", TELLER.replace('"m: x', '"n: x'), "program.txt", TOLD, ("--refused",),
+         ('got     5 "" "n: x\\ngixcfg: E27\\n", with growth 1 refused',), "0 passed, 1 failed"),
+    Case("--refused, of one file something told", TELLER, "program.txt", TOLD.replace(' "n"', ""), ("--refused",),
+         ('got     5 "" "m: x\\ngixcfg: E27\\n", with growth 1 refused',), "0 passed, 1 failed"),
     program_run("right", (), "2 passed, 0 failed"),
     program_run("output", ('program.txt:1: gixcfg "get" < "v"', 'wanted  0 "v" ""', 'got     0 "v!" ""'), "1 passed, 1 failed"),
     program_run("error", ('got     0 "v" "?"',), "1 passed, 1 failed"),

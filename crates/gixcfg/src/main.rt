@@ -6,7 +6,7 @@ use gix_config::NoMemory;
 use gix_config::host::{Env, EnvVar};
 use gix_config::refusals::Refusal;
 use gixcfg_answers::trouble::MEMORY;
-use gixcfg_calls::{Streams, run_words};
+use gixcfg_calls::{Streams, Terminal, run_words};
 use std::alloc::Global;
 use std::env;
 use std::io::{ErrorKind, IsTerminal};
@@ -26,16 +26,20 @@ fn borrowed(alloc: Global, words: &[String]) -> Result<Vec<&str>, NoMemory> {
     Ok(words.iter().map(|word| word.as_str()).collect(alloc)?)
 }
 
-/// Whether standard error shows colors: it is a terminal, and `NO_COLOR` isn't set, or to nothing.
-fn is_colored(rt: &HostRuntime) -> Result<bool, NoMemory> {
+/// What of the streams is a terminal. Standard error then shows colors, unless `NO_COLOR` is set to something.
+fn terminal_of(rt: &HostRuntime) -> Result<Terminal, NoMemory> {
     if !rt.stderr().is_terminal() {
-        return Ok(false);
+        return Ok(Terminal::none());
     }
-    match Process::new(*rt).var("NO_COLOR")? {
-        EnvVar::Unset => Ok(true),
-        EnvVar::Text(text) => Ok(text.is_empty()),
-        EnvVar::IllFormed => Ok(false),
-    }
+    let is_colored = match Process::new(*rt).var("NO_COLOR")? {
+        EnvVar::Unset => true,
+        EnvVar::Text(text) => text.is_empty(),
+        EnvVar::IllFormed => false,
+    };
+    Ok(Terminal {
+        is_colored,
+        is_typed: rt.stdin().is_terminal(),
+    })
 }
 
 /// Runs the program with the words of the process, its three streams, its variables, and the files of the disk.
@@ -47,7 +51,7 @@ fn run_process(rt: &HostRuntime) -> Result<u8, NoMemory> {
         out: rt.stdout(),
         err: rt.stderr(),
     };
-    run_words(rt, &args, is_colored(rt)?, streams)
+    run_words(rt, &args, terminal_of(rt)?, streams)
 }
 
 fn main(rt: HostRuntime) -> ExitCode {

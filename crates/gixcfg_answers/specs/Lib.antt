@@ -1,1 +1,10 @@
+pub mod Line
+pub mod Message
+pub mod Reason
+pub mod Colors
+pub mod Dates
+pub mod Numbers
 pub mod Troubles
+pub mod Typed
+pub mod UrlFaults
+pub mod Urls

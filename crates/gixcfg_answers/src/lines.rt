@@ -1,10 +1,11 @@
 //! Lines of names and values.
 
+use gixcfg_words::command::Form;
 use std::alloc::AllocError;
 
 /// What a line has of an entry, and what comes between and after that.
 #[derive(Clone, Copy)]
-pub struct Form {
+pub struct Line {
     /// Whether the names are printed.
     pub has_names: bool,
     /// Whether the value is printed.
@@ -15,23 +16,31 @@ pub struct Form {
     pub end: u8,
 }
 
-impl Form {
-    /// Values alone, a line each, or ended by a byte 0 each.
-    pub fn of_values(is_null: bool) -> Form {
-        Form {
-            has_names: false,
-            has_value: true,
-            between: if is_null { b'\n' } else { b' ' },
-            end: if is_null { 0 } else { b'\n' },
+impl Line {
+    /// As `get` prints entries: a blank between the names and the value.
+    pub fn of_values(form: &Form) -> Line {
+        Line {
+            between: if form.is_null { b'\n' } else { b' ' },
+            ..Line::of_entries(form)
         }
     }
 
-    /// Names and values, a line each, or ended by a byte 0 each.
-    pub fn of_entries(is_null: bool) -> Form {
-        Form {
+    /// As `list` prints them: `=` between the names and the value.
+    pub fn of_entries(form: &Form) -> Line {
+        Line {
+            has_names: form.has_names,
+            has_value: form.has_value,
+            ..Line::of_differences(form.is_null)
+        }
+    }
+
+    /// As `diff` prints them: all of an entry.
+    pub fn of_differences(is_null: bool) -> Line {
+        Line {
             has_names: true,
+            has_value: true,
             between: if is_null { b'\n' } else { b'=' },
-            ..Form::of_values(is_null)
+            end: if is_null { 0 } else { b'\n' },
         }
     }
 }
@@ -43,30 +52,34 @@ impl Form {
 /// Out of memory.
 pub fn add_entry(
     lines: &mut Vec<u8>,
-    form: &Form,
+    line: &Line,
     before: &[u8],
     names: &[u8],
     value: Option<&[u8]>,
 ) -> Result<(), AllocError> {
     lines.extend_from_slice(before)?;
-    if form.has_names {
+    if line.has_names {
         lines.extend_from_slice(names)?;
     }
-    add_value(lines, form, value)?;
-    lines.push(form.end)?;
+    add_value(lines, line, value)?;
+    lines.push(line.end)?;
     Ok(())
 }
 
-/// Adds a value after the names.
-fn add_value(lines: &mut Vec<u8>, form: &Form, value: Option<&[u8]>) -> Result<(), AllocError> {
+/// Adds a value after the names, if it is printed.
+///
+/// # Errors
+///
+/// Out of memory.
+pub fn add_value(lines: &mut Vec<u8>, line: &Line, value: Option<&[u8]>) -> Result<(), AllocError> {
     let Some(value) = value else {
         return Ok(());
     };
-    if !form.has_value {
+    if !line.has_value {
         return Ok(());
     }
-    if form.has_names {
-        lines.push(form.between)?;
+    if line.has_names {
+        lines.push(line.between)?;
     }
     lines.extend_from_slice(value)
 }

@@ -14,19 +14,38 @@ pub fn add_names(
     subsection_name: Option<&[u8]>,
     value_name: &[u8],
 ) -> Result<(), AllocError> {
+    add_section_names(text, section_name, subsection_name)?;
+    add_in_lower_case(text, value_name)
+}
+
+/// Adds the names of an entry's section, each with a dot behind it.
+///
+/// # Errors
+///
+/// Out of memory.
+pub fn add_section_names(
+    text: &mut Vec<u8>,
+    section_name: &[u8],
+    subsection_name: Option<&[u8]>,
+) -> Result<(), AllocError> {
     add_in_lower_case(text, section_name)?;
     text.push(b'.')?;
     if let Some(subsection_name) = subsection_name {
         text.extend_from_slice(subsection_name)?;
         text.push(b'.')?;
     }
-    add_in_lower_case(text, value_name)
+    Ok(())
 }
 
 /// Adds bytes, ASCII letters of them in lower case.
-fn add_in_lower_case(text: &mut Vec<u8>, bytes: &[u8]) -> Result<(), AllocError> {
-    for byte in bytes {
-        text.push(byte.to_ascii_lowercase())?;
-    }
+///
+/// # Errors
+///
+/// Out of memory.
+pub fn add_in_lower_case(text: &mut Vec<u8>, bytes: &[u8]) -> Result<(), AllocError> {
+    let before = text.len();
+    text.extend_from_slice(bytes)?;
+    let (_, added) = text.as_mut_slice().split_at_mut(before);
+    added.make_ascii_lowercase();
     Ok(())
 }

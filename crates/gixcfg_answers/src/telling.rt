@@ -1,32 +1,32 @@
 //! The entries that a call asks for, as lines.
 
 use crate::entries::Found;
-use crate::lines::{Form, add_entry};
+use crate::lines::{Line, add_entry};
 use crate::trouble::Trouble;
 use crate::typed::typed;
-use gixcfg_words::options::Options;
+use gixcfg_words::command::{Choice, Form};
 use std::alloc::Global;
 
-/// The lines of the entries of a key: of all of them, or of the last one; or the value that is given if there is none.
+/// The lines of the entries that `get` found: of all of them, or of the last one; or the value that is given if there is none, with
+/// these names.
 ///
 /// # Errors
 ///
 /// There is none, and no value is given; a value isn't of the type; out of memory.
-pub fn lines_of_key(
+pub fn lines_of_found(
     alloc: Global,
     found: &[Found],
-    options: &Options<'_>,
+    choice: Choice<'_>,
+    form: &Form,
     home: Option<&str>,
 ) -> Result<Vec<u8>, Trouble> {
-    let form = Form {
-        has_names: options.show_names,
-        ..Form::of_values(options.null)
-    };
-    let chosen = if options.all { found } else { last_of(found) };
-    if chosen.is_empty() {
-        default_line(alloc, options, home)
-    } else {
-        lines_of(alloc, &form, chosen, options, home)
+    match choice {
+        Choice::Last {
+            default: Some(value),
+        } if found.is_empty() => default_line(alloc, value, form, home),
+        _ if found.is_empty() => Err(Trouble::Missing),
+        Choice::Last { default: _ } => lines_of(alloc, last_of(found), form, home),
+        Choice::All => lines_of(alloc, found, form, home),
     }
 }
 
@@ -38,16 +38,13 @@ pub fn lines_of_key(
 pub fn lines_of_all(
     alloc: Global,
     found: &[Found],
-    options: &Options<'_>,
+    form: &Form,
     home: Option<&str>,
 ) -> Result<Vec<u8>, Trouble> {
-    let form = Form {
-        has_value: !options.name_only,
-        ..Form::of_entries(options.null)
-    };
+    let line = Line::of_entries(form);
     let mut lines = Vec::new(alloc);
     for entry in found {
-        match add_typed(alloc, &mut lines, &form, entry, options, home) {
+        match add_typed(alloc, &mut lines, &line, entry, form, home) {
             Ok(()) | Err(Trouble::Untyped(_)) => {}
             Err(trouble) => return Err(trouble),
         }
@@ -63,19 +60,20 @@ fn last_of(found: &[Found]) -> &[Found] {
 /// The value that is given for a key that is missing, on a line.
 fn default_line(
     alloc: Global,
-    options: &Options<'_>,
+    value: &str,
+    form: &Form,
     home: Option<&str>,
 ) -> Result<Vec<u8>, Trouble> {
-    let Some(value) = options.default else {
-        return Err(Trouble::Missing);
+    let line = Line {
+        has_names: false,
+        ..Line::of_values(form)
     };
-    let form = Form::of_values(options.null);
     let mut lines = Vec::new(alloc);
-    match options.kind {
-        None => add_entry(&mut lines, &form, b"", b"", Some(value.as_bytes()))?,
+    match form.kind {
+        None => add_entry(&mut lines, &line, b"", b"", Some(value.as_bytes()))?,
         Some(kind) => {
             let value = typed(alloc, Some(value.as_bytes()), kind, home)?;
-            add_entry(&mut lines, &form, b"", b"", Some(value.as_bytes()))?;
+            add_entry(&mut lines, &line, b"", b"", Some(value.as_bytes()))?;
         }
     }
     Ok(lines)
@@ -84,14 +82,14 @@ fn default_line(
 /// Entries, a line each, their values in the type that is asked for.
 fn lines_of(
     alloc: Global,
-    form: &Form,
     found: &[Found],
-    options: &Options<'_>,
+    form: &Form,
     home: Option<&str>,
 ) -> Result<Vec<u8>, Trouble> {
+    let line = Line::of_values(form);
     let mut lines = Vec::new(alloc);
     for entry in found {
-        add_typed(alloc, &mut lines, form, entry, options, home)?;
+        add_typed(alloc, &mut lines, &line, entry, form, home)?;
     }
     Ok(lines)
 }
@@ -100,22 +98,17 @@ fn lines_of(
 fn add_typed(
     alloc: Global,
     lines: &mut Vec<u8>,
-    form: &Form,
+    line: &Line,
     entry: &Found,
-    options: &Options<'_>,
+    form: &Form,
     home: Option<&str>,
 ) -> Result<(), Trouble> {
-    match options.kind {
-        None => add_entry(lines, form, &entry.before, &entry.names, entry.value())?,
+    match form.kind {
+        None => add_entry(lines, line, &entry.before, &entry.names, entry.value())?,
         Some(kind) => {
             let value = typed(alloc, entry.value(), kind, home)?;
-            add_entry(
-                lines,
-                form,
-                &entry.before,
-                &entry.names,
-                Some(value.as_bytes()),
-            )?;
+            let value = Some(value.as_bytes());
+            add_entry(lines, line, &entry.before, &entry.names, value)?;
         }
     }
     Ok(())

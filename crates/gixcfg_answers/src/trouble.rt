@@ -1,15 +1,14 @@
 //! Why a call with options wasn't done, and how that is reported.
 ghost use Rattle.std.specs.Prelude.{◌≡◌};
-ghost use Rattle.gixcfg_answers.specs.Troubles.{of_file, of_type, trouble_of_number};
+ghost use Rattle.gixcfg_answers.specs.Troubles.{of_file, of_type, of_url, status_of, trouble_of_number};
 ghost use Rattle.gixcfg_answers.specs.declared.trouble.Trouble.TheVariants.{Memory};
 
-use crate::typed;
-use crate::typed::refusal_of;
-use gitconf_base::key::KeyRef;
+use crate::typed::Refusal;
+use crate::{typed, urls};
 use gitconf_text::NoMemory;
 use gixcfg_files as files;
-use gixcfg_words::options::Kind;
-use std::alloc::AllocError;
+use gixcfg_words::shown::Shown;
+use std::alloc::{AllocError, AllocFailed};
 use std::io;
 use std::io::Write;
 
@@ -23,10 +22,10 @@ pub enum Trouble {
     Missing,
     /// The file isn't laid out.
     Different,
-    /// A word is no key.
-    NoKey,
-    /// A key or a section that is to be has neither a section's name nor a subsection: no file could hold it.
-    Nameless,
+    /// A pattern can't be read.
+    BadPattern,
+    /// The URL that entries are asked for is none.
+    BadUrl(urls::Refusal),
     /// There is no such section.
     NoSection,
     /// A name can't be had: the number of the refusal, 4 to 6.
@@ -40,7 +39,7 @@ pub enum Trouble {
     /// The comment can't be put after the value.
     Uncommented,
     /// A value is none of the type.
-    Untyped(Kind),
+    Untyped(Refusal),
     /// The file can't be read or edited.
     File(files::Fault),
     /// There is no such file.
@@ -49,6 +48,8 @@ pub enum Trouble {
     Input,
     /// Standard output failed.
     Output,
+    /// Nobody reads standard output any more, of which nothing is told.
+    Closed,
     /// The key has several entries.
     Several,
     /// The key has no entry that could be removed.
@@ -67,14 +68,15 @@ impl Trouble {
     {
         match self {
             Trouble::Missing | Trouble::Different | Trouble::NoSection | Trouble::BadName(_) => 1,
-            Trouble::NoKey | Trouble::Nameless => 2,
+            Trouble::BadPattern | Trouble::BadUrl(_) => 2,
             Trouble::Text(_) | Trouble::Refused(_) | Trouble::Uncommented | Trouble::Untyped(_) =>
                 3,
             Trouble::File(_)
             | Trouble::Unread(_)
             | Trouble::NoFile
             | Trouble::Input
-            | Trouble::Output => 4,
+            | Trouble::Output
+            | Trouble::Closed => 4,
             Trouble::Several | Trouble::NoEntry => 5,
             Trouble::Memory => MEMORY,
         }
@@ -97,13 +99,35 @@ impl From<AllocError> for Trouble {
     }
 }
 
+impl<T> From<AllocFailed<T>> for Trouble
+where
+    T: Drop,
+{
+    ghost from_gives = { λ _ e. e ≡ Memory };
+
+    fn from(_: AllocFailed<T>) -> Trouble {
+        Trouble::Memory
+    }
+}
+
 impl From<typed::Fault> for Trouble {
     ghost from_gives = { λ fault e. e ≡ of_type fault };
 
     fn from(fault: typed::Fault) -> Trouble {
         match fault {
-            typed::Fault::Refused(kind) => Trouble::Untyped(kind),
+            typed::Fault::Refused(refusal) => Trouble::Untyped(refusal),
             typed::Fault::Memory => Trouble::Memory,
+        }
+    }
+}
+
+impl From<urls::Fault> for Trouble {
+    ghost from_gives = { λ fault e. e ≡ of_url fault };
+
+    fn from(fault: urls::Fault) -> Trouble {
+        match fault {
+            urls::Fault::Refused(refusal) => Trouble::BadUrl(refusal),
+            urls::Fault::Memory => Trouble::Memory,
         }
     }
 }
@@ -117,24 +141,6 @@ impl From<files::Fault> for Trouble {
             fault => Trouble::File(fault),
         }
     }
-}
-
-/// The key that a word is.
-///
-/// # Errors
-///
-/// [`Trouble::NoKey`] if the word has no dot, [`Trouble::Nameless`] if nothing stands before its only one.
-pub fn key_of(word: &str) -> Result<KeyRef<'_>, Trouble> {
-    match KeyRef::parse_unvalidated(word.as_bytes()) {
-        Some(key) if is_nameless(key.section_name, key.subsection_name) => Err(Trouble::Nameless),
-        Some(key) => Ok(key),
-        None => Err(Trouble::NoKey),
-    }
-}
-
-/// Whether a section of these names has neither a name nor a subsection. Its header would be `[]`, which no file may have.
-pub fn is_nameless(name: &str, subsection_name: Option<&[u8]>) -> bool {
-    name.is_empty() && subsection_name.is_none()
 }
 
 /// The trouble that a refusal of an edit is, by its number.
@@ -152,16 +158,30 @@ pub fn of_number(number: u8) -> Trouble
 /// is taken.
 pub fn tell<E: Write>(trouble: &Trouble, name: &str, err: &mut E) {
     let _ = match trouble {
-        Trouble::Missing | Trouble::NoEntry => Ok(()),
+        Trouble::Missing | Trouble::NoEntry | Trouble::Closed => Ok(()),
         Trouble::Text(message) | Trouble::Unread(message) => err.write_all(message.as_bytes()),
-        Trouble::File(fault) => writeln!(err, "gixcfg: {name}: {fault}"),
+        Trouble::File(fault) => {
+            let name = Shown(name);
+            writeln!(err, "gixcfg: {name}: {fault}")
+        }
         Trouble::Memory => err.write_all(b"gixcfg: E27\n"),
         Trouble::Input => err.write_all(b"gixcfg: standard input: not read\n"),
         Trouble::Output => err.write_all(b"gixcfg: standard output: not written [E28]\n"),
-        Trouble::NoKey => err.write_all(b"gixcfg: not a key, it has no dot\n"),
-        Trouble::Nameless => err.write_all(b"gixcfg: no section is named\n"),
+        Trouble::BadPattern => err.write_all(b"gixcfg: not a pattern\n"),
+        Trouble::BadUrl(refusal) => {
+            let reason = refusal.reason();
+            writeln!(err, "gixcfg: not a URL: {reason}")
+        }
         _ => tell_of_file(trouble, name, err),
     };
+}
+
+/// Reports a trouble with the file of this name, and returns the exit status.
+pub fn report<E: Write>(trouble: &Trouble, name: &str, err: &mut E) -> u8
+    ensures { result ≡ status_of trouble.now }
+{
+    tell(trouble, name, err);
+    trouble.status()
 }
 
 /// Why a text or an edit is refused.
@@ -173,8 +193,18 @@ fn reason_of(number: u8) -> &'static str {
     }
 }
 
+/// What is allowed of the name for which this refusal is.
+fn rule_of_name(number: u8) -> &'static str {
+    match number {
+        4 => "a section's has letters, digits and dashes",
+        5 => "a subsection's has no line feed and no byte 0",
+        _ => "a value's begins with a letter, and has letters, digits and dashes",
+    }
+}
+
 /// Tells a trouble with what a file has.
 fn tell_of_file<E: Write>(trouble: &Trouble, name: &str, err: &mut E) -> io::Result<()> {
+    let name = Shown(name);
     match trouble {
         Trouble::Different => writeln!(err, "gixcfg: {name}: not laid out"),
         Trouble::NoSection => writeln!(err, "gixcfg: {name}: no such section"),
@@ -183,7 +213,10 @@ fn tell_of_file<E: Write>(trouble: &Trouble, name: &str, err: &mut E) -> io::Res
             err,
             "gixcfg: {name}: the key has several entries; see --all"
         ),
-        Trouble::BadName(number) => writeln!(err, "gixcfg: a name that isn't allowed [E{number}]"),
+        Trouble::BadName(number) => {
+            let rule = rule_of_name(*number);
+            writeln!(err, "gixcfg: a name that isn't allowed: {rule} [E{number}]")
+        }
         Trouble::Uncommented => writeln!(
             err,
             "gixcfg: {name}: the comment can't be put after the value"
@@ -192,9 +225,9 @@ fn tell_of_file<E: Write>(trouble: &Trouble, name: &str, err: &mut E) -> io::Res
             let reason = reason_of(*number);
             writeln!(err, "gixcfg: {name}: {reason} [E{number}]")
         }
-        Trouble::Untyped(kind) => {
-            let refusal = refusal_of(*kind);
-            writeln!(err, "gixcfg: {name}: {refusal} [E11]")
+        Trouble::Untyped(refusal) => {
+            let reason = refusal.reason();
+            writeln!(err, "gixcfg: {name}: {reason} [E11]")
         }
         _ => Ok(()),
     }

@@ -2,8 +2,16 @@
 //! process: files, variables, and loads that ask them, come from the runtime, and streams from the caller.
 #![tactic(auto)]
 
+mod beside_git;
 mod calls;
-mod words;
+mod checks;
+mod differing;
+mod edits;
+mod fault;
+mod layouts;
+mod listing;
+mod meant;
+mod named;
+mod program;
 
-pub use calls::run_call;
-pub use words::{Streams, run_words};
+pub use calls::{Streams, Terminal, run_words};

@@ -8,7 +8,7 @@ use Rattle.std.specs.Str.{is_utf8, IsUtf8, NoCharPasses}
 use Rattle.std.specs.Str.Pattern.{HasCharAt}
 use mathlib.Core.List.{append_assoc}
 use lib.ListN.{take-append-drop}
-use Rattle.gixcfg_files.specs.Paths.{after_start, folder_of, is_absolute, is_slash, joined}
+use Rattle.gixcfg_files.specs.Paths.{after_start, folder_of, is_absolute, is_slash, joined, shown_folder}
 
 -- no slash stands in a text
 abbrev NoSlash : List ℕ → Type 0
@@ -50,19 +50,35 @@ folder_split (x ∷ xs) ys none =
     chosen (list_any is_slash (x ∷ (xs ++ 47 ∷ ys))) (x ∷ folder_of (xs ++ 47 ∷ ys)) [] (any_some (x ∷ xs) ys)
     ∙ ap (λ t. x ∷ t) (folder_split xs ys none)
 
-no_slash : (bs : List ℕ) → NoCharPasses (λ d. d == 47) bs → list_any is_slash bs ≡ false
+pub no_slash : (bs : List ℕ) → NoCharPasses (λ d. d == 47) bs → list_any is_slash bs ≡ false
 no_slash bs none = any_none bs (λ k low. NoCharPasses-char 47 bs k none (lit< tt) low)
 
 -- the folder of a path without slashes
 pub folder_without : (path : List ℕ) → NoCharPasses (λ d. d == 47) path → folder_of path ≡ []
 folder_without path none = folder_none path (no_slash path none)
 
+-- a path is what stands on both sides of a slash, and the slash
+parts_at : (path : List ℕ) (i j : ℕ) → HasCharAt 47 path i j → take i path ++ 47 ∷ drop j path ≡ path
+parts_at path i j there = ap (λ t. take i path ++ t) (sym (drop_at_char 47 path i j there (lit< tt))) ∙ take-append-drop i path
+
 -- the folder of a path that was split at its last slash
 pub folder_at : (path : List ℕ) (i j : ℕ) → NoCharPasses (λ d. d == 47) (drop j path) → HasCharAt 47 path i j → folder_of path ≡ take i path ++ 47 ∷ []
 folder_at path i j none there =
-    let parts : take i path ++ 47 ∷ drop j path ≡ path =
-    ap (λ t. take i path ++ t) (sym (drop_at_char 47 path i j there (lit< tt))) ∙ take-append-drop i path in
-    ap folder_of (sym parts) ∙ folder_split (take i path) (drop j path) (no_slash (drop j path) none)
+    ap folder_of (sym (parts_at path i j there)) ∙ folder_split (take i path) (drop j path) (no_slash (drop j path) none)
+
+-- such a path is its folder and the name behind it
+pub name_at : (path : List ℕ) (i j : ℕ) → NoCharPasses (λ d. d == 47) (drop j path) → HasCharAt 47 path i j → path ≡ folder_of path ++ drop j path
+name_at path i j none there =
+    sym (ap (λ t. t ++ drop j path) (folder_at path i j none there) ∙ append_assoc (take i path) (47 ∷ []) (drop j path) ∙ parts_at path i j there)
+
+pub shown_at : (path : List ℕ) (i j : ℕ) → NoCharPasses (λ d. d == 47) (drop j path) → HasCharAt 47 path i j → take i path ++ 47 ∷ [] ≡ shown_folder path
+shown_at path i j none there =
+    sym (chosen (list_any is_slash path) (folder_of path) (codes "./")
+    (ap (list_any is_slash) (sym (parts_at path i j there)) ∙ any_some (take i path) (drop j path))
+    ∙ folder_at path i j none there)
+
+pub shown_without : (path : List ℕ) → NoCharPasses (λ d. d == 47) path → codes "./" ≡ shown_folder path
+shown_without path none = sym (left_out (list_any is_slash path) (folder_of path) (codes "./") (no_slash path none))
 
 -- a relative folder that a file at a path names
 pub joined_relative : (path folder start : List ℕ) → is_absolute folder ≡ false → folder_of path ≡ start ++ 47 ∷ [] →

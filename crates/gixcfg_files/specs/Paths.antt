@@ -1,5 +1,6 @@
 -- Paths that are put together, and what a file of one line names.
-use Rattle.std.specs.Prelude.{ℕ, ◌-◌, Bool, ◌==◌, ◌||◌, ◌&&◌, nat_eq, List, [], ◌∷◌, ◌++◌, length, take, drop, slice_index, Option, Some, None, if◌then◌else◌, codes}
+use Rattle.std.specs.Prelude.{ℕ, ◌-◌, Bool, false, not, ◌≡◌, ◌==◌, ◌||◌, ◌&&◌, nat_eq, List, [], ◌∷◌, ◌++◌, length, take, drop, slice_index, count_by, Option, Some, None, if◌then◌else◌, codes}
+use Rattle.std.specs.Char.{is_ascii_digit}
 use Rattle.std.specs.List.{starts_with, suffix_len, list_any}
 use Rattle.std.specs.Str.{is_utf8}
 
@@ -28,6 +29,28 @@ named text before = after_start (without_ends text) before
 abbrev pub folder_of : List ℕ → List ℕ
 folder_of [] = []
 folder_of (b ∷ bs) = if list_any is_slash (b ∷ bs) then b ∷ folder_of bs else []
+
+-- the path of the folder that a path is in, as it is opened: the working folder is a dot
+abbrev pub shown_folder : List ℕ → List ℕ
+shown_folder path = if list_any is_slash path then folder_of path else codes "./"
+
+-- the name of the file at a path: what comes after its folder, without a slash
+abbrev pub IsNameOf : (path name : List ℕ) → Type 0
+IsNameOf path name = (path ≡ folder_of path ++ name) × (list_any is_slash name ≡ false)
+
+-- the number of a process: digits, of which the first is no zero
+abbrev pub is_number : List ℕ → Bool
+is_number [] = false
+is_number (b ∷ bs) = not (b == 48) && (count_by is_ascii_digit (b ∷ bs) == length (b ∷ bs))
+
+-- the text, if it is the number of a process
+abbrev pub if_number : Option (List ℕ) → Option (List ℕ)
+if_number None = None
+if_number (Some text) = if is_number text then Some text else None
+
+-- the number of a process that a name ends with, after what it begins with
+abbrev pub number_after : (name start : List ℕ) → Option (List ℕ)
+number_after name start = if_number (after_start name start)
 
 -- the path is from the root on
 abbrev pub is_absolute : List ℕ → Bool

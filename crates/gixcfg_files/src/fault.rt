@@ -10,8 +10,10 @@ use std::{fmt, io};
 /// Why a file can't be read or edited.
 #[derive(Drop)]
 pub enum Fault {
-    /// Its lock exists already, at this path: another process works on the file, or one ended while it did.
+    /// Its lock exists already, at this path: another process works on the file, or one was killed while it did.
     Locked(String),
+    /// Other processes change it each time before it is written.
+    Changing,
     /// What is at its path is no regular file.
     NoFile,
     /// Its path leads through too many symbolic links.
@@ -63,11 +65,12 @@ impl fmt::Display for Fault {
         match self {
             Fault::Locked(path) => write!(
                 f,
-                "{path} exists: another process may be editing the file"
+                "{path} exists: another process may be editing the file; if none is, remove it"
             ),
+            Fault::Changing => f.write_str("it keeps changing"),
             Fault::NoFile => f.write_str("not a regular file"),
             Fault::Links => f.write_str("too many symbolic links"),
-            Fault::NoRepository => f.write_str("not in a repository"),
+            Fault::NoRepository => f.write_str("not in a git directory"),
             Fault::NoHome => f.write_str("HOME isn't set"),
             Fault::Unread(error) => write!(f, "not read: {error}"),
             Fault::Unwritten(error) => write!(f, "not written: {error}"),

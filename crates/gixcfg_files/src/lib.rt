@@ -5,18 +5,25 @@
 //! nothing of what a disk or an environment answers, so no clause here can say what is found, read, locked or written.
 #![tactic(auto)]
 
+mod disk;
+mod draft;
 mod fault;
+mod left;
 mod links;
 mod lock;
 mod paths;
+mod place;
 mod places;
+mod process;
 mod reading;
 mod repository;
+mod rights;
 mod variables;
 
 pub use fault::Fault;
 pub use links::end_of_links;
-pub use lock::Lock;
+pub use place::{Place, Replaced};
 pub use places::{system_file, user_file};
 pub use reading::read;
 pub use repository::{Repository, find_repository, repository_file};
+pub use variables::variable;

@@ -1,6 +1,7 @@
 //! Paths that are put together, and what a file of one line names.
 ghost use Rattle.std.specs.Prelude.{◌≡◌, ◌==◌, ◌++◌, count_by, IfOk, codes, string_bytes, option_map};
-ghost use Rattle.gixcfg_files.specs.Paths.{folder_of as folder_of_lem, is_absolute as is_absolute_lem, is_line_end as is_line_end_lem, joined as joined_lem, named, other_file as other_file_lem, without_ends as without_ends_lem};
+ghost use Rattle.std.specs.Char.{is_ascii_digit};
+ghost use Rattle.gixcfg_files.specs.Paths.{after_start, IsNameOf, is_number as is_number_lem, folder_of as folder_of_lem, is_absolute as is_absolute_lem, is_line_end as is_line_end_lem, joined as joined_lem, named, other_file as other_file_lem, shown_folder, without_ends as without_ends_lem};
 
 use std::alloc::{AllocError, Global};
 
@@ -38,6 +39,31 @@ pub fn lock_of(alloc: Global, path: &str) -> Result<String, AllocError>
     ensures { IfOk result (λ s. string_bytes s ≡ path.now ++ codes ".lock") }
 {
     format!(in alloc; "{path}.lock")
+}
+
+/// The path of the draft that the process of a number makes of a file's new text.
+///
+/// # Errors
+///
+/// Out of memory.
+pub fn draft_of(alloc: Global, path: &str, number: &str) -> Result<String, AllocError>
+    ensures { IfOk result (λ s. string_bytes s ≡ path.now ++ codes ".gixcfg-" ++ number.now) }
+{
+    format!(in alloc; "{path}.gixcfg-{number}")
+}
+
+/// The path of the folder that a file is in, with a slash at its end; `./` for the working folder.
+///
+/// # Errors
+///
+/// Out of memory.
+pub fn folder_of(alloc: Global, path: &str) -> Result<String, AllocError>
+    ensures { IfOk result (λ s. string_bytes s ≡ shown_folder path.now) }
+{
+    match path.rsplit_once('/') {
+        Some((start, _)) => as_folder(alloc, start),
+        None => String::from_str(alloc, "./"),
+    }
 }
 
 /// The path of what has this name in a folder, whose path ends with a slash or is empty.
@@ -86,11 +112,44 @@ fn is_absolute(path: &str) -> bool
     matches!(path.as_bytes(), [b'/', ..])
 }
 
+/// The name of the file at a path.
+pub fn name_of(path: &str) -> &str
+    ensures { IsNameOf path.now result.now }
+{
+    match path.rsplit_once('/') {
+        Some((_, name)) => name,
+        None => path,
+    }
+}
+
+/// Whether a text is the number of a process: digits, of which the first is no zero.
+pub fn is_number(text: &str) -> bool
+    ensures { result ≡ is_number_lem text.now }
+{
+    match text.as_bytes().split_first() {
+        Some((first, _)) => *first != b'0' && count_of_digits(text.as_bytes()) == text.len(),
+        None => false,
+    }
+}
+
+/// How many bytes of a text are digits.
+fn count_of_digits(text: &[u8]) -> usize
+    ensures { result ≡ count_by is_ascii_digit text.now }
+{
+    text.iter().filter(|byte| byte.is_ascii_digit()).count()
+}
+
 /// What a text of one line names after its beginning.
 pub fn line_of<'a>(text: &'a [u8], before: &str) -> Option<&'a str>
     ensures { option_map (λ s. s.now) result ≡ named text.entry.now before.now }
 {
-    let line = without_ends(text);
+    after(without_ends(text), before)
+}
+
+/// What a line has after its beginning; none if it begins otherwise, or what comes is no UTF-8.
+pub fn after<'a>(line: &'a [u8], before: &str) -> Option<&'a str>
+    ensures { option_map (λ s. s.now) result ≡ after_start line.entry.now before.now }
+{
     if !line.starts_with(before.as_bytes()) {
         return None;
     }

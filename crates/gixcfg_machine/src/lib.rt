@@ -8,7 +8,7 @@ mod refusal;
 mod streams;
 mod tree;
 
-pub use machine::{Machine, State, Variable};
+pub use machine::{Change, Machine, State, Variable};
 pub use refusal::Refusal;
 pub use streams::{Source, Target};
 pub use tree::{NEW, Node, Tree};

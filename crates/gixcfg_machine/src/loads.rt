@@ -28,7 +28,11 @@ impl Files for Copied {
     ghost failures = { λ _. None };
 
     fn is_file(&mut self, path: &str) -> bool {
-        self.tree.file(path).is_some()
+        match self.tree.metadata(path) {
+            Ok(metadata) => metadata.is_file(),
+            // The read of it then tells.
+            Err(error) => error.kind() == ErrorKind::OutOfMemory,
+        }
     }
 
     fn read(&mut self, path: &str) -> Result<Vec<u8>, FileFault> {

@@ -1,5 +1,6 @@
 //! A runtime in memory: files, variables and a working folder, with the file operation that fails.
 ghost use Rattle.std.specs.Io.{WritesAtMost};
+ghost use Rattle.std.specs.Prelude.{◌≤◌, length};
 
 use crate::refusal::Refusal;
 use crate::tree::{Node, Tree};
@@ -16,11 +17,33 @@ use std::rt::{Env, Files};
 /// The bits of a mode that say who may do what.
 const RIGHTS: u32 = 0o777;
 
+/// The number of the process that a machine runs.
+const PROCESS: &str = "7";
+
 /// A variable: its name and its text, which need not be UTF-8.
 #[derive(Drop)]
 pub struct Variable {
     pub name: String,
     pub text: Vec<u8>,
+}
+
+/// What another process does to a file.
+#[derive(Clone, Copy)]
+pub enum Change {
+    /// It writes a line more.
+    Grow,
+    /// It removes it.
+    Remove,
+    /// It makes it.
+    Make,
+}
+
+/// Another process, which changes a file each time before a lock is made, so many times.
+#[derive(Drop)]
+struct Other {
+    path: String,
+    change: Change,
+    left: Cell<usize>,
 }
 
 /// What a machine has, and what was asked of it.
@@ -33,6 +56,7 @@ pub struct State {
     left: Cell<Option<usize>>,
     /// How many operations changed what a file or a path has.
     changes: Cell<usize>,
+    other: Option<Other>,
 }
 
 impl State {
@@ -45,7 +69,18 @@ impl State {
             tree: RefCell::new(tree),
             left: Cell::new(None),
             changes: Cell::new(0),
+            other: None,
         }
+    }
+
+    /// Lets another process change a file each time before a lock is made, so many times.
+    pub fn disturb(&mut self, path: &str, change: Change, count: usize) -> Result<(), AllocError> {
+        self.other = Some(Other {
+            path: String::from_str(self.alloc, path)?,
+            change,
+            left: Cell::new(count),
+        });
+        Ok(())
     }
 
     /// Puts something at a path where nothing is.
@@ -113,6 +148,17 @@ impl<'a> Machine<'a> {
         Ok(())
     }
 
+    /// Lets the other process change its file, if it still does.
+    fn be_disturbed(&self) -> io::Result<()> {
+        match &self.state.other {
+            Some(other) if other.left.get() > 0 => {
+                other.left.set(other.left.get().saturating_sub(1));
+                make_change(&mut *self.tree_mut()?, &other.path, other.change)
+            }
+            _ => Ok(()),
+        }
+    }
+
     /// What is there.
     pub fn tree(&self) -> io::Result<Ref<'a, Tree>> {
         match self.state.tree.try_borrow() {
@@ -135,6 +181,21 @@ impl Alloc for Machine<'_> {
 
     fn alloc(&self) -> Global {
         self.state.alloc
+    }
+}
+
+/// Changes a file in a tree.
+fn make_change(tree: &mut Tree, path: &str, change: Change) -> io::Result<()> {
+    match change {
+        Change::Grow => {
+            let number = tree.open(path)?;
+            tree.append(number, b"#\n")
+        }
+        Change::Remove => tree.remove(path),
+        Change::Make => {
+            tree.create(path)?;
+            Ok(())
+        }
     }
 }
 
@@ -218,7 +279,8 @@ impl Seek for Opened<'_> {
 
 impl OpenFile for Opened<'_> {
     fn metadata(&self) -> io::Result<Metadata> {
-        Err(Refusal::Unknown.error())
+        self.machine.begin()?;
+        self.machine.tree()?.metadata_of(self.number)
     }
 
     fn set_len(&self, _size: u64) -> io::Result<()> {
@@ -242,14 +304,47 @@ impl OpenFile for Opened<'_> {
     }
 }
 
+/// The names of a folder of a machine that is open, each with a zero byte behind it.
+#[derive(Drop)]
+pub struct Listing<'a> {
+    machine: Machine<'a>,
+    names: Vec<u8>,
+    /// How many bytes were read.
+    at: usize,
+}
+
+impl Read for Listing<'_> {
+    /// Gives one name.
+    fn read(&mut self, buf: &mut [u8]) -> io::Result<usize> {
+        self.machine.begin()?;
+        let left = self.names.split_at(self.at.min(self.names.len())).1;
+        let count = left.split_at(first_of(left)).0.read(buf)?;
+        self.at = self.at.saturating_add(count);
+        Ok(count)
+    }
+}
+
+/// How many bytes the first of some names has, with the zero byte behind it.
+fn first_of(names: &[u8]) -> usize
+    ensures { result ≤ length names.now }
+{
+    match names.iter().position(|byte| *byte == 0) {
+        Some(end) => end.saturating_add(1).min(names.len()),
+        None => 0,
+    }
+}
+
 impl<'a> Files for Machine<'a> {
     type File = Opened<'a>;
 
-    type Dir = &'static [u8];
+    type Dir = Listing<'a>;
 
     fn open_file(&self, how: &OpenOptions, path: &str) -> io::Result<Opened<'a>> {
         how.check()?;
         self.begin()?;
+        if path.ends_with(".lock") {
+            self.be_disturbed()?;
+        }
         let number = if how.asks_create_new() {
             self.tree_mut()?.create(path)?
         } else {
@@ -262,8 +357,14 @@ impl<'a> Files for Machine<'a> {
         })
     }
 
-    fn open_dir(&self, _path: &str) -> io::Result<&'static [u8]> {
-        Err(Refusal::Unknown.error())
+    fn open_dir(&self, path: &str) -> io::Result<Listing<'a>> {
+        self.begin()?;
+        let names = self.tree()?.names_in(path)?;
+        Ok(Listing {
+            machine: *self,
+            names,
+            at: 0,
+        })
     }
 
     fn metadata(&self, path: &str) -> io::Result<Metadata> {
@@ -310,6 +411,9 @@ impl<'a> Files for Machine<'a> {
 
     fn read_link<B: Allocator>(&self, alloc: B, path: &str) -> io::Result<PathBuf<B>> {
         self.begin()?;
+        if path == "/proc/self" {
+            return Ok(PathBuf::from_str(alloc, PROCESS)?);
+        }
         let tree = self.tree()?;
         Ok(PathBuf::from_str(alloc, tree.link_at(path)?)?)
     }

@@ -71,6 +71,14 @@ fn folder_of(path: &str) -> &str {
     }
 }
 
+/// The name of what is at a path, if it is in a folder.
+fn name_in<'a>(path: &'a str, folder: &str) -> Option<&'a str> {
+    match path.rsplit_once('/') {
+        Some((start, name)) if start == folder => Some(name),
+        _ => None,
+    }
+}
+
 impl Tree {
     /// A tree with nothing in it.
     pub fn new(alloc: Global, folder: &str) -> Result<Tree, AllocError> {
@@ -208,6 +216,14 @@ impl Tree {
         Ok(metadata_of(&self.found(path)?.node))
     }
 
+    /// What is said of what has a number.
+    pub fn metadata_of(&self, number: usize) -> io::Result<Metadata> {
+        match self.numbered(number) {
+            Some(entry) => Ok(metadata_of(&entry.node)),
+            None => Err(Refusal::Missing.error()),
+        }
+    }
+
     /// What is said of what is at a path, even a link.
     pub fn symlink_metadata(&self, path: &str) -> io::Result<Metadata> {
         let path = self.whole(path)?;
@@ -220,6 +236,22 @@ impl Tree {
     /// The path from the root of what a path leads to.
     pub fn canonical(&self, path: &str) -> io::Result<String> {
         Ok(String::from_str(self.alloc, &self.found(path)?.path)?)
+    }
+
+    /// The names in the folder that a path leads to, each with a zero byte behind it.
+    pub fn names_in(&self, path: &str) -> io::Result<Vec<u8>> {
+        let folder = self.found(path)?;
+        let Node::Folder = folder.node else {
+            return Err(Refusal::NoFolder.error());
+        };
+        let mut names = Vec::new(self.alloc);
+        for entry in &self.entries {
+            if let Some(name) = name_in(&entry.path, &folder.path) {
+                names.extend_from_slice(name.as_bytes())?;
+                names.push(0)?;
+            }
+        }
+        Ok(names)
     }
 
     /// What a link has.

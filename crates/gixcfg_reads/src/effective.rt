@@ -1,19 +1,23 @@
 //! All that git reads, from where the program is called.
 
 use crate::loads::Loads;
+use crate::parameters;
+use crate::parameters::{Parameter, parameters_of};
 use crate::paths::has_worktree_file;
 use crate::placing::placed;
+use bstr::BString;
 use gix_config::file::Metadata;
 use gix_config::file::init::{self, from_paths};
 use gix_config::refusals::Refusal;
 use gix_config::source::Source;
-use gix_config::{File, NoMemory};
-use gixcfg_answers::trouble::Trouble;
-use gixcfg_files::{Repository, find_repository};
-use gixcfg_sources::conditions::{here_from, options_of};
-use gixcfg_sources::places::{add, metas_of_user, paths_of};
-use gixcfg_sources::refusals::{of_paths, trouble_of};
-use gixcfg_texts::outside::Outside;
+use gix_config::{File, KeyRef, NoMemory};
+use gixcfg_answers::conditions::{here_from, options_of};
+use gixcfg_answers::outside::Outside;
+use gixcfg_answers::places::{add, metas_of_user, paths_of};
+use gixcfg_answers::refusals::{of_paths, trouble_of};
+use gixcfg_answers::trouble::{Trouble, of_number};
+use gixcfg_files::{Repository, find_repository, variable};
+use gixcfg_words::keys::is_nameless;
 use std::alloc::{AllocGlobal, Global};
 use std::rc::Rc;
 use std::rt::{Env, Files};
@@ -53,7 +57,7 @@ fn metas_of<R: Files + Env + AllocGlobal>(
 }
 
 /// The files of these places, and the variables, as the options have it.
-fn load<R: Files + Loads + AllocGlobal>(
+fn load<R: Files + Env + Loads + AllocGlobal>(
     rt: &R,
     metas: Vec<Metadata>,
     outside: Outside<'_>,
@@ -66,23 +70,88 @@ fn load<R: Files + Loads + AllocGlobal>(
     }
 }
 
-/// The file of the variables, if they have entries. The library takes a key that names no section, and git doesn't.
-fn variables_of<R: Loads + AllocGlobal>(
+/// The file of the variables, if they have entries: those of `GIT_CONFIG_COUNT`, then those of `git -c`.
+fn variables_of<R: Env + Loads + AllocGlobal>(
+    rt: &R,
+    options: init::Options<'_>,
+) -> Result<Option<File>, Trouble> {
+    let counted = counted_of(rt, options)?;
+    match variable(rt, "GIT_CONFIG_PARAMETERS")? {
+        Some(text) => with_parameters(rt.alloc(), counted, text.as_bytes()),
+        None => Ok(counted),
+    }
+}
+
+/// The file of the entries of `git -c`, after others.
+fn with_parameters(
+    alloc: Global,
+    file: Option<File>,
+    text: &[u8],
+) -> Result<Option<File>, Trouble> {
+    let parameters = match parameters_of(alloc, text) {
+        Ok(parameters) => parameters,
+        Err(parameters::Fault::Memory) => return Err(Trouble::Memory),
+        Err(parameters::Fault::Malformed) => {
+            return Err(told(
+                alloc,
+                "GIT_CONFIG_PARAMETERS isn't written as git writes it",
+            ));
+        }
+    };
+    if parameters.is_empty() {
+        return Ok(file);
+    }
+    let mut file = or_empty(alloc, file)?;
+    for parameter in &parameters {
+        add_parameter(alloc, &mut file, parameter)?;
+    }
+    Ok(Some(file))
+}
+
+/// Adds an entry, in a section of its own, so that the order stays.
+fn add_parameter(alloc: Global, file: &mut File, parameter: &Parameter) -> Result<(), Trouble> {
+    let key = match KeyRef::parse_unvalidated(&parameter.key) {
+        Some(key) if !is_nameless(key.section_name, key.subsection_name) => key,
+        _ => return Err(told(alloc, "a key of GIT_CONFIG_PARAMETERS names no section")),
+    };
+    let subsection_name = match key.subsection_name {
+        Some(bytes) => Some(BString::new(bytes.to_vec(alloc)?)),
+        None => None,
+    };
+    match file.new_section(key.section_name, subsection_name) {
+        Ok(mut section) => {
+            let value = match &parameter.value {
+                Some(value) => Some(value.as_bytes()),
+                None => None,
+            };
+            match section.push(key.value_name, value) {
+                Ok(()) => Ok(()),
+                Err(refusal) => Err(of_number(refusal.number())),
+            }
+        }
+        Err(refusal) => Err(of_number(refusal.number())),
+    }
+}
+
+/// A trouble with a variable, with the message.
+fn told(alloc: Global, what: &str) -> Trouble {
+    match format!(in alloc; "gixcfg: {what}\n") {
+        Ok(message) => Trouble::Text(message),
+        Err(_) => Trouble::Memory,
+    }
+}
+
+/// The file of the variables of `GIT_CONFIG_COUNT`, if they have entries. The library takes a key that names no section, and git doesn't.
+fn counted_of<R: Loads + AllocGlobal>(
     rt: &R,
     options: init::Options<'_>,
 ) -> Result<Option<File>, Trouble> {
     match rt.from_variables(options) {
-        Ok(Some(file)) if file.section("", None).is_ok() => Err(nameless(rt.alloc())),
+        Ok(Some(file)) if file.section("", None).is_ok() => {
+            Err(told(rt.alloc(), "a key of GIT_CONFIG_KEY_n names no section"))
+        },
         Ok(file) => Ok(file),
         Err(refusal) => Err(trouble_of(rt.alloc(), refusal.number(), &refusal)),
-    }
-}
-
-/// The trouble with a variable whose key names no section.
-fn nameless(alloc: Global) -> Trouble {
-    match format!(in alloc; "gixcfg: a key of GIT_CONFIG_KEY_n names no section\n") {
-        Ok(message) => Trouble::Text(message),
-        Err(_) => Trouble::Memory,
     }
 }
 

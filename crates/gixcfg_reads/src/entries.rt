@@ -1,22 +1,43 @@
 //! The entries of a file.
 
 use gix_config::{File, KeyRef};
-use gixcfg_answers::entries::{Found, add_found, is_named};
+use gixcfg_answers::entries::{Found, Sought, add_found, add_lines, is_listed_under};
+use gixcfg_answers::lines::Line;
+use gixcfg_answers::origins::{Located, before_of};
+use gixcfg_answers::patterns::{marks_of, marks_of_keys};
 use gixcfg_answers::trouble::Trouble;
-use gixcfg_words::options::Options;
+use gixcfg_words::command::{Form, Values};
 use std::alloc::Global;
 
 /// All entries of a file's sections, in order.
 pub fn all_entries(
     alloc: Global,
     file: &File,
-    options: &Options<'_>,
+    form: &Form,
+    read: &Located,
 ) -> Result<Vec<Found>, Trouble> {
     let mut found = Vec::new(alloc);
     for section in file.sections() {
-        add_found(alloc, &mut found, &section, None, options)?;
+        let before = before_of(alloc, section.meta(), form, read)?;
+        add_found(alloc, &mut found, &section, &Sought::all(&before))?;
     }
     Ok(found)
+}
+
+/// All entries of a file's sections, in order, a line each as `list` prints them.
+pub fn all_lines(
+    alloc: Global,
+    file: &File,
+    form: &Form,
+    read: &Located,
+) -> Result<Vec<u8>, Trouble> {
+    let line = Line::of_entries(form);
+    let mut lines = Vec::new(alloc);
+    for section in file.sections() {
+        let before = before_of(alloc, section.meta(), form, read)?;
+        add_lines(alloc, &mut lines, &line, &before, &section)?;
+    }
+    Ok(lines)
 }
 
 /// All entries of a key, in order.
@@ -24,13 +45,77 @@ pub fn entries_of(
     alloc: Global,
     file: &File,
     key: KeyRef<'_>,
-    options: &Options<'_>,
+    form: &Form,
+    read: &Located,
 ) -> Result<Vec<Found>, Trouble> {
     let mut found = Vec::new(alloc);
     for section in file.sections() {
-        if is_named(&section, key) {
-            add_found(alloc, &mut found, &section, Some(key.value_name), options)?;
+        if is_listed_under(&section, key) {
+            let before = before_of(alloc, section.meta(), form, read)?;
+            let sought = Sought {
+                before: &before,
+                value_name: Some(key.value_name),
+                has_subsection: true,
+            };
+            add_found(alloc, &mut found, &section, &sought)?;
         }
+    }
+    Ok(found)
+}
+
+/// The entries in whose keys a pattern is found.
+pub fn entries_like(
+    alloc: Global,
+    entries: Vec<Found>,
+    pattern: &str,
+) -> Result<Vec<Found>, Trouble> {
+    let marks = marks_by_keys(alloc, &entries, pattern)?;
+    marked(alloc, entries, &marks)
+}
+
+/// The entries whose values are meant.
+pub fn entries_meant(
+    alloc: Global,
+    entries: Vec<Found>,
+    values: Values<'_>,
+) -> Result<Vec<Found>, Trouble> {
+    if let Values::Any = values {
+        return Ok(entries);
+    }
+    let marks = marks_by_values(alloc, &entries, values)?;
+    marked(alloc, entries, &marks)
+}
+
+/// In the keys of which entries a pattern is found.
+fn marks_by_keys(alloc: Global, entries: &[Found], pattern: &str) -> Result<Vec<bool>, Trouble> {
+    let mut keys = Vec::with_capacity(alloc, entries.len())?;
+    for entry in entries {
+        keys.push(entry.names.as_slice())?;
+    }
+    marks_of_keys(alloc, pattern, &keys)
+}
+
+/// Which entries have a value that is meant.
+fn marks_by_values(
+    alloc: Global,
+    entries: &[Found],
+    values: Values<'_>,
+) -> Result<Vec<bool>, Trouble> {
+    let mut texts = Vec::with_capacity(alloc, entries.len())?;
+    for entry in entries {
+        texts.push(entry.value().unwrap_or(b""))?;
+    }
+    marks_of(alloc, values, &texts)
+}
+
+/// Those that are marked.
+fn marked(alloc: Global, entries: Vec<Found>, marks: &[bool]) -> Result<Vec<Found>, Trouble> {
+    let (mut found, mut at) = (Vec::new(alloc), 0usize);
+    for entry in entries {
+        if marks.get(at).copied().unwrap_or(false) {
+            found.push(entry)?;
+        }
+        at = at.saturating_add(1);
     }
     Ok(found)
 }

@@ -5,49 +5,49 @@ use crate::placing::placed;
 use gix_config::file::init;
 use gix_config::refusals::Refusal;
 use gix_config::{File, NoMemory};
+use gixcfg_answers::conditions::{here_from, options_of};
+use gixcfg_answers::included::included_by;
+use gixcfg_answers::origins::Located;
+use gixcfg_answers::outside::{Outside, refused};
+use gixcfg_answers::places::meta_of;
+use gixcfg_answers::refusals::{of_init, trouble_of};
 use gixcfg_answers::trouble::Trouble;
 use gixcfg_files::find_repository;
-use gixcfg_sources::conditions::{here_from, options_of};
-use gixcfg_sources::included::included_by;
-use gixcfg_sources::places::meta_of;
-use gixcfg_sources::refusals::{of_init, trouble_of};
-use gixcfg_texts::outside::{Outside, refused};
-use gixcfg_words::options::Options;
 use std::alloc::{AllocGlobal, Global};
 use std::rt::{Env, Files};
 
-/// A text as a file, with what it includes; that of the file that the options name, or of standard input. The text is copied, for the
+/// A text that was read there as a file, with what it includes. The text is copied, for the
 /// message of a refusal.
 pub fn included<R: Files + Env + Loads + AllocGlobal>(
     rt: &R,
-    call: &Options<'_>,
+    read: &Located,
     text: Vec<u8>,
     outside: Outside<'_>,
 ) -> Result<File, Trouble> {
     let found = find_repository(rt)?;
     let here = here_from(rt, found.as_ref())?;
     let copy = text.to_vec(rt.alloc())?;
-    let meta = meta_of(rt.alloc(), call.path())?;
+    let meta = meta_of(rt.alloc(), read.path())?;
     match rt.from_text(text, meta, options_of(outside.home, &here, true)) {
         Ok(file) => Ok(file),
-        Err(refusal) => Err(refused_load(rt, call, &copy, &refusal, outside)?),
+        Err(refusal) => Err(refused_load(rt, read, &copy, &refusal, outside)?),
     }
 }
 
 /// The trouble that a refusal of a text with what it includes is: with its place, if a text is refused.
 fn refused_load<R: Files + AllocGlobal>(
     rt: &R,
-    call: &Options<'_>,
+    read: &Located,
     text: &[u8],
     refusal: &init::Error,
     outside: Outside<'_>,
 ) -> Result<Trouble, NoMemory> {
     let alloc = rt.alloc();
     if let init::Error::Parse(cause) = refusal {
-        return Ok(refused(alloc, call.file_name(), text, cause, outside));
+        return Ok(refused(alloc, read.name(), text, cause, outside));
     }
     if let Some(cause) = of_init(refusal) {
-        let paths = included_in(alloc, text, call.path(), outside.home)?;
+        let paths = included_in(alloc, text, read.path(), outside.home)?;
         if let Some(trouble) = placed(rt, paths, cause, outside)? {
             return Ok(trouble);
         }

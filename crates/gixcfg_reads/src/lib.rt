@@ -6,11 +6,12 @@ mod effective;
 mod entries;
 mod including;
 mod loads;
+mod parameters;
 mod paths;
 mod placing;
 mod reads;
 mod system;
 
 pub use loads::Loads;
-pub use paths::path_of;
-pub use reads::{get, list};
+pub use paths::{located, located_target};
+pub use reads::{Asked, answer};

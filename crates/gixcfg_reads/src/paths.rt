@@ -1,24 +1,62 @@
-//! Which of git's files a call is about.
+//! Where the file is that a call is about.
 
 use gix_config::refusals::Refusal;
 use gix_config::{File, KeyRef};
+use gixcfg_answers::origins::Located;
 use gixcfg_answers::trouble::Trouble;
-use gixcfg_files::{Fault, find_repository, read, repository_file, system_file, user_file};
-use gixcfg_words::options::{Options, Place};
+use gixcfg_files::{
+    Fault, find_repository, read, repository_file, system_file, user_file, variable,
+};
+use gixcfg_words::command::{Place, Source, Target};
 use std::alloc::AllocGlobal;
 use std::rt::{Env, Files};
 
-/// The path of the file of git's that the options name, if they do.
-pub fn path_of<R: Files + Env + AllocGlobal>(
+/// Where what a call reads is.
+///
+/// # Errors
+///
+/// It is a file of git's that isn't found; out of memory.
+pub fn located<R: Files + Env + AllocGlobal>(
     rt: &R,
-    options: &Options<'_>,
-) -> Result<Option<String>, Trouble> {
-    match options.place {
-        Some(Place::Global) => Ok(Some(user_file(rt)?)),
-        Some(Place::System) => Ok(Some(system_file(rt)?)),
-        Some(Place::Local) => Ok(Some(repository_file(rt)?)),
-        Some(Place::Worktree) => Ok(Some(worktree_path(rt)?)),
-        Some(Place::Effective) | None => Ok(None),
+    source: Source<'_>,
+) -> Result<Located, Trouble> {
+    match source {
+        Source::Effective => Ok(Located::Effective),
+        Source::Target(Target::Default) => match variable(rt, "GIT_CONFIG")? {
+            Some(path) => Ok(Located::File(path, None)),
+            None => Ok(Located::Effective),
+        },
+        Source::Target(target) => located_target(rt, target),
+    }
+}
+
+/// Where the file is that an edit is about.
+///
+/// # Errors
+///
+/// It is a file of git's that isn't found; out of memory.
+pub fn located_target<R: Files + Env + AllocGlobal>(
+    rt: &R,
+    target: Target<'_>,
+) -> Result<Located, Trouble> {
+    match target {
+        Target::Input => Ok(Located::Input),
+        Target::File(path) => Ok(Located::File(String::from_str(rt.alloc(), path)?, None)),
+        Target::Place(place) => Ok(Located::File(path_of(rt, place)?, Some(place))),
+        Target::Default => match variable(rt, "GIT_CONFIG")? {
+            Some(path) => Ok(Located::File(path, None)),
+            None => Ok(Located::File(repository_file(rt)?, Some(Place::Local))),
+        },
+    }
+}
+
+/// The path of one of git's files.
+fn path_of<R: Files + Env + AllocGlobal>(rt: &R, place: Place) -> Result<String, Trouble> {
+    match place {
+        Place::Global => Ok(user_file(rt)?),
+        Place::System => Ok(system_file(rt)?),
+        Place::Local => Ok(repository_file(rt)?),
+        Place::Worktree => worktree_path(rt),
     }
 }
 

@@ -2,10 +2,10 @@
 
 use gix_config::parse::Error;
 use gix_config::{File, NoMemory};
+use gixcfg_answers::included::included_by;
+use gixcfg_answers::outside::{Outside, refused};
+use gixcfg_answers::texts::text_at;
 use gixcfg_answers::trouble::Trouble;
-use gixcfg_sources::included::included_by;
-use gixcfg_sources::texts::text_at;
-use gixcfg_texts::outside::{Outside, refused};
 use std::alloc::{AllocGlobal, Global};
 use std::rt::Files;
 

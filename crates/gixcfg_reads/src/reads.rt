@@ -1,97 +1,160 @@
 //! `get` and `list` with options.
 
 use crate::effective::effective;
-use crate::entries::{all_entries, entries_of};
+use crate::entries::{all_entries, all_lines, entries_like, entries_meant, entries_of};
 use crate::including::included;
 use crate::loads::Loads;
-use gix_config::File;
+use gix_config::{File, KeyRef};
 use gixcfg_answers::entries::Found;
-use gixcfg_answers::telling::{lines_of_all, lines_of_key};
-use gixcfg_answers::trouble::{Trouble, key_of};
-use gixcfg_texts::outside::{Outside, accepted, text_of};
-use gixcfg_texts::streams::put;
-use gixcfg_words::call::Call;
-use gixcfg_words::options::Place;
+use gixcfg_answers::for_url::{Variables, entries_for_url};
+use gixcfg_answers::origins::Located;
+use gixcfg_answers::outside::{Inputs, accepted};
+use gixcfg_answers::telling::{lines_of_all, lines_of_found};
+use gixcfg_answers::trouble::Trouble;
+use gixcfg_words::command::{ForUrl, Get, List, Reading, Source, Wanted};
 use std::alloc::AllocGlobal;
-use std::io::{Read, Write};
+use std::io::Read;
 use std::rt::{Env, Files};
 
-/// Prints the entries of a key, in a file that may be missing.
-pub fn get<R: Files + Env + Loads + AllocGlobal, I: Read, W: Write>(
-    rt: &R,
-    call: &Call<'_>,
-    outside: Outside<'_>,
-    input: &mut I,
-    out: &mut W,
-) -> Result<(), Trouble> {
-    let found = values_found(rt, call, outside, input)?;
-    let lines = lines_of_key(rt.alloc(), &found, &call.options, outside.home)?;
-    Ok(put(&lines, out)?)
+/// What is asked of what a call reads.
+#[derive(Clone, Copy)]
+pub enum Asked<'a> {
+    /// Values.
+    Get(&'a Get<'a>),
+    /// All entries.
+    List(&'a List<'a>),
 }
 
-/// Prints all entries, or those whose value is of a type.
-pub fn list<R: Files + Env + Loads + AllocGlobal, I: Read, W: Write>(
-    rt: &R,
-    call: &Call<'_>,
-    outside: Outside<'_>,
-    input: &mut I,
-    out: &mut W,
-) -> Result<(), Trouble> {
-    let found = all_found(rt, call, outside, input)?;
-    let lines = lines_of_all(rt.alloc(), &found, &call.options, outside.home)?;
-    Ok(put(&lines, out)?)
-}
-
-/// The entries of the key that a call names.
-fn values_found<R: Files + Env + Loads + AllocGlobal, I: Read>(
-    rt: &R,
-    call: &Call<'_>,
-    outside: Outside<'_>,
-    input: &mut I,
-) -> Result<Vec<Found>, Trouble> {
-    let Some(word) = call.words.first() else {
-        return Err(Trouble::NoKey);
-    };
-    let key = key_of(word)?;
-    match file_of(rt, call, outside, input)? {
-        Some(file) => entries_of(rt.alloc(), &file, key, &call.options),
-        None => Ok(Vec::new(rt.alloc())),
+impl<'a> Asked<'a> {
+    /// What is read for it.
+    pub fn source(&self) -> Source<'a> {
+        match self {
+            Asked::Get(get) => get.reading.source,
+            Asked::List(list) => list.reading.source,
+        }
     }
 }
 
-/// All entries.
-fn all_found<R: Files + Env + Loads + AllocGlobal, I: Read>(
-    rt: &R,
-    call: &Call<'_>,
-    outside: Outside<'_>,
-    input: &mut I,
+/// The lines that answer what is asked.
+///
+/// # Errors
+///
+/// Nothing is found that was asked for, or more than one may print; what is read is missing or refused; out of memory.
+pub fn answer<R: Files + Env + Loads + AllocGlobal, I: Read + Drop>(
+    inputs: &mut Inputs<'_, R, I>,
+    asked: Asked<'_>,
+    read: &Located,
+) -> Result<Vec<u8>, Trouble> {
+    match asked {
+        Asked::Get(call) => get(inputs, call, read),
+        Asked::List(call) => list(inputs, call, read),
+    }
+}
+
+/// The lines that `get` prints, of a file that may be missing.
+fn get<R: Files + Env + Loads + AllocGlobal, I: Read + Drop>(
+    inputs: &mut Inputs<'_, R, I>,
+    get: &Get<'_>,
+    read: &Located,
+) -> Result<Vec<u8>, Trouble> {
+    let (alloc, home) = (inputs.rt.alloc(), inputs.outside.home);
+    let found = found_by(inputs, get, read)?;
+    let found = entries_meant(alloc, found, get.values)?;
+    lines_of_found(alloc, &found, get.choice, &get.form, home)
+}
+
+/// The entries that `get` looks for.
+fn found_by<R: Files + Env + Loads + AllocGlobal, I: Read + Drop>(
+    inputs: &mut Inputs<'_, R, I>,
+    get: &Get<'_>,
+    read: &Located,
 ) -> Result<Vec<Found>, Trouble> {
-    match file_of(rt, call, outside, input)? {
-        Some(file) => all_entries(rt.alloc(), &file, &call.options),
-        None => Err(Trouble::NoFile),
+    match get.wanted {
+        Wanted::Key(key) => found_of(inputs, get, key, read),
+        Wanted::Keys(pattern) => found_like(inputs, get, pattern, read),
+        Wanted::ForUrl(wanted) => found_for_url(inputs, get, &wanted, read),
+    }
+}
+
+/// The entries of a key.
+fn found_of<R: Files + Env + Loads + AllocGlobal, I: Read + Drop>(
+    inputs: &mut Inputs<'_, R, I>,
+    get: &Get<'_>,
+    key: KeyRef<'_>,
+    read: &Located,
+) -> Result<Vec<Found>, Trouble> {
+    let alloc = inputs.rt.alloc();
+    match file_at(inputs, &get.reading, read)? {
+        Some(file) => entries_of(alloc, &file, key, &get.form, read),
+        None => Ok(Vec::new(alloc)),
+    }
+}
+
+/// The entries in whose keys a pattern is found.
+fn found_like<R: Files + Env + Loads + AllocGlobal, I: Read + Drop>(
+    inputs: &mut Inputs<'_, R, I>,
+    get: &Get<'_>,
+    pattern: &str,
+    read: &Located,
+) -> Result<Vec<Found>, Trouble> {
+    let alloc = inputs.rt.alloc();
+    match file_at(inputs, &get.reading, read)? {
+        Some(file) => entries_like(alloc, all_entries(alloc, &file, &get.form, read)?, pattern),
+        None => Ok(Vec::new(alloc)),
+    }
+}
+
+/// The entries for a URL, which is read before the file is.
+fn found_for_url<R: Files + Env + Loads + AllocGlobal, I: Read + Drop>(
+    inputs: &mut Inputs<'_, R, I>,
+    get: &Get<'_>,
+    wanted: &ForUrl<'_>,
+    read: &Located,
+) -> Result<Vec<Found>, Trouble> {
+    let alloc = inputs.rt.alloc();
+    let variables = Variables::of(alloc, wanted)?;
+    match file_at(inputs, &get.reading, read)? {
+        Some(file) => entries_for_url(alloc, file.sections(), &variables, &get.form, read),
+        None => Ok(Vec::new(alloc)),
+    }
+}
+
+/// The lines that `list` prints.
+fn list<R: Files + Env + Loads + AllocGlobal, I: Read + Drop>(
+    inputs: &mut Inputs<'_, R, I>,
+    list: &List<'_>,
+    read: &Located,
+) -> Result<Vec<u8>, Trouble> {
+    let (alloc, home) = (inputs.rt.alloc(), inputs.outside.home);
+    match (file_at(inputs, &list.reading, read)?, list.form.kind) {
+        (Some(file), None) => all_lines(alloc, &file, &list.form, read),
+        (Some(file), Some(_)) => {
+            let found = all_entries(alloc, &file, &list.form, read)?;
+            lines_of_all(alloc, &found, &list.form, home)
+        }
+        (None, _) => Err(Trouble::NoFile),
     }
 }
 
 /// What a call reads; none if there is no such file.
-fn file_of<R: Files + Env + Loads + AllocGlobal, I: Read>(
-    rt: &R,
-    call: &Call<'_>,
-    outside: Outside<'_>,
-    input: &mut I,
+fn file_at<R: Files + Env + Loads + AllocGlobal, I: Read + Drop>(
+    inputs: &mut Inputs<'_, R, I>,
+    reading: &Reading<'_>,
+    read: &Located,
 ) -> Result<Option<File>, Trouble> {
-    let (path, follows) = (call.options.path(), call.options.follows());
-    if let Some(Place::Effective) = call.options.place {
-        return Ok(Some(effective(rt, outside, follows)?));
+    let follows = read.follows(reading.includes);
+    if let Located::Effective = read {
+        return Ok(Some(effective(inputs.rt, inputs.outside, follows)?));
     }
-    let Some(text) = text_of(rt, path, input)? else {
+    let Some(text) = inputs.text_of(read.path())? else {
         return Ok(None);
     };
+    let (rt, outside) = (inputs.rt, inputs.outside);
     if follows {
-        Ok(Some(included(rt, &call.options, text, outside)?))
+        Ok(Some(included(rt, read, text, outside)?))
     } else {
         // (it is copied, since the message of a refusal shows a line of it)
-        let (alloc, name) = (rt.alloc(), call.options.file_name());
-        let read = File::try_from_bytes(alloc, &text);
-        Ok(Some(accepted(alloc, name, &text, read, outside)?))
+        let made = File::try_from_bytes(rt.alloc(), &text);
+        Ok(Some(accepted(rt.alloc(), read.name(), &text, made, outside)?))
     }
 }

@@ -1,7 +1,7 @@
 //! What the lines of a script work on: a machine, and the streams of its next call.
 
 use gix_config::NoMemory;
-use gixcfg_calls::{Streams, run_words};
+use gixcfg_calls::{Streams, Terminal, run_words};
 use gixcfg_machine::{Machine, Node, Source, State, Target, Tree};
 use std::alloc::{AllocError, Global};
 use std::mem::replace;
@@ -54,7 +54,7 @@ impl Session {
             err: &mut err,
         };
         let machine = Machine { state: &self.state };
-        let status = run_words(&machine, words, false, streams)?;
+        let status = run_words(&machine, words, Terminal::none(), streams)?;
         let read = input.count();
         Ok(Done {
             status,

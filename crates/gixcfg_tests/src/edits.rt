@@ -87,7 +87,7 @@ static EDITS: [Edit; 20] = [
         "/r/sub/held",
         Some("[a]\n\tk = 1\n"),
         4,
-        "gixcfg: held: held.lock exists: another process may be editing the file\n",
+        "gixcfg: held: held.lock exists: another process may be editing the file; if none is, remove it\n",
         Some("[a]\n\tk = 1\n"),
     ),
     (

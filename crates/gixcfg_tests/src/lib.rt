@@ -2,10 +2,16 @@
 #![tactic(auto)]
 
 #[cfg(test)]
+mod changing;
+#[cfg(test)]
 mod edits;
 #[cfg(test)]
 mod failing;
 #[cfg(test)]
+mod left;
+#[cfg(test)]
 mod reads;
+#[cfg(test)]
+mod typed;
 #[cfg(test)]
 mod world;

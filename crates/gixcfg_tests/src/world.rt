@@ -1,7 +1,7 @@
 //! The machine that calls are run on: a working folder below a repository's, the files of the user and of the system, and one file more.
 
 use gix_config::NoMemory;
-use gixcfg_calls::{Streams, run_words};
+use gixcfg_calls::{Streams, Terminal, run_words};
 use gixcfg_machine::{Machine, Node, State, Tree};
 use std::alloc::{AllocError, AllocGlobal, Global};
 
@@ -91,8 +91,27 @@ impl Done {
     }
 }
 
-/// Runs a call of these words, with blanks between them, as the program does.
+/// Runs a call of these words, with blanks between them, as the program does where no stream is a terminal.
 pub fn called(state: &State, words: &str, input: &str) -> Result<Done, NoMemory> {
+    called_on(state, Terminal::none(), words, input)
+}
+
+/// The same where standard input and standard error are a terminal without colors.
+pub fn called_by_hand(state: &State, words: &str, input: &str) -> Result<Done, NoMemory> {
+    let terminal = Terminal {
+        is_typed: true,
+        ..Terminal::none()
+    };
+    called_on(state, terminal, words, input)
+}
+
+/// Runs a call where these streams are a terminal.
+fn called_on(
+    state: &State,
+    terminal: Terminal,
+    words: &str,
+    input: &str,
+) -> Result<Done, NoMemory> {
     let machine = Machine { state };
     let alloc = machine.alloc();
     let words: Vec<&str> = words.split(' ').collect(alloc)?;
@@ -102,6 +121,6 @@ pub fn called(state: &State, words: &str, input: &str) -> Result<Done, NoMemory>
         out: &mut out,
         err: &mut err,
     };
-    let status = run_words(&machine, &words, false, streams)?;
+    let status = run_words(&machine, &words, terminal, streams)?;
     Ok(Done { status, out, err })
 }

@@ -1,16 +1,18 @@
 //! What is wrong with words that aren't understood.
 
-use crate::commands::Command;
+use crate::kinds::KIND_NAMES;
 use crate::nearest::nearest;
-use crate::options::Opt;
-use std::alloc::{AllocError, Global};
+use crate::options::{Alone, Opt};
+use crate::shown::Shown;
+use crate::verbs::Verb;
+use std::alloc::{AllocError, AllocFailed, Global};
 use std::io;
 use std::io::Write;
 
 /// What is wrong with the words of a call.
 #[derive(Clone, Copy)]
 pub enum Fault<'a> {
-    /// There are none.
+    /// There are none that say what is done.
     NoCommand,
     /// The first word is no command.
     UnknownCommand(&'a str),
@@ -18,8 +20,10 @@ pub enum Fault<'a> {
     NoOptions(&'a str, &'static str),
     /// A word that begins with a dash is no option.
     UnknownOption(&'a str),
+    /// It may be the beginning of several options, of which these are two.
+    Ambiguous(&'a str, &'static str, &'static str),
     /// The command doesn't take this option.
-    NotItsOption(Command, &'a str),
+    NotItsOption(Verb, &'a str),
     /// The option takes a value, which is missing.
     MissingWord(Opt),
     /// The option takes no value, and was given one.
@@ -28,26 +32,48 @@ pub enum Fault<'a> {
     BadWord(Opt, &'a str),
     /// A second file is named.
     TwoFiles(&'a str),
+    /// A second type is named.
+    TwoTypes,
+    /// A second thing is to be done.
+    TwoActions(&'a str),
     /// Words are missing.
-    TooFew(Command),
+    TooFew(Verb),
     /// A word too much.
-    TooMany(Command, &'a str),
+    TooMany(Verb, &'a str),
     /// Standard input is named as both of two files.
     TwoInputs,
     /// Two options exclude each other.
     Both(&'static str, &'static str),
+    /// Values are to be just a text, which isn't given.
+    NoValue,
+    /// A word is no key: it has no dot.
+    NoKey(&'a str),
+    /// A key or a section that is to be has neither a section's name nor a subsection: no file could hold it.
+    Nameless,
+    /// Only git does this.
+    Alone(Alone, &'a str),
     /// Out of memory.
     Memory,
+}
+
+impl<'a, T> From<AllocFailed<T>> for Fault<'a>
+where
+    T: Drop,
+{
+    fn from(_: AllocFailed<T>) -> Fault<'a> {
+        Fault::Memory
+    }
 }
 
 /// The word for an option's value in help texts.
 fn meaning_of(option: Opt) -> &'static str {
     match option {
         Opt::File => "a file",
-        Opt::Default => "a value",
+        Opt::Url => "a URL",
+        Opt::Default | Opt::Value => "a value",
         Opt::Comment => "a comment on one line",
-        Opt::Type => "bool, int, bool-or-int or path",
-        Opt::Indent => "tabs:N or spaces:N",
+        Opt::Type => KIND_NAMES,
+        Opt::Indent => "tabs:N or spaces:N, N at most 255",
         Opt::Newline => "lf, crlf or detect",
         _ => "nothing",
     }
@@ -73,24 +99,26 @@ fn tell_known<W: Write>(fault: Fault<'_>, err: &mut W) -> io::Result<()> {
     match fault {
         Fault::NoCommand => err.write_all(b"gixcfg: no command; see gixcfg help\n"),
         Fault::Memory => err.write_all(b"gixcfg: E27\n"),
-        Fault::TwoFiles(word) => writeln!(err, "gixcfg: a second file: {word}"),
-        Fault::NoOptions(word, call) => writeln!(
-            err,
-            "gixcfg: {word} takes no options, it is called as gixcfg {call}; see gixcfg help"
-        ),
-        Fault::TwoInputs => err.write_all(b"gixcfg: standard input can't be both files\n"),
-        Fault::Both(one, other) => writeln!(err, "gixcfg: {one} and {other} exclude each other"),
-        Fault::TooFew(command) => tell_command("words are missing", "", command, err),
-        Fault::TooMany(command, word) => tell_command("one word too many: ", word, command, err),
-        Fault::NotItsOption(command, word) => {
-            tell_command("not an option here: ", word, command, err)
+        Fault::NoOptions(word, call) => {
+            let word = Shown(word);
+            writeln!(
+                err,
+                "gixcfg: {word} takes no options, it is called as gixcfg {call}; see gixcfg help"
+            )
         }
-        _ => tell_option(fault, err),
+        Fault::TooFew(verb) => tell_command("words are missing", "", verb, err),
+        Fault::TooMany(verb, word) => tell_too_many(verb, word, err),
+        Fault::NotItsOption(verb, word) => tell_command("not an option here: ", word, verb, err),
+        Fault::NoKey(word) => tell_word("not a key, it has no dot: ", word, err),
+        Fault::Nameless => err.write_all(b"gixcfg: no section is named\n"),
+        Fault::Alone(alone, word) => tell_alone(alone, word, err),
+        fault => tell_together(fault, err),
     }
 }
 
 /// Tells a first word that is no command, and what may have been meant.
 fn tell_unknown<W: Write>(word: &str, meant: Option<&str>, err: &mut W) -> io::Result<()> {
+    let word = Shown(word);
     match meant {
         Some(name) => writeln!(
             err,
@@ -101,25 +129,74 @@ fn tell_unknown<W: Write>(word: &str, meant: Option<&str>, err: &mut W) -> io::R
 }
 
 /// Tells what is wrong in the words of a command.
-fn tell_command<W: Write>(what: &str, word: &str, command: Command, err: &mut W) -> io::Result<()> {
-    let name = command.name();
+fn tell_command<W: Write>(what: &str, word: &str, verb: Verb, err: &mut W) -> io::Result<()> {
+    let (word, name) = (Shown(word), verb.name());
     writeln!(err, "gixcfg: {what}{word}; see gixcfg help {name}")
+}
+
+/// Tells what is wrong with a word.
+fn tell_word<W: Write>(what: &str, word: &str, err: &mut W) -> io::Result<()> {
+    let word = Shown(word);
+    writeln!(err, "gixcfg: {what}{word}")
+}
+
+/// Tells a word too much, which may have been meant as an option.
+fn tell_too_many<W: Write>(verb: Verb, word: &str, err: &mut W) -> io::Result<()> {
+    if verb == Verb::Forms && word.starts_with("-") {
+        tell_command("options come before other words: ", word, verb, err)
+    } else {
+        tell_command("one word too many: ", word, verb, err)
+    }
+}
+
+/// Tells what only git does.
+fn tell_alone<W: Write>(alone: Alone, word: &str, err: &mut W) -> io::Result<()> {
+    let why = match alone {
+        Alone::Edit => "no editor is started here",
+        Alone::Blob => "no blob of a repository is read here",
+        Alone::Color => "see get --type=color",
+    };
+    let word = Shown(word);
+    writeln!(err, "gixcfg: {word} is git's alone: {why}")
+}
+
+/// Tells what doesn't go together.
+fn tell_together<W: Write>(fault: Fault<'_>, err: &mut W) -> io::Result<()> {
+    match fault {
+        Fault::TwoFiles(word) => tell_word("a second file: ", word, err),
+        Fault::TwoTypes => err.write_all(b"gixcfg: only one type at a time\n"),
+        Fault::TwoActions(word) => tell_word("only one action at a time: ", word, err),
+        Fault::TwoInputs => err.write_all(b"gixcfg: standard input can't be both files\n"),
+        Fault::NoValue => err.write_all(b"gixcfg: --fixed-value needs a value\n"),
+        Fault::Both(one, other) => writeln!(err, "gixcfg: {one} and {other} exclude each other"),
+        fault => tell_option(fault, err),
+    }
 }
 
 /// Tells what is wrong with an option.
 fn tell_option<W: Write>(fault: Fault<'_>, err: &mut W) -> io::Result<()> {
     match fault {
-        Fault::UnknownOption(word) => writeln!(
-            err,
-            "gixcfg: not an option: {word}; put -- before words that begin with a dash"
-        ),
-        Fault::UnaskedWord(word) => writeln!(err, "gixcfg: {word} takes no value"),
+        Fault::UnknownOption(word) => {
+            let word = Shown(word);
+            writeln!(
+                err,
+                "gixcfg: not an option: {word}; put -- before words that begin with a dash"
+            )
+        }
+        Fault::Ambiguous(word, one, other) => {
+            let word = Shown(word);
+            writeln!(err, "gixcfg: {word} may be --{one} or --{other}")
+        }
+        Fault::UnaskedWord(word) => {
+            let word = Shown(word);
+            writeln!(err, "gixcfg: {word} takes no value")
+        }
         Fault::MissingWord(option) => {
             let meaning = meaning_of(option);
             writeln!(err, "gixcfg: the last option needs {meaning} after it")
         }
         Fault::BadWord(option, word) => {
-            let meaning = meaning_of(option);
+            let (meaning, word) = (meaning_of(option), Shown(word));
             writeln!(err, "gixcfg: not {meaning}: {word}")
         }
         _ => Ok(()),

@@ -1,6 +1,6 @@
 //! What the program says about its commands.
 
-use crate::commands::Command;
+use crate::verbs::Verb;
 
 /// What `gixcfg help` prints.
 pub const OVERVIEW: &str = "\
@@ -12,8 +12,8 @@ usage: gixcfg COMMAND [OPTIONS] [WORDS]
     list            prints all entries
     rename-section  gives a section another name
     remove-section  removes a section
-    fmt             lays a file out
-    check           reports the first fault of each file
+    fmt             lays files out
+    check           reports the faults of files
     diff            prints what two files mean differently
     help            shows how a command is used
 
@@ -22,13 +22,14 @@ system, the repository or its working tree, and an edit changes it in place. Wit
 what an edit makes of it is standard output.
 
 Without options there are also: get KEY, all KEY, bool KEY, int KEY, set KEY VALUE, unset KEY, list, print, fmt, and
-load FILE get KEY.
+load FILE get KEY. What a script says to git config is understood too, as --get KEY or KEY VALUE; see gixcfg help forms.
 
 gixcfg help COMMAND says more about a command.
 ";
 
 const GET: &str = "\
-usage: gixcfg get [-f FILE] [--all] [--default VALUE] [--type TYPE] [-z] [--show-origin] [--show-scope] [--show-names] KEY
+usage: gixcfg get [-f FILE] [--all] [--regexp] [--value PATTERN [--fixed-value]] [--url URL] [--default VALUE]
+                  [--type TYPE] [-z] [--show-origin] [--show-scope] [--show-names] [--name-only] KEY
 
 Prints the last value of a key, or with --all each of its values, a line each.
 
@@ -39,13 +40,20 @@ Prints the last value of a key, or with --all each of its values, a line each.
     --worktree        the file of the working tree, if each has one of its own, else the repository's
     --effective       all that git reads here, with includes: the files of these four, and GIT_CONFIG_COUNT
     --all             all values, in the order of the file
+    --regexp          KEY is a pattern, for keys as list prints them
+    --value PATTERN   only values in which the pattern is found; those in which it isn't if ! is before it
+    --fixed-value     only values that are that text
+    --url URL         the entry whose subsection is the URL that matches this one best, as of http.sslVerify; of a
+                      section alone, as http, that of each of its variables, with its key
     --default VALUE   this value if the key isn't there
-    --type TYPE       the value as bool, int, bool-or-int or path; refused if it is none
+    -t, --type TYPE   the value as bool, int, bool-or-int, bool-or-str, path, expiry-date or color;
+                      refused if it is none; also as --bool, --int and so on
     -z, --null        a byte 0 in place of each line feed, and a line feed after each key
     --show-origin     the file before each value
     --show-scope      system, global, local, worktree or command before each value
-    --includes        what is included too, as with --effective; or not, by --no-includes
+    --includes        what is included too, as with --effective and standard input; or not, by --no-includes
     --show-names      the key before each value
+    --name-only       the key without the value
 
 Ends with 1 if the key isn't there.
 
@@ -54,7 +62,8 @@ Ends with 1 if the key isn't there.
 ";
 
 const SET: &str = "\
-usage: gixcfg set [-f FILE] [--all] [--append] [--type TYPE] [--comment COMMENT] KEY VALUE
+usage: gixcfg set [-f FILE] [--all] [--append] [--value PATTERN [--fixed-value]] [--type TYPE] [--comment COMMENT]
+                  KEY VALUE
 
 Gives a key a value, in its place if it is there, else in the last section of its name, else in a new one.
 
@@ -65,17 +74,20 @@ Gives a key a value, in its place if it is there, else in the last section of it
     --worktree        the file of the working tree, if each has one of its own, else the repository's
     --all             one entry in place of all entries of the key, where the first of them is
     --append          one more entry, at the end of the last section of the name
-    --type TYPE       the value as bool, int, bool-or-int or path; refused if it is none
+    --value PATTERN   only of entries in whose value the pattern is found, or isn't if ! is before it; one more if there is none
+    --fixed-value     only of entries whose value is that text
+    -t, --type TYPE   the value as bool, int, bool-or-int, bool-or-str, path, expiry-date or color;
+                      refused if it is none; also as --bool, --int and so on
     --comment COMMENT this comment after the value, in place of one that is there; # is put before it if it has none
 
 Ends with 5 if the key has several entries, and neither --all nor --append is given; with 4 if the file can't be
-written. The file is the old one or the new one at any time: it is written as FILE.lock, which is then renamed.
+written. The file is the old one or the new one at any time: the new one is written beside it, and renamed over it.
 
     $ gixcfg set -f .git/config --comment 'for this project' user.name Ada
 ";
 
 const UNSET: &str = "\
-usage: gixcfg unset [-f FILE] [--all] KEY
+usage: gixcfg unset [-f FILE] [--all] [--value PATTERN [--fixed-value]] KEY
 
 Removes a key's entry.
 
@@ -85,6 +97,8 @@ Removes a key's entry.
     --local           the repository's file: .git/config
     --worktree        the file of the working tree, if each has one of its own, else the repository's
     --all             all entries of the key
+    --value PATTERN   only entries in whose value the pattern is found, or isn't if ! is before it
+    --fixed-value     only entries whose value is that text
 
 Ends with 5 if there is no entry, or several of them and --all isn't given.
 
@@ -102,12 +116,12 @@ Prints all entries, a line each: the key, = and the value.
     --local           the repository's file: .git/config
     --worktree        the file of the working tree, if each has one of its own, else the repository's
     --effective       all that git reads here, with includes: the files of these four, and GIT_CONFIG_COUNT
-    --type TYPE       only values of this type, printed in it: bool, int, bool-or-int or path
+    -t, --type TYPE   only values of this type, printed in it: bool, int, bool-or-int, bool-or-str, path, expiry-date or color
     -z, --null        a byte 0 in place of each line feed at the end, and a line feed after each key
     --name-only       keys without values
     --show-origin     the file before each entry
     --show-scope      system, global, local, worktree or command before each entry
-    --includes        what is included too, as with --effective; or not, by --no-includes
+    --includes        what is included too, as with --effective and standard input; or not, by --no-includes
 
     $ gixcfg list -f .git/config
     core.bare=false
@@ -146,16 +160,17 @@ Ends with 1 if there is no such section.
 ";
 
 const FMT: &str = "\
-usage: gixcfg fmt [-f FILE] [--check] [--indent tabs:N|spaces:N] [--newline lf|crlf|detect]
+usage: gixcfg fmt [-f FILE] [--check] [--indent tabs:N|spaces:N] [--newline lf|crlf|detect] [FILE...]
 
-Lays a file out: an indent before each entry, one blank on each side of =, one line ending at the end.
+Lays files out: an indent before each entry, one blank on each side of =, one line ending at the end. Each FILE is changed
+in place; - is standard input.
 
     -f, --file FILE   the file, which is changed in place; - is standard input, as without it
     --global          the user's file, in place of -f: ~/.gitconfig
     --system          the system's file: /etc/gitconfig
     --local           the repository's file: .git/config
     --worktree        the file of the working tree, if each has one of its own, else the repository's
-    --check           nothing is written; ends with 1 if the file isn't laid out
+    --check           nothing is written, but which files aren't laid out; ends with 1 if one isn't
     --indent INDENT   what comes before an entry: tabs:1 if it isn't given
     --newline ENDING  what lines end with: that of the file if it isn't given
 
@@ -163,10 +178,12 @@ Lays a file out: an indent before each entry, one blank on each side of =, one l
 ";
 
 const CHECK: &str = "\
-usage: gixcfg check [-q] FILE...
+usage: gixcfg check [-q] [--lenient] FILE...
 
-Reads each file, and reports its first fault: the place, what is wrong, and the line. - is standard input.
+Reads each file, and reports its first fault: the place, what is wrong, and the line; then each place at which git refuses
+what is read here, or reads something else. - is standard input.
 
+    --lenient         what git makes of the file isn't asked
     -q, --quiet       nothing is printed
 
 Ends with 1 if a file has a fault, and with 4 if one can't be read.
@@ -198,19 +215,46 @@ Shows how a command is used, with an example; without a word, lists the commands
     $ gixcfg help set
 ";
 
+const FORMS: &str = "\
+usage: gixcfg [FILE-OPTION] [ACTION] [OPTIONS] [WORDS]
+
+Calls as those of git config before 2.46, where an option says what is done, or none.
+
+    KEY, --get KEY [PATTERN]          prints the last value
+    --get-all KEY [PATTERN]           prints all values
+    --get-regexp PATTERN [PATTERN]    prints keys and values of the keys in which a pattern is found
+    --get-urlmatch NAME URL           prints what is for a URL, as get --url
+    KEY VALUE [PATTERN]               gives a key a value
+    --add KEY VALUE                   adds an entry
+    --replace-all KEY VALUE [PATTERN] gives a key a value in place of all
+    --unset KEY [PATTERN]             removes a key's entry
+    --unset-all KEY [PATTERN]         removes all entries of a key
+    --rename-section OLD NEW          gives sections another name
+    --remove-section NAME             removes sections
+    -l, --list                        prints all entries
+
+A PATTERN after a key or a value picks values, with --fixed-value as a text. FILE-OPTION is -f FILE, --global, --system,
+--local or --worktree. Without it the file that GIT_CONFIG names is meant; else what only reads reads all that git reads
+here, and what edits edits the repository's file. Options come before other words.
+
+    $ gixcfg --get core.editor
+    vi
+";
+
 /// The help on a command, or without one on all.
-pub fn help_on(command: Option<Command>) -> &'static str {
-    match command {
+pub fn help_on(verb: Option<Verb>) -> &'static str {
+    match verb {
         None => OVERVIEW,
-        Some(Command::Get) => GET,
-        Some(Command::Set) => SET,
-        Some(Command::Unset) => UNSET,
-        Some(Command::List) => LIST,
-        Some(Command::RenameSection) => RENAME,
-        Some(Command::RemoveSection) => REMOVE,
-        Some(Command::Fmt) => FMT,
-        Some(Command::Check) => CHECK,
-        Some(Command::Diff) => DIFF,
-        Some(Command::Help) => HELP,
+        Some(Verb::Get) => GET,
+        Some(Verb::Set) => SET,
+        Some(Verb::Unset) => UNSET,
+        Some(Verb::List) => LIST,
+        Some(Verb::RenameSection) => RENAME,
+        Some(Verb::RemoveSection) => REMOVE,
+        Some(Verb::Fmt) => FMT,
+        Some(Verb::Check) => CHECK,
+        Some(Verb::Diff) => DIFF,
+        Some(Verb::Help) => HELP,
+        Some(Verb::Forms) => FORMS,
     }
 }

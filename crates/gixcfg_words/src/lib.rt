@@ -1,13 +1,23 @@
-//! The words of a call of `gixcfg` with options: which command they are, which options it is given, and what is wrong with
-//! words that aren't understood. It knows nothing of files.
+//! The words of a call of `gixcfg`: which command they are, with what it has, and what is wrong with words that aren't understood. It
+//! knows nothing of files.
 #![tactic(auto)]
 
-pub mod call;
-pub mod commands;
+pub mod command;
 pub mod fault;
+mod given;
 pub mod help;
-pub mod nearest;
-pub mod options;
+pub mod keys;
+pub mod kinds;
+mod nearest;
+mod of_git;
+mod options;
+pub mod plain;
+mod reading;
+pub mod shown;
+pub mod verbs;
+mod words;
+
+pub use words::{has_options, read};
 
 /// What `--version` prints: the name, the version, and the toolchain that the sources are proved with (`rt version`).
-pub const VERSION: &str = "gixcfg 0.1.0 (rattle-kit-13f logic dac8208d650f15bf)\n";
+pub const VERSION: &str = "gixcfg 0.1.0 (rattle-kit-13b logic dac8208d650f15bf)\n";

@@ -1,6 +1,6 @@
 //! The command that a wrong word was meant to be.
 
-use crate::commands::COMMANDS;
+use crate::verbs::COMMANDS;
 use std::alloc::{AllocError, Global};
 use strsim::osa_distance;
 

@@ -1,20 +1,56 @@
-//! The options.
-use crate::commands::Command;
-use crate::fault::Fault;
+//! The options: their words, and which command takes which.
+
+use crate::command::Place;
+use crate::kinds::Kind;
+use crate::verbs::Verb;
+
+/// What is done where an option says it, as in `git config` before 2.46.
+#[derive(Clone, Copy, PartialEq, Eq)]
+pub enum Action {
+    /// `--get KEY [PATTERN]`, or `KEY` alone
+    Get,
+    /// `--get-all KEY [PATTERN]`
+    GetAll,
+    /// `--get-regexp PATTERN [PATTERN]`
+    GetRegexp,
+    /// `--get-urlmatch NAME URL`
+    GetUrlmatch,
+    /// `--add KEY VALUE`
+    Add,
+    /// `KEY VALUE [PATTERN]`
+    Set,
+    /// `--replace-all KEY VALUE [PATTERN]`
+    ReplaceAll,
+    /// `--unset KEY [PATTERN]`
+    Unset,
+    /// `--unset-all KEY [PATTERN]`
+    UnsetAll,
+    /// `--rename-section OLD NEW`
+    RenameSection,
+    /// `--remove-section NAME`
+    RemoveSection,
+    /// `--list`
+    List,
+}
+
+/// What only git does.
+#[derive(Clone, Copy, PartialEq, Eq)]
+pub enum Alone {
+    /// It starts an editor.
+    Edit,
+    /// It reads a blob of the repository.
+    Blob,
+    /// It knows whether its output is colored.
+    Color,
+}
 
 /// An option.
 #[derive(Clone, Copy, PartialEq, Eq)]
 pub enum Opt {
     /// The file that is worked on.
     File,
-    /// The user's file.
-    Global,
-    /// The system's file.
-    System,
-    /// The repository's file.
-    Local,
-    /// The file of the repository's working tree.
-    Worktree,
+    /// One of git's files in its place.
+    Place(Place),
     /// All that git sees.
     Effective,
     /// Help on the command.
@@ -23,10 +59,20 @@ pub enum Opt {
     All,
     /// One more entry of the key.
     Append,
+    /// The word is a pattern for keys.
+    Regexp,
+    /// Which values are meant.
+    Value,
+    /// These are just that text.
+    FixedValue,
+    /// The URL that entries are for.
+    Url,
     /// The value if there is none.
     Default,
     /// The type of a value.
     Type,
+    /// This type.
+    Kind(Kind),
     /// A comment after the value.
     Comment,
     /// A byte 0 after each value.
@@ -37,8 +83,6 @@ pub enum Opt {
     ShowScope,
     /// What is included is read too.
     Includes,
-    /// What is included isn't read.
-    NoIncludes,
     /// The names of each value.
     ShowNames,
     /// The names without values.
@@ -51,462 +95,221 @@ pub enum Opt {
     Newline,
     /// Nothing is printed.
     Quiet,
+    /// What only git refuses is passed over.
+    Lenient,
+    /// What is done.
+    Do(Action),
+    /// What only git does.
+    Alone(Alone),
 }
 
-/// The words of the options.
-static OPTIONS: [(&str, Opt); 27] = [
-    ("-f", Opt::File),
-    ("--file", Opt::File),
-    ("--global", Opt::Global),
-    ("--system", Opt::System),
-    ("--local", Opt::Local),
-    ("--worktree", Opt::Worktree),
-    ("--effective", Opt::Effective),
-    ("-h", Opt::Help),
-    ("--help", Opt::Help),
-    ("--all", Opt::All),
-    ("--append", Opt::Append),
-    ("--default", Opt::Default),
-    ("--type", Opt::Type),
-    ("--comment", Opt::Comment),
-    ("-z", Opt::Null),
-    ("--null", Opt::Null),
-    ("--show-origin", Opt::ShowOrigin),
-    ("--show-scope", Opt::ShowScope),
-    ("--includes", Opt::Includes),
-    ("--no-includes", Opt::NoIncludes),
-    ("--show-names", Opt::ShowNames),
-    ("--name-only", Opt::NameOnly),
-    ("--check", Opt::Check),
-    ("--indent", Opt::Indent),
-    ("--newline", Opt::Newline),
-    ("-q", Opt::Quiet),
-    ("--quiet", Opt::Quiet),
+/// The options: the word of each behind two dashes, and its letter behind one, if it has one.
+static OPTIONS: [(&str, Option<char>, Opt); 48] = [
+    ("file", Some('f'), Opt::File),
+    ("global", None, Opt::Place(Place::Global)),
+    ("system", None, Opt::Place(Place::System)),
+    ("local", None, Opt::Place(Place::Local)),
+    ("worktree", None, Opt::Place(Place::Worktree)),
+    ("effective", None, Opt::Effective),
+    ("help", Some('h'), Opt::Help),
+    ("all", None, Opt::All),
+    ("append", None, Opt::Append),
+    ("regexp", None, Opt::Regexp),
+    ("value", None, Opt::Value),
+    ("fixed-value", None, Opt::FixedValue),
+    ("url", None, Opt::Url),
+    ("default", None, Opt::Default),
+    ("type", Some('t'), Opt::Type),
+    ("bool", None, Opt::Kind(Kind::Bool)),
+    ("int", None, Opt::Kind(Kind::Int)),
+    ("bool-or-int", None, Opt::Kind(Kind::BoolOrInt)),
+    ("bool-or-str", None, Opt::Kind(Kind::BoolOrStr)),
+    ("path", None, Opt::Kind(Kind::Path)),
+    ("expiry-date", None, Opt::Kind(Kind::ExpiryDate)),
+    ("comment", None, Opt::Comment),
+    ("null", Some('z'), Opt::Null),
+    ("show-origin", None, Opt::ShowOrigin),
+    ("show-scope", None, Opt::ShowScope),
+    ("includes", None, Opt::Includes),
+    ("show-names", None, Opt::ShowNames),
+    ("name-only", None, Opt::NameOnly),
+    ("check", None, Opt::Check),
+    ("indent", None, Opt::Indent),
+    ("newline", None, Opt::Newline),
+    ("quiet", Some('q'), Opt::Quiet),
+    ("lenient", None, Opt::Lenient),
+    ("get", None, Opt::Do(Action::Get)),
+    ("get-all", None, Opt::Do(Action::GetAll)),
+    ("get-regexp", None, Opt::Do(Action::GetRegexp)),
+    ("get-urlmatch", None, Opt::Do(Action::GetUrlmatch)),
+    ("add", None, Opt::Do(Action::Add)),
+    ("replace-all", None, Opt::Do(Action::ReplaceAll)),
+    ("unset", None, Opt::Do(Action::Unset)),
+    ("unset-all", None, Opt::Do(Action::UnsetAll)),
+    ("rename-section", None, Opt::Do(Action::RenameSection)),
+    ("remove-section", None, Opt::Do(Action::RemoveSection)),
+    ("list", Some('l'), Opt::Do(Action::List)),
+    ("edit", Some('e'), Opt::Alone(Alone::Edit)),
+    ("blob", None, Opt::Alone(Alone::Blob)),
+    ("get-color", None, Opt::Alone(Alone::Color)),
+    ("get-colorbool", None, Opt::Alone(Alone::Color)),
 ];
 
-static OF_GET: [Opt; 16] = [
-    Opt::File,
-    Opt::Global,
-    Opt::System,
-    Opt::Local,
-    Opt::Worktree,
-    Opt::Effective,
-    Opt::Help,
-    Opt::All,
-    Opt::Default,
-    Opt::Type,
-    Opt::Null,
-    Opt::ShowOrigin,
-    Opt::ShowScope,
-    Opt::Includes,
-    Opt::NoIncludes,
-    Opt::ShowNames,
-];
+/// Whether an option names the file that is worked on.
+fn names_file(option: Opt) -> bool {
+    matches!(option, Opt::File | Opt::Place(_) | Opt::Alone(Alone::Blob))
+}
 
-static OF_SET: [Opt; 10] = [
-    Opt::File,
-    Opt::Global,
-    Opt::System,
-    Opt::Local,
-    Opt::Worktree,
-    Opt::Help,
-    Opt::All,
-    Opt::Append,
-    Opt::Type,
-    Opt::Comment,
-];
+/// Whether an option says which values are read, and how they are printed.
+fn is_of_reading(option: Opt) -> bool {
+    names_file(option)
+        || is_type(option)
+        || matches!(
+            option,
+            Opt::Null | Opt::ShowOrigin | Opt::ShowScope | Opt::Includes | Opt::NameOnly
+        )
+}
 
-static OF_UNSET: [Opt; 7] = [
-    Opt::File,
-    Opt::Global,
-    Opt::System,
-    Opt::Local,
-    Opt::Worktree,
-    Opt::Help,
-    Opt::All,
-];
+/// Whether an option says which type a value has.
+fn is_type(option: Opt) -> bool {
+    matches!(option, Opt::Type | Opt::Kind(_))
+}
 
-static OF_LIST: [Opt; 14] = [
-    Opt::File,
-    Opt::Global,
-    Opt::System,
-    Opt::Local,
-    Opt::Worktree,
-    Opt::Effective,
-    Opt::Help,
-    Opt::Type,
-    Opt::Null,
-    Opt::NameOnly,
-    Opt::ShowOrigin,
-    Opt::ShowScope,
-    Opt::Includes,
-    Opt::NoIncludes,
-];
+/// Whether an option says which values of a key are meant.
+fn is_of_values(option: Opt) -> bool {
+    matches!(option, Opt::All | Opt::Value | Opt::FixedValue)
+}
 
-static OF_SECTION: [Opt; 6] = [
-    Opt::File,
-    Opt::Global,
-    Opt::System,
-    Opt::Local,
-    Opt::Worktree,
-    Opt::Help,
-];
-
-static OF_FMT: [Opt; 9] = [
-    Opt::File,
-    Opt::Global,
-    Opt::System,
-    Opt::Local,
-    Opt::Worktree,
-    Opt::Help,
-    Opt::Check,
-    Opt::Indent,
-    Opt::Newline,
-];
-
-static OF_CHECK: [Opt; 2] = [Opt::Help, Opt::Quiet];
-
-static OF_DIFF: [Opt; 3] = [Opt::Help, Opt::Null, Opt::Quiet];
-
-static OF_HELP: [Opt; 1] = [Opt::Help];
-
-/// The options that a command takes.
-pub fn options_of(command: Command) -> &'static [Opt] {
-    match command {
-        Command::Get => &OF_GET,
-        Command::Set => &OF_SET,
-        Command::Unset => &OF_UNSET,
-        Command::List => &OF_LIST,
-        Command::RenameSection | Command::RemoveSection => &OF_SECTION,
-        Command::Fmt => &OF_FMT,
-        Command::Check => &OF_CHECK,
-        Command::Diff => &OF_DIFF,
-        Command::Help => &OF_HELP,
+/// Whether a command takes an option.
+pub(crate) fn takes(verb: Verb, option: Opt) -> bool {
+    match verb {
+        _ if option == Opt::Help => true,
+        Verb::Get => {
+            is_of_reading(option)
+                || is_of_values(option)
+                || matches!(
+                    option,
+                    Opt::Effective | Opt::Regexp | Opt::Url | Opt::Default | Opt::ShowNames
+                )
+        }
+        Verb::List => is_of_reading(option) || matches!(option, Opt::Effective | Opt::ShowNames),
+        Verb::Set => {
+            names_file(option)
+                || is_type(option)
+                || is_of_values(option)
+                || matches!(option, Opt::Append | Opt::Comment)
+        }
+        Verb::Unset => names_file(option) || is_of_values(option),
+        Verb::RenameSection | Verb::RemoveSection => names_file(option),
+        Verb::Fmt => {
+            names_file(option) || matches!(option, Opt::Check | Opt::Indent | Opt::Newline)
+        }
+        Verb::Check => matches!(option, Opt::Quiet | Opt::Lenient),
+        Verb::Diff => matches!(option, Opt::Quiet | Opt::Null),
+        Verb::Help => false,
+        Verb::Forms => {
+            is_of_reading(option)
+                || matches!(
+                    option,
+                    Opt::Do(_) | Opt::Alone(_) | Opt::Default | Opt::Comment | Opt::FixedValue
+                )
+        }
     }
 }
 
-/// The option of a word.
-pub fn option_named(word: &str) -> Option<Opt> {
-    for (name, option) in &OPTIONS {
-        if *name == word {
+/// Whether an action takes an option that [`Verb::Forms`] takes.
+pub(crate) fn goes_with(action: Action, option: Opt) -> bool {
+    match option {
+        Opt::Default => action == Action::Get,
+        Opt::Comment => matches!(action, Action::Add | Action::Set | Action::ReplaceAll),
+        Opt::NameOnly => matches!(action, Action::List | Action::GetRegexp),
+        Opt::ShowOrigin => matches!(
+            action,
+            Action::Get | Action::GetAll | Action::GetRegexp | Action::List
+        ),
+        Opt::FixedValue => !matches!(
+            action,
+            Action::GetUrlmatch
+                | Action::Add
+                | Action::RenameSection
+                | Action::RemoveSection
+                | Action::List
+        ),
+        _ => true,
+    }
+}
+
+/// Whether the option is followed by a word of its own.
+pub(crate) fn takes_word(option: Opt) -> bool {
+    matches!(
+        option,
+        Opt::File
+            | Opt::Url
+            | Opt::Default
+            | Opt::Type
+            | Opt::Comment
+            | Opt::Indent
+            | Opt::Newline
+            | Opt::Value
+    )
+}
+
+/// What a word behind dashes names.
+#[derive(Clone, Copy)]
+pub(crate) enum Named {
+    /// This option.
+    One(Opt),
+    /// None.
+    None,
+    /// It is the beginning of several, of which these are two.
+    Several(&'static str, &'static str),
+}
+
+/// The option that a command has by this letter.
+pub(crate) fn option_of_letter(verb: Verb, letter: char) -> Option<Opt> {
+    for (_, short, option) in &OPTIONS {
+        if *short == Some(letter) && takes(verb, *option) {
             return Some(*option);
         }
     }
     None
 }
 
-/// Whether the option is followed by a word of its own.
-pub fn takes_word(option: Opt) -> bool {
-    matches!(
-        option,
-        Opt::File | Opt::Default | Opt::Type | Opt::Comment | Opt::Indent | Opt::Newline
-    )
-}
-
-/// One of git's files, in place of a path.
-#[derive(Clone, Copy)]
-pub enum Place {
-    /// The user's file.
-    Global,
-    /// The system's file.
-    System,
-    /// The repository's file.
-    Local,
-    /// The file of the repository's working tree, if it has one of its own; else the repository's.
-    Worktree,
-    /// All of them that git reads, in its order, and its variables.
-    Effective,
-}
-
-impl Place {
-    /// The option that names it.
-    pub fn word(self) -> &'static str {
-        match self {
-            Place::Global => "--global",
-            Place::System => "--system",
-            Place::Local => "--local",
-            Place::Worktree => "--worktree",
-            Place::Effective => "--effective",
-        }
+/// The option that a command has by this word, or by the only one that begins with it.
+pub(crate) fn option_named(verb: Verb, word: &str) -> Named {
+    if let Some(option) = option_spelled(verb, word) {
+        return Named::One(option);
+    }
+    match first_from(verb, word, "") {
+        Some((first, option)) => match first_from(verb, word, first) {
+            Some((other, _)) => Named::Several(first, other),
+            None => Named::One(option),
+        },
+        None => Named::None,
     }
 }
 
-/// The place that an option names.
-fn place_named(option: Opt) -> Option<Place> {
-    match option {
-        Opt::Global => Some(Place::Global),
-        Opt::System => Some(Place::System),
-        Opt::Local => Some(Place::Local),
-        Opt::Worktree => Some(Place::Worktree),
-        Opt::Effective => Some(Place::Effective),
-        _ => None,
-    }
-}
-
-/// The type that a value is to have.
-#[derive(Clone, Copy)]
-pub enum Kind {
-    /// A boolean.
-    Bool,
-    /// An integer.
-    Int,
-    /// An integer, else a boolean.
-    BoolOrInt,
-    /// A path.
-    Path,
-}
-
-static KINDS: [(&str, Kind); 4] = [
-    ("bool", Kind::Bool),
-    ("int", Kind::Int),
-    ("bool-or-int", Kind::BoolOrInt),
-    ("path", Kind::Path),
-];
-
-/// The type of a word.
-fn kind_named(word: &str) -> Option<Kind> {
-    for (name, kind) in &KINDS {
-        if *name == word {
-            return Some(*kind);
+/// The option that a command has by this word.
+fn option_spelled(verb: Verb, word: &str) -> Option<Opt> {
+    for (long, _, option) in &OPTIONS {
+        if *long == word && takes(verb, *option) {
+            return Some(*option);
         }
     }
     None
 }
 
-/// A comment on one line that a word is.
-fn comment_of(word: &str) -> Option<&str> {
-    let bytes = word.as_bytes();
-    if bytes.contains(&b'\n') || bytes.contains(&0) {
-        None
-    } else {
-        Some(word)
+/// The first option of a command whose word begins with this one, but for the one of another word.
+fn first_from(verb: Verb, word: &str, but: &str) -> Option<(&'static str, Opt)> {
+    for (long, _, option) in &OPTIONS {
+        if long.starts_with(word) && *long != but && takes(verb, *option) {
+            return Some((*long, *option));
+        }
     }
+    None
 }
 
-/// What comes before a name that begins a line.
-#[derive(Clone, Copy)]
-pub enum Indent {
-    /// So many tabs.
-    Tabs(u8),
-    /// So many spaces.
-    Spaces(u8),
-}
-
-/// The indent of a word, as `tabs:1` or `spaces:4`.
-fn indent_named(word: &str) -> Option<Indent> {
-    let (what, count) = word.split_once(':')?;
-    let count = match count.parse::<u8>() {
-        Ok(count) => count,
-        Err(_) => return None,
-    };
-    match what {
-        "tabs" => Some(Indent::Tabs(count)),
-        "spaces" => Some(Indent::Spaces(count)),
-        _ => None,
-    }
-}
-
-/// What lines end with.
-#[derive(Clone, Copy)]
-pub enum Newline {
-    /// A line feed.
-    Lf,
-    /// A carriage return and a line feed.
-    CrLf,
-    /// What the file has.
-    Detect,
-}
-
-/// The line ending of a word.
-fn newline_named(word: &str) -> Option<Newline> {
-    match word {
-        "lf" => Some(Newline::Lf),
-        "crlf" => Some(Newline::CrLf),
-        "detect" => Some(Newline::Detect),
-        _ => None,
-    }
-}
-
-/// The options of a call. What isn't given is `false` or `None`.
-#[derive(Clone, Copy)]
-pub struct Options<'a> {
-    /// `-f`: the file that is worked on; standard input if it is `-` or isn't given.
-    pub file: Option<&'a str>,
-    /// `--global`, `--system`, `--local`, `--worktree` or `--effective`: what is worked on.
-    pub place: Option<Place>,
-    /// `--help`
-    pub help: bool,
-    /// `--all`
-    pub all: bool,
-    /// `--append`
-    pub append: bool,
-    /// `--default`
-    pub default: Option<&'a str>,
-    /// `--type`
-    pub kind: Option<Kind>,
-    /// `--comment`: on one line.
-    pub comment: Option<&'a str>,
-    /// `-z`
-    pub null: bool,
-    /// `--show-origin`
-    pub show_origin: bool,
-    /// `--show-scope`
-    pub show_scope: bool,
-    /// `--includes`, or against it `--no-includes`
-    pub includes: Option<bool>,
-    /// `--show-names`
-    pub show_names: bool,
-    /// `--name-only`
-    pub name_only: bool,
-    /// `--check`
-    pub check: bool,
-    /// `--indent`
-    pub indent: Option<Indent>,
-    /// `--newline`
-    pub newline: Option<Newline>,
-    /// `--quiet`
-    pub quiet: bool,
-}
-
-impl<'a> Options<'a> {
-    /// None is given.
-    pub fn none() -> Options<'a> {
-        Options {
-            file: None,
-            place: None,
-            help: false,
-            all: false,
-            append: false,
-            default: None,
-            kind: None,
-            comment: None,
-            null: false,
-            show_origin: false,
-            show_scope: false,
-            includes: None,
-            show_names: false,
-            name_only: false,
-            check: false,
-            indent: None,
-            newline: None,
-            quiet: false,
-        }
-    }
-
-    /// The file that is named, or found for one of git's; none where standard input is worked on.
-    pub fn path(&self) -> Option<&'a str> {
-        match self.file {
-            Some("-") if self.place.is_none() => None,
-            file => file,
-        }
-    }
-
-    /// The options with the file that was found for the place that they name, if one was.
-    pub fn on(self, path: Option<&'a str>) -> Options<'a> {
-        match path {
-            Some(_) => Options { file: path, ..self },
-            None => self,
-        }
-    }
-
-    /// Whether what is included is read too: as asked for, else with all that git reads.
-    pub fn follows(&self) -> bool {
-        match self.includes {
-            Some(follows) => follows,
-            None => matches!(self.place, Some(Place::Effective)),
-        }
-    }
-
-    /// What the file is called: by its path, else by the option that names it.
-    pub fn file_name(&self) -> &'a str {
-        match (self.path(), self.place) {
-            (Some(path), _) => path,
-            (None, Some(place)) => place.word(),
-            (None, None) => "standard input",
-        }
-    }
-
-    /// Puts in an option without a word of its own, which is called by this name.
-    ///
-    /// # Errors
-    ///
-    /// It names a file, and another one is named already.
-    pub fn put(&mut self, option: Opt, name: &'a str) -> Result<(), Fault<'a>> {
-        match place_named(option) {
-            Some(_) if self.has_file() => Err(Fault::TwoFiles(name)),
-            Some(place) => {
-                self.place = Some(place);
-                Ok(())
-            }
-            None => {
-                self.put_mark(option);
-                Ok(())
-            }
-        }
-    }
-
-    /// Puts in an option that is only given or not.
-    fn put_mark(&mut self, option: Opt) {
-        match option {
-            Opt::Help => self.help = true,
-            Opt::All => self.all = true,
-            Opt::Append => self.append = true,
-            Opt::Null => self.null = true,
-            Opt::ShowOrigin => self.show_origin = true,
-            Opt::ShowScope => self.show_scope = true,
-            Opt::Includes => self.includes = Some(true),
-            Opt::NoIncludes => self.includes = Some(false),
-            Opt::ShowNames => self.show_names = true,
-            Opt::NameOnly => self.name_only = true,
-            Opt::Check => self.check = true,
-            Opt::Quiet => self.quiet = true,
-            _ => {}
-        }
-    }
-
-    /// Puts in an option with its word.
-    ///
-    /// # Errors
-    ///
-    /// The word is none that the option may have, or another file is named already.
-    pub fn put_word(&mut self, option: Opt, word: &'a str) -> Result<(), Fault<'a>> {
-        let taken = match option {
-            Opt::File => return self.put_file(word),
-            Opt::Default => put_in(&mut self.default, Some(word)),
-            Opt::Type => put_in(&mut self.kind, kind_named(word)),
-            Opt::Comment => put_in(&mut self.comment, comment_of(word)),
-            Opt::Indent => put_in(&mut self.indent, indent_named(word)),
-            Opt::Newline => put_in(&mut self.newline, newline_named(word)),
-            _ => true,
-        };
-        if taken {
-            Ok(())
-        } else {
-            Err(Fault::BadWord(option, word))
-        }
-    }
-
-    /// Whether a file is named.
-    fn has_file(&self) -> bool {
-        self.file.is_some() || self.place.is_some()
-    }
-
-    /// Puts in the file that is worked on.
-    fn put_file(&mut self, word: &'a str) -> Result<(), Fault<'a>> {
-        if self.has_file() {
-            return Err(Fault::TwoFiles(word));
-        }
-        self.file = Some(word);
-        Ok(())
-    }
-}
-
-/// Puts in what a word means, in place of what was there; whether it means anything.
-fn put_in<T: Copy>(place: &mut Option<T>, meaning: Option<T>) -> bool {
-    if meaning.is_some() {
-        *place = meaning;
-        true
-    } else {
-        false
-    }
+/// Whether another command has an option by this word.
+pub(crate) fn is_known(word: &str) -> bool {
+    OPTIONS.iter().any(|spelled| spelled.0 == word)
 }

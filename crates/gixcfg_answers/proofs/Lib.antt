@@ -1,0 +1,7 @@
+mod LineLemmas
+mod MessageLemmas
+mod PlaceLemmas
+mod WidthLemmas
+mod Digits
+mod Choices
+mod UrlLemmas

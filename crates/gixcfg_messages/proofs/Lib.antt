@@ -1,4 +1,0 @@
-mod LineLemmas
-mod MessageLemmas
-mod PlaceLemmas
-mod WidthLemmas

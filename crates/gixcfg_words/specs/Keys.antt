@@ -1,0 +1,24 @@
+-- Which key a word of a call is.
+use Rattle.std.specs.Prelude.{◌≡◌, ℕ, Bool, true, false, not, List, [], ◌∷◌, Option, Some, None, Result, Ok, Err}
+use Rattle.std.specs.Option.{option_map}
+use Rattle.gitconf_base.specs.declared.key.KeyRef.{KeyRef}
+use Rattle.gitconf_base.specs.Key.{Key, key_of, parsed_key}
+use Rattle.gixcfg_words.specs.declared.fault.Fault.{Fault}
+use Rattle.gixcfg_words.specs.declared.fault.Fault.TheVariants.{Nameless, NoKey}
+
+-- a section has neither a name nor a subsection
+abbrev pub is_nameless : (name : List ℕ) (subsection : Option (List ℕ)) → Bool
+is_nameless [] None = true
+is_nameless [] (Some subsection) = false
+is_nameless (b ∷ name) subsection = false
+
+-- a key has a section's name or a subsection
+abbrev pub has_section : Key → Bool
+has_section key = not (is_nameless key.section key.subsection)
+
+-- a call gives the key of a word; or says that the word has no dot, or nothing before its only one
+abbrev pub IsKey : (word : List ℕ) → Result KeyRef Fault → Type 0
+IsKey word (Ok key) = (parsed_key word ≡ Some (key_of key)) × (has_section (key_of key) ≡ true)
+IsKey word (Err (NoKey told)) = (parsed_key word ≡ None) × (told.now ≡ word)
+IsKey word (Err Nameless) = option_map has_section (parsed_key word) ≡ Some false
+IsKey word (Err fault) = ⊥

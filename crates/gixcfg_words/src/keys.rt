@@ -1,0 +1,67 @@
+//! Keys and the names of sections, as words have them.
+ghost use Rattle.std.specs.Prelude.{◌≡◌};
+ghost use Rattle.std.specs.Option.{option_copied};
+ghost use Rattle.gixcfg_words.specs.Keys as keys;
+ghost use Rattle.gixcfg_words.specs.Keys.{IsKey};
+
+use crate::fault::Fault;
+use gitconf_base::key::KeyRef;
+
+/// The names of a section.
+#[derive(Clone, Copy)]
+pub struct Names<'a> {
+    /// Its name.
+    pub name: &'a str,
+    /// Its subsection, if it has one.
+    pub subsection_name: Option<&'a [u8]>,
+}
+
+/// The key that a word is.
+///
+/// # Errors
+///
+/// [`Fault::NoKey`] if the word has no dot, [`Fault::Nameless`] if nothing stands before its only one.
+pub fn key_of<'a>(word: &'a str) -> Result<KeyRef<'a>, Fault<'a>>
+    ensures { IsKey word.now result }
+{
+    match KeyRef::parse_unvalidated(word.as_bytes()) {
+        Some(key) if is_nameless(key.section_name, key.subsection_name) => Err(Fault::Nameless),
+        Some(key) => Ok(key),
+        None => Err(Fault::NoKey(word)),
+    }
+}
+
+/// Whether a section of these names has neither a name nor a subsection. Its header would be `[]`, which no file may have.
+pub fn is_nameless(name: &str, subsection_name: Option<&[u8]>) -> bool
+    ensures { result ≡ keys.is_nameless name.now (option_copied subsection_name.entry) }
+{
+    name.is_empty() && subsection_name.is_none()
+}
+
+/// The name of a section and its subsection, which a word has with a dot between them.
+pub fn names_of(word: &str) -> Names<'_> {
+    match word.split_once('.') {
+        Some((name, subsection_name)) => Names {
+            name,
+            subsection_name: Some(subsection_name.as_bytes()),
+        },
+        None => Names {
+            name: word,
+            subsection_name: None,
+        },
+    }
+}
+
+/// The names that a word gives sections.
+///
+/// # Errors
+///
+/// [`Fault::Nameless`] if it names nothing.
+pub fn new_names_of<'a>(word: &'a str) -> Result<Names<'a>, Fault<'a>> {
+    let names = names_of(word);
+    if is_nameless(names.name, names.subsection_name) {
+        Err(Fault::Nameless)
+    } else {
+        Ok(names)
+    }
+}

@@ -1,0 +1,124 @@
+//! Calls as they were in `git config` before 2.46, where an option says what is done, or none.
+
+use crate::command::{Choice, Command, Get, Placing, Wanted};
+use crate::fault::Fault;
+use crate::given::Given;
+use crate::keys::key_of;
+use crate::options::{Action, Opt, goes_with};
+use crate::reading::{given_by, is_option};
+use crate::verbs::Verb;
+use crate::words::{for_url, list, removal, renaming, setting, unsetting};
+use std::alloc::Global;
+
+/// Whether a call may begin with a word: it is an option, or a key.
+pub(crate) fn begins(word: &str) -> bool {
+    is_option(word) || word.as_bytes().contains(&b'.')
+}
+
+/// What words ask for.
+///
+/// # Errors
+///
+/// As those of [`crate::read`].
+pub(crate) fn read<'a>(alloc: Global, words: &[&'a str]) -> Result<Command<'a>, Fault<'a>> {
+    let given = given_by(alloc, Verb::Forms, words)?;
+    if given.has(Opt::Help) {
+        return Ok(Command::Help(None));
+    }
+    let action = match given.action {
+        Some(action) => action,
+        None => action_by_count(&given)?,
+    };
+    check_options(&given, action)?;
+    command_of(&given, action)
+}
+
+/// What is done where no option says it: by how many words there are.
+fn action_by_count<'a>(given: &Given<'a>) -> Result<Action, Fault<'a>> {
+    match given.words.len() {
+        0 => Err(Fault::NoCommand),
+        1 => Ok(Action::Get),
+        _ => Ok(Action::Set),
+    }
+}
+
+/// Tests that each option goes with what is done.
+fn check_options<'a>(given: &Given<'a>, action: Action) -> Result<(), Fault<'a>> {
+    for given in &given.options {
+        if !goes_with(action, given.option) {
+            return Err(Fault::NotItsOption(Verb::Forms, given.name));
+        }
+    }
+    Ok(())
+}
+
+/// The command that an action is.
+fn command_of<'a>(given: &Given<'a>, action: Action) -> Result<Command<'a>, Fault<'a>> {
+    match action {
+        Action::Get => get(given, false),
+        Action::GetAll => get(given, true),
+        Action::GetRegexp => get_regexp(given),
+        Action::GetUrlmatch => {
+            let (word, url) = given.two_words()?;
+            Ok(Command::Get(for_url(given, word, url)))
+        }
+        Action::List => Ok(Command::List(list(given)?)),
+        Action::RenameSection => Ok(Command::RenameSection(renaming(given)?)),
+        Action::RemoveSection => Ok(Command::RemoveSection(removal(given)?)),
+        action => edit_of(given, action),
+    }
+}
+
+/// The command that edits entries which an action is.
+fn edit_of<'a>(given: &Given<'a>, action: Action) -> Result<Command<'a>, Fault<'a>> {
+    match action {
+        Action::Add => {
+            let (key, value) = given.two_words()?;
+            setting(given, key, value, Placing::New)
+        }
+        Action::ReplaceAll => {
+            let (key, value, pattern) = given.two_words_and_more()?;
+            setting(given, key, value, Placing::All(given.values(pattern)?))
+        }
+        Action::Unset | Action::UnsetAll => {
+            let (key, pattern) = given.word_and_more()?;
+            unsetting(given, key, pattern, action == Action::UnsetAll)
+        }
+        _ => {
+            let (key, value, pattern) = given.two_words_and_more()?;
+            setting(given, key, value, Placing::Only(given.values(pattern)?))
+        }
+    }
+}
+
+/// The values of a key: the last one, or all.
+fn get<'a>(given: &Given<'a>, is_all: bool) -> Result<Command<'a>, Fault<'a>> {
+    let (key, pattern) = given.word_and_more()?;
+    let values = given.values(pattern)?;
+    let choice = if is_all {
+        Choice::All
+    } else {
+        Choice::Last {
+            default: given.word_of(Opt::Default),
+        }
+    };
+    Ok(Command::Get(Get {
+        reading: given.reading(),
+        wanted: Wanted::Key(key_of(key)?),
+        values,
+        choice,
+        form: given.form(given.has(Opt::ShowNames)),
+    }))
+}
+
+/// The entries of keys in which a pattern is found.
+fn get_regexp<'a>(given: &Given<'a>) -> Result<Command<'a>, Fault<'a>> {
+    let (keys, pattern) = given.word_and_more()?;
+    Ok(Command::Get(Get {
+        reading: given.reading(),
+        wanted: Wanted::Keys(keys),
+        values: given.values(pattern)?,
+        choice: Choice::All,
+        form: given.form(true),
+    }))
+}

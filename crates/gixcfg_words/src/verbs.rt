@@ -1,0 +1,98 @@
+//! The words that calls begin with.
+
+/// What a call with options begins with.
+#[derive(Clone, Copy, PartialEq, Eq)]
+pub enum Verb {
+    /// Prints the value of a key, or all of them.
+    Get,
+    /// Gives a key a value.
+    Set,
+    /// Removes a key's entry.
+    Unset,
+    /// Prints all entries.
+    List,
+    /// Gives the sections of a name another one.
+    RenameSection,
+    /// Takes the sections of a name out.
+    RemoveSection,
+    /// Lays files out.
+    Fmt,
+    /// Tells the faults of each file.
+    Check,
+    /// Tells what two files mean differently.
+    Diff,
+    /// Tells how commands are called.
+    Help,
+    /// None: an option says what is done, as in `git config` before 2.46. Help has it by this word.
+    Forms,
+}
+
+/// The words of the commands, in the order in which help has them.
+pub static COMMANDS: [(&str, Verb); 10] = [
+    ("get", Verb::Get),
+    ("set", Verb::Set),
+    ("unset", Verb::Unset),
+    ("list", Verb::List),
+    ("rename-section", Verb::RenameSection),
+    ("remove-section", Verb::RemoveSection),
+    ("fmt", Verb::Fmt),
+    ("check", Verb::Check),
+    ("diff", Verb::Diff),
+    ("help", Verb::Help),
+];
+
+/// The words that are called without options alone, each with how it is called.
+static PLAIN: [(&str, &str); 5] = [
+    ("all", "all KEY"),
+    ("bool", "bool KEY"),
+    ("int", "int KEY"),
+    ("print", "print"),
+    ("load", "load FILE get KEY"),
+];
+
+/// How a word is called that takes no options, if it is one of these.
+pub fn plain_call(word: &str) -> Option<&'static str> {
+    for (name, call) in &PLAIN {
+        if *name == word {
+            return Some(*call);
+        }
+    }
+    None
+}
+
+/// The command of a word.
+pub fn verb_named(word: &str) -> Option<Verb> {
+    for (name, verb) in &COMMANDS {
+        if *name == word {
+            return Some(*verb);
+        }
+    }
+    None
+}
+
+/// What help can be asked for by a word.
+pub fn topic_named(word: &str) -> Option<Verb> {
+    match word {
+        "forms" => Some(Verb::Forms),
+        word => verb_named(word),
+    }
+}
+
+impl Verb {
+    /// Its word.
+    pub fn name(self) -> &'static str {
+        match self {
+            Verb::Get => "get",
+            Verb::Set => "set",
+            Verb::Unset => "unset",
+            Verb::List => "list",
+            Verb::RenameSection => "rename-section",
+            Verb::RemoveSection => "remove-section",
+            Verb::Fmt => "fmt",
+            Verb::Check => "check",
+            Verb::Diff => "diff",
+            Verb::Help => "help",
+            Verb::Forms => "forms",
+        }
+    }
+}

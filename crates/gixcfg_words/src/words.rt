@@ -1,0 +1,308 @@
+//! What the words of a call ask for.
+
+use crate::command::{
+    Check, Choice, Command, Diff, Files, Fmt, ForUrl, Get, List, Placing, Removal, Renaming, Set,
+    Unset, Values, Wanted,
+};
+use crate::fault::Fault;
+use crate::given::Given;
+use crate::keys::{key_of, names_of, new_names_of};
+use crate::of_git;
+use crate::options::{Alone, Opt};
+use crate::plain::task_of;
+use crate::reading::{given_by, is_option};
+use crate::verbs::{Verb, plain_call, topic_named, verb_named};
+use std::alloc::Global;
+
+/// What words ask for.
+///
+/// # Errors
+///
+/// What is wrong with the first word that isn't understood, else with their number, else with how options go together. Out of memory.
+pub fn read<'a>(alloc: Global, words: &[&'a str]) -> Result<Command<'a>, Fault<'a>> {
+    if let Some(task) = task_of(words) {
+        return Ok(Command::Plain(task));
+    }
+    let Some((first, others)) = words.split_first() else {
+        return Err(Fault::NoCommand);
+    };
+    match *first {
+        "--version" => Ok(Command::Version),
+        "-h" | "--help" => read_help(others),
+        "help" => read_help(others),
+        "edit" => Err(Fault::Alone(Alone::Edit, first)),
+        first => match verb_named(first) {
+            Some(verb) => read_command(alloc, verb, others),
+            None if of_git::begins(first) => of_git::read(alloc, words),
+            None => Err(no_command(first)),
+        },
+    }
+}
+
+/// Whether words are a call that says what is wrong with it by name: one with options, or of a command that has no other form. For others
+/// there is one line.
+pub fn has_options(words: &[&str]) -> bool {
+    match words.first() {
+        Some(&("rename-section" | "remove-section" | "check" | "diff" | "help" | "edit")) => true,
+        _ => words.iter().any(|word| is_option(word)),
+    }
+}
+
+/// The fault of a word that is no command with options.
+fn no_command<'a>(word: &'a str) -> Fault<'a> {
+    match plain_call(word) {
+        Some(call) => Fault::NoOptions(word, call),
+        None => Fault::UnknownCommand(word),
+    }
+}
+
+/// The help that is asked for.
+fn read_help<'a>(words: &[&'a str]) -> Result<Command<'a>, Fault<'a>> {
+    match words {
+        [] => Ok(Command::Help(None)),
+        [word] => read_topic(word),
+        [word, other] if is_help(other) => read_topic(word),
+        [_, word, ..] => Err(Fault::TooMany(Verb::Help, word)),
+    }
+}
+
+/// The help that is asked for on a word.
+fn read_topic<'a>(word: &'a str) -> Result<Command<'a>, Fault<'a>> {
+    match topic_named(word) {
+        Some(verb) => Ok(Command::Help(Some(verb))),
+        None if is_help(word) => Ok(Command::Help(Some(Verb::Help))),
+        None => Err(no_command(word)),
+    }
+}
+
+/// Whether a word asks for help.
+fn is_help(word: &str) -> bool {
+    matches!(word, "-h" | "--help")
+}
+
+/// What the words after a command ask for.
+fn read_command<'a>(
+    alloc: Global,
+    verb: Verb,
+    words: &[&'a str],
+) -> Result<Command<'a>, Fault<'a>> {
+    let given = given_by(alloc, verb, words)?;
+    if given.has(Opt::Help) {
+        return Ok(Command::Help(Some(verb)));
+    }
+    match verb {
+        Verb::Get => Ok(Command::Get(get(&given)?)),
+        Verb::Set => set(&given),
+        Verb::Unset => unset(&given),
+        Verb::List => Ok(Command::List(list(&given)?)),
+        Verb::RenameSection => Ok(Command::RenameSection(renaming(&given)?)),
+        Verb::RemoveSection => Ok(Command::RemoveSection(removal(&given)?)),
+        Verb::Diff => Ok(Command::Diff(diff(&given)?)),
+        Verb::Fmt => fmt(given),
+        Verb::Check => check(given),
+        Verb::Help | Verb::Forms => Ok(Command::Help(None)),
+    }
+}
+
+/// What `get` is asked for.
+fn get<'a>(given: &Given<'a>) -> Result<Get<'a>, Fault<'a>> {
+    let word = given.word()?;
+    let choice = choice_of(given)?;
+    let values = given.values(given.word_of(Opt::Value))?;
+    if let Some(url) = given.word_of(Opt::Url) {
+        return match beside_url(given) {
+            Some(option) => Err(Fault::Both(option, "--url")),
+            None => Ok(for_url(given, word, url)),
+        };
+    }
+    Ok(Get {
+        reading: given.reading(),
+        wanted: wanted_by(given, word)?,
+        values,
+        choice,
+        form: given.form(given.has(Opt::ShowNames)),
+    })
+}
+
+/// An option that doesn't go with `--url`, if one is given.
+fn beside_url(given: &Given<'_>) -> Option<&'static str> {
+    if given.has(Opt::All) {
+        Some("--all")
+    } else if given.has(Opt::Regexp) {
+        Some("--regexp")
+    } else if given.has(Opt::Value) {
+        Some("--value")
+    } else if given.has(Opt::Default) {
+        Some("--default")
+    } else {
+        None
+    }
+}
+
+/// The entries for a URL, by a word: a section, all of whose variables are meant, or a section and a variable with a dot between them.
+pub(crate) fn for_url<'a>(given: &Given<'a>, word: &'a str, url: &'a str) -> Get<'a> {
+    let (section_name, value_name) = match word.split_once('.') {
+        Some((section_name, value_name)) => (section_name, Some(value_name)),
+        None => (word, None),
+    };
+    Get {
+        reading: given.reading(),
+        wanted: Wanted::ForUrl(ForUrl {
+            url,
+            section_name,
+            value_name,
+        }),
+        values: Values::Any,
+        choice: Choice::All,
+        form: given.form(value_name.is_none()),
+    }
+}
+
+/// Which of the entries `get` prints.
+fn choice_of<'a>(given: &Given<'a>) -> Result<Choice<'a>, Fault<'a>> {
+    match (given.has(Opt::All), given.word_of(Opt::Default)) {
+        (true, Some(_)) => Err(Fault::Both("--all", "--default")),
+        (true, None) => Ok(Choice::All),
+        (false, default) => Ok(Choice::Last { default }),
+    }
+}
+
+/// What `get` looks for by a word.
+fn wanted_by<'a>(given: &Given<'a>, word: &'a str) -> Result<Wanted<'a>, Fault<'a>> {
+    if given.has(Opt::Regexp) {
+        Ok(Wanted::Keys(word))
+    } else {
+        Ok(Wanted::Key(key_of(word)?))
+    }
+}
+
+/// All entries.
+pub(crate) fn list<'a>(given: &Given<'a>) -> Result<List<'a>, Fault<'a>> {
+    given.no_words()?;
+    Ok(List {
+        reading: given.reading(),
+        form: given.form(true),
+    })
+}
+
+/// What `set` is asked for.
+fn set<'a>(given: &Given<'a>) -> Result<Command<'a>, Fault<'a>> {
+    let (key, value) = given.two_words()?;
+    setting(given, key, value, placing_of(given)?)
+}
+
+/// A value for a key.
+pub(crate) fn setting<'a>(
+    given: &Given<'a>,
+    key: &'a str,
+    value: &'a str,
+    placing: Placing<'a>,
+) -> Result<Command<'a>, Fault<'a>> {
+    Ok(Command::Set(Set {
+        target: given.target()?,
+        key: key_of(key)?,
+        value,
+        kind: given.kind,
+        placing,
+        comment: given.word_of(Opt::Comment),
+    }))
+}
+
+/// Which entries `set` gives the value to.
+fn placing_of<'a>(given: &Given<'a>) -> Result<Placing<'a>, Fault<'a>> {
+    let values = given.values(given.word_of(Opt::Value))?;
+    match (given.has(Opt::Append), given.has(Opt::All)) {
+        (true, true) => Err(Fault::Both("--all", "--append")),
+        (true, false) if given.has(Opt::Value) => Err(Fault::Both("--append", "--value")),
+        (true, false) => Ok(Placing::New),
+        (false, true) => Ok(Placing::All(values)),
+        (false, false) => Ok(Placing::Only(values)),
+    }
+}
+
+/// What `unset` is asked for.
+fn unset<'a>(given: &Given<'a>) -> Result<Command<'a>, Fault<'a>> {
+    let key = given.word()?;
+    unsetting(given, key, given.word_of(Opt::Value), given.has(Opt::All))
+}
+
+/// A key without its entry, or its entries, if a pattern is given those with such values.
+pub(crate) fn unsetting<'a>(
+    given: &Given<'a>,
+    key: &'a str,
+    pattern: Option<&'a str>,
+    is_all: bool,
+) -> Result<Command<'a>, Fault<'a>> {
+    Ok(Command::Unset(Unset {
+        target: given.target()?,
+        key: key_of(key)?,
+        values: given.values(pattern)?,
+        is_all,
+    }))
+}
+
+/// What `rename-section` is asked for.
+pub(crate) fn renaming<'a>(given: &Given<'a>) -> Result<Renaming<'a>, Fault<'a>> {
+    let (old, new) = given.two_words()?;
+    Ok(Renaming {
+        target: given.target()?,
+        old: names_of(old),
+        new: new_names_of(new)?,
+    })
+}
+
+/// What `remove-section` is asked for.
+pub(crate) fn removal<'a>(given: &Given<'a>) -> Result<Removal<'a>, Fault<'a>> {
+    let word = given.word()?;
+    Ok(Removal {
+        target: given.target()?,
+        names: names_of(word),
+    })
+}
+
+/// What `diff` is asked for.
+fn diff<'a>(given: &Given<'a>) -> Result<Diff<'a>, Fault<'a>> {
+    let (one, other) = given.two_words()?;
+    if one == "-" && other == "-" {
+        return Err(Fault::TwoInputs);
+    }
+    Ok(Diff {
+        one,
+        other,
+        is_quiet: given.has(Opt::Quiet),
+        is_null: given.has(Opt::Null),
+    })
+}
+
+/// What `fmt` is asked for.
+fn fmt<'a>(given: Given<'a>) -> Result<Command<'a>, Fault<'a>> {
+    let target = given.target()?;
+    let files = match given.words.first() {
+        Some(word) if given.has_file() => return Err(Fault::TwoFiles(word)),
+        Some(_) => None,
+        None => Some(target),
+    };
+    let (is_check, indent, newline) = (given.has(Opt::Check), given.indent, given.newline);
+    Ok(Command::Fmt(Fmt {
+        files: match files {
+            Some(target) => Files::One(target),
+            None => Files::Paths(given.into_words()),
+        },
+        is_check,
+        indent,
+        newline,
+    }))
+}
+
+/// What `check` is asked for.
+fn check<'a>(given: Given<'a>) -> Result<Command<'a>, Fault<'a>> {
+    if given.words.is_empty() {
+        return Err(Fault::TooFew(Verb::Check));
+    }
+    let (is_quiet, is_lenient) = (given.has(Opt::Quiet), given.has(Opt::Lenient));
+    Ok(Command::Check(Check {
+        files: given.into_words(),
+        is_quiet,
+        is_lenient,
+    }))
+}
