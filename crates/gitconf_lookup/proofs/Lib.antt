@@ -1,0 +1,5 @@
+pub mod Decisions
+pub mod Raws
+pub mod Entries
+pub mod Walks
+pub mod Sought
