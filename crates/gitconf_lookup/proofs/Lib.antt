@@ -3,3 +3,5 @@ pub mod Raws
 pub mod Entries
 pub mod Walks
 pub mod Sought
+pub mod Fours
+pub mod Gaps

@@ -29,15 +29,15 @@ use Rattle.gitconf_lookup.specs.declared.entry.EntryPlace.{EntryPlace}
 use Rattle.gitconf_lookup.specs.declared.walk.Cursor.{Cursor}
 use Rattle.gitconf_lookup.specs.Met.{MetEntry, Standing, after_part, after_parts, is_met, met_at, met_in}
 use Rattle.gitconf_lookup.specs.Places.{IsEntryRead}
-use Rattle.gitconf_lookup.specs.Walk.{IsWalk, met_of, standing}
+use Rattle.gitconf_lookup.specs.Walk.{IsGap, IsWalk, met_of, standing}
 
-met_both : (key : Key) (s : Standing) (ps qs : List Part) → met_in key s (ps ++ qs) ≡ met_in key s ps ++ met_in key (after_parts key s ps) qs
+pub met_both : (key : Key) (s : Standing) (ps qs : List Part) → met_in key s (ps ++ qs) ≡ met_in key s ps ++ met_in key (after_parts key s ps) qs
 met_both key s [] qs = refl
 met_both key s (p ∷ ps) qs =
     ap (λ t. met_at key s p ++ t) (met_both key (after_part key s p) ps qs)
     ∙ sym (append_assoc (met_at key s p) (met_in key (after_part key s p) ps) (met_in key (after_parts key (after_part key s p) ps) qs))
 
-after_both : (key : Key) (s : Standing) (ps qs : List Part) → after_parts key s (ps ++ qs) ≡ after_parts key (after_parts key s ps) qs
+pub after_both : (key : Key) (s : Standing) (ps qs : List Part) → after_parts key s (ps ++ qs) ≡ after_parts key (after_parts key s ps) qs
 after_both key s [] qs = refl
 after_both key s (p ∷ ps) qs = after_both key (after_part key s p) ps qs
 
@@ -152,6 +152,14 @@ entry_passed input key a b place x within opens r other =
 -- where a walk comes before a break, it breaks there
 pub broken_walk : (input : List ℕ) (key : Key) (a b : Cursor) (some : List MetEntry) (e : ReadError) → IsWalk input key a b some → IsBreak input b.at b.wanted e → IsBreak input a.at a.wanted e
 broken_walk input key a b some e x broken = broken_behind input a.at b.at a.wanted b.wanted (tokens_of x.parts) e x.stretch broken
+
+-- a gap behind a walk
+pub gap_walk : (input : List ℕ) (key : Key) (a b : Cursor) (end : ℕ) (met : List MetEntry) → IsWalk input key a b met → IsGap input b.at b.wanted end
+    → IsWalk input key a (record { at = end; wanted = b.wanted; meant = b.meant; anew = b.anew }) met
+gap_walk input key a b end met x g =
+    let c : Cursor = record { at = end; wanted = b.wanted; meant = b.meant; anew = b.anew } in
+    subst (IsWalk input key a c) (append-nil met)
+    (both_walks input key a b c met [] x (record { parts = g.parts; stretch = g.stretch; met_are = (g.quiet key (standing b)).0; stands = (g.quiet key (standing b)).1 }))
 
 -- What a walk over a whole text meets is what its document has.
 pub whole_walk : (input : List ℕ) (key : Key) (a b : Cursor) (met : List MetEntry) → drop a.at input ≡ unmarked input → length input ≤ b.at → IsWalk input key a b met

@@ -5,6 +5,7 @@ use Rattle.gitconf_base.specs.Key.{Key}
 use Rattle.gitconf_text.specs.Document.{unmarked}
 use Rattle.gitconf_text.specs.Part.{Part}
 use Rattle.gitconf_text.specs.Token.{tokens_of}
+use Rattle.gitconf_read.specs.declared.reading.Expected.{Expected}
 use Rattle.gitconf_read.specs.declared.reading.Expected.TheVariants.{SectionHeader}
 use Rattle.gitconf_read.specs.Stretches.{IsStretch}
 use Rattle.gitconf_lookup.specs.declared.walk.Cursor.{Cursor}
@@ -43,3 +44,9 @@ pub record IsWalk (input : List ℕ) (key : Key) (from to : Cursor) (met : List 
   pub stretch : IsStretch input from.at from.wanted to.at to.wanted (tokens_of parts)
   pub met_are : met_in key (standing from) parts ≡ met
   pub stands : after_parts key (standing from) parts ≡ standing to
+
+-- Between two offsets are parts that tell a walk nothing.
+pub record IsGap (input : List ℕ) (at : ℕ) (wanted : Expected) (end : ℕ) : Type 0 where
+  pub parts : List Part
+  pub stretch : IsStretch input at wanted end wanted (tokens_of parts)
+  pub quiet : (key : Key) (s : Standing) → (met_in key s parts ≡ []) × (after_parts key s parts ≡ s)

@@ -5,7 +5,7 @@ ghost use Rattle.gitconf_read.specs.ItemReading.{IsRefusal};
 ghost use Rattle.gitconf_read.specs.Reading.{entry_at};
 ghost use Rattle.gitconf_lookup.specs.Places.{IsEntryRead, ValueInside};
 
-use crate::run::{Run, run_end};
+use crate::run::{Run, long_run_end, run_end};
 use crate::value::value_end;
 use gitconf_read::reading::{Expected, Fault, ReadError};
 
@@ -41,7 +41,7 @@ pub fn entry(input: &[u8], at: usize) -> Result<EntryPlace, ReadError>
     ensures inside { IfOk result (λ e. e.end ≤ length input.now) }
     ensures refused { IfErr result (IsRefusal (entry_at input.now at [])) }
 {
-    let name_end = run_end(input, at + 1, Run::NameBytes);
+    let name_end = long_run_end(input, at + 1, Run::NameBytes);
     let blanks_end = run_end(input, name_end, Run::Blanks);
     if is_assignment(input, blanks_end) {
         let first = run_end(input, blanks_end + 1, Run::Blanks);

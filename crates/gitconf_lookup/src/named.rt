@@ -29,9 +29,14 @@ fn is_folded(spelled: &[u8], name: &[u8]) -> bool
 }
 
 /// Whether the bytes between the quotes of a header spell the name.
+#[tactic(auto, using(gitconf_items::proofs::Copies::unquoted_same))]
 fn is_unquoted(spelling: &[u8], name: &[u8]) -> bool
     ensures { result ≡ bytes_eq (unquoted spelling.now) name.now }
 {
+    // Most are spelled as they are meant.
+    if !spelling.contains(&b'\\') {
+        return spelling == name;
+    }
     let mut left = name;
     let mut escaped = false;
     for byte in spelling {

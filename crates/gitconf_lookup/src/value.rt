@@ -7,7 +7,8 @@ ghost use Rattle.gitconf_read.specs.ItemReading.{EndsWithin, IsValueRead};
 ghost use Rattle.gitconf_read.specs.Reading.{piece_from};
 ghost use Rattle.gitconf_lookup.specs.Places.{reader_end, IsNoValue};
 
-use crate::run::{Run, run_end};
+use crate::class::is_plain;
+use crate::run::{Run, long_run_end};
 
 /// How a piece of a value ends.
 #[derive(Clone, Copy)]
@@ -35,7 +36,7 @@ fn plain_end(input: &[u8], at: usize) -> usize
     ensures behind { at < result }
     ensures inside { result ≤ length input.now }
 {
-    run_end(input, at + 1, Run::PlainBytes)
+    long_run_end(input, at + 1, Run::PlainBytes)
 }
 
 /// How the piece ends that begins at an offset, between quotes or not.
@@ -51,7 +52,13 @@ pub fn piece_end(input: &[u8], from: usize, quoted: bool) -> PieceEnd
     let mut kept = from;
     let mut i = from;
     while i < input.len() {
-        match input[i] {
+        let byte = input[i];
+        if is_plain(byte) {
+            i = plain_end(input, i);
+            kept = i;
+            continue;
+        }
+        match byte {
             b'\n' => break,
             b';' | b'#' if !quoted => break,
             b'"' => {
@@ -83,12 +90,8 @@ pub fn piece_end(input: &[u8], from: usize, quoted: bool) -> PieceEnd
                 Some(_) => return PieceEnd::Refused,
             },
             b' ' | b'\t' | b'\r' | b'\x0c' => i += 1,
-            b';' | b'#' => {
-                i += 1;
-                kept = i;
-            }
             _ => {
-                i = plain_end(input, i);
+                i += 1;
                 kept = i;
             }
         }

@@ -7,4 +7,4 @@ use Rattle.gitconf_lookup.proofs.named.is_unquoted.Given as goal
 
 -- what is left spells the rest of the name just where all spells the name
 abbrev pub invariant-loop-byte : goal.invariant-loop-byte
-invariant-loop-byte l = bytes_eq (flat_map subsection_byte (units_behind l.escaped (drop l.byte-index l.spelling))) l.left ≡ bytes_eq (unquoted l.spelling) l.name
+invariant-loop-byte l = bytes_eq (flat_map subsection_byte (units_behind l.escaped (drop l.byte-index l.spelling))) l.left ≡ bytes_eq (unquoted l.spelling) l.fn.name
