@@ -13,13 +13,14 @@ use Rattle.gitconf_items.specs.Events.{bytes_of}
 use Rattle.gitconf_read.specs.declared.reading.Expected.{Expected}
 use Rattle.gitconf_read.specs.declared.reading.part.Opening.TheVariants as openings
 use Rattle.gitconf_read.specs.declared.reading.run.Run.TheVariants as runs
-use Rattle.gitconf_read.specs.Reading.{end_of_run, opening_of, run_end_at, span}
+use Rattle.gitconf_read.specs.Reading.{opening_of, run_end_at, span}
 use Rattle.gitconf_read.specs.Stretches.{IsStretch}
 use Rattle.gitconf_read.proofs.ItemReading.{blanks_read, line_ends_read}
 use Rattle.gitconf_read.proofs.Runs.{end_of_run_step}
 use Rattle.gitconf_read.proofs.Stretches.{both_stretches, no_stretch}
 use Rattle.gitconf_lookup.specs.Met.{Standing, after_part, after_parts, met_at, met_in}
 use Rattle.gitconf_lookup.specs.Walk.{IsGap}
+use Rattle.gitconf_lookup.proofs.Fours.{empty_run}
 use Rattle.gitconf_lookup.proofs.Walks.{after_both, item_stretch, met_both}
 
 -- nothing is a gap
@@ -45,12 +46,6 @@ one_gap input a b wanted p stretch quiet = record {
   stretch = subst (λ t. IsStretch input a wanted b wanted t) (sym (append-nil (part_tokens p))) stretch;
   quiet = λ key s. (append-nil (met_at key s p) ∙ (quiet key s).0, (quiet key s).1);
 }
-
--- a run whose test fails at once has no bytes
-empty_run : (test : List ℕ → Bool) (n : ℕ) (text : List ℕ) → test text ≡ false → end_of_run test n text ≡ n
-unfolding end_of_run
-empty_run test n [] none = refl
-empty_run test n (b ∷ rest) none = rw (none, end_of_run) refl
 
 -- a byte that belongs to a run is no end of a text
 within_text : (test : List ℕ → Bool) (input : List ℕ) (n : ℕ) → test [] ≡ false → test (drop n input) ≡ true → n < length input

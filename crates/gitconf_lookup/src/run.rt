@@ -1,10 +1,10 @@
 //! Runs: blanks, line endings, and the bytes of comments, names and values.
-ghost use Rattle.std.specs.Prelude.{◌≡◌, ◌≤◌, ◌<◌, ◌+◌, ◌&&◌, length, drop};
+ghost use Rattle.std.specs.Prelude.{◌≡◌, ◌≤◌, ◌<◌, length, drop};
 ghost use Rattle.gitconf_text.specs.Text.{begins_line_end};
 ghost use Rattle.gitconf_read.specs.Reading.{run_test, run_end_at};
 ghost use Rattle.gitconf_lookup.specs.Places.{reader_run};
 
-use crate::class::{is_name_byte, is_plain};
+use crate::class::{is_blank, is_name_byte, is_plain};
 
 /// What a run consists of.
 #[derive(Clone, Copy)]
@@ -40,25 +40,12 @@ impl Run {
     {
         let byte = input[at];
         match self {
-            Run::Blanks => byte == b' ' || byte == b'\t',
+            Run::Blanks => is_blank(byte),
             Run::LineEnds => is_line_end(input, at),
             Run::CommentText => !is_line_end(input, at),
             Run::NameBytes => is_name_byte(byte),
             Run::PlainBytes => is_plain(byte),
         }
-    }
-
-    /// Whether the four bytes from an offset on belong to the run.
-    #[inline(always)]
-    fn has_four(self, input: &[u8], at: usize) -> bool
-        requires { at + 3 < length input.now }
-        ensures { result ≡ (run_test (reader_run self) (drop at input.now) && run_test (reader_run self) (drop (at + 1) input.now)
-            && run_test (reader_run self) (drop (at + 2) input.now) && run_test (reader_run self) (drop (at + 3) input.now)) }
-    {
-        self.goes_on(input, at)
-            && self.goes_on(input, at + 1)
-            && self.goes_on(input, at + 2)
-            && self.goes_on(input, at + 3)
     }
 }
 
@@ -78,21 +65,6 @@ pub fn run_end(input: &[u8], from: usize, run: Run) -> usize
     i
 }
 
-/// The offset after as many times four bytes of a run as there are from an offset on.
-#[inline(always)]
-fn fours_end(input: &[u8], from: usize, run: Run) -> usize
-    requires { from ≤ length input.now }
-    ensures goes_on { run_end_at input.now (reader_run run) result ≡ run_end_at input.now (reader_run run) from }
-    ensures behind { from ≤ result }
-    ensures inside { result ≤ length input.now }
-{
-    let mut i = from;
-    while i + 3 < input.len() && run.has_four(input, i) {
-        i += 4;
-    }
-    i
-}
-
 /// The offset after the run that begins at an offset, faster for a run that is mostly long.
 #[inline(always)]
 pub fn long_run_end(input: &[u8], from: usize, run: Run) -> usize
@@ -101,6 +73,21 @@ pub fn long_run_end(input: &[u8], from: usize, run: Run) -> usize
     ensures behind { from ≤ result }
     ensures inside { result ≤ length input.now }
 {
-    let fours = fours_end(input, from, run);
-    run_end(input, fours, run)
+    let mut i = from;
+    while i + 3 < input.len() {
+        if !run.goes_on(input, i) {
+            return i;
+        }
+        if !run.goes_on(input, i + 1) {
+            return i + 1;
+        }
+        if !run.goes_on(input, i + 2) {
+            return i + 2;
+        }
+        if !run.goes_on(input, i + 3) {
+            return i + 3;
+        }
+        i += 4;
+    }
+    run_end(input, i, run)
 }

@@ -7,7 +7,7 @@ ghost use Rattle.gitconf_read.specs.ItemReading.{EndsWithin, IsValueRead};
 ghost use Rattle.gitconf_read.specs.Reading.{piece_from};
 ghost use Rattle.gitconf_lookup.specs.Places.{reader_end, IsNoValue};
 
-use crate::class::is_plain;
+use crate::class::{is_line_feed, is_plain};
 use crate::run::{Run, long_run_end};
 
 /// How a piece of a value ends.
@@ -58,8 +58,10 @@ pub fn piece_end(input: &[u8], from: usize, quoted: bool) -> PieceEnd
             kept = i;
             continue;
         }
+        if is_line_feed(byte) {
+            break;
+        }
         match byte {
-            b'\n' => break,
             b';' | b'#' if !quoted => break,
             b'"' => {
                 quoted = !quoted;

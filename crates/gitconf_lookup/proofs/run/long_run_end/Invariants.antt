@@ -1,7 +1,7 @@
 use Rattle.std.proofs.Common.{◌≡◌, ◌-◌, ◌≤◌, length}
 use Rattle.gitconf_read.specs.Reading.{run_end_at}
 use Rattle.gitconf_lookup.specs.Places.{reader_run}
-use Rattle.gitconf_lookup.proofs.run.fours_end.Given as goal
+use Rattle.gitconf_lookup.proofs.run.long_run_end.Given as goal
 
 -- what is left ends where the whole run ends
 abbrev pub invariant-loop-i : goal.invariant-loop-i
