@@ -1,5 +1,5 @@
 //! The classes of bytes, by a table.
-ghost use Rattle.std.specs.Prelude.{◌≡◌, ◌==◌};
+ghost use Rattle.std.specs.Prelude.{◌≡◌};
 ghost use Rattle.gitconf_text.specs.Bytes as text_bytes;
 ghost use Rattle.gitconf_read.specs.Reading as reader;
 
@@ -12,12 +12,9 @@ const PLAIN: u8 = 2;
 /// Space and tab.
 const BLANK: u8 = 4;
 
-/// LF.
-const LINE_FEED: u8 = 8;
-
-// For each byte a digit, whose low four bits are the flags above.
+// For each byte a digit, whose low three bits are the flags above.
 static CLASS: [u8; 256] = *b"\
-    22222222248200222222222222222222\
+    22222222240200222222222222222222\
     42002222222223223333333333202222\
     23333333333333333333333333320222\
     23333333333333333333333333322222\
@@ -40,14 +37,6 @@ pub fn is_blank(byte: u8) -> bool
     ensures { result ≡ text_bytes.is_blank byte }
 {
     CLASS[byte as usize] & BLANK != 0
-}
-
-/// Whether the byte is LF.
-#[inline(always)]
-pub fn is_line_feed(byte: u8) -> bool
-    ensures { result ≡ (byte == 10) }
-{
-    CLASS[byte as usize] & LINE_FEED != 0
 }
 
 /// Whether the byte stands for itself in a value, quotes or not.

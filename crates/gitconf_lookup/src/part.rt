@@ -1,5 +1,6 @@
 //! What may begin at an offset.
 ghost use Rattle.std.specs.Prelude.{◌≡◌, ◌<◌, length, drop};
+ghost use Rattle.std.specs.Char.{is_ascii_alphabetic};
 ghost use Rattle.gitconf_read.specs.Reading.{opening_of};
 ghost use Rattle.gitconf_lookup.specs.Places.{reader_opening};
 
@@ -16,6 +17,14 @@ pub enum Opening {
     Nothing,
 }
 
+/// Whether the byte is a letter.
+#[inline(always)]
+fn is_letter(byte: u8) -> bool
+    ensures { result ≡ is_ascii_alphabetic byte }
+{
+    byte.is_ascii_alphabetic()
+}
+
 /// Which part may begin at an offset, by its first byte.
 #[inline(always)]
 pub fn part_opening(input: &[u8], at: usize) -> Opening
@@ -23,6 +32,10 @@ pub fn part_opening(input: &[u8], at: usize) -> Opening
     ensures { reader_opening result ≡ opening_of (drop at input.now) }
 {
     let first = input[at];
+    // Most parts at which this is asked are entries.
+    if is_letter(first) {
+        return Opening::Entry;
+    }
     if first == b' ' || first == b'\t' {
         return Opening::Blanks;
     }
@@ -32,7 +45,6 @@ pub fn part_opening(input: &[u8], at: usize) -> Opening
     match first {
         b';' | b'#' => Opening::Comment,
         b'[' => Opening::Header,
-        b'a'..=b'z' | b'A'..=b'Z' => Opening::Entry,
         _ => Opening::Nothing,
     }
 }

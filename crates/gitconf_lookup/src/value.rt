@@ -7,7 +7,7 @@ ghost use Rattle.gitconf_read.specs.ItemReading.{EndsWithin, IsValueRead};
 ghost use Rattle.gitconf_read.specs.Reading.{piece_from};
 ghost use Rattle.gitconf_lookup.specs.Places.{reader_end, IsNoValue};
 
-use crate::class::{is_line_feed, is_plain};
+use crate::class::is_plain;
 use crate::run::{Run, long_run_end};
 
 /// How a piece of a value ends.
@@ -56,12 +56,14 @@ pub fn piece_end(input: &[u8], from: usize, quoted: bool) -> PieceEnd
         if is_plain(byte) {
             i = plain_end(input, i);
             kept = i;
+            // Most values end here.
+            if i < input.len() && input[i] == b'\n' {
+                break;
+            }
             continue;
         }
-        if is_line_feed(byte) {
-            break;
-        }
         match byte {
+            b'\n' => break,
             b';' | b'#' if !quoted => break,
             b'"' => {
                 quoted = !quoted;

@@ -64,11 +64,7 @@ fn gap_end(input: &[u8], at: usize) -> usize
 
 /// Reads the part that begins here, which may be an entry of the key.
 #[inline(always)]
-fn pass_part(
-    input: &[u8],
-    key: &KeyRef<'_>,
-    cursor: &mut Cursor,
-) -> Result<Option<Met>, ReadError>
+fn pass_part(input: &[u8], key: &KeyRef<'_>, cursor: &mut Cursor) -> Result<Option<Met>, ReadError>
     requires within { cursor.old.at < length input.now }
     requires fits { length input.now < 2 ^ 32 }
     ensures read { IfOk result (λ met. IsWalk input.now (key_of key.now) cursor.old cursor.new (mets_of input.now met)) }
