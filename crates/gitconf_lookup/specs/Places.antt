@@ -1,9 +1,10 @@
 -- Where parts, entries and values are in a text, in terms of the functional reader; only proofs and private functions see it.
-use Rattle.std.specs.Prelude.{◌≡◌, ◌≤◌, ℕ, List, [], drop, map, Ok, Err, Option, Some, None}
+use Rattle.std.specs.Prelude.{◌≡◌, ◌≤◌, ℕ, Bool, true, false, List, [], drop, map, Ok, Err, Option, Some, None}
 use Rattle.std.specs.List.{flat_map}
 use Rattle.std.specs.Option.{option_map}
 use Rattle.gitconf_text.specs.Part.{Entry, EntryItem}
 use Rattle.gitconf_text.specs.Token.{Token, ValueToken, ValueNotDoneToken, ValueDoneToken, item_tokens}
+use Rattle.gitconf_text.specs.Unit.{LineFeed, Quote, Backslash, class_of}
 use Rattle.gitconf_items.specs.Events.{bytes_of, token_of}
 use Rattle.gitconf_read.specs.declared.reading.Expected.TheVariants as expected
 use Rattle.gitconf_read.specs.declared.reading.ReadError.TheVariants as errors
@@ -24,12 +25,17 @@ use Rattle.gitconf_lookup.specs.declared.value.PieceEnd.TheVariants as ends
 use Rattle.gitconf_lookup.specs.declared.entry.EntryPlace.{EntryPlace}
 use Rattle.gitconf_lookup.specs.Met.{raw_assigned}
 
+-- a byte that stands for itself in a quoted subsection
+abbrev pub is_spelled : ℕ → Bool
+is_spelled b = elim (class_of b) [ LineFeed ↦ false | Quote ↦ false | Backslash ↦ false | _ ↦ true ]
+
 -- the reader's run of the same bytes
 abbrev pub reader_run : Run → ReaderRun
 reader_run runs.Blanks = reader_runs.Blanks
 reader_run runs.LineEnds = reader_runs.LineEnds
 reader_run runs.CommentText = reader_runs.CommentText
 reader_run runs.NameBytes = reader_runs.NameBytes
+reader_run runs.HeaderBytes = reader_runs.HeaderBytes
 reader_run runs.PlainBytes = reader_runs.PlainBytes
 
 -- the same opening, as the reader has it

@@ -3,6 +3,7 @@
 
 mod class;
 mod entry;
+mod header;
 pub mod laws;
 pub mod lookup;
 mod meaning;

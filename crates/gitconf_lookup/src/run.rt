@@ -4,7 +4,7 @@ ghost use Rattle.gitconf_text.specs.Text.{begins_line_end};
 ghost use Rattle.gitconf_read.specs.Reading.{run_test, run_end_at};
 ghost use Rattle.gitconf_lookup.specs.Places.{reader_run};
 
-use crate::class::{is_blank, is_name_byte, is_plain};
+use crate::class::{is_blank, is_header_byte, is_name_byte, is_plain};
 
 /// What a run consists of.
 #[derive(Clone, Copy)]
@@ -17,6 +17,8 @@ pub enum Run {
     CommentText,
     /// Letters, digits and dashes.
     NameBytes,
+    /// The same, and dots.
+    HeaderBytes,
     /// Bytes that stand for themselves in a value, quotes or not.
     PlainBytes,
 }
@@ -44,6 +46,7 @@ impl Run {
             Run::LineEnds => is_line_end(input, at),
             Run::CommentText => !is_line_end(input, at),
             Run::NameBytes => is_name_byte(byte),
+            Run::HeaderBytes => is_header_byte(byte),
             Run::PlainBytes => is_plain(byte),
         }
     }

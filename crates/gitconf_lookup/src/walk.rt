@@ -10,11 +10,11 @@ ghost use Rattle.gitconf_lookup.specs.Places.{ValueInside};
 ghost use Rattle.gitconf_lookup.specs.Walk.{IsGap, IsWalk, mets_of};
 
 use crate::entry::entry;
+use crate::header::header_first;
 use crate::named::{is_meant, is_named};
 use crate::part::{Opening, part_opening};
 use crate::run::{Run, long_run_end, run_end};
 use gitconf_base::key::KeyRef;
-use gitconf_read::reading::item::header_first;
 use gitconf_read::reading::{Expected, Fault, ReadError};
 
 /// How far a text was read.
