@@ -5,3 +5,4 @@ pub mod Walks
 pub mod Sought
 pub mod Fours
 pub mod Gaps
+pub mod OneDocument

@@ -3,7 +3,7 @@
 //! The text is read as `File::try_from_bytes` reads it, and refused as it refuses it, but nothing is kept of it. What is found is what
 //! `File::string` and `File::strings` find in the file that is loaded from the text. No include is followed.
 ghost use Rattle.std.specs.Prelude.{◌≡◌, ◌≤◌, ◌<◌, ◌^◌, length, map, IfOk, IfErr, IfSome};
-ghost use Rattle.std.specs.Option.{option_map};
+ghost use Rattle.std.specs.Option.{option_map, option_or};
 ghost use Rattle.bstr.specs.Owned.{bstring_bytes};
 ghost use Rattle.gitconf_base.specs.Found.{if_any};
 ghost use Rattle.gitconf_base.specs.Key.{key_of};
@@ -36,6 +36,13 @@ fn start_of(input: &[u8]) -> Cursor
     }
 }
 
+/// What decides after an entry of the key: its value, or what decided before its section.
+fn deciding(value: Option<usize>, before: Option<usize>) -> Option<usize>
+    ensures { result ≡ option_or value before }
+{
+    value.or(before)
+}
+
 /// Where the value begins that decides: that of the last entry of the key in the last section in which that entry has one.
 fn deciding_place(input: &[u8], key: &KeyRef<'_>) -> Result<Option<usize>, ReadError>
     requires { length input.now < 2 ^ 32 }
@@ -50,7 +57,7 @@ fn deciding_place(input: &[u8], key: &KeyRef<'_>) -> Result<Option<usize>, ReadE
         if met.anew {
             before = now;
         }
-        now = met.value.or(before);
+        now = deciding(met.value, before);
     }
     Ok(now)
 }

@@ -14,7 +14,7 @@ pub loop-met-preserved : goal.loop-met-preserved
 loop-met-preserved c =
     let before_is : c.if-met.before ≡ (if c.in-Some.met.anew then c.loop-met.now else c.loop-met.before)
     = elim c.if-met.branch [ then-met w ↦ rw w.if-met.true w.before-is | else-met w ↦ rw w.if-met.false w.before-is ] in
-    rw (c.or-now.ensures, before_is)
+    rw (c.deciding-now.ensures, before_is)
     (more_sought _ _ _ _ _ _ _ c.in-Some.met c.loop-met.invariant (rw c.in-Some.is at c.in_ok-met.ensures.read) c.in_ok-met.ensures.inside (rw c.in-Some.is at c.in_ok-met.ensures.value))
 
 pub returns-clause-found : goal.returns-clause-found
