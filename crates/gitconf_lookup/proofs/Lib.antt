@@ -6,3 +6,4 @@ pub mod Sought
 pub mod Fours
 pub mod Gaps
 pub mod OneDocument
+pub mod Endings

@@ -1,5 +1,5 @@
 //! Whether headers and entries have the names of a key.
-ghost use Rattle.std.specs.Prelude.{◌≡◌, ◌≤◌, ◌<◌, ◌^◌, length};
+ghost use Rattle.std.specs.Prelude.{◌≡◌, ◌≤◌, ◌<◌, ◌^◌, false, length, true};
 ghost use Rattle.std.specs.Option.{option_copied, option_eq};
 ghost use Rattle.std.specs.Str.{bytes_eq};
 ghost use Rattle.gitconf_text.specs.Bytes.{fold};
@@ -28,11 +28,24 @@ fn is_folded(spelled: &[u8], name: &[u8]) -> bool
     left.is_empty()
 }
 
+/// Whether the last bytes show that the bytes between the quotes of a header don't spell the name.
+fn ends_otherwise(spelling: &[u8], name: &[u8]) -> bool
+    ensures { result ≡ true → bytes_eq (unquoted spelling.now) name.now ≡ false }
+{
+    match (spelling.split_last(), name.split_last()) {
+        (Some((last, _)), Some((other, _))) => *last != b'\\' && *last != *other,
+        _ => false,
+    }
+}
+
 /// Whether the bytes between the quotes of a header spell the name.
 #[tactic(auto, using(gitconf_items::proofs::Copies::unquoted_same))]
 fn is_unquoted(spelling: &[u8], name: &[u8]) -> bool
     ensures { result ≡ bytes_eq (unquoted spelling.now) name.now }
 {
+    if ends_otherwise(spelling, name) {
+        return false;
+    }
     // Most are spelled as they are meant.
     if !spelling.contains(&b'\\') {
         return spelling == name;
@@ -77,8 +90,9 @@ pub fn is_meant(input: &[u8], header: &Header, key: &KeyRef<'_>) -> bool
     requires { HeaderFits (length input.now) header.now }
     ensures { result ≡ spec.is_meant (key_of key.now) (header_of input.now header.now) }
 {
-    is_same_name(key.section_name.as_bytes(), header.name.bytes_in(input))
-        && has_subsection(input, header, key.subsection_name)
+    // In most files sections differ in their subsections.
+    has_subsection(input, header, key.subsection_name)
+        && is_same_name(key.section_name.as_bytes(), header.name.bytes_in(input))
 }
 
 /// Whether the bytes from one offset up to another are the name, without ASCII case.
