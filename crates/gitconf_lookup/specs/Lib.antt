@@ -1,0 +1,4 @@
+pub mod Lookup
+pub mod Met
+pub mod Places
+pub mod Walk
