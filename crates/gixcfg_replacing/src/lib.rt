@@ -2,6 +2,7 @@
 #![tactic(auto)]
 
 mod call;
+mod crash;
 mod edit;
 mod ended;
 mod folder;
@@ -9,8 +10,12 @@ mod in_memory;
 mod memory;
 mod names;
 
+pub use crash::Chance;
 pub use edit::replace;
 pub use ended::{Edited, Ended};
 pub use folder::Folder;
 pub use memory::Memory;
 pub use names::{draft_of, lock_of};
+
+#[cfg(test)]
+mod tests;

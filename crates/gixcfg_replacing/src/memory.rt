@@ -4,6 +4,7 @@ ghost use Rattle.gixcfg_replacing.specs.Disk.{last_found};
 ghost use Rattle.gixcfg_replacing.specs.Calls.{past};
 
 use crate::call::{Call, seen};
+use crate::crash::{Chance, left_by_crash};
 use std::alloc::{AllocError, Global};
 use std::io;
 use std::io::ErrorKind;
@@ -35,6 +36,31 @@ impl Memory {
             halfway,
             failed: false,
         }
+    }
+
+    /// From now on no call fails.
+    pub fn mend(&mut self) {
+        self.failed = true;
+    }
+
+    /// How many calls have changed it.
+    pub fn count(&self) -> usize {
+        self.calls.len()
+    }
+
+    /// What a crash before the last so many of these calls leaves at a name, by chance.
+    ///
+    /// # Errors
+    ///
+    /// Out of memory.
+    pub fn after_crash(
+        &self,
+        last: usize,
+        name: &str,
+        chance: &mut Chance,
+    ) -> Result<Option<Vec<u8>>, AllocError> {
+        let before = self.calls.split_at(last.min(self.calls.len())).1;
+        left_by_crash(self.alloc, before, name.as_bytes(), chance)
     }
 
     /// Keeps a call.
