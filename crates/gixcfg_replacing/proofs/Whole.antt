@@ -27,7 +27,7 @@ module _ {F : Type 0} (disk : Disk F) (a b c : F) (file draft lock : Name) (befo
   lock_bc = alone lock names.apart
 
   ends_then : (ended : Ended) → GoesOn disk a b → Keeps disk b c file → EndsAs disk a b file before text draft lock ended → EndsAs disk a c file before text draft lock ended
-  ends_then Done ab keeps (free, is) = (λ quiet. free (quiet_first disk a b c lock ab bc quiet), record { had = is.had; has = seen_same disk b c file keeps ∙ is.has; down = λ left h. is.down left (keeps.leaves left h) })
+  ends_then Done ab keeps (free, is) = (λ quiet. free (quiet_first disk a b c lock ab bc quiet), record { had = is.had; has = seen_same disk b c file keeps ∙ is.has; rest = λ left h. is.rest left (keeps.leaves left h) ∙ sym (seen_same disk b c file keeps) })
   ends_then Changed ab keeps (other, kept) = (other, keeps_on disk a b c file ab kept keeps)
   ends_then Locked ab keeps (held, kept) = (λ quiet. held (quiet_first disk a b c lock ab bc quiet), keeps_on disk a b c file ab kept keeps)
   ends_then Drafted ab keeps (held, kept) = (λ quiet. held (quiet_first disk a b c draft ab bc quiet), keeps_on disk a b c file ab kept keeps)
@@ -81,7 +81,7 @@ module _ {F : Type 0} (disk : Disk F) (a b c : F) (file draft lock : Name) (befo
 
   ends_first : (ended : Ended) → GoesOn disk b c → Keeps disk a b file → IsOwn ended → EndsAs disk b c file before text draft lock ended → EndsAs disk a c file before text draft lock ended
   ends_first Done bc keeps own (free, is) =
-      (λ quiet. sym (seen_same disk a b lock (lock_ab.kept (quiet_first disk a b c lock ab bc quiet))) ∙ free (quiet_next disk a b c lock ab bc quiet), record { had = sym (seen_same disk a b file keeps) ∙ is.had; has = is.has; down = is.down })
+      (λ quiet. sym (seen_same disk a b lock (lock_ab.kept (quiet_first disk a b c lock ab bc quiet))) ∙ free (quiet_next disk a b c lock ab bc quiet), record { had = sym (seen_same disk a b file keeps) ∙ is.had; has = is.has; rest = is.rest })
   ends_first Changed bc keeps own (other, kept) = (λ same. other (seen_same disk a b file keeps ∙ same), keeps_on disk a b c file ab keeps kept)
   ends_first Locked bc keeps own (held, kept) =
       (λ quiet free. held (quiet_next disk a b c lock ab bc quiet) (seen_same disk a b lock (lock_ab.kept (quiet_first disk a b c lock ab bc quiet)) ∙ free), keeps_on disk a b c file ab keeps kept)
@@ -184,7 +184,7 @@ module _ {F : Type 0} (disk : Disk F) (a b : F) (file draft lock : Name) (before
         let keeps = (alone_bc file).kept late in
         let has = seen_same disk b c file keeps ∙ is.2.found in (
           λ alone. is.0 (quiet_first disk a b c lock ab bc alone),
-          record { had = is.1; has = has; down = λ left h. left_down (seen disk c file) has left (down file late left h) is.2 keeps },
+          record { had = is.1; has = has; rest = λ left h. left_down (seen disk c file) has left (down file late left h) is.2 keeps ∙ sym has },
         )
       where
         left_down : (now : Option Text) → now ≡ Some text → (left : Option Text) → IsLeftOf disk c file now left → IsDown disk b file text → Keeps disk b c file → left ≡ Some text

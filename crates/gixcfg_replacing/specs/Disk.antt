@@ -49,12 +49,16 @@ module _ {F : Type 0} (disk : Disk F) (folder : F) where
     pub found : seen name ≡ Some text
     pub holds : (held : Text) → disk.may_hold folder name held → held ≡ text
 
+  -- A crash leaves at a name what is found there.
+  abbrev pub IsAtRest : Name → Type 0
+  IsAtRest name = (left : Option Text) → disk.may_leave folder name left → left ≡ seen name
+
   -- what a crash leaves of what is found at a name: nothing of nothing, and a file with a text that it may hold
   abbrev pub IsLeftOf : Name → Option Text → Option Text → Type 0
   IsLeftOf name None left = left ≡ None
   IsLeftOf name (Some now) left = (text : Text) × disk.may_hold folder name text × (left ≡ Some text)
 
-  -- a crash leaves what is found at a name
+  -- a crash leaves the file that is found at a name, and no other
   abbrev pub IsNameDown : Name → Type 0
   IsNameDown name = (left : Option Text) → disk.may_leave folder name left → IsLeftOf name (seen name) left
 

@@ -1,6 +1,6 @@
 -- What the replacement of a file's text does.
 use Rattle.std.specs.Prelude.{◌≡◌, ◌≢◌, ◌⊎◌, ℕ, ◌≤◌, List, ◌∷◌, ◌++◌, Option, None, Some, IfSome, codes}
-use Rattle.gixcfg_replacing.specs.Disk.{Name, Text, Disk, last_found, seen, IsQuiet, Keeps, IsLeftAlone, GoesOn, HasCause}
+use Rattle.gixcfg_replacing.specs.Disk.{Name, Text, Disk, last_found, seen, IsAtRest, IsQuiet, Keeps, IsLeftAlone, GoesOn, HasCause}
 use Rattle.gixcfg_replacing.specs.declared.ended.Ended.{Ended}
 use Rattle.gixcfg_replacing.specs.declared.ended.Ended.TheVariants.{Done, Changed, Locked, Drafted, Failed, Unsure, Unsynced}
 use Rattle.gixcfg_replacing.specs.declared.ended.Edited.{Edited}
@@ -9,12 +9,17 @@ use Rattle.gixcfg_replacing.specs.declared.ended.Edited.{Edited}
 abbrev pub draft_of : (file number : Name) → Name
 draft_of file number = (file ++ codes ".gixcfg-") ++ number
 
+module _ {F : Type 0} (disk : Disk F) (old new : F) (file : Name) (text : Text) where
+  -- Where a crash before would have left the file as it was, one at any moment leaves it with its old text or with the new one, whole.
+  abbrev pub LeavesOldOrNew : Type 0
+  LeavesOldOrNew = IsAtRest disk old file → (left : Option Text) → disk.left_since new (disk.moment old) file left → (left ≡ seen disk old file) ⊎ (left ≡ Some text)
+
 module _ {F : Type 0} (disk : Disk F) (old new : F) (file : Name) (before : Option Text) (text : Text) where
-  -- The file had the text from before. It has the new text, and a crash leaves that, also one by loss of power.
+  -- The file had the text from before. It has the new one, and a crash leaves that, also one by loss of power.
   pub record IsReplaced : Type 0 where
     pub had : seen disk old file ≡ before
     pub has : seen disk new file ≡ Some text
-    pub down : (left : Option Text) → disk.may_leave new file left → left ≡ Some text
+    pub rest : IsAtRest disk new file
 
   -- The new text came directly after the one from before, whoever else changed the file earlier or later.
   pub record IsNext : Type 0 where

@@ -1,7 +1,7 @@
 //! The text of a file replaced in place.
 ghost use Rattle.std.specs.Prelude.{◌≡◌, ◌≢◌, ◌↔◌, ℕ, List, [], Option, Some, None, option_map, IfOk, IfErr, IfSome, OnOk, OnErr, IsTrue};
 ghost use Rattle.gixcfg_replacing.specs.Disk.{seen, lock_of, IsQuiet, Keeps, IsLeftAlone, IsRespected, GoesOn, HasCause, IsDown};
-ghost use Rattle.gixcfg_replacing.specs.Edit.{draft_of as draft_of_lem, IsNext, Edits};
+ghost use Rattle.gixcfg_replacing.specs.Edit.{draft_of as draft_of_lem, IsNext, LeavesOldOrNew, Edits};
 ghost use Rattle.gixcfg_replacing.specs.Steps.{AreBeside, LeavesDraft, SwapsAs, LocksAs, SettlesAs, IsUndone, IsOwn, AddsOnly};
 
 use crate::ended::{Edited, Ended};
@@ -215,6 +215,8 @@ pub fn replace<F: Folder>(
     text: &[u8],
 ) -> Result<Edited, AllocError>
     ensures edits { IfOk result (Edits F.disk folder.old folder.new file.now (option_map (λ text. text.now) before.entry) text.now (draft_of_lem file.now number.now) (lock_of file.now)) }
+    // If nobody else changes the file meanwhile, a crash at any moment leaves it with its old text or with the new one, whole.
+    ensures whole { OnOk result (IsQuiet F.disk folder.old folder.new file.now → LeavesOldOrNew F.disk folder.old folder.new file.now text.now) }
     // A draft that somebody else holds stays.
     ensures others_draft { OnOk result (IsQuiet F.disk folder.old folder.new (draft_of_lem file.now number.now) → seen F.disk folder.old (draft_of_lem file.now number.now) ≢ None
         → Keeps F.disk folder.old folder.new (draft_of_lem file.now number.now)) }
