@@ -2,7 +2,7 @@
 use Rattle.std.proofs.Common.{◌≡◌, ◌≢◌, inl, inr, ⊎_elim, List, ◌∷◌, ◌++◌, Option, None, Some, IfSome, Ok, Err, sym, ◌∙◌, ap, append_assoc}
 use Rattle.std.specs.declared.io.Error.{Error}
 use Rattle.gixcfg_replacing.specs.Disk.{Name, Text, Disk, last_found, seen, IsQuiet, Keeps, IsLeftAlone, GoesOn, HasCause, IsDown, IsLeftOf}
-use Rattle.gixcfg_replacing.specs.Edit.{IsNext, IfNew, EndsAs, Edits}
+use Rattle.gixcfg_replacing.specs.Edit.{IsNext, IsTidied, IfNew, EndsAs, Edits}
 use Rattle.gixcfg_replacing.specs.Steps.{AreBeside, AddsOnly, LocksAs, SettlesAs, IsUndone, IsOwn}
 use Rattle.gixcfg_replacing.specs.declared.ended.Ended.{Ended}
 use Rattle.gixcfg_replacing.specs.declared.ended.Edited.{Edited}
@@ -63,10 +63,8 @@ module _ {F : Type 0} (disk : Disk F) (a b c : F) (file draft lock : Name) (befo
         ends = λ quiet. ends_then ended ab (file_bc.kept (quiet_next disk a b c file ab bc quiet)) (edits.ends (quiet_first disk a b c file ab bc quiet));
         next = if_next_then ended edits.next;
         crash = λ quiet. adds_on disk a b c file text ab (edits.crash (quiet_first disk a b c file ab bc quiet)) (adds_nothing disk b c file text (file_bc.kept (quiet_next disk a b c file ab bc quiet)));
-        others_lock = λ quiet held. keeps_on disk a b c lock ab (edits.others_lock (quiet_first disk a b c lock ab bc quiet) held) (lock_bc.kept (quiet_next disk a b c lock ab bc quiet));
-        own_lock = λ told quiet free. seen_same disk b c lock (lock_bc.kept (quiet_next disk a b c lock ab bc quiet)) ∙ edits.own_lock told (quiet_first disk a b c lock ab bc quiet) free;
-        lock_stays = stays_before disk a b c lock_stays edits.lock_stays bc;
-        draft_stays = stays_on disk a b c draft_stays ab cause;
+        locked = record { theirs = λ quiet held. keeps_on disk a b c lock ab (edits.locked.theirs (quiet_first disk a b c lock ab bc quiet) held) (lock_bc.kept (quiet_next disk a b c lock ab bc quiet)); own = λ told quiet free. seen_same disk b c lock (lock_bc.kept (quiet_next disk a b c lock ab bc quiet)) ∙ edits.locked.own told (quiet_first disk a b c lock ab bc quiet) free; cause = stays_before disk a b c lock_stays edits.locked.cause bc };
+        drafted = stays_on disk a b c draft_stays ab cause;
         alone = λ n not_file not_draft not_lock. alone_on disk a b c n ab bc (edits.alone n not_file not_draft not_lock) (alone n not_draft);
         time = goes_on disk a b c ab bc;
       }
@@ -118,14 +116,16 @@ module _ {F : Type 0} (disk : Disk F) (a b c : F) (file draft lock : Name) (befo
         ends = λ quiet. ends_first edited.ended bc (file_ab.kept (quiet_first disk a b c file ab bc quiet)) own (edits.ends (quiet_next disk a b c file ab bc quiet));
         next = if_next_first edited.ended edits.next;
         crash = λ quiet. adds_on disk a b c file text ab (adds_nothing disk a b file text (file_ab.kept (quiet_first disk a b c file ab bc quiet))) (edits.crash (quiet_next disk a b c file ab bc quiet));
-        others_lock = λ quiet held.
-            let same = lock_ab.kept (quiet_first disk a b c lock ab bc quiet) in
-            keeps_on disk a b c lock ab same (edits.others_lock (quiet_next disk a b c lock ab bc quiet) (λ free. held (sym (seen_same disk a b lock same) ∙ free)));
-        own_lock = λ told quiet free.
-            let same = lock_ab.kept (quiet_first disk a b c lock ab bc quiet) in
-            edits.own_lock told (quiet_next disk a b c lock ab bc quiet) (seen_same disk a b lock same ∙ free);
-        lock_stays = stays_on disk a b c edited.lock ab edits.lock_stays;
-        draft_stays = stays_on disk a b c edited.draft ab edits.draft_stays;
+        locked = record {
+          theirs = λ quiet held.
+              let same = lock_ab.kept (quiet_first disk a b c lock ab bc quiet) in
+              keeps_on disk a b c lock ab same (edits.locked.theirs (quiet_next disk a b c lock ab bc quiet) (λ free. held (sym (seen_same disk a b lock same) ∙ free)));
+          own = λ told quiet free.
+              let same = lock_ab.kept (quiet_first disk a b c lock ab bc quiet) in
+              edits.locked.own told (quiet_next disk a b c lock ab bc quiet) (seen_same disk a b lock same ∙ free);
+          cause = stays_on disk a b c edited.lock ab edits.locked.cause;
+        };
+        drafted = stays_on disk a b c edited.draft ab edits.drafted;
         alone = λ n not_file not_draft not_lock. alone_on disk a b c n ab bc (alone n not_draft) (edits.alone n not_file not_draft not_lock);
         time = goes_on disk a b c ab bc;
       }
@@ -141,8 +141,7 @@ is_own (Unsynced error) undone = tt
 
 -- the step under the lock (ab)
 module _ {F : Type 0} (disk : Disk F) (a b : F) (file draft lock : Name) (before : Option Text) (text : Text) (lock_stays : Option Error) (crash : IsQuiet disk a b file → AddsOnly disk a b file text)
-    (others_lock : IsQuiet disk a b lock → seen disk a lock ≢ None → Keeps disk a b lock) (own_lock : lock_stays ≡ None → IsQuiet disk a b lock → seen disk a lock ≡ None → seen disk b lock ≡ None)
-    (cause : IfSome lock_stays (HasCause disk a b)) (alone : (n : Name) → n ≢ file → n ≢ draft → n ≢ lock → IsLeftAlone disk a b n) (ab : GoesOn disk a b) where
+    (locked : IsTidied disk a b lock lock_stays) (alone : (n : Name) → n ≢ file → n ≢ draft → n ≢ lock → IsLeftAlone disk a b n) (ab : GoesOn disk a b) where
   undone_ends : (ended : Ended) → IsUndone ended → LocksAs disk a b file before text lock (Err ended) → EndsAs disk a b file before text draft lock ended
   undone_ends Done undone ends = absurd undone
   undone_ends Changed undone ends = ends
@@ -167,10 +166,8 @@ module _ {F : Type 0} (disk : Disk F) (a b : F) (file draft lock : Name) (before
     ends = λ quiet. undone_ends ended undone (ends quiet);
     next = undone_next ended undone;
     crash = crash;
-    others_lock = others_lock;
-    own_lock = own_lock;
-    lock_stays = cause;
-    draft_stays = tt;
+    locked = locked;
+    drafted = tt;
     alone = alone;
     time = ab;
   }
@@ -215,12 +212,14 @@ module _ {F : Type 0} (disk : Disk F) (a b : F) (file draft lock : Name) (before
           next = settled_next ended settles (next_then disk a b c file draft lock before text names bc (λ n apart. alone_bc n) next);
           crash = λ quiet.
               adds_on disk a b c file text ab (crash (quiet_first disk a b c file ab bc quiet)) (adds_nothing disk b c file text ((alone_bc file).kept (quiet_next disk a b c file ab bc quiet)));
-          others_lock = λ quiet held.
-              keeps_on disk a b c lock ab (others_lock (quiet_first disk a b c lock ab bc quiet) held) ((alone_bc lock).kept (quiet_next disk a b c lock ab bc quiet));
-          own_lock = λ told quiet free.
-              seen_same disk b c lock ((alone_bc lock).kept (quiet_next disk a b c lock ab bc quiet)) ∙ own_lock told (quiet_first disk a b c lock ab bc quiet) free;
-          lock_stays = stays_before disk a b c lock_stays cause bc;
-          draft_stays = tt;
+          locked = record {
+            theirs = λ quiet held.
+                keeps_on disk a b c lock ab (locked.theirs (quiet_first disk a b c lock ab bc quiet) held) ((alone_bc lock).kept (quiet_next disk a b c lock ab bc quiet));
+            own = λ told quiet free.
+                seen_same disk b c lock ((alone_bc lock).kept (quiet_next disk a b c lock ab bc quiet)) ∙ locked.own told (quiet_first disk a b c lock ab bc quiet) free;
+            cause = stays_before disk a b c lock_stays locked.cause bc;
+          };
+          drafted = tt;
           alone = λ n not_file not_draft not_lock. alone_on disk a b c n ab bc (alone n not_file not_draft not_lock) (alone_bc n);
           time = goes_on disk a b c ab bc;
         }
@@ -236,10 +235,8 @@ module _ {F : Type 0} (disk : Disk F) (a b : F) (file draft lock : Name) (before
         ends = λ quiet. (cause, file_ab.kept quiet);
         next = tt;
         crash = λ quiet. adds_nothing disk a b file text (file_ab.kept quiet);
-        others_lock = λ quiet held. lock_ab.kept quiet;
-        own_lock = λ told quiet free. seen_same disk a b lock (lock_ab.kept quiet) ∙ free;
-        lock_stays = tt;
-        draft_stays = tt;
+        locked = record { theirs = λ quiet held. lock_ab.kept quiet; own = λ told quiet free. seen_same disk a b lock (lock_ab.kept quiet) ∙ free; cause = tt };
+        drafted = tt;
         alone = λ n not_file not_draft not_lock. alone n not_draft;
         time = ab;
       }
@@ -253,10 +250,8 @@ module _ {F : Type 0} (disk : Disk F) (a b : F) (file draft lock : Name) (before
         ends = λ quiet. (held, file_ab.kept quiet);
         next = tt;
         crash = λ quiet. adds_nothing disk a b file text (file_ab.kept quiet);
-        others_lock = λ quiet there. lock_ab.kept quiet;
-        own_lock = λ told quiet free. seen_same disk a b lock (lock_ab.kept quiet) ∙ free;
-        lock_stays = tt;
-        draft_stays = tt;
+        locked = record { theirs = λ quiet there. lock_ab.kept quiet; own = λ told quiet free. seen_same disk a b lock (lock_ab.kept quiet) ∙ free; cause = tt };
+        drafted = tt;
         alone = λ n not_file not_draft not_lock. alone n not_draft;
         time = ab;
       }

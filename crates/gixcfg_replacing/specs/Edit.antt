@@ -1,5 +1,6 @@
 -- What the replacement of a file's text does.
 use Rattle.std.specs.Prelude.{◌≡◌, ◌≢◌, ◌⊎◌, ℕ, ◌≤◌, List, ◌∷◌, ◌++◌, Option, None, Some, IfSome, codes}
+use Rattle.std.specs.declared.io.Error.{Error}
 use Rattle.gixcfg_replacing.specs.Disk.{Name, Text, Disk, last_found, seen, IsAtRest, IsQuiet, Keeps, IsLeftAlone, GoesOn, HasCause}
 use Rattle.gixcfg_replacing.specs.declared.ended.Ended.{Ended}
 use Rattle.gixcfg_replacing.specs.declared.ended.Ended.TheVariants.{Done, Changed, Locked, Drafted, Failed, Unsure, Unsynced}
@@ -8,6 +9,12 @@ use Rattle.gixcfg_replacing.specs.declared.ended.Edited.{Edited}
 -- the name of a file's draft by the process of a number
 abbrev pub draft_of : (file number : Name) → Name
 draft_of file number = (file ++ codes ".gixcfg-") ++ number
+
+-- beside the file: what somebody else has at a name stays, and our own is gone, or it is told why it couldn't be removed
+pub record IsTidied {F : Type 0} (disk : Disk F) (old new : F) (name : Name) (told : Option Error) : Type 0 where
+  pub theirs : IsQuiet disk old new name → seen disk old name ≢ None → Keeps disk old new name
+  pub own : told ≡ None → IsQuiet disk old new name → seen disk old name ≡ None → seen disk new name ≡ None
+  pub cause : IfSome told (HasCause disk old new)
 
 module _ {F : Type 0} (disk : Disk F) (old new : F) (file : Name) (text : Text) where
   -- Where a crash before would have left the file as it was, one at any moment leaves it with its old text or with the new one, whole.
@@ -51,12 +58,8 @@ module _ {F : Type 0} (disk : Disk F) (old new : F) (file : Name) (before : Opti
     pub next : IfNew edited.ended IsNext
     -- A crash at any moment leaves the file as one before might have left it, or with the new text, whole.
     pub crash : IsQuiet disk old new file → (t : ℕ) (left : Option Text) → t ≤ disk.moment old → disk.left_since new t file left → disk.left_since old t file left ⊎ (left ≡ Some text)
-    -- somebody else's lock stays
-    pub others_lock : IsQuiet disk old new lock → seen disk old lock ≢ None → Keeps disk old new lock
-    -- and our own is gone, or it is told why it couldn't be removed
-    pub own_lock : edited.lock ≡ None → IsQuiet disk old new lock → seen disk old lock ≡ None → seen disk new lock ≡ None
-    pub lock_stays : IfSome edited.lock (HasCause disk old new)
-    pub draft_stays : IfSome edited.draft (HasCause disk old new)
+    pub locked : IsTidied disk old new lock edited.lock
+    pub drafted : IfSome edited.draft (HasCause disk old new)
     -- nothing else is changed
     pub alone : (other : Name) → other ≢ file → other ≢ draft → other ≢ lock → IsLeftAlone disk old new other
     pub time : GoesOn disk old new

@@ -1,7 +1,7 @@
 //! The text of a file replaced in place.
 ghost use Rattle.std.specs.Prelude.{◌≡◌, ◌≢◌, ◌↔◌, ℕ, List, [], Option, Some, None, option_map, IfOk, IfErr, IfSome, OnOk, OnErr, IsTrue};
 ghost use Rattle.gixcfg_replacing.specs.Disk.{seen, lock_of, IsQuiet, Keeps, IsLeftAlone, IsRespected, GoesOn, HasCause, IsDown};
-ghost use Rattle.gixcfg_replacing.specs.Edit.{draft_of as draft_of_lem, IsNext, LeavesOldOrNew, Edits};
+ghost use Rattle.gixcfg_replacing.specs.Edit.{draft_of as draft_of_lem, IsNext, IsTidied, LeavesOldOrNew, Edits};
 ghost use Rattle.gixcfg_replacing.specs.Steps.{AreBeside, LeavesDraft, SwapsAs, LocksAs, SettlesAs, IsUndone, IsOwn, AddsOnly};
 
 use crate::ended::{Edited, Ended};
@@ -92,9 +92,7 @@ fn lock_and_swap<F: Folder>(
         → AddsOnly F.disk folder.old folder.new file.now text }
     ensures undone { IfErr result.0 IsUndone }
     ensures draft { LeavesDraft F.disk folder.old folder.new draft.now result.0 }
-    ensures others_lock { IsQuiet F.disk folder.old folder.new lock.now → seen F.disk folder.old lock.now ≢ None → Keeps F.disk folder.old folder.new lock.now }
-    ensures own_lock { result.1 ≡ None → IsQuiet F.disk folder.old folder.new lock.now → seen F.disk folder.old lock.now ≡ None → seen F.disk folder.new lock.now ≡ None }
-    ensures lock_stays { IfSome result.1 (HasCause F.disk folder.old folder.new) }
+    ensures locked { IsTidied F.disk folder.old folder.new lock.now result.1 }
     ensures alone { (other : List ℕ) → other ≢ file.now → other ≢ draft.now → other ≢ lock.now → IsLeftAlone F.disk folder.old folder.new other }
     ensures time { GoesOn F.disk folder.old folder.new }
 {
@@ -189,8 +187,7 @@ fn draft_and_put<F: Folder>(
 ) -> Edited
     requires { AreBeside file.now draft.now lock.now }
     ensures edits { Edits F.disk folder.old folder.new file.now (option_map (λ text. text.now) before.entry) text.now draft.now lock.now result }
-    ensures others_draft { IsQuiet F.disk folder.old folder.new draft.now → seen F.disk folder.old draft.now ≢ None → Keeps F.disk folder.old folder.new draft.now }
-    ensures own_draft { result.draft ≡ None → IsQuiet F.disk folder.old folder.new draft.now → seen F.disk folder.old draft.now ≡ None → seen F.disk folder.new draft.now ≡ None }
+    ensures drafted { IsTidied F.disk folder.old folder.new draft.now result.draft }
 {
     match folder.make(draft) {
         Ok(true) => fill_and_put(folder, file, draft, lock, before, text),
@@ -217,12 +214,7 @@ pub fn replace<F: Folder>(
     ensures edits { IfOk result (Edits F.disk folder.old folder.new file.now (option_map (λ text. text.now) before.entry) text.now (draft_of_lem file.now number.now) (lock_of file.now)) }
     // If nobody else changes the file meanwhile, a crash at any moment leaves it with its old text or with the new one, whole.
     ensures whole { OnOk result (IsQuiet F.disk folder.old folder.new file.now → LeavesOldOrNew F.disk folder.old folder.new file.now text.now) }
-    // A draft that somebody else holds stays.
-    ensures others_draft { OnOk result (IsQuiet F.disk folder.old folder.new (draft_of_lem file.now number.now) → seen F.disk folder.old (draft_of_lem file.now number.now) ≢ None
-        → Keeps F.disk folder.old folder.new (draft_of_lem file.now number.now)) }
-    // Our own is gone, or it is told why it couldn't be removed.
-    ensures own_draft { IfOk result (λ edited. edited.draft ≡ None → IsQuiet F.disk folder.old folder.new (draft_of_lem file.now number.now) → seen F.disk folder.old (draft_of_lem file.now number.now) ≡ None
-        → seen F.disk folder.new (draft_of_lem file.now number.now) ≡ None) }
+    ensures drafted { IfOk result (λ edited. IsTidied F.disk folder.old folder.new (draft_of_lem file.now number.now) edited.draft) }
     ensures err { OnErr result (folder.new ≡ folder.old) }
 {
     let draft = draft_of(alloc, file, number)?;

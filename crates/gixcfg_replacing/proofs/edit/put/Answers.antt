@@ -15,7 +15,7 @@ returns-in-Ok-clause-edits g c =
     let file = c.args.file.now in
     let text = c.args.text.now in
     let before = option_map (λ text. text.now) c.args.before in
-    settled_edits disk a b file c.args.draft.now c.args.lock.now before text c.lock_and_swap-swapped.result.1 (step.crash text c.requires.down) step.others_lock step.own_lock step.lock_stays step.alone step.time
+    settled_edits disk a b file c.args.draft.now c.args.lock.now before text c.lock_and_swap-swapped.result.1 (step.crash text c.requires.down) step.locked step.alone step.time
     c.settle.new.folder c.settle.ensures.time c.settle.ensures.alone (subst (λ result. OnOk result (IsNext disk a b file before text)) c.in-Ok.is (step.next text c.requires.down))
     (λ quiet. subst (LocksAs disk a b file before text c.args.lock.now) c.in-Ok.is (step.ends text c.requires.down quiet)) c.settle.result c.requires.names c.settle.ensures.ends
 
@@ -40,5 +40,5 @@ returns-in-Err-clause-edits g c =
     let before = option_map (λ text. text.now) c.args.before in
     let cause : IfSome c.err.result (HasCause disk b c.remove.new.self) = search rules in
     edits_then disk a b c.remove.new.self file c.args.draft.now c.args.lock.now before text c.requires.names c.remove.ensures.time c.remove.ensures.alone c.in-Err.ended c.lock_and_swap-swapped.result.1 c.err.result
-    (undone_edits disk a b file c.args.draft.now c.args.lock.now before text c.lock_and_swap-swapped.result.1 (step.crash text c.requires.down) step.others_lock step.own_lock step.lock_stays step.alone step.time c.in-Err.ended
+    (undone_edits disk a b file c.args.draft.now c.args.lock.now before text c.lock_and_swap-swapped.result.1 (step.crash text c.requires.down) step.locked step.alone step.time c.in-Err.ended
     (search rules) (λ quiet. subst (LocksAs disk a b file before text c.args.lock.now) c.in-Err.is (step.ends text c.requires.down quiet))) cause
