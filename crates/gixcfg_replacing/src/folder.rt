@@ -7,6 +7,10 @@ use std::io;
 /// A folder on a disk, with a clock. Files have names in it; names that differ are of different files. The text of a file may be torn by a
 /// crash until it is synced, and a name has its old file, its new one or none until the names are synced. Each call may fail, and others may
 /// change the folder during it: but not what is ours, nor a file while we have its lock.
+///
+/// That a folder of a disk is one can't be proved. It is taken to be one where upper and lower case count, a rename puts one file in place of
+/// the other in one step, also for a crash, and what was synced stays; where a link counts as a file whose text is where it leads; and where
+/// other programs make FILE.lock before they change FILE, and leave a lock or a draft that they didn't make.
 pub trait Folder {
     /// What readers find, what a crash leaves, and what is whose.
     ghost disk: { Disk Self };
