@@ -1,5 +1,5 @@
 //! A folder in memory, which keeps the calls that changed it.
-ghost use Rattle.std.specs.Prelude.{◌≡◌, ◌∷◌, if◌then◌else◌, false, true, OnOk, OnErr, IfOk, option_map};
+ghost use Rattle.std.specs.Prelude.{◌≡◌, [], ◌∷◌, length, if◌then◌else◌, false, true, OnOk, OnErr, IfOk, option_map};
 ghost use Rattle.gixcfg_replacing.specs.Disk.{last_found};
 ghost use Rattle.gixcfg_replacing.specs.Calls.{past};
 
@@ -28,7 +28,9 @@ impl Memory {
     ghost use Rattle.gixcfg_replacing.specs.Memory.{calls_of, faults_of, KeepsNone, Counts, MakesIn, WritesIn, SyncsIn, MovesIn, RemovesIn, SettlesIn};
 
     /// An empty folder, of which the call behind so many fails, and is done all the same or not.
-    pub fn new(alloc: Global, until: usize, halfway: bool) -> Memory {
+    pub fn new(alloc: Global, until: usize, halfway: bool) -> Memory
+        ensures { calls_of result ≡ [] }
+    {
         Memory {
             alloc,
             calls: Vec::new(alloc),
@@ -44,7 +46,9 @@ impl Memory {
     }
 
     /// How many calls have changed it.
-    pub fn count(&self) -> usize {
+    pub fn count(&self) -> usize
+        ensures { result ≡ length (calls_of self.now) }
+    {
         self.calls.len()
     }
 
