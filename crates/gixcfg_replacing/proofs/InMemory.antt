@@ -1,0 +1,127 @@
+-- What a call in memory leaves as it was.
+use Rattle.std.proofs.Common.{◌≡◌, ◌≢◌, inr, ⊎_elim, ℕ, ◌≤◌, Bool, true, false, List, [], ◌∷◌, ◌++◌, length, Option, None, Some, Vec, refl, sym, ◌∙◌, ap, subst, arith, if◌then◌else◌}
+use Rattle.std.proofs.lemmas.Bool.{false_from_ne_true}
+use Rattle.std.proofs.lemmas.Slice.Eq.{bytes_eq-Decides}
+use Rattle.std.specs.declared.alloc.Global.{Global}
+use Rattle.gixcfg_replacing.specs.Disk.{Name, Text, last_found, IsLeftAlone, IsRespected, GoesOn}
+use Rattle.gixcfg_replacing.specs.Calls.{is_same, past, is_synced, may_hold, may_leave, left_since, counts_now}
+use Rattle.gixcfg_replacing.specs.Memory.{calls_of, faults_of, memory_disk, KeepsNone, KeepsCall}
+use Rattle.gixcfg_replacing.specs.declared.call.Call.{Call}
+use Rattle.gixcfg_replacing.specs.declared.call.Call.TheVariants.{Made, Written, Synced, Renamed, Removed, Settled}
+use Rattle.gixcfg_replacing.specs.declared.memory.Memory.{Memory}
+
+pub is_other : (at : Vec ℕ Global) (name n : Name) → at.items ≡ name → n ≢ name → is_same at.items n ≡ false
+is_other at name n is apart = false_from_ne_true _ (λ same. apart (sym ((bytes_eq-Decides at.items n).0 same) ∙ is))
+
+pub is_it : (at : Vec ℕ Global) (name : Name) → at.items ≡ name → is_same at.items name ≡ true
+is_it at name is = (bytes_eq-Decides at.items name).1 is
+
+-- a call does nothing at a name
+pub record Untouched (call : Call) (older : List Call) (n : Name) : Type 0 where
+  pub found : past (call ∷ older) n ≡ past older n
+  pub holds : (text : Text) → may_hold (call ∷ older) n text → may_hold older n text
+  pub leaves : (left : Option Text) → may_leave (call ∷ older) n left → may_leave older n left
+
+holds_so : (calls older : List Call) (n : Name) → past calls n ≡ past older n → is_synced calls n ≡ is_synced older n → (text : Text) → may_hold calls n text → may_hold older n text
+holds_so calls older n found synced text hold = λ is. sym (ap last_found found) ∙ hold (synced ∙ is)
+
+module _ (older : List Call) (n : Name) where
+  pub made_else : (at : Vec ℕ Global) → is_same at.items n ≡ false → Untouched (Made at) older n
+  made_else at e =
+      let found : past (Made at ∷ older) n ≡ past older n = rw (e) refl in
+      let synced : is_synced (Made at ∷ older) n ≡ is_synced older n = rw (e) refl in
+      record { found = found; holds = holds_so (Made at ∷ older) older n found synced; leaves = λ left. ⊎_elim (λ before. before) (λ same. absurd (cc (same, e))) }
+
+  pub written_else : (at text : Vec ℕ Global) → is_same at.items n ≡ false → Untouched (Written at text) older n
+  written_else at text e =
+      let found : past (Written at text ∷ older) n ≡ past older n = rw (e) refl in
+      let synced : is_synced (Written at text ∷ older) n ≡ is_synced older n = rw (e) refl in
+      record { found = found; holds = holds_so (Written at text ∷ older) older n found synced; leaves = λ left. ⊎_elim (λ before. before) (λ same. absurd (cc (same, e))) }
+
+  pub synced_else : (at : Vec ℕ Global) → is_same at.items n ≡ false → Untouched (Synced at) older n
+  synced_else at e =
+      let synced : is_synced (Synced at ∷ older) n ≡ is_synced older n = rw (e) refl in
+      record { found = refl; holds = holds_so (Synced at ∷ older) older n refl synced; leaves = λ left before. before }
+
+  pub renamed_else : (from to : Vec ℕ Global) → is_same from.items n ≡ false → is_same to.items n ≡ false → Untouched (Renamed from to) older n
+  renamed_else from to e f =
+      let found : past (Renamed from to ∷ older) n ≡ past older n = rw (e, f) refl in
+      let synced : is_synced (Renamed from to ∷ older) n ≡ is_synced older n = rw (f) refl in
+      record {
+        found = found;
+        holds = holds_so (Renamed from to ∷ older) older n found synced;
+        leaves = λ left. ⊎_elim (λ before. before) (⊎_elim (λ moved. absurd (cc (moved.0, f))) (λ gone. absurd (cc (gone.0, e))));
+      }
+
+  pub removed_else : (at : Vec ℕ Global) → is_same at.items n ≡ false → Untouched (Removed at) older n
+  removed_else at e =
+      let found : past (Removed at ∷ older) n ≡ past older n = rw (e) refl in
+      record { found = found; holds = holds_so (Removed at ∷ older) older n found refl; leaves = λ left. ⊎_elim (λ before. before) (λ gone. absurd (cc (gone.0, e))) }
+
+  pub settled_all : Untouched Settled older n
+  settled_all = record { found = refl; holds = λ text hold. hold; leaves = λ left both. both.0 }
+
+module _ (old new : Memory) where
+  pub respected : (n : Name) → IsRespected memory_disk old new n
+  respected n = λ ours. (refl, λ file is. refl)
+
+  -- nothing was kept
+  pub none_alone : KeepsNone old new → (n : Name) → IsLeftAlone memory_disk old new n
+  none_alone is n = record {
+    kept = λ quiet. record {
+      found = ap (λ calls. past calls n) is;
+      holds = λ text. subst (λ calls. may_hold calls n text) is;
+      leaves = λ left. subst (λ calls. may_leave calls n left) is;
+      since = λ t left le. subst (λ calls. left_since calls t n left) is;
+    };
+    ours = λ ours. ours;
+  }
+
+  pub none_goes : KeepsNone old new → faults_of old ≤ faults_of new → GoesOn memory_disk old new
+  none_goes is faults = record {
+    later = omega (arith, ap length is);
+    remembers = λ t n left le. subst (λ calls. left_since calls t n left) (sym is);
+    found = λ n. ([], ap (λ calls. past calls n) is);
+    faults = faults;
+    others = λ n. omega arith;
+  }
+
+  -- a call was kept
+  module _ (call : Call) (is : KeepsCall old new call) where
+    pub call_alone : (n : Name) → Untouched call (calls_of old) n → IsLeftAlone memory_disk old new n
+    call_alone n untouched = record {
+      kept = λ quiet. record {
+        found = ap (λ calls. past calls n) is ∙ untouched.found;
+        holds = λ text hold. untouched.holds text (subst (λ calls. may_hold calls n text) is hold);
+        leaves = λ left leave. untouched.leaves left (subst (λ calls. may_leave calls n left) is leave);
+        since = λ t left le since.
+            ⊎_elim (λ now. counts_now (calls_of old) t n left le (untouched.leaves left now)) (λ before. before.1) (subst (λ calls. left_since calls t n left) is since);
+      };
+      ours = λ ours. ours;
+    }
+
+    pub call_goes : ((n : Name) → (since : List (Option Text)) × (past (call ∷ calls_of old) n ≡ since ++ past (calls_of old) n)) → faults_of old ≤ faults_of new → GoesOn memory_disk old new
+    call_goes found faults = record {
+      later = omega (arith, ap length is);
+      remembers = λ t n left le before. subst (λ calls. left_since calls t n left) (sym is) (inr (le, before));
+      found = λ n. ((found n).0, ap (λ calls. past calls n) is ∙ (found n).1);
+      faults = faults;
+      others = λ n. omega arith;
+    }
+
+grown : (b : Bool) (found : Option Text) (earlier : List (Option Text)) → (since : List (Option Text)) × ((if b then found ∷ earlier else earlier) ≡ since ++ earlier)
+grown true found earlier = (found ∷ [], refl)
+grown false found earlier = ([], refl)
+
+pub grows : (call : Call) (older : List Call) (n : Name) → (since : List (Option Text)) × (past (call ∷ older) n ≡ since ++ past older n)
+grows (Made at) older n = grown (is_same at.items n) (Some []) (past older n)
+grows (Written at text) older n = grown (is_same at.items n) (Some text.items) (past older n)
+grows (Synced at) older n = ([], refl)
+grows (Renamed from to) older n = go (is_same to.items n) (is_same from.items n)
+  where
+    go : (b c : Bool) → (since : List (Option Text)) × ((if b then last_found (past older from.items) ∷ past older n else (if c then None ∷ past older n else past older n)) ≡ since ++ past older n)
+    go true c = (last_found (past older from.items) ∷ [], refl)
+    go false true = (None ∷ [], refl)
+    go false false = ([], refl)
+grows (Removed at) older n = grown (is_same at.items n) None (past older n)
+grows Settled older n = ([], refl)

@@ -1,0 +1,5 @@
+mod Ends
+mod InMemory
+mod MemoryCalls
+mod Runs
+mod Whole

@@ -1,0 +1,67 @@
+-- What calls on a folder in memory come to, the last one first.
+use Rattle.std.specs.Prelude.{◌≡◌, ◌⊎◌, ℕ, ◌≤◌, Bool, true, false, List, [], ◌∷◌, length, Option, None, Some, if◌then◌else◌}
+use Rattle.std.proofs.Common.{inl, inr, arith}
+use Rattle.std.specs.Str.{bytes_eq}
+use Rattle.gixcfg_replacing.specs.Disk.{Name, Text, last_found}
+use Rattle.gixcfg_replacing.specs.declared.call.Call.{Call}
+use Rattle.gixcfg_replacing.specs.declared.call.Call.TheVariants.{Made, Written, Synced, Renamed, Removed, Settled}
+
+-- both are the same name
+abbrev pub is_same : Name → Name → Bool
+is_same n m = bytes_eq n m
+
+-- what readers found at a name, the last first
+abbrev pub past : List Call → Name → List (Option Text)
+past [] n = []
+past (Made at ∷ older) n = if is_same at.items n then Some [] ∷ past older n else past older n
+past (Written at text ∷ older) n = if is_same at.items n then Some text.items ∷ past older n else past older n
+past (Synced at ∷ older) n = past older n
+past (Renamed from to ∷ older) n =
+    if is_same to.items n then last_found (past older from.items) ∷ past older n else (if is_same from.items n then None ∷ past older n else past older n)
+past (Removed at ∷ older) n = if is_same at.items n then None ∷ past older n else past older n
+past (Settled ∷ older) n = past older n
+
+-- the text of the file at a name is written down
+abbrev pub is_synced : List Call → Name → Bool
+is_synced [] n = false
+is_synced (Made at ∷ older) n = if is_same at.items n then false else is_synced older n
+is_synced (Written at text ∷ older) n = if is_same at.items n then false else is_synced older n
+is_synced (Synced at ∷ older) n = if is_same at.items n then true else is_synced older n
+is_synced (Renamed from to ∷ older) n = if is_same to.items n then is_synced older from.items else is_synced older n
+is_synced (Removed at ∷ older) n = is_synced older n
+is_synced (Settled ∷ older) n = is_synced older n
+
+-- a crash may leave this text to the file at a name: its own if that is written down, else any
+abbrev pub may_hold : List Call → Name → Text → Type 0
+may_hold calls n text = is_synced calls n ≡ true → last_found (past calls n) ≡ Some text
+
+-- what a crash leaves of what is found at a name: nothing of nothing, and a file with a text that it may hold
+abbrev pub IsLeftOf : List Call → Name → Option Text → Option Text → Type 0
+IsLeftOf calls n None left = left ≡ None
+IsLeftOf calls n (Some now) left = (text : Text) × may_hold calls n text × (left ≡ Some text)
+
+-- A crash may leave this at a name: until the names are written down, what was left there before or what is there since, with any text if that
+-- isn't written down.
+abbrev pub may_leave : List Call → Name → Option Text → Type 0
+may_leave [] n left = left ≡ None
+may_leave (Made at ∷ older) n left = may_leave older n left ⊎ (is_same at.items n ≡ true)
+may_leave (Written at text ∷ older) n left = may_leave older n left ⊎ (is_same at.items n ≡ true)
+may_leave (Synced at ∷ older) n left = may_leave older n left
+may_leave (Renamed from to ∷ older) n left =
+    may_leave older n left ⊎ ((is_same to.items n ≡ true) × ((text : Text) × may_hold older from.items text × (left ≡ Some text))) ⊎ ((is_same from.items n ≡ true) × (left ≡ None))
+may_leave (Removed at ∷ older) n left = may_leave older n left ⊎ ((is_same at.items n ≡ true) × (left ≡ None))
+may_leave (Settled ∷ older) n left = may_leave older n left × IsLeftOf older n (last_found (past older n)) left
+
+-- a crash after one of these calls, but the first so many, might have left this at a name
+abbrev pub left_since : List Call → ℕ → Name → Option Text → Type 0
+left_since [] t n left = may_leave [] n left
+left_since (call ∷ older) t n left = may_leave (call ∷ older) n left ⊎ ((t ≤ length older) × left_since older t n left)
+
+pub counts_now : (calls : List Call) (t : ℕ) (n : Name) (left : Option Text) → t ≤ length calls → may_leave calls n left → left_since calls t n left
+counts_now [] t n left le now = now
+counts_now (call ∷ older) t n left le now = inl now
+
+pub only_now : (calls : List Call) (n : Name) (left : Option Text) → left_since calls (length calls) n left → may_leave calls n left
+only_now [] n left h = h
+only_now (call ∷ older) n left (inl now) = now
+only_now (call ∷ older) n left (inr (le, before)) = absurd (omega arith)

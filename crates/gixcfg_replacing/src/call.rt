@@ -1,0 +1,93 @@
+//! The calls that were made on a folder in memory, the last one first, and what they come to.
+ghost use Rattle.std.specs.Prelude.{◌≡◌, Option, option_map};
+ghost use Rattle.gixcfg_replacing.specs.Disk.{last_found};
+ghost use Rattle.gixcfg_replacing.specs.Calls.{past, is_synced as is_synced_lem};
+
+/// A call that changed a folder.
+#[derive(Drop)]
+pub enum Call {
+    /// An empty file was made at a name.
+    Made(Vec<u8>),
+    /// The file at a name was given a text.
+    Written(Vec<u8>, Vec<u8>),
+    /// The text of the file at a name was written down.
+    Synced(Vec<u8>),
+    /// The file at a name was given another one.
+    Renamed(Vec<u8>, Vec<u8>),
+    /// The file at a name was removed.
+    Removed(Vec<u8>),
+    /// The names were written down.
+    Settled,
+}
+
+/// The text that readers find at a name after these calls.
+pub fn seen<'a>(calls: &'a [Call], name: &'a [u8]) -> Option<&'a [u8]>
+    ensures { option_map (λ text. text.now) result ≡ last_found (past calls.entry.now name.entry.now) }
+{
+    let mut rest = calls;
+    let mut at = name;
+    while let Some((call, older)) = rest.split_first() {
+        match call {
+            Call::Made(made) => {
+                if made.as_slice() == at {
+                    return Some(&[]);
+                }
+            }
+            Call::Written(written, text) => {
+                if written.as_slice() == at {
+                    return Some(text.as_slice());
+                }
+            }
+            Call::Renamed(from, to) => {
+                if to.as_slice() == at {
+                    at = from.as_slice();
+                } else if from.as_slice() == at {
+                    return None;
+                }
+            }
+            Call::Removed(removed) => {
+                if removed.as_slice() == at {
+                    return None;
+                }
+            }
+            Call::Synced(_) | Call::Settled => {}
+        }
+        rest = older;
+    }
+    None
+}
+
+/// Whether the text of the file at a name is written down after these calls.
+pub fn is_synced(calls: &[Call], name: &[u8]) -> bool
+    ensures { result ≡ is_synced_lem calls.now name.now }
+{
+    let mut rest = calls;
+    let mut at = name;
+    while let Some((call, older)) = rest.split_first() {
+        match call {
+            Call::Made(made) => {
+                if made.as_slice() == at {
+                    return false;
+                }
+            }
+            Call::Written(written, _) => {
+                if written.as_slice() == at {
+                    return false;
+                }
+            }
+            Call::Synced(synced) => {
+                if synced.as_slice() == at {
+                    return true;
+                }
+            }
+            Call::Renamed(from, to) => {
+                if to.as_slice() == at {
+                    at = from.as_slice();
+                }
+            }
+            Call::Removed(_) | Call::Settled => {}
+        }
+        rest = older;
+    }
+    false
+}

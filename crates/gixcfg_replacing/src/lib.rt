@@ -1,0 +1,21 @@
+//! t
+#![tactic(auto)]
+
+mod call;
+mod crash;
+mod edit;
+mod ended;
+mod folder;
+mod in_memory;
+mod memory;
+mod names;
+
+pub use crash::Chance;
+pub use edit::replace;
+pub use ended::{Edited, Ended};
+pub use folder::Folder;
+pub use memory::Memory;
+pub use names::{draft_of, lock_of};
+
+#[cfg(test)]
+mod tests;
