@@ -83,7 +83,7 @@ def proved_library(name, top):
 def has_libraries():
     """Whether `rt ci` left all libraries below the program in this clone, and none is older than a source."""
     files = [proved_library(name, TOP) for name in libraries()[0]]
-    return all(file.is_file() and source_newer_than(file) is None for file in files)
+    return all(file.exists() and source_newer_than(file) is None for file in files)
 
 
 def words_of(top, root):
