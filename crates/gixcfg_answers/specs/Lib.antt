@@ -1,9 +1,11 @@
+pub mod Entries
 pub mod Line
 pub mod Message
 pub mod Reason
 pub mod Colors
 pub mod Dates
 pub mod Numbers
+pub mod Origins
 pub mod Troubles
 pub mod Typed
 pub mod UrlFaults

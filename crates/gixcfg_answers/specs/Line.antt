@@ -1,6 +1,6 @@
 -- The line of a place in a text, what of it stands before the place and from there on, and what is shown under it.
 use Rattle.std.specs.Prelude.{◌≡◌, ℕ, ◌+◌, ◌-◌, Bool, false, not, ◌&&◌, ◌==◌, nat_eq, nat_lt, List, [], ◌∷◌, length, take, drop, map, slice_index, replicate, unwrap_or, if◌then◌else◌, string_bytes}
-use Rattle.std.specs.List.{starts_with, flat_map, list_any}
+use Rattle.std.specs.List.{count_by, starts_with, flat_map, list_any}
 use Rattle.std.specs.Char.{is_control}
 use Rattle.std.specs.Str.{encode_utf8_all}
 use Rattle.bstr.specs.Utf8.{lossy_chars}
@@ -66,8 +66,13 @@ shown cs = encode_utf8_all (map shown_char cs)
 abbrev pub under : List ℕ → List ℕ
 under cs = flat_map under_char (map shown_char cs)
 
+-- the number of the line in which that place is
+abbrev pub line_at : (text : List ℕ) (left : ℕ) → ℕ
+line_at text left = count_by is_feed (take (length text - left) text) + 1
+
 -- the place in a text after which so many bytes are left: its column is one more than the number of characters before it
 pub record IsPlaceOf (text : List ℕ) (left : ℕ) (place : Place) : Type 0 where
+  pub line : place.line ≡ line_at text left
   pub column : place.column ≡ length (before_place text left) + 1
   pub before : string_bytes place.before ≡ shown (before_place text left)
   pub behind : string_bytes place.behind ≡ shown (behind_place text left)

@@ -1,9 +1,9 @@
 -- The message of a refused text.
-use Rattle.std.specs.Prelude.{ℕ, ◌+◌, Bool, List, [], ◌∷◌, ◌++◌, length, Option, Some, None, if◌then◌else◌, codes}
+use Rattle.std.specs.Prelude.{ℕ, ◌+◌, Bool, List, [], ◌∷◌, ◌++◌, length, drop, Option, Some, None, if◌then◌else◌, codes}
 use Rattle.std.specs.Fmt.{decimal}
 use Rattle.std.specs.List.{concat}
-use Rattle.gixcfg_answers.specs.Line.{before_place, behind_place, shown, under}
-use Rattle.gixcfg_answers.specs.Reason.{wanted, name_of, reason_of, words_of}
+use Rattle.gixcfg_answers.specs.Line.{before_place, behind_place, line_at, shown, under}
+use Rattle.gixcfg_answers.specs.Reason.{bytes_before_fault, wanted, name_of, reason_of, words_of}
 use Rattle.gixcfg_answers.specs.declared.reason.Reason.{Reason}
 use Rattle.gixcfg_answers.specs.declared.message.Refused.{Refused}
 
@@ -27,17 +27,21 @@ because None = []
 because (Some reason) = codes ": " ++ words_of reason
 
 -- the first row: the file, the line and the column, what was looked for there, and why it isn't there
-abbrev pub first_row : Refused → (column : ℕ) → Bool → List ℕ
-first_row refused column is_colored =
+abbrev pub first_row : Refused → (line column : ℕ) → Bool → List ℕ
+first_row refused line column is_colored =
     let looked_for = wanted refused.kind.now refused.rest.now in
-    concat (codes "gixcfg: " ∷ colors is_colored bold ∷ refused.file.now ∷ codes ":" ∷ decimal refused.line ∷ codes ":"
+    concat (codes "gixcfg: " ∷ colors is_colored bold ∷ refused.file.now ∷ codes ":" ∷ decimal line ∷ codes ":"
     ∷ decimal column ∷ codes ": " ∷ colors is_colored red ∷ name_of looked_for ∷ colors is_colored plain
     ∷ because (reason_of looked_for refused.rest.now) ∷ codes " [E1]\n" ∷ [])
+
+-- how many bytes of the text are left from what is wrong on
+abbrev pub left_of : Refused → ℕ
+left_of refused = length (drop (bytes_before_fault (wanted refused.kind.now refused.rest.now) refused.rest.now) refused.rest.now)
 
 -- the message: the first row, the line of the text, and a mark under the place
 abbrev pub message_of : Refused → Bool → List ℕ
 message_of refused is_colored =
-    let before = before_place refused.text.now (length refused.rest.now) in
-    concat (first_row refused (length before + 1) is_colored
-    ∷ shown before ∷ shown (behind_place refused.text.now (length refused.rest.now)) ∷ codes "\n"
+    let before = before_place refused.text.now (left_of refused) in
+    concat (first_row refused (line_at refused.text.now (left_of refused)) (length before + 1) is_colored
+    ∷ shown before ∷ shown (behind_place refused.text.now (left_of refused)) ∷ codes "\n"
     ∷ under before ∷ colors is_colored red ∷ codes "^" ∷ colors is_colored plain ∷ codes "\n" ∷ [])

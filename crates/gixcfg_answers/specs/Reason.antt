@@ -1,5 +1,5 @@
 -- What was looked for where reading stopped, and why it isn't there.
-use Rattle.std.specs.Prelude.{ℕ, Bool, true, false, ◌&&◌, ◌==◌, not, List, [], ◌∷◌, Option, Some, None, slice_index, if◌then◌else◌, codes}
+use Rattle.std.specs.Prelude.{ℕ, ◌+◌, ◌-◌, Bool, true, false, ◌&&◌, ◌==◌, not, List, [], ◌∷◌, Option, Some, None, is_some, slice_index, if◌then◌else◌, codes}
 use Rattle.std.specs.List.{fold, list_any}
 use Rattle.std.specs.Str.{bytes_eq}
 use Rattle.gixcfg_answers.specs.Line.{first_line}
@@ -90,6 +90,56 @@ told_by (Return quoted) = if quoted then Some reasons.OpenQuote else None
 -- what is wrong with a value
 abbrev pub of_value : List ℕ → Option Reason
 of_value rest = told_by (fold next_of Plain rest)
+
+-- why reading stops there, if it does
+abbrev pub stopped : State → Option Reason
+stopped (Stopped reason) = Some reason
+stopped Plain = None
+stopped Quoted = None
+stopped (Escape quoted) = None
+stopped (Return quoted) = None
+
+-- how many bytes an escape has that is being read
+abbrev pub escape_len : State → ℕ
+escape_len (Escape quoted) = 1
+escape_len (Return quoted) = 2
+escape_len Plain = 0
+escape_len Quoted = 0
+escape_len (Stopped reason) = 0
+
+-- where the quote stands that was opened last: here, if this byte opens one
+abbrev pub opened_at : State → (b here opened : ℕ) → ℕ
+opened_at Plain b here opened = if b == 34 then here else opened
+opened_at Quoted b here opened = opened
+opened_at (Escape quoted) b here opened = opened
+opened_at (Return quoted) b here opened = opened
+opened_at (Stopped reason) b here opened = opened
+
+-- where that stands for which reading stops: an escape that is none begins with its backslash
+abbrev pub stop_at : Reason → (escape here opened : ℕ) → ℕ
+stop_at reasons.NoEscape escape here opened = here - escape
+stop_at reasons.LoneReturn escape here opened = opened
+stop_at reasons.NoNameByte escape here opened = opened
+stop_at reasons.NoName escape here opened = opened
+stop_at reasons.NoHeader escape here opened = opened
+stop_at reasons.NoLine escape here opened = opened
+stop_at reasons.OpenHeader escape here opened = opened
+stop_at reasons.OpenBracket escape here opened = opened
+stop_at reasons.OpenQuote escape here opened = opened
+
+-- Where that stands in a value which is wrong with it, counted in bytes: the backslash that nothing may follow, or else the quote that is never closed.
+unfoldable pub wrong_from : (here opened : ℕ) → State → List ℕ → ℕ
+wrong_from here opened state [] = opened
+wrong_from here opened state (b ∷ rest) = elim (stopped (next_of state b)) [
+  | Some reason ↦ stop_at reason (escape_len state) here opened
+  | None ↦ wrong_from (here + 1) (opened_at state b here opened) (next_of state b) rest
+]
+
+-- what is wrong with what was looked for begins after so many bytes
+abbrev pub bytes_before_fault : Wanted → List ℕ → ℕ
+bytes_before_fault Header rest = 0
+bytes_before_fault Name rest = 0
+bytes_before_fault Value rest = if is_some (of_value rest) then wrong_from 0 0 Plain rest else 0
 
 -- what is wrong with what was looked for, if that can be said
 abbrev pub reason_of : Wanted → List ℕ → Option Reason

@@ -100,7 +100,7 @@ fn put_found(
     specificity: Specificity,
 ) -> Result<(), Trouble> {
     let mut found = Vec::new(alloc);
-    add_found(alloc, &mut found, section, sought)?;
+    add_found(&mut found, section, sought)?;
     for entry in found {
         closest.put(entry, specificity)?;
     }

@@ -1,4 +1,7 @@
 //! Lines of names and values.
+ghost use Rattle.std.specs.Prelude.{◌≡◌, ◌++◌, IfOk};
+ghost use Rattle.std.specs.Option.{option_copied};
+ghost use Rattle.gixcfg_answers.specs.Entries.{line_of, value_part};
 
 use gixcfg_words::command::Form;
 use std::alloc::AllocError;
@@ -17,8 +20,12 @@ pub struct Line {
 }
 
 impl Line {
+    ghost use Rattle.gixcfg_answers.specs.Origins.{differences_line, entries_line, values_line};
+
     /// As `get` prints entries: a blank between the names and the value.
-    pub fn of_values(form: &Form) -> Line {
+    pub fn of_values(form: &Form) -> Line
+        ensures { result ≡ values_line form.now }
+    {
         Line {
             between: if form.is_null { b'\n' } else { b' ' },
             ..Line::of_entries(form)
@@ -26,7 +33,9 @@ impl Line {
     }
 
     /// As `list` prints them: `=` between the names and the value.
-    pub fn of_entries(form: &Form) -> Line {
+    pub fn of_entries(form: &Form) -> Line
+        ensures { result ≡ entries_line form.now }
+    {
         Line {
             has_names: form.has_names,
             has_value: form.has_value,
@@ -35,7 +44,9 @@ impl Line {
     }
 
     /// As `diff` prints them: all of an entry.
-    pub fn of_differences(is_null: bool) -> Line {
+    pub fn of_differences(is_null: bool) -> Line
+        ensures { result ≡ differences_line is_null }
+    {
         Line {
             has_names: true,
             has_value: true,
@@ -56,7 +67,9 @@ pub fn add_entry(
     before: &[u8],
     names: &[u8],
     value: Option<&[u8]>,
-) -> Result<(), AllocError> {
+) -> Result<(), AllocError>
+    ensures { IfOk result (λ _. lines.new.items ≡ lines.old.items ++ line_of line.now before.now names.now (option_copied value.entry)) }
+{
     lines.extend_from_slice(before)?;
     if line.has_names {
         lines.extend_from_slice(names)?;
@@ -71,7 +84,9 @@ pub fn add_entry(
 /// # Errors
 ///
 /// Out of memory.
-pub fn add_value(lines: &mut Vec<u8>, line: &Line, value: Option<&[u8]>) -> Result<(), AllocError> {
+pub fn add_value(lines: &mut Vec<u8>, line: &Line, value: Option<&[u8]>) -> Result<(), AllocError>
+    ensures { IfOk result (λ _. lines.new.items ≡ lines.old.items ++ value_part line.now (option_copied value.entry)) }
+{
     let Some(value) = value else {
         return Ok(());
     };

@@ -1,9 +1,9 @@
 //! The message.
-ghost use Rattle.std.specs.Prelude.{◌≡◌, IfOk, string_bytes};
-ghost use Rattle.gixcfg_answers.specs.Message.{because as because_lem, colors as colors_lem, first_row as first_row_lem, message_of};
+ghost use Rattle.std.specs.Prelude.{◌≡◌, drop, IfOk, length, string_bytes};
+ghost use Rattle.gixcfg_answers.specs.Message.{because as because_lem, colors as colors_lem, first_row as first_row_lem, left_of as left_of_lem, message_of};
 
-use crate::place::place_of;
-use crate::reason::{Reason, name_of, reason_of, wanted_of};
+use crate::place::{Place, place_of};
+use crate::reason::{Reason, bytes_before_fault, name_of, reason_of, wanted_of};
 use gixcfg_words::shown::Shown;
 use std::alloc::{AllocError, Global};
 
@@ -14,8 +14,6 @@ pub struct Refused<'a> {
     pub file: &'a str,
     /// Its text.
     pub text: &'a [u8],
-    /// The line in which reading stopped, counted from 1.
-    pub line: usize,
     /// What was looked for there.
     pub kind: &'a str,
     /// The text from there on.
@@ -30,7 +28,7 @@ const RED: &str = "\x1b[1;31m";
 const PLAIN: &str = "\x1b[m";
 
 /// The message in three lines: the place and what is wrong there, the line of the text, and a mark under the place. The column counts
-/// characters.
+/// characters. In a value that is the place of the backslash or of the quote that is wrong, which may be lines below the value's start.
 ///
 /// # Errors
 ///
@@ -38,25 +36,38 @@ const PLAIN: &str = "\x1b[m";
 pub fn message(alloc: Global, refused: &Refused<'_>, is_colored: bool) -> Result<String, AllocError>
     ensures { IfOk result (λ s. string_bytes s ≡ message_of refused.now is_colored) }
 {
-    let place = place_of(alloc, refused.text, refused.rest.len())?;
-    let first = first_row(alloc, refused, place.column, is_colored)?;
+    let place = place_of(alloc, refused.text, left_of(refused))?;
+    let first = first_row(alloc, refused, &place, is_colored)?;
     let (before, behind, under) = (place.before, place.behind, place.under);
     let (red, plain) = (colors(is_colored, RED), colors(is_colored, PLAIN));
     format!(in alloc; "{first}{before}{behind}\n{under}{red}^{plain}\n")
 }
 
-/// The first line: the place in this column, what was looked for there, and why it isn't there.
+/// How many bytes of the text are left from what is wrong on.
+fn left_of(refused: &Refused<'_>) -> usize
+    ensures { result ≡ left_of_lem refused.now }
+{
+    let wanted = wanted_of(refused.kind, refused.rest);
+    refused
+        .rest
+        .split_at(bytes_before_fault(wanted, refused.rest))
+        .1
+        .len()
+}
+
+/// The first line: the place, what was looked for there, and why it isn't there.
 fn first_row(
     alloc: Global,
     refused: &Refused<'_>,
-    column: usize,
+    place: &Place,
     is_colored: bool,
 ) -> Result<String, AllocError>
-    ensures { IfOk result (λ s. string_bytes s ≡ first_row_lem refused.now column is_colored) }
+    ensures { IfOk result (λ s. string_bytes s ≡ first_row_lem refused.now place.now.line place.now.column is_colored) }
 {
     let wanted = wanted_of(refused.kind, refused.rest);
     let because = because(alloc, reason_of(wanted, refused.rest))?;
-    let (file, line, what) = (refused.file, refused.line, name_of(wanted));
+    let (file, what) = (refused.file, name_of(wanted));
+    let (line, column) = (place.line, place.column);
     let bold = colors(is_colored, BOLD);
     let (red, plain) = (colors(is_colored, RED), colors(is_colored, PLAIN));
     format!(in alloc; "gixcfg: {bold}{file}:{line}:{column}: {red}{what}{plain}{because} [E1]\n")
@@ -91,9 +102,8 @@ pub fn message_of_git(
     at: usize,
     what: &str,
 ) -> Result<String, AllocError> {
-    let (before, behind) = text.split_at(at.min(text.len()));
-    let line = before.iter().filter(|byte| **byte == b'\n').count();
-    let column = place_of(alloc, text, behind.len())?.column;
-    let (file, line) = (Shown(file), line.saturating_add(1));
+    let behind = text.split_at(at.min(text.len())).1;
+    let place = place_of(alloc, text, behind.len())?;
+    let (file, line, column) = (Shown(file), place.line, place.column);
     format!(in alloc; "gixcfg: {file}:{line}:{column}: git: {what}\n")
 }

@@ -1,4 +1,8 @@
 //! The names of an entry, as they are printed.
+ghost use Rattle.std.specs.Prelude.{◌≡◌, ◌++◌, IfOk};
+ghost use Rattle.std.specs.Option.{option_copied};
+ghost use Rattle.gitconf_text.specs.Bytes.{fold};
+ghost use Rattle.gixcfg_answers.specs.Entries.{key_text, section_names};
 
 use std::alloc::AllocError;
 
@@ -13,7 +17,9 @@ pub fn add_names(
     section_name: &[u8],
     subsection_name: Option<&[u8]>,
     value_name: &[u8],
-) -> Result<(), AllocError> {
+) -> Result<(), AllocError>
+    ensures { IfOk result (λ _. text.new.items ≡ text.old.items ++ key_text section_name.now (option_copied subsection_name.entry) value_name.now) }
+{
     add_section_names(text, section_name, subsection_name)?;
     add_in_lower_case(text, value_name)
 }
@@ -27,7 +33,9 @@ pub fn add_section_names(
     text: &mut Vec<u8>,
     section_name: &[u8],
     subsection_name: Option<&[u8]>,
-) -> Result<(), AllocError> {
+) -> Result<(), AllocError>
+    ensures { IfOk result (λ _. text.new.items ≡ text.old.items ++ section_names section_name.now (option_copied subsection_name.entry)) }
+{
     add_in_lower_case(text, section_name)?;
     text.push(b'.')?;
     if let Some(subsection_name) = subsection_name {
@@ -42,7 +50,9 @@ pub fn add_section_names(
 /// # Errors
 ///
 /// Out of memory.
-pub fn add_in_lower_case(text: &mut Vec<u8>, bytes: &[u8]) -> Result<(), AllocError> {
+pub fn add_in_lower_case(text: &mut Vec<u8>, bytes: &[u8]) -> Result<(), AllocError>
+    ensures { IfOk result (λ _. text.new.items ≡ text.old.items ++ fold bytes.now) }
+{
     let before = text.len();
     text.extend_from_slice(bytes)?;
     let (_, added) = text.as_mut_slice().split_at_mut(before);

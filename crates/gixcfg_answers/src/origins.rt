@@ -1,4 +1,6 @@
 //! Where entries come from.
+ghost use Rattle.std.specs.Prelude.{◌≡◌, ◌++◌, ◌∷◌, [], IfOk, codes, if◌then◌else◌};
+ghost use Rattle.gixcfg_answers.specs.Origins as origins;
 
 use gitconf_base::meta::Metadata;
 use gitconf_base::source::Source;
@@ -55,22 +57,46 @@ pub fn before_of(
     meta: &Metadata,
     form: &Form,
     read: &Located,
-) -> Result<Vec<u8>, NoMemory> {
-    let end = if form.is_null { 0u8 } else { b'\t' };
+) -> Result<Vec<u8>, NoMemory>
+    ensures { IfOk result (λ before. before.items ≡ origins.before_of form.now meta.now read.now) }
+{
     let mut before = Vec::new(alloc);
     if form.has_scope {
         before.extend_from_slice(scope_of(meta, read).as_bytes())?;
-        before.push(end)?;
+        before.push(end_of(form))?;
     }
-    if form.has_origin {
-        add_origin(&mut before, meta, read)?;
-        before.push(end)?;
-    }
+    add_origin_if(&mut before, meta, form, read)?;
     Ok(before)
 }
 
+/// What ends the scope and what ends the file.
+fn end_of(form: &Form) -> u8
+    ensures { result ≡ origins.end_of form.now }
+{
+    if form.is_null { 0 } else { b'\t' }
+}
+
+/// Adds what the file is called from which something was read, if that is asked for, and what ends it.
+fn add_origin_if(
+    before: &mut Vec<u8>,
+    meta: &Metadata,
+    form: &Form,
+    read: &Located,
+) -> Result<(), NoMemory>
+    ensures { IfOk result (λ _. before.new.items
+        ≡ before.old.items ++ (if form.now.has_origin then origins.origin_of meta.now read.now ++ origins.end_of form.now ∷ [] else [])) }
+{
+    if form.has_origin {
+        add_origin(before, meta, read)?;
+        before.push(end_of(form))?;
+    }
+    Ok(())
+}
+
 /// The scope of what was read.
-fn scope_of(meta: &Metadata, read: &Located) -> &'static str {
+fn scope_of(meta: &Metadata, read: &Located) -> &'static str
+    ensures { result.now ≡ origins.scope_of meta.now read.now }
+{
     match read {
         Located::Effective => scope_of_source(meta.source),
         Located::File(_, Some(Place::System)) => "system",
@@ -82,7 +108,9 @@ fn scope_of(meta: &Metadata, read: &Located) -> &'static str {
 }
 
 /// The scope of a source, by git's word for it.
-fn scope_of_source(source: Source) -> &'static str {
+fn scope_of_source(source: Source) -> &'static str
+    ensures { result.now ≡ origins.scope_of_source source }
+{
     match source {
         Source::GitInstallation | Source::System => "system",
         Source::Git | Source::User => "global",
@@ -93,18 +121,22 @@ fn scope_of_source(source: Source) -> &'static str {
 }
 
 /// Adds what the file is called from which something was read.
-fn add_origin(before: &mut Vec<u8>, meta: &Metadata, read: &Located) -> Result<(), NoMemory> {
-    let path = match &meta.path {
-        Some(path) => Some(path.as_str()),
-        None => read.path(),
-    };
-    match (path, read) {
-        (Some(path), _) => {
-            before.extend_from_slice(b"file:")?;
-            before.extend_from_slice(path.as_bytes())?;
-        }
-        (None, Located::Input) => before.extend_from_slice(b"standard input:")?,
-        (None, _) => before.extend_from_slice(b"command line:")?,
+fn add_origin(before: &mut Vec<u8>, meta: &Metadata, read: &Located) -> Result<(), NoMemory>
+    ensures { IfOk result (λ _. before.new.items ≡ before.old.items ++ origins.origin_of meta.now read.now) }
+{
+    match (&meta.path, read) {
+        (Some(path), _) => add_file(before, path.as_str()),
+        (None, Located::File(path, _)) => add_file(before, path.as_str()),
+        (None, Located::Input) => Ok(before.extend_from_slice(b"standard input:")?),
+        (None, Located::Effective) => Ok(before.extend_from_slice(b"command line:")?),
     }
+}
+
+/// Adds what a file is called.
+fn add_file(before: &mut Vec<u8>, path: &str) -> Result<(), NoMemory>
+    ensures { IfOk result (λ _. before.new.items ≡ before.old.items ++ (codes "file:" ++ path.now)) }
+{
+    before.extend_from_slice(b"file:")?;
+    before.extend_from_slice(path.as_bytes())?;
     Ok(())
 }

@@ -88,7 +88,6 @@ fn refusal_message(
     let refused = Refused {
         file: shown.as_str(),
         text,
-        line: refusal.line_number(),
         kind: refusal.kind(),
         rest: refusal.remaining_data(),
     };

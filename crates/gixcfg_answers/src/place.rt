@@ -1,8 +1,8 @@
 //! The line in which reading stopped, and the mark under it.
 ghost use Rattle.std.specs.Prelude.{◌≡◌, ◌+◌, ◌≤◌, ◌++◌, length, take, map, chars, replicate, IfOk, OnOk, string_bytes};
-ghost use Rattle.std.specs.List.{flat_map};
+ghost use Rattle.std.specs.List.{count_by, flat_map};
 ghost use Rattle.bstr.specs.Utf8.{lossy_chars};
-ghost use Rattle.gixcfg_answers.specs.Line.{IsPlaceOf, first_line as first_line_lem, last_line as last_line_lem, line_from as line_from_lem, most_shown, shown as shown_lem, shown_char as shown_char_lem, under_char, without_mark as without_mark_lem, without_return as without_return_lem};
+ghost use Rattle.gixcfg_answers.specs.Line.{IsPlaceOf, is_feed, first_line as first_line_lem, last_line as last_line_lem, line_from as line_from_lem, most_shown, shown as shown_lem, shown_char as shown_char_lem, under_char, without_mark as without_mark_lem, without_return as without_return_lem};
 
 use bstr::ByteSlice;
 use std::alloc::{AllocError, Global};
@@ -17,6 +17,8 @@ const MOST_SHOWN: usize = 200;
 /// The line in which reading stopped, in two parts, and what comes under the first of them.
 #[derive(Drop)]
 pub struct Place {
+    /// The number of the line, counted from 1.
+    pub line: usize,
     /// How many characters of the line stand before the place, and one more.
     pub column: usize,
     /// The line up to the place, as it is shown.
@@ -40,11 +42,19 @@ pub fn place_of(alloc: Global, text: &[u8], left: usize) -> Result<Place, AllocE
     let behind = shown(alloc, start_of(line_from(rest)))?;
     let under = under(alloc, before.as_str())?;
     Ok(Place {
+        line: line_of(read),
         column: column_of(before.as_str()),
         before,
         behind,
         under,
     })
+}
+
+/// The number of the line that follows a text.
+fn line_of(before: &[u8]) -> usize
+    ensures { result ≡ count_by is_feed before.now + 1 }
+{
+    before.iter().filter(|byte| **byte == b'\n').count() + 1
 }
 
 /// The column of what follows a text in its line.

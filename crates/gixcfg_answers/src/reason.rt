@@ -1,7 +1,7 @@
 //! What is wrong where the parser stopped.
-ghost use Rattle.std.specs.Prelude.{◌≡◌};
+ghost use Rattle.std.specs.Prelude.{◌≡◌, ◌≤◌, length};
 ghost use Rattle.gixcfg_answers.specs.Line.{first_line as first_line_lem};
-ghost use Rattle.gixcfg_answers.specs.Reason.{ended as ended_lem, name_of as name_of_lem, next_of as next_of_lem, of_brackets as of_brackets_lem, of_header as of_header_lem, of_name as of_name_lem, of_value as of_value_lem, reason_of as reason_of_lem, told_by as told_by_lem, wanted as wanted_lem, words_of as words_of_lem};
+ghost use Rattle.gixcfg_answers.specs.Reason.{bytes_before_fault as bytes_before_fault_lem, ended as ended_lem, escape_len as escape_len_lem, opened_at as opened_at_lem, stop_at as stop_at_lem, stopped as stopped_lem, wrong_from, name_of as name_of_lem, next_of as next_of_lem, of_brackets as of_brackets_lem, of_header as of_header_lem, of_name as of_name_lem, of_value as of_value_lem, reason_of as reason_of_lem, told_by as told_by_lem, wanted as wanted_lem, words_of as words_of_lem};
 ghost use Rattle.gixcfg_answers.specs.declared.reason.State.TheVariants.{Escape, Plain, Quoted};
 
 use bstr::ByteSlice;
@@ -168,6 +168,79 @@ fn reason_of_value(rest: &[u8]) -> Option<Reason>
         rest.iter()
             .fold(State::Plain, |state, byte| next_of(state, *byte)),
     )
+}
+
+/// How many bytes come before what is wrong with what was looked for: of a value the backslash that nothing may follow, or the quote
+/// that is never closed. Anything else is wrong as a whole.
+pub fn bytes_before_fault(wanted: Wanted, rest: &[u8]) -> usize
+    ensures count { result ≡ bytes_before_fault_lem wanted rest.now }
+    ensures within { result ≤ length rest.now }
+{
+    match wanted {
+        Wanted::Value if reason_of_value(rest).is_some() => place_of_fault(rest),
+        _ => 0,
+    }
+}
+
+/// Where that stands in a value which is wrong with it.
+#[tactic(auto, unfolding(crate::specs::Reason::wrong_from))]
+fn place_of_fault(value: &[u8]) -> usize
+    ensures place { result ≡ wrong_from 0 0 Plain value.now }
+    ensures within { result ≤ length value.now }
+{
+    let (mut state, mut opened, mut here) = (State::Plain, 0usize, 0usize);
+    while here < value.len() {
+        let byte = value[here];
+        let next = next_of(state, byte);
+        if let Some(reason) = stopped(next) {
+            return stop_at(reason, escape_len(state), here, opened);
+        }
+        opened = opened_at(state, byte, here, opened);
+        state = next;
+        here += 1;
+    }
+    opened
+}
+
+/// Why reading stops, if it does.
+fn stopped(state: State) -> Option<Reason>
+    ensures { result ≡ stopped_lem state }
+{
+    match state {
+        State::Stopped(reason) => Some(reason),
+        _ => None,
+    }
+}
+
+/// How many bytes an escape has that is being read.
+fn escape_len(state: State) -> usize
+    ensures { result ≡ escape_len_lem state }
+{
+    match state {
+        State::Escape(_) => 1,
+        State::Return(_) => 2,
+        _ => 0,
+    }
+}
+
+/// Where the quote stands that was opened last: here, if this byte opens one.
+fn opened_at(state: State, byte: u8, here: usize, opened: usize) -> usize
+    ensures place { result ≡ opened_at_lem state byte here opened }
+{
+    match state {
+        State::Plain if byte == b'"' => here,
+        _ => opened,
+    }
+}
+
+/// Where that stands for which reading stops: an escape that is none begins with its backslash.
+fn stop_at(reason: Reason, escape: usize, here: usize, opened: usize) -> usize
+    ensures place { result ≡ stop_at_lem reason escape here opened }
+{
+    match reason {
+        Reason::NoEscape => here.saturating_sub(escape),
+        _ => opened,
+    }
 }
 
 /// Why a value isn't one, from where its reading is at its end.

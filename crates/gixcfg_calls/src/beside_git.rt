@@ -64,7 +64,7 @@ fn differences(
     entries = behind_front(entries, &mut found)?;
     for section in file.sections() {
         let mut own = Vec::new(alloc);
-        add_found(alloc, &mut own, &section, &Sought::all(b""))?;
+        add_found(&mut own, &section, &Sought::all(b""))?;
         let is_include = is_include_of_git(section.header().name());
         for (entry, of_git) in own.iter().zip(entries) {
             compare(entry, of_git, is_include, &mut found)?;

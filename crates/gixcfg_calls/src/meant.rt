@@ -76,7 +76,7 @@ pub fn entries_meant(
         for section in sections {
             if is_named(&section, key) {
                 let before = values.len();
-                add_values(alloc, &mut values, &section, key.value_name)?;
+                add_values(&mut values, &section, key.value_name)?;
                 let (id, count) = (section.id(), values.len().saturating_sub(before));
                 holders.push(Holder { id, count })?;
             }

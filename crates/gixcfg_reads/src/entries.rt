@@ -1,4 +1,7 @@
 //! The entries of a file.
+ghost use Rattle.std.specs.Prelude.{◌≡◌, IfOk, map};
+ghost use Rattle.gixcfg_answers.specs.Entries.{plain_found};
+ghost use Rattle.gixcfg_reads.specs.Entries.{file_entries, file_lines};
 
 use gix_config::{File, KeyRef};
 use gixcfg_answers::entries::{Found, Sought, add_found, add_lines, is_listed_under};
@@ -10,32 +13,49 @@ use gixcfg_words::command::{Form, Values};
 use std::alloc::Global;
 
 /// All entries of a file's sections, in order.
+///
+/// # Errors
+///
+/// Out of memory.
 pub fn all_entries(
     alloc: Global,
     file: &File,
     form: &Form,
     read: &Located,
-) -> Result<Vec<Found>, Trouble> {
+) -> Result<Vec<Found>, Trouble>
+    ensures { IfOk result (λ found. map plain_found found.items ≡ file_entries form.now read.now file.now) }
+{
     let mut found = Vec::new(alloc);
     for section in file.sections() {
         let before = before_of(alloc, section.meta(), form, read)?;
-        add_found(alloc, &mut found, &section, &Sought::all(&before))?;
+        let sought = Sought {
+            before: &before,
+            value_name: None,
+            has_subsection: true,
+        };
+        add_found(&mut found, &section, &sought)?;
     }
     Ok(found)
 }
 
 /// All entries of a file's sections, in order, a line each as `list` prints them.
+///
+/// # Errors
+///
+/// Out of memory.
 pub fn all_lines(
     alloc: Global,
     file: &File,
     form: &Form,
     read: &Located,
-) -> Result<Vec<u8>, Trouble> {
+) -> Result<Vec<u8>, Trouble>
+    ensures { IfOk result (λ lines. lines.items ≡ file_lines form.now read.now file.now) }
+{
     let line = Line::of_entries(form);
     let mut lines = Vec::new(alloc);
     for section in file.sections() {
         let before = before_of(alloc, section.meta(), form, read)?;
-        add_lines(alloc, &mut lines, &line, &before, &section)?;
+        add_lines(&mut lines, &line, &before, &section)?;
     }
     Ok(lines)
 }
@@ -57,7 +77,7 @@ pub fn entries_of(
                 value_name: Some(key.value_name),
                 has_subsection: true,
             };
-            add_found(alloc, &mut found, &section, &sought)?;
+            add_found(&mut found, &section, &sought)?;
         }
     }
     Ok(found)

@@ -11,7 +11,7 @@ returns c =
     let refused = c.args.refused.now in
     let looked_for = wanted refused.kind.now refused.rest.now in
     IfOk-weaker c.format.result _ _
-    (λ s is. is ∙ first_parts (codes "gixcfg: ") c.colors-bold.result.now refused.file.now (codes ":") (decimal refused.line) (decimal c.args.column) (codes ": ")
+    (λ s is. is ∙ first_parts (codes "gixcfg: ") c.colors-bold.result.now refused.file.now (codes ":") (decimal c.args.place.now.line) (decimal c.args.place.now.column) (codes ": ")
     c.colors-red.result.now c.name_of-what.result.now c.colors-plain.result.now (string_bytes c.in_ok-because.because) (codes " [E1]\n")
     (colors c.args.is_colored bold) (colors c.args.is_colored red) (name_of looked_for) (colors c.args.is_colored plain) (because (reason_of looked_for refused.rest.now))
     c.colors-bold.ensures c.colors-red.ensures (c.name_of-what.ensures ∙ ap name_of c.wanted_of-wanted.ensures) c.colors-plain.ensures

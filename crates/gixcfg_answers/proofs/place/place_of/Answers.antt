@@ -12,4 +12,4 @@ returns c =
     c.without_mark.ensures c.last_line.ensures (c.start_of.ensures ∙ ap (take most_shown) c.line_from.ensures)
     c.in_ok-before.ensures c.in_ok-behind.ensures
     (c.in_ok-under.ensures ∙ ap (λ t. flat_map under_char (chars t)) c.as_str.ensures.value)
-    (c.column_of.ensures ∙ ap (λ t. length (chars t) + 1) c.as_str-2.ensures.value)
+    (c.column_of.ensures ∙ ap (λ t. length (chars t) + 1) c.as_str-2.ensures.value) c.line_of.ensures
