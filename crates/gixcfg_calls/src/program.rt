@@ -5,6 +5,7 @@ use crate::fault::{Fault, tell};
 use crate::listing::list;
 use bstr::BString;
 use gitconf_disk::{Disk, Process};
+use gitconf_lookup::lookup::value_in;
 use gix_config::file::{SectionId, includes, init, section_mut};
 use gix_config::format::{Options, normalize};
 use gix_config::host::{Env, Files};
@@ -67,7 +68,7 @@ fn execute<R: Read, W: Write, F: Files, V: Env>(
         Task::OnInput(command) => work_on(alloc, command, read_all(alloc, input)?, out),
         Task::Load(path, key) => {
             let file = load_path(alloc, path, files, env)?;
-            put_value(&file, key, out)
+            put_line(file.string(key)?, out)
         }
     }
 }
@@ -117,30 +118,6 @@ fn load_path<F: Files, V: Env>(
         Some(file) => Ok(file),
         None => Err(Fault::Missing),
     }
-}
-
-/// The value of a key, on a line.
-fn get(file: &File, key: KeyRef<'_>) -> Result<BString, Fault> {
-    match file.string(key)? {
-        Some(mut value) => {
-            value.push(b'\n')?;
-            Ok(value)
-        }
-        None => Err(Fault::Missing),
-    }
-}
-
-/// All values of a key, each on a line.
-fn all(alloc: Global, file: &File, key: KeyRef<'_>) -> Result<Vec<u8>, Fault> {
-    let Some(values) = file.strings(key)? else {
-        return Err(Fault::Missing);
-    };
-    let mut lines = Vec::new(alloc);
-    for value in &values {
-        lines.extend_from_slice(value)?;
-        lines.push(b'\n')?;
-    }
-    Ok(lines)
 }
 
 /// The boolean of a key, on a line.
@@ -196,37 +173,31 @@ fn put_laid_out<W: Write>(alloc: Global, text: &[u8], out: &mut W) -> Result<(),
     Ok(put(&text, out)?)
 }
 
-/// Writes what is asked of the entries of a text.
+/// Writes what is asked of the entries of a text. A value is looked up without a file.
 fn put_asked<W: Write>(
     alloc: Global,
     text: Vec<u8>,
     query: Query<'_>,
     out: &mut W,
 ) -> Result<(), Fault> {
-    let file = load_entries(alloc, text)?;
-    put_answer(alloc, &file, query, out)
-}
-
-/// Writes what is asked of the entries of a file.
-fn put_answer<W: Write>(
-    alloc: Global,
-    file: &File,
-    query: Query<'_>,
-    out: &mut W,
-) -> Result<(), Fault> {
     match query {
-        Query::Get(key) => put_value(file, key, out),
-        Query::All(key) => put_values(alloc, file, key, out),
-        Query::Bool(key) => Ok(put(boolean(file, key)?, out)?),
-        Query::Int(key) => put_integer(alloc, file, key, out),
-        Query::List => put_list(alloc, file, out),
+        Query::Get(key) => put_line(value_in(alloc, &text, key)?, out),
+        Query::All(key) => put_values(alloc, &load_entries(alloc, text)?, key, out),
+        Query::Bool(key) => put_boolean(&load_entries(alloc, text)?, key, out),
+        Query::Int(key) => put_integer(alloc, &load_entries(alloc, text)?, key, out),
+        Query::List => put_list(alloc, &load_entries(alloc, text)?, out),
     }
 }
 
-/// Writes the last value of a key, on a line.
-fn put_value<W: Write>(file: &File, key: KeyRef<'_>, out: &mut W) -> Result<(), Fault> {
-    let value = get(file, key)?;
-    Ok(put(&value, out)?)
+/// Writes a value on a line.
+fn put_line<W: Write>(value: Option<BString>, out: &mut W) -> Result<(), Fault> {
+    match value {
+        Some(mut line) => {
+            line.push(b'\n')?;
+            Ok(put(&line, out)?)
+        }
+        None => Err(Fault::Missing),
+    }
 }
 
 /// Writes all values of a key, each on a line.
@@ -236,8 +207,20 @@ fn put_values<W: Write>(
     key: KeyRef<'_>,
     out: &mut W,
 ) -> Result<(), Fault> {
-    let lines = all(alloc, file, key)?;
+    let Some(values) = file.strings(key)? else {
+        return Err(Fault::Missing);
+    };
+    let mut lines = Vec::new(alloc);
+    for value in &values {
+        lines.extend_from_slice(value)?;
+        lines.push(b'\n')?;
+    }
     Ok(put(&lines, out)?)
+}
+
+/// Writes the boolean of a key, on a line.
+fn put_boolean<W: Write>(file: &File, key: KeyRef<'_>, out: &mut W) -> Result<(), Fault> {
+    Ok(put(boolean(file, key)?, out)?)
 }
 
 /// Writes the integer of a key, on a line.

@@ -2,6 +2,7 @@
 //! Files, variables, and the loads that ask them, come from the runtime.
 #![tactic(auto)]
 
+mod at_once;
 mod effective;
 mod entries;
 mod including;

@@ -1,5 +1,6 @@
 //! `get` and `list` with options.
 
+use crate::at_once::{key_alone, last_line};
 use crate::effective::effective;
 use crate::entries::{all_entries, all_lines, entries_like, entries_meant, entries_of};
 use crate::including::included;
@@ -57,6 +58,9 @@ fn get<R: Files + Env + Loads + AllocGlobal, I: Read + Drop>(
     get: &Get<'_>,
     read: &Located,
 ) -> Result<Vec<u8>, Trouble> {
+    if let Some(key) = key_alone(get, read) {
+        return last_line(inputs, key, &get.form, read);
+    }
     let (alloc, home) = (inputs.rt.alloc(), inputs.outside.home);
     let found = found_by(inputs, get, read)?;
     let found = entries_meant(alloc, found, get.values)?;
