@@ -1,8 +1,12 @@
 //! What a handle can hold.
 
+use gix_config::File;
+
 /// What a handle can hold.
 #[derive(Drop)]
 pub enum Object {
+    /// A file of configuration.
+    File(File),
     /// Bytes that a call handed out.
     Bytes(Vec<u8>),
     /// Texts that a call handed out.

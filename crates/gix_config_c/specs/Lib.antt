@@ -1,0 +1,6 @@
+pub mod Answers
+pub mod Edited
+pub mod Entries
+pub mod Found
+pub mod Messages
+pub mod Opened

@@ -1,0 +1,23 @@
+//! Git's configuration files for programs in C.
+//!
+//! Each call answers a number: 0 when it is done, that of a refusal (docs/refusals.md), or one of those below. What a call does is said
+//! by its contract for every content of every handle, also an empty one or one that holds something else.
+#![tactic(auto)]
+
+mod editing;
+mod files;
+mod look_ups;
+mod opening;
+mod setting;
+
+/// The call is done.
+pub const DONE: u32 = 0;
+
+/// Out of memory, as in docs/refusals.md.
+pub const OUT_OF_MEMORY: u32 = 27;
+
+/// A name is not UTF-8.
+pub const NOT_UTF8: u32 = 101;
+
+/// The handle is empty, or holds something else.
+pub const WRONG_HANDLE: u32 = 102;
