@@ -1,10 +1,12 @@
 -- What edits of entries answer.
-use Rattle.std.specs.Prelude.{◌≡◌, ℕ, true, List, Option, Some, None, Result, Ok, Err}
+use Rattle.std.specs.Prelude.{◌≡◌, ◌⊎◌, ℕ, true, List, Option, Some, None, Result, Ok, Err}
 use Rattle.gitconf_base.specs.Key.{Key}
 use Rattle.gitconf_finding.specs.Misses.{existing_number, missing}
 use Rattle.gitconf_finding.specs.Picks.{picked}
+use Rattle.gitconf_handles.specs.Blocks.{Holds}
+use Rattle.gitconf_handles.specs.declared.block.Block.{Block}
 use Rattle.gitconf_lines.specs.declared.value.Error.{Error}
-use Rattle.gitconf_state.specs.Edits.{Push}
+use Rattle.gitconf_state.specs.Edits.{Push, Raw, Remove, answer, apply}
 use Rattle.gitconf_state.specs.Editors.{editor_of}
 use Rattle.gitconf_state.specs.Lookup.{listed, miss_of}
 use Rattle.gitconf_state.specs.State.{SectionState, State}
@@ -28,3 +30,11 @@ pub record IsPushed (key : Key) (value : Option (List ℕ)) (old new : State) (n
   pub nowhere : section_of key old ≡ None → number ≡ missing_number key old
   pub pushed : (s : SectionState) → section_of key old ≡ Some s → (number ≡ 27 → ⊥)
       → (r : Result (Unit {0}) Error) × IsEdited (Push s.number (editor_of old s) key.name value None) value_number r old new × (number ≡ answered r)
+
+-- the last entry of the name was removed from the section, and the block holds the raw text of its value
+pub record IsValueRemoved (key : Key) (old new : State) (number : ℕ) (block : Block) : Type 0 where
+  pub nowhere : section_of key old ≡ None → number ≡ missing_number key old
+  pub done : (s : SectionState) → section_of key old ≡ Some s → number ≡ 0
+      → (new ≡ apply (Remove s.number key.name) old) × ((raw : List ℕ) × (answer (Remove s.number key.name) old ≡ Raw (Some raw)) × Holds raw block)
+  pub none : (s : SectionState) → section_of key old ≡ Some s → number ≡ 100 → answer (Remove s.number key.name) old ≡ Raw None
+  pub known : (s : SectionState) → section_of key old ≡ Some s → (number ≡ 0) ⊎ (number ≡ 100) ⊎ (number ≡ 27)

@@ -1,13 +1,15 @@
-//! Entries, put into sections.
+//! Entries, put into sections and removed from them.
 ghost use Rattle.std.specs.Prelude.{◌≡◌, if◌then◌else◌, None, Some};
+ghost use Rattle.gitconf_handles.specs.Blocks.{IsKept};
 ghost use Rattle.gitconf_handles.specs.Keys.{names_of};
 ghost use Rattle.gitconf_handles.specs.declared.object.Object.TheVariants as object;
 ghost use Rattle.gitconf_state.specs.State.{State};
 ghost use Rattle.gix_config_c.specs.Answers.{OfFile, OfKey};
 ghost use Rattle.gix_config_c.specs.Edited.{IsEditedFile};
-ghost use Rattle.gix_config_c.specs.Entries.{IsPushed};
+ghost use Rattle.gix_config_c.specs.Entries.{IsPushed, IsValueRemoved};
 
-use crate::{DONE, NOT_UTF8, WRONG_HANDLE};
+use crate::{DONE, NOT_UTF8, NOTHING_THERE, OUT_OF_MEMORY, WRONG_HANDLE};
+use gitconf_handles::block::{Block, room};
 use gitconf_handles::key::{Key, names};
 use gitconf_handles::object::Object;
 use gitconf_handles::slot::Slot;
@@ -58,5 +60,59 @@ fn push(file: &mut File, key: &Key<'_>, has_value: bool, value: &[u8]) -> u32
             Err(refusal) => u32::from(refusal.number()),
         },
         Err(refusal) => u32::from(refusal.number()),
+    }
+}
+
+/// Removes the last entry of the key's name from the last section of the key's names, with the blanks before it and the line endings after
+/// it, and hands out the raw text of its value. What the block had is freed.
+///
+/// 7 or 8 if there is no such section, 100 if it has no such entry. 101 if the section's or the value's name is not UTF-8, 102 if the handle
+/// has no file, 27 when out of memory. The file and the block are then as they were.
+#[unsafe(no_mangle)]
+pub extern "C" fn gix_config_remove_value(
+    alloc: Global,
+    file: &mut Slot,
+    key: &Key<'_>,
+    old: &mut Block,
+) -> u32
+    ensures answer { OfFile file.old.it result (λ f. (g : State) × (file.new.it ≡ Some (object.File g))
+        × ((result ≡ 0 → ⊥) → g ≡ f) × OfKey (names_of key.now) result (λ k. IsValueRemoved k f g result old.new)) }
+    ensures kept { (result ≡ 0 → ⊥) → IsKept old.old old.new }
+    ensures other { ((f : State) → file.old.it ≡ Some (object.File f) → ⊥) → file.new.it ≡ file.old.it }
+{
+    let Some(mut object) = file.take(alloc) else {
+        return WRONG_HANDLE;
+    };
+    let answer = match &mut *object {
+        Object::File(f) => remove(alloc, f, key, old),
+        _ => WRONG_HANDLE,
+    };
+    file.put(object);
+    answer
+}
+
+/// Removes an entry from a section of a file.
+fn remove(alloc: Global, file: &mut File, key: &Key<'_>, old: &mut Block) -> u32
+    ensures same { (result ≡ 0 → ⊥) → file.new ≡ file.old }
+    ensures kept { (result ≡ 0 → ⊥) → IsKept old.old old.new }
+    ensures answer { OfKey (names_of key.now) result (λ k. IsValueRemoved k file.old file.new result old.new) }
+{
+    let Some(key) = names(key) else {
+        return NOT_UTF8;
+    };
+    let mut section = match file.section_mut(key.section_name, key.subsection_name) {
+        Ok(section) => section,
+        Err(refusal) => return u32::from(refusal.number()),
+    };
+    let Some(room) = room(alloc) else {
+        return OUT_OF_MEMORY;
+    };
+    match section.remove(key.value_name) {
+        Ok(Some(was)) => {
+            old.put(room, was.into_vec());
+            DONE
+        }
+        Ok(None) => NOTHING_THERE,
+        Err(_) => OUT_OF_MEMORY,
     }
 }

@@ -6,8 +6,10 @@
 
 mod editing;
 mod files;
+mod lists;
 mod look_ups;
 mod opening;
+mod sections;
 mod setting;
 
 /// The call is done.
@@ -15,6 +17,9 @@ pub const DONE: u32 = 0;
 
 /// Out of memory, as in docs/refusals.md.
 pub const OUT_OF_MEMORY: u32 = 27;
+
+/// There is no such thing.
+pub const NOTHING_THERE: u32 = 100;
 
 /// A name is not UTF-8.
 pub const NOT_UTF8: u32 = 101;
