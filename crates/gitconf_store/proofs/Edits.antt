@@ -7,3 +7,4 @@ pub mod Editing
 pub mod Existing
 pub mod Trusting
 pub mod LeavingOut
+pub mod ItemsEdits

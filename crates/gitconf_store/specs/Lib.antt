@@ -9,3 +9,4 @@ pub mod Renamings
 pub mod NewSections
 pub mod Appends
 pub mod LeavingOut
+pub mod ItemsEdits

@@ -3,6 +3,8 @@ mod append;
 mod editing;
 mod existing;
 mod including;
+mod items_edit;
+mod items_edits;
 mod leaving_out;
 mod look_ups;
 mod making;
@@ -17,10 +19,10 @@ mod views;
 mod weaving;
 
 use crate::set_raw_value;
+use crate::store::items_edits::SetInSection;
 use bstr::BString;
 use gitconf_base::meta::Metadata;
 use gitconf_body::section::section_with;
-use gitconf_body::set;
 use gitconf_finding::filters::last_passing;
 use gitconf_finding::print::{front_is_ended, write_sections};
 use gitconf_finding::tokens;
@@ -29,7 +31,6 @@ use gitconf_items::few::FewItems;
 use gitconf_items::items::Keep;
 use gitconf_items::sink::{Sink, SinkFault};
 use gitconf_joining::load::Loading;
-use gitconf_lines::editor::editor_of;
 use gitconf_parse::events::Events;
 use gitconf_parse::input::{check_len, copied_with_room};
 use gitconf_parse::loading::read_sections;
@@ -490,13 +491,12 @@ impl Store {
             self.old.used self.new.used) }
     {
         let line_end = self.line_end();
-        let section = self.sections.at(at);
-        let editor = editor_of(section.items, line_end);
-        let place = set::place_to_set(&self.buffer, section.items, &editor, key, value)?;
-        let mut items = self.sections.take_items(at)?;
-        let set = set::set_at(&mut self.buffer, &mut *items, place, &editor, key, value);
-        self.sections.put_items(at, items);
-        set
+        let value = SetInSection {
+            line_end,
+            key,
+            value,
+        };
+        self.edit_items_at(at, &value)?
     }
 
     /// Makes a section with the value, after all others.

@@ -1,9 +1,9 @@
 -- The section of a number with other items, in a longer buffer.
 use Rattle.std.proofs.Common.{◌≡◌, ℕ, zero, suc, ◌+◌, ◌<◌, ◌≤◌, ◌^◌, ◌==◌, Bool, true, false, nat_lt, List, [], ◌∷◌, ◌++◌, length, map, filter, position, Option, Some, None, Result, Ok, Err, refl, ap, sym, subst, ◌∙◌, arith, inl, inr}
-use Rattle.std.specs.Prelude.{if◌then◌else◌, ◌⊎◌, IfSome, IsErrOf, OnErr}
+use Rattle.std.specs.Prelude.{if◌then◌else◌, ◌⊎◌, ◌↔◌, IfErr, IfSome, IsErrOf, OnErr}
 use Rattle.std.specs.List.{AllByRecursion, last_or, position_or_len, slice_get}
 use Rattle.std.specs.Option.{option_map}
-use Rattle.std.proofs.lemmas.Bool.{eq-eqb, eqb-false, ne_eqb, ltb-false}
+use Rattle.std.proofs.lemmas.Bool.{eq-eqb, eqb-false, ne_eqb, ltb-false, ltb-true}
 use Rattle.gitconf_text.specs.Part as parts
 use Rattle.gitconf_base.specs.Metadata.{Meta}
 use Rattle.gitconf_text.specs.Sections.{AreNumbered, SectionEntry, Sections, changed_at, has_number, with_section, section_at, place_of, number_at}
@@ -23,11 +23,13 @@ use Rattle.gitconf_text.specs.Value.{escaped}
 use Rattle.gitconf_lines.proofs.Buffers.{extended_fit, extended_items, same_extended}
 use Rattle.gitconf_sections.specs.Section.{Section}
 use Rattle.gitconf_sections.proofs.Edits.{put_again}
-use Rattle.gitconf_views.specs.Alone.{with_items}
-use Rattle.gitconf_store.specs.Edits.{UsedGrows}
+use Rattle.gitconf_state.specs.State.{with_items}
+use Rattle.gitconf_lines.specs.Buffers.{Grows}
+use Rattle.gitconf_store.specs.Edits.{update_at, UsedGrows}
 use Rattle.gitconf_store.specs.Editors.{PutsIn}
 use Rattle.gitconf_views.specs.Store.{section_state, state_of, SectionFits, AllSectionsFit, StoreFits}
-use Rattle.gitconf_store.proofs.Edits.Setting.{HasOthers, changed_fits, kept_view, section_in, sections_in}
+use Rattle.gitconf_store.specs.ItemsEdits.{changed_at_place}
+use Rattle.gitconf_store.proofs.Edits.Setting.{HasOthers, changed_fits, changed_view, kept_view, section_in, sections_in}
 
 abbrev chosen : (id : ℕ) → (List parts.Item → List parts.Item) → SectionState → SectionState
 chosen id change s = if s.number == id then with_items change s else s
@@ -118,14 +120,14 @@ items_within_at b copies s [] at fits here = absurd (cc)
 items_within_at b copies s (e ∷ es) (suc at) fits here = items_within_at b copies s es at fits.1 here
 items_within_at b copies s (e ∷ es) zero fits here = let is : e.section ≡ s = cc in subst (λ s. AreItemsWithin (length b) s.items.items) is fits.0.items
 
--- The state with a change that leaves the section's items.
-pub unchanged_view : (b copies : List ℕ) (front : List Item) (meta : Meta) (table : Sections Section) (id at : ℕ) (s : Section) (change : List parts.Item → List parts.Item)
-    → StoreFits b copies front meta table → AreNumbered table.next table.entries → section_at at table ≡ Some s → number_at at table ≡ Some id → change (items_of b s.items.items) ≡ items_of b s.items.items
-    → state_of b front meta table ≡ change_items id change (state_of b front meta table)
-unchanged_view b copies front meta table id at s change fits once here number stays =
+-- The same, by the section's place.
+pub unchanged_there : (b copies : List ℕ) (front : List Item) (meta : Meta) (table : Sections Section) (at : ℕ) (s : Section) (change : List parts.Item → List parts.Item)
+    → StoreFits b copies front meta table → section_at at table ≡ Some s → change (items_of b s.items.items) ≡ items_of b s.items.items
+    → state_of b front meta table ≡ with_used (length b) (changed_at_place at change (state_of b front meta table))
+unchanged_there b copies front meta table at s change fits here stays =
     let others : HasOthers (length b) s s = record { header = refl; meta = refl; held = refl; within = items_within_at b copies s table.entries at fits.sections_within here } in
     ap (state_of b front meta) (sym (put_again table at s here))
-    ∙ numbered_view b b copies front meta table id at s s change (same_extended b b refl) others fits.front_within fits.sections_within once here number (sym stays)
+    ∙ changed_view b b copies front meta table at s s change (same_extended b b refl) others fits.front_within fits.sections_within here (sym stays)
 
 -- It keeps what a store keeps.
 pub numbered_keeps : (b new copies : List ℕ) (front : List Item) (meta : Meta) (table : Sections Section) (at : ℕ) (s t : Section)
@@ -174,6 +176,66 @@ missing_items b front meta table id none = go (numbered id (state_of b front met
     go : (o : Option SectionState) → o ≡ None → elim o as (λ _. List parts.Item) [ None ↦ [] | Some s ↦ s.items ] ≡ []
     go o e = rw e refl
 
+-- The section of a number is the one at its place, and a change of the one is a change of the other.
+pub numbered_there : (b : List ℕ) (front : List Item) (meta : Meta) (table : Sections Section) (id at : ℕ) → AreNumbered table.next table.entries → number_at at table ≡ Some id
+    → numbered id (state_of b front meta table) ≡ slice_get (state_of b front meta table).sections at
+numbered_there b front meta table id at once number = go table.entries table.next at None once number
+  where
+    go : (es : List (SectionEntry Section)) (next at : ℕ) (o : Option SectionState) → AreNumbered next es → option_map (λ (e : SectionEntry Section). e.number) (slice_get es at) ≡ Some id
+        → last_or o (filter (λ (s : SectionState). s.number == id) (map (section_state b) es)) ≡ slice_get (map (section_state b) es) at
+    go [] next at o once number = absurd (cc)
+    go (e ∷ es) next (suc at) o once number = rw (number_apart e.number id at es once.1 number) (go es next at o once.2 number)
+    go (e ∷ es) next zero o once number =
+        let named : e.number ≡ id = cc in
+        let own : (e.number == id) ≡ true = eq-eqb e.number id named in
+        let rest : AllByRecursion (λ (f : SectionEntry Section). (f.number == id) ≡ false) es = subst (λ n. AllByRecursion (λ (f : SectionEntry Section). (f.number == n) ≡ false) es) named once.1 in
+        rw own (others_untold b id (Some (section_state b e)) es rest)
+
+pub changed_there : (b : List ℕ) (front : List Item) (meta : Meta) (table : Sections Section) (id at : ℕ) (change : List parts.Item → List parts.Item) → AreNumbered table.next table.entries
+    → number_at at table ≡ Some id → changed_at_place at change (state_of b front meta table) ≡ change_items id change (state_of b front meta table)
+changed_there b front meta table id at change once number = λ i. record {
+  front = items_of b front;
+  meta = meta;
+  next = table.next;
+  used = length b;
+  sections = go table.entries table.next at once number i;
+}
+  where
+    go : (es : List (SectionEntry Section)) (next at : ℕ) → AreNumbered next es → option_map (λ (e : SectionEntry Section). e.number) (slice_get es at) ≡ Some id
+        → update_at at (with_items change) (map (section_state b) es) ≡ map (chosen id change) (map (section_state b) es)
+    go [] next at once number = absurd (cc)
+    go (e ∷ es) next (suc at) once number = rw (number_apart e.number id at es once.1 number) (ap (λ r. section_state b e ∷ r) (go es next at once.2 number))
+    go (e ∷ es) next zero once number =
+        let named : e.number ≡ id = cc in
+        let own : (e.number == id) ≡ true = eq-eqb e.number id named in
+        let rest : AllByRecursion (λ (f : SectionEntry Section). (f.number == id) ≡ false) es = subst (λ n. AllByRecursion (λ (f : SectionEntry Section). (f.number == n) ≡ false) es) named once.1 in
+        rw own (ap (λ r. with_items change (section_state b e) ∷ r) (sym (others_stay b id change es rest)))
+
+-- what is said of the section there is said of the section of its number, which is not missing
+pub said_there : (P : List parts.Item → Type 0) (id at : ℕ) (state : State) → numbered id state ≡ slice_get state.sections at → IfSome (slice_get state.sections at) (λ s. P s.items)
+    → IfSome (numbered id state) (λ s. P s.items)
+said_there P id at state same said = subst (λ (o : Option SectionState). IfSome o (λ s. P s.items)) (sym same) said
+
+-- what is said of the items of the section of a number is said of those of the section there
+pub same_there : (P : List parts.Item → Type 0) (id at : ℕ) (state : State) → numbered id state ≡ slice_get state.sections at → P (items_of_numbered id state)
+    → IfSome (slice_get state.sections at) (λ s. P s.items)
+same_there P id at state same said = subst (λ (o : Option SectionState). IfSome o (λ s. P s.items)) same (go (numbered id state) said)
+  where
+    go : (o : Option SectionState) → P (elim o as (λ _. List parts.Item) [ None ↦ [] | Some s ↦ s.items ]) → IfSome o (λ s. P s.items)
+    go None said = tt
+    go (Some s) said = said
+
+pub none_said : {A : Type 0} (o : Option A) (P : A → Type 0) → o ≡ None → IfSome o P
+none_said None P none = tt
+none_said (Some a) P none = absurd (let no : Some a ≡ None = none in cc)
+
+pub said_of_items : (P : List parts.Item → Type 0) (id : ℕ) (state : State) → (numbered id state ≡ None → ⊥) → IfSome (numbered id state) (λ s. P s.items) → P (items_of_numbered id state)
+said_of_items P id state some said = go (numbered id state) some said
+  where
+    go : (o : Option SectionState) → (o ≡ None → ⊥) → IfSome o (λ s. P s.items) → P (elim o as (λ _. List parts.Item) [ None ↦ [] | Some s ↦ s.items ])
+    go None some said = absurd (some refl)
+    go (Some s) some said = said
+
 -- So it does where its items are those of an edit, and where they are as they were.
 pub numbered_kept : (b new copies : List ℕ) (front : List Item) (meta : Meta) (table : Sections Section) (id at : ℕ) (s t : Section) (change : List parts.Item → List parts.Item)
     → IsExtended b new → length new < 2 ^ 32 → HasOthers (length new) s t → StoreFits b copies front meta table → AreNumbered table.next table.entries
@@ -189,53 +251,29 @@ numbered_kept b new copies front meta table id at s t change x room others old o
     used : (n : ℕ) (state : State) → state_of new front meta (with_section table at t) ≡ with_used n state → HasItems state → HasItems (state_of new front meta (with_section table at t))
     used n state is has = subst HasItems (sym is) (record { front = has.front; sections = has.sections })
 
--- an answer says what it holds
-pub raw_inside : {o p : Option (List ℕ)} → Raw o ≡ Raw p → o ≡ p
-raw_inside is = cc
-
 pub entry_inside : {o p : Option (List ℕ × List ℕ)} → Entry o ≡ Entry p → o ≡ p
 entry_inside is = cc
-
--- what is put where the section stands, and where none has the number
-pub puts_at : {T : Type 0} (b : List ℕ) (front : List Item) (meta : Meta) (table : Sections Section) (id at : ℕ) (s : Section) (r : Result T ℕ) (count : ℕ) (new : State)
-    → AreNumbered table.next table.entries → section_at at table ≡ Some s → number_at at table ≡ Some id → UsedGrows r count (length b) new.used
-    → PutsIn id r count (state_of b front meta table) new
-puts_at b front meta table id at s r count new once here number grows =
-    go (numbered id (state_of b front meta table)) refl (told_at b s table.entries table.next id at None once here number)
-  where
-    go : (o : Option SectionState) → numbered id (state_of b front meta table) ≡ o → option_map (λ (s : SectionState). s.items) o ≡ Some (items_of b s.items.items)
-        → PutsIn id r count (state_of b front meta table) new
-    go None at is = absurd (cc)
-    go (Some u) at is = record { there = rw at grows; missing = λ none. absurd (let no = sym at ∙ none in cc) }
 
 -- nothing was put, since it was refused
 pub used_refused : {T : Type 0} (r : Result T ℕ) (count used : ℕ) → IsErrOf r 3 → 2 ^ 32 ≤ used + count → UsedGrows r count used used
 used_refused (Ok t) count used three due = absurd (cc)
 used_refused (Err e) count used three due = record { put = tt; grown = omega arith; too_large = λ _. due; refused = λ _. three; known = inl (let h = three in cc) }
 
-pub used_memory : {T : Type 0} (r : Result T ℕ) (count used : ℕ) → IsErrOf r 27 → (2 ^ 32 ≤ used + count → ⊥) → UsedGrows r count used used
-used_memory (Ok t) count used memory fits = absurd (cc)
-used_memory (Err e) count used memory fits = record { put = tt; grown = omega arith; too_large = λ three. absurd (let no : Err 27 ≡ Err 3 = sym memory ∙ three in cc); refused = λ due. absurd (fits due); known = inr (let h = memory in cc) }
+pub refused_grows : {S : Type 0} (T : Type 0) (r : Result S ℕ) (count used : ℕ) → IsErrOf r 3 → 2 ^ 32 ≤ used + count → IfErr r (λ e. UsedGrows {T = T} (Err e) count used used)
+refused_grows T (Ok s) count used three due = absurd (cc)
+refused_grows T (Err e) count used three due = let same : e ≡ 3 = cc in used_refused (Err e) count used (ap Err same) due
 
-pub puts_same : {T : Type 0} (id : ℕ) (r : Result T ℕ) (count : ℕ) (state : State) → UsedGrows r count state.used state.used → PutsIn id r count state state
-puts_same id r count state grows = record { there = go (numbered id state); missing = λ _. refl }
+-- where the bytes fit
+pub used_grows : {T : Type 0} (r : Result T ℕ) (count : ℕ) (old new : List ℕ) → Grows r count old new → length old + count < 2 ^ 32 → UsedGrows r count (length old) (length new)
+used_grows r count old new g fits =
+    record { put = g.put; grown = g.grown; too_large = g.too_large; refused = λ due. absurd (let n : ℕ = length old + count in omega (arith, due, fits)); known = g.known }
+
+pub checked_fits : {T : Type 0} (r : Result T ℕ) (t : T) (n : ℕ) → r ≡ Ok t → (IsErrOf r 3 ↔ (2 ^ 32 ≤ n)) → n < 2 ^ 32
+checked_fits r t n ok asked = go (nat_lt n (2 ^ 32)) refl
   where
-    go : (o : Option SectionState) → IfSome o (λ _. UsedGrows r count state.used state.used)
-    go None = tt
-    go (Some s) = grows
-
-pub puts_none : {T : Type 0} (b : List ℕ) (front : List Item) (meta : Meta) (table : Sections Section) (id : ℕ) (r : Result T ℕ) (count : ℕ) → place_of id table ≡ None
-    → PutsIn id r count (state_of b front meta table) (state_of b front meta table)
-puts_none b front meta table id r count none =
-    let no : numbered id (state_of b front meta table) ≡ None = others_untold b id None table.entries (missing id table.entries none) in
-    record { there = rw no tt; missing = λ _. refl }
-
--- what was put into a state is what was put into the same one, where the count goes by it
-pub puts_seen : {T : Type 0} (id : ℕ) (count : State → ℕ) (r : Result T ℕ) (old now new : State) → old ≡ now → PutsIn id r (count old) old new → PutsIn id r (count now) now new
-puts_seen id count r old now new is puts = subst (λ s. PutsIn id r (count s) s new) is puts
-
-pub puts_nothing_seen : {T : Type 0} (id : ℕ) (count : State → ℕ) (r : Result T ℕ) (old now : State) → old ≡ now → PutsIn id r (count old) old old → PutsIn id r (count now) now now
-puts_nothing_seen id count r old now is puts = subst (λ s. PutsIn id r (count s) s s) is puts
+    go : (b : Bool) → nat_lt n (2 ^ 32) ≡ b → n < 2 ^ 32
+    go true h = ltb-true n (2 ^ 32) h
+    go false h = absurd (let three : r ≡ Err 3 = asked.1 (ltb-false n (2 ^ 32) h) in let no : Ok t ≡ Err 3 = sym ok ∙ three in cc)
 
 -- the section there is not missing
 pub never_missing : (b : List ℕ) (front : List Item) (meta : Meta) (table : Sections Section) (id at : ℕ) (s : Section)
@@ -273,11 +311,3 @@ rewritten_count buffer editor key value is around = ap (λ n. length key + (n + 
 pub as_err : {T E P : Type 0} (r : Result T E) → P → OnErr r P
 as_err (Ok t) p = tt
 as_err (Err e) p = p
-
--- a last place is within the list
-pub last_within : {A : Type 0} {test : A → Bool} (xs : List A) (at : ℕ) → IsLastAt test xs at → at < length xs
-last_within xs at l = subst (λ ys. at < length ys) (sym l.is) (subst (λ n. n < length (l.before ++ l.found ∷ l.behind)) l.place (inner l.before l.found l.behind))
-  where
-    inner : {A : Type 0} (before : List A) (x : A) (behind : List A) → length before < length (before ++ x ∷ behind)
-    inner [] x behind = omega arith
-    inner (y ∷ before) x behind = let within = inner before x behind in omega (arith, within)

@@ -1,11 +1,10 @@
--- A value that is set in a section of the table, in a longer buffer.
+-- The items of a section of the table are changed, in a longer buffer.
 use Rattle.std.proofs.Common.{◌≡◌, ℕ, ◌<◌, ◌^◌, true, List, [], ◌∷◌, length, map, zero, suc, Option, Some, None, inl, inr, refl, ap, sym, subst, ◌∙◌}
-use Rattle.std.specs.List.{AllByRecursion, slice_get}
+use Rattle.std.specs.List.{list_all, AllByRecursion, slice_get}
 use Rattle.std.specs.Option.{option_map}
 use Rattle.std.specs.Prelude.{◌⊎◌, IfSome}
 use Rattle.gitconf_text.specs.Bytes.{fold}
 use Rattle.gitconf_text.specs.Header.{name_of, subsection_of}
-use Rattle.gitconf_text.specs.Names.{is_value_name}
 use Rattle.gitconf_text.specs.Part.{Item as SectionItem}
 use Rattle.gitconf_base.specs.Metadata.{Meta}
 use Rattle.gitconf_text.specs.Sections.{SectionEntry, Sections, changed_at, with_section, section_at}
@@ -14,14 +13,13 @@ use Rattle.gitconf_items.specs.declared.event.Event.TheVariants as kinds
 use Rattle.gitconf_items.specs.Events.{header_of}
 use Rattle.gitconf_items.specs.ItemsFit.{AreItemsWithin}
 use Rattle.gitconf_items.specs.ShownEvents.{IsExtended, IsShown}
-use Rattle.gitconf_state.specs.Edit.{section_with, set_value, with_used}
-use Rattle.gitconf_state.specs.LineEnds.{file_line_end}
-use Rattle.gitconf_state.specs.State.{SectionState, State, HasItems, HasSectionItems}
-use Rattle.gitconf_state.proofs.Edits.Items.{section_with_is, file_line_end_is}
+use Rattle.gitconf_state.specs.Edit.{with_used}
+use Rattle.gitconf_state.specs.State.{SectionState, State, HasItems, HasSectionItems, is_item, with_items}
 use Rattle.gitconf_items.specs.Items.{items_of}
 use Rattle.gitconf_lines.proofs.Buffers.{extended_fit, extended_items}
 use Rattle.gitconf_sections.specs.Section.{Section}
-use Rattle.gitconf_store.specs.Edits.{update_at, set_at}
+use Rattle.gitconf_store.specs.Edits.{update_at}
+use Rattle.gitconf_store.specs.ItemsEdits.{changed_at_place}
 use Rattle.gitconf_views.specs.Store.{section_state, state_of, SectionFits, AllSectionsFit, StoreFits}
 use Rattle.gitconf_views.proofs.Append.{section_more, section_fits_more, sections_more, sections_fit_in_more}
 
@@ -64,22 +62,22 @@ changed_fits b new copies s t (e ∷ es) zero x others fits here =
       sections_fit_in b new copies es x fits.1,
     )
 
--- it is the section with the value
-changed_state : (b new copies : List ℕ) (s t : Section) (es : List (SectionEntry Section)) (at : ℕ) (line_end key value : List ℕ) → IsExtended b new → HasOthers (length new) s t
+-- it is the section with the change
+changed_state : (b new copies : List ℕ) (s t : Section) (es : List (SectionEntry Section)) (at : ℕ) (change : List SectionItem → List SectionItem) → IsExtended b new → HasOthers (length new) s t
     → AllByRecursion (SectionFits b copies) es → option_map (λ (e : SectionEntry Section). e.section) (slice_get es at) ≡ Some s
-    → items_of new t.items.items ≡ set_value line_end key value (items_of b s.items.items)
-    → map (section_state new) (changed_at (λ e. record e { section = t }) es at) ≡ update_at at (section_with line_end key value) (map (section_state b) es)
-changed_state b new copies s t [] at line_end key value x others fits here set = absurd (cc)
-changed_state b new copies s t (e ∷ es) (suc at) line_end key value x others fits here set =
-    λ i. section_in b new copies e x fits.0 i ∷ changed_state b new copies s t es at line_end key value x others fits.1 here set i
-changed_state b new copies s t (e ∷ es) zero line_end key value x others fits here set =
+    → items_of new t.items.items ≡ change (items_of b s.items.items)
+    → map (section_state new) (changed_at (λ e. record e { section = t }) es at) ≡ update_at at (with_items change) (map (section_state b) es)
+changed_state b new copies s t [] at change x others fits here set = absurd (cc)
+changed_state b new copies s t (e ∷ es) (suc at) change x others fits here set =
+    λ i. section_in b new copies e x fits.0 i ∷ changed_state b new copies s t es at change x others fits.1 here set i
+changed_state b new copies s t (e ∷ es) zero change x others fits here set =
     let is : e.section ≡ s = cc in
     let same : t.header ≡ e.section.header = others.header ∙ ap (λ s. s.header) (sym is) in
     λ i. record {
       number = e.number;
       header = (ap (header_of new) same ∙ ap (λ s. s.header) (section_in b new copies e x fits.0)) i;
       meta = (ap (λ m. m.value) others.meta ∙ ap (λ s. s.meta.value) (sym is)) i;
-      items = (set ∙ ap (λ s. set_value line_end key value (items_of b s.items.items)) (sym is)) i;
+      items = (set ∙ ap (λ s. change (items_of b s.items.items)) (sym is)) i;
       held = (ap (λ h. items_of new h.items) (others.held ∙ ap (λ s. s.held) (sym is)) ∙ ap (λ s. s.held) (section_in b new copies e x fits.0)) i;
     } ∷ sections_in b new copies es x fits.1 i
 
@@ -114,25 +112,24 @@ update_holds P change keeps at [] all = tt
 update_holds P change keeps zero (x ∷ xs) all = (keeps x all.0, all.1)
 update_holds P change keeps (suc at) (x ∷ xs) all = (all.0, update_holds P change keeps at xs all.1)
 
-pub set_at_items : (at : ℕ) (key value : List ℕ) (state : State) → is_value_name key ≡ true → HasItems state → HasItems (set_at at key value state)
-set_at_items at key value state named has = record {
+changed_items : (at : ℕ) (change : List SectionItem → List SectionItem) (state : State) → ((items : List SectionItem) → list_all is_item items ≡ true → list_all is_item (change items) ≡ true)
+    → HasItems state → HasItems (changed_at_place at change state)
+changed_items at change state holds has = record {
   front = has.front;
-  sections = update_holds HasSectionItems (section_with (file_line_end state) key value)
-      (λ s one. section_with_is (file_line_end state) key value s named (file_line_end_is state) one) at state.sections has.sections;
+  sections = update_holds HasSectionItems (with_items change) (λ s one. record { header = one.header; items = holds s.items one.items; held = one.held }) at state.sections has.sections;
 }
 
--- the store with the value, and one that was refused
-pub set_view : (b new copies : List ℕ) (front : List Item) (meta : Meta) (table : Sections Section) (at : ℕ) (s t : Section) (line_end key value : List ℕ)
+-- the store with the change, and one that was refused
+pub changed_view : (b new copies : List ℕ) (front : List Item) (meta : Meta) (table : Sections Section) (at : ℕ) (s t : Section) (change : List SectionItem → List SectionItem)
     → IsExtended b new → HasOthers (length new) s t → AreItemsWithin (length b) front → AllSectionsFit b copies table → section_at at table ≡ Some s
-    → line_end ≡ file_line_end (state_of b front meta table) → items_of new t.items.items ≡ set_value line_end key value (items_of b s.items.items)
-    → state_of new front meta (with_section table at t) ≡ with_used (length new) (set_at at key value (state_of b front meta table))
-set_view b new copies front meta table at s t line_end key value x others within fits here same set = λ i. record {
+    → items_of new t.items.items ≡ change (items_of b s.items.items)
+    → state_of new front meta (with_section table at t) ≡ with_used (length new) (changed_at_place at change (state_of b front meta table))
+changed_view b new copies front meta table at s t change x others within fits here set = λ i. record {
   front = extended_items b new front x within i;
   meta = meta;
   next = table.next;
   used = length new;
-  sections = (changed_state b new copies s t table.entries at line_end key value x others fits here set
-      ∙ ap (λ l. update_at at (section_with l key value) (map (section_state b) table.entries)) same) i;
+  sections = changed_state b new copies s t table.entries at change x others fits here set i;
 }
 
 pub kept_view : (b new copies : List ℕ) (front : List Item) (meta : Meta) (table : Sections Section) (at : ℕ) (s t : Section)
@@ -147,17 +144,18 @@ kept_view b new copies front meta table at s t x others within fits here kept = 
 }
 
 -- either way it keeps what a store keeps
-pub set_keeps : (b new copies : List ℕ) (front : List Item) (meta : Meta) (table : Sections Section) (at : ℕ) (s t : Section) (key value : List ℕ)
-    → IsExtended b new → length new < 2 ^ 32 → HasOthers (length new) s t → StoreFits b copies front meta table → section_at at table ≡ Some s → is_value_name key ≡ true
-    → (items_of new t.items.items ≡ set_value (file_line_end (state_of b front meta table)) key value (items_of b s.items.items)) ⊎ (t.items.items ≡ s.items.items)
+pub changed_keeps : (b new copies : List ℕ) (front : List Item) (meta : Meta) (table : Sections Section) (at : ℕ) (s t : Section) (change : List SectionItem → List SectionItem)
+    → IsExtended b new → length new < 2 ^ 32 → HasOthers (length new) s t → StoreFits b copies front meta table → section_at at table ≡ Some s
+    → ((items : List SectionItem) → list_all is_item items ≡ true → list_all is_item (change items) ≡ true)
+    → (items_of new t.items.items ≡ change (items_of b s.items.items)) ⊎ (t.items.items ≡ s.items.items)
     → StoreFits new copies front meta (with_section table at t)
-set_keeps b new copies front meta table at s t key value x room others old here named either = record {
+changed_keeps b new copies front meta table at s t change x room others old here holds either = record {
   room = room;
   front_within = extended_fit b new front x old.front_within;
   sections_within = changed_fits b new copies s t table.entries at x others old.sections_within here;
   items = elim either [
-    | inl set ↦ has_used (length new) (set_at at key value (state_of b front meta table)) (set_view b new copies front meta table at s t _ key value x others old.front_within old.sections_within here refl set)
-        (set_at_items at key value (state_of b front meta table) named old.items)
+    | inl set ↦ has_used (length new) (changed_at_place at change (state_of b front meta table)) (changed_view b new copies front meta table at s t change x others old.front_within old.sections_within here set)
+        (changed_items at change (state_of b front meta table) holds old.items)
     | inr kept ↦ has_used (length new) (state_of b front meta table) (kept_view b new copies front meta table at s t x others old.front_within old.sections_within here kept) old.items
   ];
 }

@@ -1,9 +1,10 @@
 //! Edits of the section of a number, for the editor of a section.
 use crate::store::Store;
-use gitconf_body::{marked, set, take_out};
+use crate::store::items_edits::{
+    PopEntry, PushLine, PushLineBelow, PushNewline, RemoveEntry, RemoveMarkedEntries, SetEntry,
+};
+use gitconf_body::take_out;
 use gitconf_lines::editor::Editor;
-use gitconf_lines::seeking::last_place;
-use gitconf_lines::{push, push_below};
 use gitconf_table::table::SectionId;
 use gitconf_text::NoMemory;
 use gitconf_text::parse::span;
@@ -46,14 +47,13 @@ impl Store {
         ensures err { OnErr result (self.new ≡ with_used self.new.used self.old) }
         ensures used { PutsIn id result (line_put editor.now key.now (option_copied value.entry) (option_copied comment.entry)) self.old self.new }
     {
-        let Some(at) = self.sections.position(id) else {
-            return Ok(());
+        let line = PushLine {
+            editor,
+            key,
+            value,
+            comment,
         };
-        push::check_push(&self.buffer, editor, key, value, comment)?;
-        let mut items = self.sections.take_items(at)?;
-        let pushed = push::push_checked(&mut self.buffer, &mut *items, editor, key, value, comment);
-        self.sections.put_items(at, items);
-        pushed
+        self.edit_items(id, &line)?
     }
 
     /// Pushes a line below that of the last entry of the section of a number, whatever its key, or below the header's line if it has no
@@ -82,21 +82,8 @@ impl Store {
         ensures err { OnErr result (self.new ≡ with_used self.new.used self.old) }
         ensures used { PutsIn id result (below_put editor.now key.now (option_copied value.entry) (items_of_numbered id self.old)) self.old self.new }
     {
-        let Some(at) = self.sections.position(id) else {
-            return Ok(());
-        };
-        let section = self.sections.at(at);
-        push_below::check_push_after_last(&self.buffer, section.items, editor, key, value)?;
-        let mut items = self.sections.take_items(at)?;
-        let pushed = push_below::push_after_last_checked(
-            &mut self.buffer,
-            &mut *items,
-            editor,
-            key,
-            value,
-        );
-        self.sections.put_items(at, items);
-        pushed
+        let line = PushLineBelow { editor, key, value };
+        self.edit_items(id, &line)?
     }
 
     /// Pushes the editor's line ending after the items of the section of a number, even if it is switched off after lines. All else stays
@@ -113,14 +100,7 @@ impl Store {
         ensures err { OnErr result (self.new ≡ with_used self.new.used self.old) }
         ensures used { PutsIn id result (length (bytes_of_line_end editor.now.line_end)) self.old self.new }
     {
-        let Some(at) = self.sections.position(id) else {
-            return Ok(());
-        };
-        push::check_newline(&self.buffer, editor)?;
-        let mut items = self.sections.take_items(at)?;
-        let pushed = push::push_newline(&mut self.buffer, &mut *items, editor);
-        self.sections.put_items(at, items);
-        pushed
+        self.edit_items(id, &PushNewline { editor })?
     }
 
     /// Gives the last entry of a key in the section of a number another value: what follows `=` is replaced, and `=` is added if
@@ -149,15 +129,7 @@ impl Store {
         ensures err { OnErr result (self.new ≡ with_used self.new.used self.old) }
         ensures used { PutsIn id result (set_put editor.now key.now value.now (items_of_numbered id self.old)) self.old self.new }
     {
-        let Some(at) = self.sections.position(id) else {
-            return Ok(None);
-        };
-        let section = self.sections.at(at);
-        let place = set::place_to_set(&self.buffer, section.items, editor, key, value)?;
-        let mut items = self.sections.take_items(at)?;
-        let set = set::set_at(&mut self.buffer, &mut *items, place, editor, key, value);
-        self.sections.put_items(at, items);
-        set
+        self.edit_items(id, &SetEntry { editor, key, value })?
     }
 
     /// Removes the last entry of a key in the section of a number, with the blanks directly before it and the line endings directly after
@@ -176,17 +148,7 @@ impl Store {
         ensures none { answer (Remove id key.now) self.old ≡ Raw None → IsOk result }
         ensures err { OnErr result (self.new ≡ self.old) }
     {
-        let Some(at) = self.sections.position(id) else {
-            return Ok(None);
-        };
-        let section = self.sections.at(at);
-        let Some(place) = last_place(&self.buffer, section.items, key) else {
-            return Ok(None);
-        };
-        let mut items = self.sections.take_items(at)?;
-        let removed = take_out::remove_at(&self.buffer, &mut *items, place);
-        self.sections.put_items(at, items);
-        Ok(Some(removed?))
+        self.edit_items(id, &RemoveEntry { key })?
     }
 
     /// Removes the marked entries of a key in the section of a number: the first of its entries goes if the first mark is `true`, and so
@@ -209,13 +171,7 @@ impl Store {
         ensures answer { IfOk result (λ n. Count n ≡ answer (RemoveMarked id key.now marks.now) self.old) }
         ensures err { OnErr result (self.new ≡ self.old) }
     {
-        let Some(at) = self.sections.position(id) else {
-            return Ok(0);
-        };
-        let mut items = self.sections.take_items(at)?;
-        let removed = marked::remove_marked(&self.buffer, &mut *items, key, marks);
-        self.sections.put_items(at, items);
-        removed
+        self.edit_items(id, &RemoveMarkedEntries { key, marks })?
     }
 
     /// Removes the last entry of the section of a number, whatever its key, with the blanks directly before it and everything after
@@ -240,13 +196,10 @@ impl Store {
             return Ok(None);
         };
         let section = self.sections.at(at);
-        let Some(place) = take_out::last_entry(section.items) else {
+        let Some(_) = take_out::last_entry(section.items) else {
             self.sections.clear(at);
             return Ok(None);
         };
-        let mut items = self.sections.take_items(at)?;
-        let popped = take_out::pop_at(&self.buffer, &mut *items, place);
-        self.sections.put_items(at, items);
-        Ok(Some(popped?))
+        self.edit_items(id, &PopEntry {})?
     }
 }

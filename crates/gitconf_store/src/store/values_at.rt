@@ -1,16 +1,15 @@
 //! Entries at a place in the section of a number, for the editors of values.
 use crate::store::Store;
+use crate::store::items_edits::{RewriteEntry, WriteEntry};
 use bstr::BString;
 use gitconf_base::key::KeyRef;
 use gitconf_base::meta::Metadata;
-use gitconf_body::value_at;
 use gitconf_body::value_at::InPlaceOf;
 use gitconf_finding::existing;
 use gitconf_finding::places::{all_value_places, last_value_place, put_in_order};
-use gitconf_lines::editor::{Editor, editor_of};
+use gitconf_lines::editor::Editor;
 use gitconf_table::table::SectionId;
 use gitconf_text::NoMemory;
-use gitconf_text::line_end::LineEnd;
 use gitconf_text::parse::section::ValueNameError;
 use gitconf_text::parse::section::bytes::is_value_name;
 use gitconf_text::parse::span;
@@ -142,22 +141,14 @@ impl Store {
         ensures err { OnErr result (self.new ≡ with_used self.new.used self.old) }
         ensures used { PutsIn id result (written_put editor.now key.now value.now) self.old self.new }
     {
-        let Some(at) = self.sections.position(id) else {
-            return Ok(());
-        };
-        value_at::check_write(&self.buffer, editor, key, value)?;
-        let mut items = self.sections.take_items(at)?;
-        let written = value_at::write_at(
-            &mut self.buffer,
-            &mut *items,
+        let entry = WriteEntry {
             editor,
             place,
             in_place_of,
             key,
             value,
-        );
-        self.sections.put_items(at, items);
-        written
+        };
+        self.edit_items(id, &entry)?
     }
 
     /// As [`Store::write_entry_at`], with the blanks around `=` that the section uses: those around its first one; none if it has
@@ -182,25 +173,13 @@ impl Store {
         // If no section has the number, it can't fail.
         ensures missing { numbered id self.old ≡ None → IsOk result }
     {
-        let Some(at) = self.sections.position(id) else {
-            return Ok(());
-        };
-        let section = self.sections.at(at);
-        // No line ending is written, so any will do.
-        let editor = editor_of(section.items, LineEnd::Lf);
-        value_at::check_write(&self.buffer, &editor, key, value)?;
-        let mut items = self.sections.take_items(at)?;
-        let written = value_at::write_at(
-            &mut self.buffer,
-            &mut *items,
-            &editor,
+        let entry = RewriteEntry {
             place,
             in_place_of,
             key,
             value,
-        );
-        self.sections.put_items(at, items);
-        written
+        };
+        self.edit_items(id, &entry)?
     }
 
     /// Deletes the item at a place among those of the section of a number, counted in items from 0. All else

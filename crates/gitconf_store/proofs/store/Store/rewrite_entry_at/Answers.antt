@@ -1,195 +1,22 @@
-use Rattle.std.proofs.Common.{rules, ◌≡◌, true, Some, None, refl, sym, ap, subst, length, ◌∙◌, ◌<◌, ◌≤◌, ◌+◌, ◌^◌}
-use Rattle.std.specs.Prelude.{OnOk, IsErrOf}
-use Rattle.gitconf_text.specs.Sections.{place_of}
-use Rattle.gitconf_table.proofs.SectionLemmas.{number_at-place}
-use Rattle.gitconf_state.specs.Edit.{spacing_of, with_used}
-use Rattle.gitconf_state.specs.Edits.{items_of_numbered, WriteAt, apply}
-use Rattle.gitconf_state.specs.State.{State}
-use Rattle.gitconf_state.specs.LineEnds.{file_line_end}
-use Rattle.gitconf_items.specs.Items.{items_of}
-use Rattle.gitconf_state.specs.Editors.{written_at, Editor}
-use Rattle.gitconf_body.specs.ValuesAt.{instead_of, rewritten_put, written_put}
-use Rattle.gitconf_sections.specs.Section.{Section, with_items, viewed}
-use Rattle.gitconf_sections.proofs.Edits.{is_taken, taken_within}
-use Rattle.gitconf_store.specs.Edits.{UsedGrows}
-use Rattle.gitconf_views.specs.Store.{state_of, StoreFits}
+use Rattle.std.proofs.Common.{◌≡◌, refl, subst}
+use Rattle.std.specs.Prelude.{IfOk, IsOk, OnOk}
+use Rattle.gitconf_text.specs.LineEnds.{bytes_of_line_end}
+use Rattle.gitconf_text.specs.declared.line_end.LineEnd.TheVariants.{Lf}
+use Rattle.gitconf_state.specs.Editors.{written_at}
+use Rattle.gitconf_state.specs.Edit.{with_used}
+use Rattle.gitconf_state.specs.Edits.{change_items}
+use Rattle.gitconf_body.specs.ValuesAt.{instead_of}
 use Rattle.gitconf_finding.specs.ValuePlaces.{editor_of_numbered}
-use Rattle.gitconf_store.proofs.Edits.Editing.{items_within_at, missing_stays, never_missing, numbered_items_at, numbered_kept, numbered_view, puts_at, puts_none, puts_same, rewritten_count, same_items, used_memory, used_refused}
-use Rattle.gitconf_entries.proofs.Outcomes.{on_ok, on_err, either_way}
-use Rattle.gitconf_store.proofs.Edits.Setting.{HasOthers, kept_view}
-use Rattle.gitconf_finding.proofs.ValuePlaces.{rewritten_items}
-use Rattle.gitconf_store.specs.Editors.{PutsIn}
+use Rattle.gitconf_store.proofs.Edits.ItemsEdits.{rewritten_is}
 use Rattle.gitconf_store.proofs.store.Store.rewrite_entry_at.Goals as goal
 
-pub write_at-written-requires-clause-within : goal.write_at-written-requires-clause-within
-write_at-written-requires-clause-within c =
-    let l = is_taken c.self.inside.sections c.take_items.new.self c.in-Some.at c.deref_mut.result.now.items (c.in_ok-items.ensures.items ∙ ap (λ v. Some v.items) (sym c.deref_mut.ensures.value)) c.in_ok-items.ensures.ok in
-    items_within_at c.self.inside.buffer.items c.self.inside.copies.items (with_items c.deref_mut.result.now.items l.kept) c.self.inside.sections.entries c.in-Some.at c.self.invariant.sections_within l.here
-
-pub write_at-written-requires-clause-fits : goal.write_at-written-requires-clause-fits
-write_at-written-requires-clause-fits c =
-    c.editor_of-editor.ensures.fits (length c.self.inside.buffer.items)
-    (items_within_at c.self.inside.buffer.items c.self.inside.copies.items (viewed c.at-section.result) c.self.inside.sections.entries c.in-Some.at c.self.invariant.sections_within c.at-section.ensures)
-
-pub returns-in_default-clause-ok : goal.returns-in_default-clause-ok
-returns-in_default-clause-ok c =
-    let state = state_of c.self.inside.buffer.items c.self.inside.front.items c.self.inside.meta.value c.self.inside.sections in
-    let none : place_of c.args.id c.self.inside.sections ≡ None = search rules in
-    subst (λ (st : State). st ≡ with_used st.used (apply (WriteAt c.args.id (editor_of_numbered c.args.id st) c.args.place (instead_of c.args.in_place_of) c.args.key.now c.args.value.now) st))
-    c.self.view_is (sym (ap (with_used (length c.self.inside.buffer.items)) (missing_stays c.self.inside.buffer.items c.self.inside.front.items c.self.inside.meta.value c.self.inside.sections c.args.id
-    (written_at (editor_of_numbered c.args.id state) c.args.place (instead_of c.args.in_place_of) c.args.key.now c.args.value.now) none)))
-
-pub returns-in_default-clause-used : goal.returns-in_default-clause-used
-returns-in_default-clause-used c =
-    let none : place_of c.args.id c.self.inside.sections ≡ None = search rules in
-    rw (← c.self.view_is) (puts_none c.self.inside.buffer.items c.self.inside.front.items c.self.inside.meta.value c.self.inside.sections c.args.id _ _ none)
+pub edit_items-requires-clause-keeps : goal.edit_items-requires-clause-keeps
+edit_items-requires-clause-keeps c = λ items all. rewritten_is (bytes_of_line_end Lf) c.args.place (instead_of c.args.in_place_of) c.args.key.now c.args.value.now items c.requires.key all
 
 pub returns-clause-ok : goal.returns-clause-ok
 returns-clause-ok c =
-    let l = is_taken c.self.inside.sections c.take_items.new.self c.in-Some.at c.deref_mut.result.now.items (c.in_ok-items.ensures.items ∙ ap (λ v. Some v.items) (sym c.deref_mut.ensures.value)) c.in_ok-items.ensures.ok in
-    let back = l.back c.put_items.new.self c.write_at-written.new.items.items c.put_items.ensures in
-    let whole = ap (state_of c.write_at-written.new.buffer.items c.self.inside.front.items c.self.inside.meta.value) back in
-    let b = c.self.inside.buffer.items in
-    let new = c.write_at-written.new.buffer.items in
-    let s = (with_items c.deref_mut.result.now.items l.kept) in
-    let t : Section = with_items c.write_at-written.new.items.items l.kept in
-    let state = state_of b c.self.inside.front.items c.self.inside.meta.value c.self.inside.sections in
-    let here = l.here in
-    let place : place_of c.args.id c.self.inside.sections ≡ Some c.in-Some.at = search rules in
-    let number = number_at-place c.args.id c.self.inside.sections c.in-Some.at place in
-    let others : HasOthers (length new) s t = record { header = refl; meta = refl; held = refl; within = c.write_at-written.ensures.within } in
-    let same = numbered_items_at b c.self.inside.front.items c.self.inside.meta.value c.self.inside.sections c.args.id c.in-Some.at s c.position.ensures.numbered.once here number in
-    let seen = same_items c.self.inside.sections c.in-Some.at (viewed c.at-section.result) (with_items c.deref_mut.result.now.items l.kept) c.at-section.ensures l.here in
-    let spaced = ap (λ (e : Editor). e.spacing) (c.editor_of-editor.ensures.told b) ∙ ap (λ is. spacing_of (items_of b is)) seen ∙ ap spacing_of (sym same) in
-    let ok = subst (λ spacing. OnOk c.write_at-written.result (items_of new c.write_at-written.new.items.items
-    ≡ written_at (record { spacing = spacing; line_end = file_line_end state; ends = true }) c.args.place (instead_of c.args.in_place_of) c.args.key.now c.args.value.now (items_of b s.items.items)))
-    spaced c.write_at-written.ensures.ok in
-    subst (λ (st : State). OnOk c.write_at-written.result (state_of new c.self.inside.front.items c.self.inside.meta.value c.put_items.new.self
-    ≡ with_used (length new) (apply (WriteAt c.args.id (editor_of_numbered c.args.id st) c.args.place (instead_of c.args.in_place_of) c.args.key.now c.args.value.now) st)))
-    c.self.view_is (on_ok c.write_at-written.result
-    (λ set. whole ∙ numbered_view b new c.self.inside.copies.items c.self.inside.front.items c.self.inside.meta.value c.self.inside.sections c.args.id c.in-Some.at s t
-    (written_at (editor_of_numbered c.args.id state) c.args.place (instead_of c.args.in_place_of) c.args.key.now c.args.value.now)
-    c.write_at-written.ensures.grows.extended others c.self.invariant.front_within c.self.invariant.sections_within c.position.ensures.numbered.once here number set) ok)
+    let change = written_at (editor_of_numbered c.args.id c.args.self.now) c.args.place (instead_of c.args.in_place_of) c.args.key.now c.args.value.now in
+    subst (λ r. IfOk r (λ edited. OnOk edited (c.edit_items.new.self ≡ with_used c.edit_items.new.self.used (change_items c.args.id change c.args.self.now)))) c.in_ok-edit_items.was (c.edit_items.ensures.says change refl)
 
-pub returns-clause-err : goal.returns-clause-err
-returns-clause-err c =
-    let l = is_taken c.self.inside.sections c.take_items.new.self c.in-Some.at c.deref_mut.result.now.items (c.in_ok-items.ensures.items ∙ ap (λ v. Some v.items) (sym c.deref_mut.ensures.value)) c.in_ok-items.ensures.ok in
-    let back = l.back c.put_items.new.self c.write_at-written.new.items.items c.put_items.ensures in
-    let whole = ap (state_of c.write_at-written.new.buffer.items c.self.inside.front.items c.self.inside.meta.value) back in
-    let b = c.self.inside.buffer.items in
-    let new = c.write_at-written.new.buffer.items in
-    let s = (with_items c.deref_mut.result.now.items l.kept) in
-    let t : Section = with_items c.write_at-written.new.items.items l.kept in
-    let here = l.here in
-    let others : HasOthers (length new) s t = record { header = refl; meta = refl; held = refl; within = c.write_at-written.ensures.within } in
-    rw (← c.self.view_is) (on_err c.write_at-written.result
-    (λ kept. whole ∙ kept_view b new c.self.inside.copies.items c.self.inside.front.items c.self.inside.meta.value c.self.inside.sections c.in-Some.at s t
-    c.write_at-written.ensures.grows.extended others c.self.invariant.front_within c.self.invariant.sections_within here kept) c.write_at-written.ensures.err)
-
-pub returns-clause-used : goal.returns-clause-used
-returns-clause-used c =
-    let l = is_taken c.self.inside.sections c.take_items.new.self c.in-Some.at c.deref_mut.result.now.items (c.in_ok-items.ensures.items ∙ ap (λ v. Some v.items) (sym c.deref_mut.ensures.value)) c.in_ok-items.ensures.ok in
-    let b = c.self.inside.buffer.items in
-    let here = l.here in
-    let place : place_of c.args.id c.self.inside.sections ≡ Some c.in-Some.at = search rules in
-    let number = number_at-place c.args.id c.self.inside.sections c.in-Some.at place in
-    let same = numbered_items_at b c.self.inside.front.items c.self.inside.meta.value c.self.inside.sections c.args.id c.in-Some.at (with_items c.deref_mut.result.now.items l.kept) c.position.ensures.numbered.once here number in
-    let seen = same_items c.self.inside.sections c.in-Some.at (viewed c.at-section.result) (with_items c.deref_mut.result.now.items l.kept) c.at-section.ensures l.here in
-    let count = rewritten_count b c.editor_of-editor.result c.args.key.now c.args.value.now c.at-section.result.items.now (c.editor_of-editor.ensures.around b) in
-    let fits : 2 ^ 32 ≤ length b + rewritten_put c.args.key.now c.args.value.now (items_of b c.at-section.result.items.now) → ⊥ = λ due. absurd (let no = subst (λ r. IsErrOf r 3) c.in_ok-check_write.was
-    (c.check_write.ensures.too_large.1 (subst (λ x. 2 ^ 32 ≤ length x + written_put c.editor_of-editor.result c.args.key.now c.args.value.now) (sym c.deref.ensures.value) (subst (λ n. 2 ^ 32 ≤ length b + n) (sym count) due))) in cc) in
-    let put = count ∙ ap (λ is. rewritten_put c.args.key.now c.args.value.now (items_of b is)) seen in
-    rw (← c.self.view_is) (puts_at b c.self.inside.front.items c.self.inside.meta.value c.self.inside.sections c.args.id c.in-Some.at (with_items c.deref_mut.result.now.items l.kept) c.write_at-written.result _ _
-    c.position.ensures.numbered.once here number
-    (subst (λ items. UsedGrows c.write_at-written.result (rewritten_put c.args.key.now c.args.value.now items) (length b) (length c.write_at-written.new.buffer.items)) (sym same)
-    (subst (λ n. UsedGrows c.write_at-written.result n (length b) (length c.write_at-written.new.buffer.items)) put
-    (record {
-      put = c.write_at-written.ensures.grows.put;
-      grown = c.write_at-written.ensures.grows.grown;
-      too_large = c.write_at-written.ensures.grows.too_large;
-      refused = λ due. absurd (fits (subst (λ n. 2 ^ 32 ≤ length b + n) count due));
-      known = c.write_at-written.ensures.grows.known;
-    }))))
-
-pub returns-clause-missing : goal.returns-clause-missing
-returns-clause-missing c =
-    let l = is_taken c.self.inside.sections c.take_items.new.self c.in-Some.at c.deref_mut.result.now.items (c.in_ok-items.ensures.items ∙ ap (λ v. Some v.items) (sym c.deref_mut.ensures.value)) c.in_ok-items.ensures.ok in
-    let place : place_of c.args.id c.self.inside.sections ≡ Some c.in-Some.at = search rules in
-    let number = number_at-place c.args.id c.self.inside.sections c.in-Some.at place in
-    rw (← c.self.view_is) (λ none. absurd (never_missing c.self.inside.buffer.items c.self.inside.front.items c.self.inside.meta.value c.self.inside.sections c.args.id c.in-Some.at
-    (with_items c.deref_mut.result.now.items l.kept) c.position.ensures.numbered.once l.here number none))
-
-pub invariant_of-self-2 : goal.invariant_of-self-2
-invariant_of-self-2 c =
-    let l = is_taken c.self.inside.sections c.take_items.new.self c.in-Some.at c.deref_mut.result.now.items (c.in_ok-items.ensures.items ∙ ap (λ v. Some v.items) (sym c.deref_mut.ensures.value)) c.in_ok-items.ensures.ok in
-    let back = l.back c.put_items.new.self c.write_at-written.new.items.items c.put_items.ensures in
-    let b = c.self.inside.buffer.items in
-    let new = c.write_at-written.new.buffer.items in
-    let s = (with_items c.deref_mut.result.now.items l.kept) in
-    let t : Section = with_items c.write_at-written.new.items.items l.kept in
-    let state = state_of b c.self.inside.front.items c.self.inside.meta.value c.self.inside.sections in
-    let here = l.here in
-    let place : place_of c.args.id c.self.inside.sections ≡ Some c.in-Some.at = search rules in
-    let number = number_at-place c.args.id c.self.inside.sections c.in-Some.at place in
-    let others : HasOthers (length new) s t = record { header = refl; meta = refl; held = refl; within = c.write_at-written.ensures.within } in
-    let same = numbered_items_at b c.self.inside.front.items c.self.inside.meta.value c.self.inside.sections c.args.id c.in-Some.at s c.position.ensures.numbered.once here number in
-    let seen = same_items c.self.inside.sections c.in-Some.at (viewed c.at-section.result) (with_items c.deref_mut.result.now.items l.kept) c.at-section.ensures l.here in
-    let spaced = ap (λ (e : Editor). e.spacing) (c.editor_of-editor.ensures.told b) ∙ ap (λ is. spacing_of (items_of b is)) seen ∙ ap spacing_of (sym same) in
-    let ok = subst (λ spacing. OnOk c.write_at-written.result (items_of new c.write_at-written.new.items.items
-    ≡ written_at (record { spacing = spacing; line_end = file_line_end state; ends = true }) c.args.place (instead_of c.args.in_place_of) c.args.key.now c.args.value.now (items_of b s.items.items)))
-    spaced c.write_at-written.ensures.ok in
-    subst (StoreFits c.write_at-written.new.buffer.items c.self.inside.copies.items c.self.inside.front.items c.self.inside.meta.value) (sym back) (numbered_kept b new c.self.inside.copies.items c.self.inside.front.items c.self.inside.meta.value c.self.inside.sections c.args.id c.in-Some.at s t
-    (written_at (editor_of_numbered c.args.id state) c.args.place (instead_of c.args.in_place_of) c.args.key.now c.args.value.now)
-    c.write_at-written.ensures.grows.extended c.write_at-written.ensures.grows.room others c.self.invariant c.position.ensures.numbered.once here number
-    (rewritten_items c.args.id c.args.place (instead_of c.args.in_place_of) c.args.key.now c.args.value.now state c.requires.key c.self.invariant.items)
-    (either_way c.write_at-written.result ok c.write_at-written.ensures.err))
-
-pub invariant_of-self : goal.invariant_of-self
-invariant_of-self c =
-    let same : c.take_items.new.self ≡ c.self.inside.sections = search rules in
-    subst (StoreFits c.self.inside.buffer.items c.self.inside.copies.items c.self.inside.front.items c.self.inside.meta.value) (sym same) c.self.invariant
-
-pub put_items-requires : goal.put_items-requires
-put_items-requires c =
-    let within : c.in-Some.at < length c.self.inside.sections.entries = search rules in
-    taken_within c.self.inside.sections c.take_items.new.self c.in-Some.at c.in_ok-items.ensures.ok within
-
-pub returns-in_err-check_write-clause-used : goal.returns-in_err-check_write-clause-used
-returns-in_err-check_write-clause-used c =
-    let b = c.self.inside.buffer.items in
-    let state = state_of c.self.inside.buffer.items c.self.inside.front.items c.self.inside.meta.value c.self.inside.sections in
-    let place : place_of c.args.id c.self.inside.sections ≡ Some c.in-Some.at = search rules in
-    let number = number_at-place c.args.id c.self.inside.sections c.in-Some.at place in
-    let items = numbered_items_at b c.self.inside.front.items c.self.inside.meta.value c.self.inside.sections c.args.id c.in-Some.at (viewed c.at-section.result) c.position.ensures.numbered.once c.at-section.ensures number in
-    let three : IsErrOf c.from_residual.result 3 = search rules in
-    let count = rewritten_count b c.editor_of-editor.result c.args.key.now c.args.value.now c.at-section.result.items.now (c.editor_of-editor.ensures.around b) in
-    let asked : 2 ^ 32 ≤ length b + written_put c.editor_of-editor.result c.args.key.now c.args.value.now = search rules in
-    let due = subst (λ n. 2 ^ 32 ≤ length b + n) count asked in
-    rw (← c.self.view_is) (puts_same c.args.id c.from_residual.result _ state (subst (λ is. UsedGrows c.from_residual.result (rewritten_put c.args.key.now c.args.value.now is) (length b) (length b)) (sym items) (used_refused c.from_residual.result _ (length b) three due)))
-
-pub returns-in_err-items-clause-used : goal.returns-in_err-items-clause-used
-returns-in_err-items-clause-used c =
-    let b = c.self.inside.buffer.items in
-    let state = state_of c.self.inside.buffer.items c.self.inside.front.items c.self.inside.meta.value c.self.inside.sections in
-    let place : place_of c.args.id c.self.inside.sections ≡ Some c.in-Some.at = search rules in
-    let number = number_at-place c.args.id c.self.inside.sections c.in-Some.at place in
-    let items = numbered_items_at b c.self.inside.front.items c.self.inside.meta.value c.self.inside.sections c.args.id c.in-Some.at (viewed c.at-section.result) c.position.ensures.numbered.once c.at-section.ensures number in
-    let same : c.take_items.new.self ≡ c.self.inside.sections = search rules in
-    let memory : IsErrOf c.from_residual-in_err-items.result 27 = search rules in
-    let count = rewritten_count b c.editor_of-editor.result c.args.key.now c.args.value.now c.at-section.result.items.now (c.editor_of-editor.ensures.around b) in
-    let fits : 2 ^ 32 ≤ length b + rewritten_put c.args.key.now c.args.value.now (items_of b c.at-section.result.items.now) → ⊥ = λ due. absurd (let no = subst (λ r. IsErrOf r 3) c.in_ok-check_write.was
-    (c.check_write.ensures.too_large.1 (subst (λ x. 2 ^ 32 ≤ length x + written_put c.editor_of-editor.result c.args.key.now c.args.value.now) (sym c.deref.ensures.value) (subst (λ n. 2 ^ 32 ≤ length b + n) (sym count) due))) in cc) in
-    rw (← c.self.view_is) (subst (λ t. PutsIn c.args.id c.from_residual-in_err-items.result (rewritten_put c.args.key.now c.args.value.now (items_of_numbered c.args.id state)) state (state_of b c.self.inside.front.items c.self.inside.meta.value t)) (sym same)
-    (puts_same c.args.id c.from_residual-in_err-items.result (rewritten_put c.args.key.now c.args.value.now (items_of_numbered c.args.id state)) state (subst (λ is. UsedGrows c.from_residual-in_err-items.result (rewritten_put c.args.key.now c.args.value.now is) (length b) (length b)) (sym items) (used_memory c.from_residual-in_err-items.result _ (length b) memory fits))))
-
-pub returns-in_err-check_write-clause-missing : goal.returns-in_err-check_write-clause-missing
-returns-in_err-check_write-clause-missing c =
-    let place : place_of c.args.id c.self.inside.sections ≡ Some c.in-Some.at = search rules in
-    let number = number_at-place c.args.id c.self.inside.sections c.in-Some.at place in
-    rw (← c.self.view_is) (λ none. absurd (never_missing c.self.inside.buffer.items c.self.inside.front.items c.self.inside.meta.value c.self.inside.sections c.args.id c.in-Some.at (viewed c.at-section.result) c.position.ensures.numbered.once c.at-section.ensures number none))
-
-pub returns-in_err-items-clause-missing : goal.returns-in_err-items-clause-missing
-returns-in_err-items-clause-missing c =
-    let place : place_of c.args.id c.self.inside.sections ≡ Some c.in-Some.at = search rules in
-    let number = number_at-place c.args.id c.self.inside.sections c.in-Some.at place in
-    rw (← c.self.view_is) (λ none. absurd (never_missing c.self.inside.buffer.items c.self.inside.front.items c.self.inside.meta.value c.self.inside.sections c.args.id c.in-Some.at (viewed c.at-section.result) c.position.ensures.numbered.once c.at-section.ensures number none))
+pub returns-in_err-edit_items-clause-missing : goal.returns-in_err-edit_items-clause-missing
+returns-in_err-edit_items-clause-missing c = λ none. absurd (let no = subst IsOk c.in_err-edit_items.was (c.edit_items.ensures.found none) in cc)
