@@ -1,6 +1,6 @@
 //! Times what the Rust crate does with a file, as often as asked: `bench WHAT ROUNDS KEY FILE`.
 //!
-//! WHAT is a word of `crates/bench`, but `match`; each round prints its nanoseconds.
+//! WHAT is a word of `crates/bench`, but `match` and `in-text`; each round prints its nanoseconds.
 use std::{collections::BTreeSet, hint::black_box, mem, time::Instant};
 
 use gix_config::{
@@ -13,10 +13,16 @@ use host::Entry;
 const LOOKUPS: u32 = 256;
 const PUSHES: u32 = 100_000;
 
+fn load_by(text: &[u8], options: init::Options<'_>) -> File {
+    File::from_bytes_no_includes(black_box(text), Metadata::api(), options).ok().expect("a text that is read")
+}
+
 fn load(text: &[u8]) -> File {
-    File::from_bytes_no_includes(black_box(text), Metadata::api(), init::Options::default())
-        .ok()
-        .expect("a text that is read")
+    load_by(text, init::Options::default())
+}
+
+fn load_lossy(text: &[u8]) -> File {
+    load_by(text, init::Options { lossy: true, ..Default::default() })
 }
 
 fn nanos(work: impl FnOnce()) -> u128 {
@@ -95,7 +101,11 @@ fn main() {
     let words: Vec<String> = std::env::args().collect();
     let (what, key) = (words[1].as_str(), words[3].as_str());
     let text = std::fs::read(&words[4]).expect("a file");
-    let mut file = if what == "decode" { File::default() } else { load(&text) };
+    let mut file = match what {
+        "decode" => File::default(),
+        "lossy" => load_lossy(&text),
+        _ => load(&text),
+    };
     if what == "include" {
         make_files(&file);
     }
@@ -103,6 +113,7 @@ fn main() {
         let taken = match what {
             // An earlier file is let go.
             "load" => nanos(|| drop(mem::replace(&mut file, load(&text)))),
+            "lossy" => nanos(|| drop(mem::replace(&mut file, load_lossy(&text)))),
             "events" => events(&text),
             "look-up" => look_ups(|| drop(black_box(file.string(black_box(key))))),
             "raw" => look_ups(|| drop(black_box(file.raw_value(black_box(key))))),

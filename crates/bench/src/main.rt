@@ -1,9 +1,9 @@
 //! Times what the library does with standard input, as often as asked: `bench WHAT ROUNDS WORD [times]`.
 //!
-//! WHAT is `events`, `load`, `look-up`, `raw`, `boolean`, `by-name`, `values`, `print`, `set`, `push`, `lay-out`, `decode`, `match` or
-//! `include`, or `all` for each of them in turn. WORD is a key, except that for `match` it is a path pattern; what needs neither ignores
-//! it. Standard input is a text, for `decode` a raw value, and for `match` what the pattern is matched against. With `times` each round
-//! prints its nanoseconds. The files that a text includes for `include` are made by their paths, as `made` says.
+//! WHAT is `events`, `load`, `lossy`, `look-up`, `raw`, `boolean`, `by-name`, `values`, `in-text`, `print`, `set`, `push`, `lay-out`,
+//! `decode`, `match` or `include`, or `all` for each of them in turn. WORD is a key, except that for `match` it is a path pattern; what
+//! needs neither ignores it. Standard input is a text, for `decode` a raw value, and for `match` what the pattern is matched against.
+//! With `times` each round prints its nanoseconds. The files that a text includes for `include` are made by their paths, as `made` says.
 #![tactic(auto)]
 
 mod made;
@@ -12,7 +12,9 @@ ghost use Rattle.std.specs.Prelude.{◌≡◌};
 ghost use Rattle.gix_config.specs.SectionEditors.{lent};
 
 use anyhow::{Context, Result, bail};
-use gix_config::file::{SectionMut, includes, init};
+use bstr::BString;
+use gitconf_lookup::lookup::value_in;
+use gix_config::file::{Metadata, SectionMut, includes, init};
 use gix_config::format::{Options, normalize};
 use gix_config::glob::wildmatch;
 use gix_config::host::{Host, MemEnv, Places};
@@ -22,6 +24,7 @@ use made::MadeFiles;
 use std::alloc::Global;
 use std::io::{BufReader, Read};
 use std::mem::replace;
+use std::rc::Rc;
 use std::rt::Clock;
 use std::time::Instant;
 use std::{env, io};
@@ -31,6 +34,15 @@ const LOOKUPS: u32 = 256;
 
 /// How many lines are pushed in a round.
 const PUSHES: u32 = 100_000;
+
+/// What a load keeps of a text.
+#[derive(Clone, Copy)]
+enum Kept {
+    /// All of it.
+    All,
+    /// Sections and entries, without blanks, line endings and comments.
+    Entries,
+}
 
 /// What is looked up.
 #[derive(Clone, Copy)]
@@ -51,11 +63,13 @@ enum Measure {
     /// Reading the events of a text, and counting them.
     Events,
     /// Loading a file, and dropping an earlier one.
-    Load,
+    Load(Kept),
     /// Looking up a key.
     LookUp(LookUp),
     /// Looking up all values of a key.
     Values,
+    /// Looking up the last value of a key in the text itself, without a file.
+    InText,
     /// Printing a file.
     Print,
     /// Setting a value of a file that was not edited before.
@@ -134,27 +148,48 @@ fn load(alloc: Global, text: &[u8]) -> Result<File> {
     Ok(File::try_from_bytes(alloc, text)?)
 }
 
+/// The text as a file, of which this is kept.
+fn load_kept(alloc: Global, text: &[u8], kept: Kept) -> Result<File> {
+    match kept {
+        Kept::All => load(alloc, text),
+        Kept::Entries => load_lossy(alloc, text),
+    }
+}
+
+/// The text as a file without blanks, line endings and comments.
+fn load_lossy(alloc: Global, text: &[u8]) -> Result<File> {
+    let mut options = init::Options::default();
+    options.lossy = true;
+    let meta = Rc::new(alloc, Metadata::api())?;
+    Ok(File::from_bytes_no_includes(alloc, text, meta, options)?)
+}
+
 /// Puts the text in place of a file, and returns the nanoseconds that this took.
-fn reload<R: Clock + AllocGlobal>(rt: &R, file: &mut File, text: &[u8]) -> Result<u128> {
+fn reload<R: Clock + AllocGlobal>(
+    rt: &R,
+    file: &mut File,
+    text: &[u8],
+    kept: Kept,
+) -> Result<u128> {
     let start = Instant::now(rt)?;
-    let next = load(rt.alloc(), text)?;
+    let next = load_kept(rt.alloc(), text, kept)?;
     drop(replace(file, next));
     Ok(start.elapsed(rt)?.as_nanos())
 }
 
 /// The rounds of loads. The file is borrowed, so that no way out of the loop drops it.
-fn reloads(rt: HostRuntime, task: Task<'_>, file: &mut File) -> Result<()> {
+fn reloads(rt: HostRuntime, task: Task<'_>, file: &mut File, kept: Kept) -> Result<()> {
     for _ in 0..task.rounds {
-        let nanos = reload(&rt, file, task.text)?;
+        let nanos = reload(&rt, file, task.text, kept)?;
         tell(rt, task, nanos)?;
     }
     println!(rt; "{} entries loaded", file.num_values())?;
     Ok(())
 }
 
-fn time_load(rt: HostRuntime, task: Task<'_>) -> Result<()> {
-    let mut file = load(rt.alloc(), task.text)?;
-    reloads(rt, task, &mut file)
+fn time_load(rt: HostRuntime, task: Task<'_>, kept: Kept) -> Result<()> {
+    let mut file = load_kept(rt.alloc(), task.text, kept)?;
+    reloads(rt, task, &mut file, kept)
 }
 
 /// Whether a lookup finds the key.
@@ -241,6 +276,31 @@ fn all_values(rt: HostRuntime, task: Task<'_>, file: &File) -> Result<()> {
 fn time_values(rt: HostRuntime, task: Task<'_>) -> Result<()> {
     let file = load(rt.alloc(), task.text)?;
     all_values(rt, task, &file)
+}
+
+/// The key's last value in the text, and the nanoseconds that it took to find it.
+fn find_in_text<R: Clock + AllocGlobal>(
+    rt: &R,
+    text: &[u8],
+    key: &str,
+) -> Result<(Option<BString>, u128)> {
+    let start = Instant::now(rt)?;
+    let value = value_in(rt.alloc(), text, key)?;
+    Ok((value, start.elapsed(rt)?.as_nanos()))
+}
+
+fn time_in_text(rt: HostRuntime, task: Task<'_>) -> Result<()> {
+    let mut found = None;
+    for _ in 0..task.rounds {
+        let (value, nanos) = find_in_text(&rt, task.text, task.word)?;
+        tell(rt, task, nanos)?;
+        found = value;
+    }
+    match found {
+        Some(value) => println!(rt; "{value} is its last value")?,
+        None => println!(rt; "it has no value")?,
+    }
+    Ok(())
 }
 
 /// How many bytes the file is printed as, and the nanoseconds that this took.
@@ -433,9 +493,10 @@ fn time_include(rt: HostRuntime, task: Task<'_>) -> Result<()> {
 fn time(rt: HostRuntime, measure: Measure, task: Task<'_>) -> Result<()> {
     match measure {
         Measure::Events => time_events(rt, task),
-        Measure::Load => time_load(rt, task),
+        Measure::Load(kept) => time_load(rt, task, kept),
         Measure::LookUp(what) => time_look_up(rt, task, what),
         Measure::Values => time_values(rt, task),
+        Measure::InText => time_in_text(rt, task),
         Measure::Print => time_print(rt, task),
         Measure::Set => time_set(rt, task),
         Measure::Push => time_push(rt, task),
@@ -450,12 +511,14 @@ fn time(rt: HostRuntime, measure: Measure, task: Task<'_>) -> Result<()> {
 fn is_asked(word: &str, measure: Measure) -> bool {
     let name = match measure {
         Measure::Events => "events",
-        Measure::Load => "load",
+        Measure::Load(Kept::All) => "load",
+        Measure::Load(Kept::Entries) => "lossy",
         Measure::LookUp(LookUp::Value) => "look-up",
         Measure::LookUp(LookUp::Raw) => "raw",
         Measure::LookUp(LookUp::Boolean) => "boolean",
         Measure::LookUp(LookUp::Section) => "by-name",
         Measure::Values => "values",
+        Measure::InText => "in-text",
         Measure::Print => "print",
         Measure::Set => "set",
         Measure::Push => "push",
@@ -467,14 +530,16 @@ fn is_asked(word: &str, measure: Measure) -> bool {
     word == name || word == "all"
 }
 
-const MEASURES: [Measure; 14] = [
+const MEASURES: [Measure; 16] = [
     Measure::Events,
-    Measure::Load,
+    Measure::Load(Kept::All),
+    Measure::Load(Kept::Entries),
     Measure::LookUp(LookUp::Value),
     Measure::LookUp(LookUp::Raw),
     Measure::LookUp(LookUp::Boolean),
     Measure::LookUp(LookUp::Section),
     Measure::Values,
+    Measure::InText,
     Measure::Print,
     Measure::Set,
     Measure::Push,
