@@ -1,0 +1,11 @@
+"""Reads and edits git's configuration files. Comments, blanks and layout stay as they are.
+
+    >>> import gixcfg
+    >>> config = gixcfg.Config.parse('[remote "origin"]\\n\\turl = https://example.org/a.git\\n')
+    >>> config["remote", "origin", "url"]
+    'https://example.org/a.git'
+"""
+from gixcfg._config import Config, Entry, Key
+from gixcfg._errors import ConfigError, KeyNotFound, Locked, NotOfType, ParseError, Refused
+
+__all__ = ["Config", "ConfigError", "Entry", "Key", "KeyNotFound", "Locked", "NotOfType", "ParseError", "Refused"]

@@ -1,0 +1,275 @@
+"""A file of configuration."""
+import contextlib
+import ctypes
+import os
+import weakref
+from typing import Iterator, List, NamedTuple, NoReturn, Optional, Tuple, Union, cast
+
+from gixcfg import _library as c
+from gixcfg._errors import ConfigError, KeyNotFound, NotOfType, ParseError, Refused
+from gixcfg._saving import Lock, PathName
+
+# "remote.origin.url", or its names: ("remote", "origin", "url"), ("core", "editor").
+Key = Union[str, Tuple[str, str], Tuple[str, str, str]]
+
+KINDS = {7: KeyNotFound, 8: KeyNotFound, 9: KeyNotFound, c.NOTHING_THERE: KeyNotFound, 11: NotOfType}
+
+
+def _encoded(text: str) -> bytes:
+    return text.encode("utf-8", "surrogateescape")
+
+
+def _decoded(text: bytes) -> str:
+    return text.decode("utf-8", "surrogateescape")
+
+
+def _text(text: str) -> c.Text:
+    encoded = _encoded(text)
+    return c.Text(encoded, len(encoded))
+
+
+def _key(key: Key) -> c.Key:
+    """The names of a key. In a text the subsection is all between the first dot and the last."""
+    if isinstance(key, str):
+        section, dot, rest = key.partition(".")
+        if not dot:
+            raise ValueError(f"{key!r} names no value in a section: it has no dot")
+        subsection, dot, name = rest.rpartition(".")
+        names = (section, subsection, name) if dot else (section, name)
+    else:
+        names = key
+    if len(names) == 2:
+        return c.Key(_text(names[0]), False, _text(""), _text(names[1]))
+    section, subsection, name = names
+    return c.Key(_text(section), True, _text(subsection), _text(name))
+
+
+def _refuse(number: int, key: Optional[Key] = None) -> NoReturn:
+    """Raises what stands for the number of a refusal."""
+    if number == c.OUT_OF_MEMORY:
+        raise MemoryError
+    named = "" if key is None else f"{key if isinstance(key, str) else '.'.join(key)}: "
+    kind = KINDS.get(number, Refused)
+    raise kind(number, named + c.words_of(number))
+
+
+class Entry(NamedTuple):
+    """An entry of a file: the names of its section and its own in lower case, and what it means; `None` for one without `=`."""
+
+    section: str
+    subsection: Optional[str]
+    name: str
+    value: Optional[str]
+
+
+class Config:
+    """A file of configuration. It is a text whose values are found by their keys; an edit changes what it names, and nothing else.
+
+    Bytes that are not UTF-8 are kept: in a `str` they are lone surrogates, as in the names of files (PEP 383).
+    """
+
+    path: Optional[str]
+    """Where the file was loaded from, which is where `save` writes it."""
+
+    def __init__(self) -> None:
+        """An empty file."""
+        self.path = None
+        self._file = c.Handle()
+        # (bound to the handle, not to the object, which it outlives)
+        self._closing = weakref.finalize(self, c.LIBRARY.gix_config_file_close, self._file)
+        self._read(b"")
+
+    def _read(self, text: bytes) -> None:
+        place = c.Place()
+        number = c.LIBRARY.gix_config_file_parse(text, len(text), False, self._file, place)
+        if number == c.OUT_OF_MEMORY:
+            raise MemoryError
+        if number != c.DONE:
+            raise ParseError(number, c.words_of(number), place.line, place.column, place.offset)
+
+    @classmethod
+    def parse(cls, text: Union[str, bytes]) -> "Config":
+        """The file of a text. Raises ParseError, with line, column and reason, for one that can't be read on at some place."""
+        made = cls()
+        made._read(_encoded(text) if isinstance(text, str) else text)
+        return made
+
+    @classmethod
+    def load(cls, path: PathName) -> "Config":
+        """The file at a path. Raises OSError for one that can't be read, and ParseError."""
+        with open(path, "rb") as file:
+            text = file.read()
+        try:
+            made = cls.parse(text)
+        except ParseError as error:
+            error.path = os.fspath(path)
+            raise
+        made.path = os.fspath(path)
+        return made
+
+    @classmethod
+    @contextlib.contextmanager
+    def editing(cls, path: PathName) -> Iterator["Config"]:
+        """The file at a path, for a `with` statement at whose end it is saved: under FILE.lock from before it is read, so that nobody's edit
+        is lost. A file that isn't there yet is empty. An exception in the statement saves nothing."""
+        with Lock(path) as lock:
+            config = cls.load(lock.path) if os.path.exists(lock.path) else cls()
+            yield config
+            lock.commit(bytes(config))
+
+    def save(self, path: Optional[PathName] = None) -> None:
+        """Writes the file, as git does: the text goes into FILE.lock, made exclusively, then down to the disk, and is renamed to FILE, which
+        keeps its rights. So a crash leaves the old file or the new one. Without a path FILE is the one that was loaded. Raises Locked if
+        FILE.lock is there, and OSError; then FILE is as it was. What others wrote since the file was loaded is lost: `editing` keeps it.
+        """
+        target = self.path if path is None else path
+        if target is None:
+            raise ValueError("the file was not loaded from a path, and none is given")
+        with Lock(target) as lock:
+            lock.commit(bytes(self))
+
+    def copy(self) -> "Config":
+        """A copy: edits of the one don't show in the other."""
+        made = type(self)()
+        number = c.LIBRARY.gix_config_file_clone(self._file, made._file)
+        if number != c.DONE:
+            _refuse(number)
+        made.path = self.path
+        return made
+
+    def __bytes__(self) -> bytes:
+        """The text of the file as it was read, but for what was edited: without a byte order mark, and with missing line endings put in."""
+        block = c.Block()
+        number = c.LIBRARY.gix_config_file_text(self._file, block)
+        if number != c.DONE:
+            _refuse(number)
+        return self._taken(block)
+
+    @property
+    def text(self) -> str:
+        """The text of the file."""
+        return _decoded(bytes(self))
+
+    @staticmethod
+    def _taken(block: c.Block) -> bytes:
+        """What a block has, which is freed."""
+        try:
+            return c.bytes_at(block)
+        finally:
+            c.LIBRARY.gix_config_bytes_free(block)
+
+    def __getitem__(self, key: Key) -> str:
+        """What the last value of a key means: quotes and escapes are undone. Raises KeyNotFound, which is a KeyError."""
+        block = c.Block()
+        number = c.LIBRARY.gix_config_value(self._file, _key(key), block)
+        if number != c.DONE:
+            _refuse(number, key)
+        return _decoded(self._taken(block))
+
+    def __contains__(self, key: object) -> bool:
+        """Whether a key has a value."""
+        return self.get(cast(Key, key)) is not None
+
+    def get(self, key: Key, default: Optional[str] = None) -> Optional[str]:
+        """What the last value of a key means, or the default if there is none."""
+        try:
+            return self[key]
+        except KeyNotFound:
+            return default
+
+    def get_all(self, key: Key) -> List[str]:
+        """What all values of a key mean, in the file's order; an entry without `=` counts as empty."""
+        values, span = c.Handle(), c.Span()
+        number = c.LIBRARY.gix_config_values(self._file, _key(key), values)
+        if KINDS.get(number) is KeyNotFound:
+            return []
+        if number != c.DONE:
+            _refuse(number, key)
+        try:
+            found = []
+            for index in range(c.LIBRARY.gix_config_list_len(values)):
+                c.LIBRARY.gix_config_list_at(values, index, span)
+                found.append(_decoded(c.bytes_at(span)))
+            return found
+        finally:
+            c.LIBRARY.gix_config_list_close(values)
+
+    def entries(self) -> List[Entry]:
+        """All entries, in the file's order."""
+        entries, entry = c.Handle(), c.Entry()
+        number = c.LIBRARY.gix_config_entries(self._file, entries)
+        if number != c.DONE:
+            _refuse(number)
+        try:
+            found = []
+            for index in range(c.LIBRARY.gix_config_list_len(entries)):
+                c.LIBRARY.gix_config_list_entry(entries, index, entry)
+                subsection = _decoded(c.bytes_at(entry.subsection)) if entry.has_subsection else None
+                value = _decoded(c.bytes_at(entry.value)) if entry.has_value else None
+                found.append(Entry(_decoded(c.bytes_at(entry.section)), subsection, _decoded(c.bytes_at(entry.name)), value))
+            return found
+        finally:
+            c.LIBRARY.gix_config_list_close(entries)
+
+    def __iter__(self) -> Iterator[Entry]:
+        """The entries, as they are now."""
+        return iter(self.entries())
+
+    def append(self, other: "Config") -> None:
+        """Appends a copy of another file, whose sections then come after all others, so that their values count."""
+        if other is self:
+            other = self.copy()
+        number = c.LIBRARY.gix_config_file_append(self._file, other._file)
+        if number != c.DONE:
+            _refuse(number)
+
+    def get_bool(self, key: Key, default: Optional[bool] = None) -> Optional[bool]:
+        """The last value of a key as a boolean, as git takes it: yes, on, true and an entry without `=` are true, also a number but 0.
+        The default if there is none; raises NotOfType for a value that is no boolean."""
+        value = ctypes.c_bool()
+        number = c.LIBRARY.gix_config_boolean(self._file, _key(key), value)
+        if number == c.NOTHING_THERE:
+            return default
+        if number != c.DONE:
+            _refuse(number, key)
+        return value.value
+
+    def get_int(self, key: Key, default: Optional[int] = None) -> Optional[int]:
+        """The last value of a key as an integer of 64 bits, times 1024 for a `k` behind it, and so on for `m` and `g`. The default if there
+        is none; raises NotOfType for a value that is no integer."""
+        value = ctypes.c_int64()
+        number = c.LIBRARY.gix_config_integer(self._file, _key(key), value)
+        if number == c.NOTHING_THERE:
+            return default
+        if number != c.DONE:
+            _refuse(number, key)
+        return value.value
+
+    def set(self, key: Key, value: str) -> Optional[str]:
+        """Gives a key a value: in the last section of its names, whose last entry of the name gets it; entry and section are made if there
+        are none. Returns the raw text of the value that was there, if there was an entry. Raises Refused."""
+        had, old, encoded = ctypes.c_bool(), c.Block(), _encoded(value)
+        number = c.LIBRARY.gix_config_set_value(self._file, _key(key), encoded, len(encoded), had, old)
+        if number != c.DONE:
+            _refuse(number, key)
+        return _decoded(self._taken(old)) if had.value else None
+
+    def __setitem__(self, key: Key, value: str) -> None:
+        """As `set`."""
+        self.set(key, value)
+
+    def add(self, key: Key, value: Optional[str] = None) -> None:
+        """Adds an entry to the last section of the key's names, also where there is one of the name already. Without a value it is the name
+        alone, which is true as a boolean. Raises KeyNotFound if there is no such section, and Refused."""
+        encoded = _encoded(value or "")
+        number = c.LIBRARY.gix_config_push_value(self._file, _key(key), value is not None, encoded, len(encoded))
+        if number != c.DONE:
+            _refuse(number, key)
+
+    def __delitem__(self, key: Key) -> None:
+        """Removes the last entry of the key from the last section of its names. Raises KeyNotFound."""
+        old = c.Block()
+        number = c.LIBRARY.gix_config_remove_value(self._file, _key(key), old)
+        if number != c.DONE:
+            _refuse(number, key)
+        c.LIBRARY.gix_config_bytes_free(old)

@@ -1,0 +1,45 @@
+"""Why something is refused."""
+from typing import Optional
+
+
+class ConfigError(Exception):
+    """Something is refused: `number` is that of docs/refusals.md, `reason` says it in words."""
+
+    def __init__(self, number: int, reason: str) -> None:
+        super().__init__(reason)
+        self.number = number
+        self.reason = reason
+
+
+class ParseError(ConfigError, ValueError):
+    """A text is refused at a place: `line` and `column`, in bytes, count from 1, `offset` is how many bytes are before it."""
+
+    def __init__(self, number: int, reason: str, line: int, column: int, offset: int) -> None:
+        super().__init__(number, reason)
+        self.line = line
+        self.column = column
+        self.offset = offset
+        self.path: Optional[str] = None
+
+    def __str__(self) -> str:
+        place = f"{self.line}:{self.column}: {self.reason}"
+        return place if self.path is None else f"{self.path}:{place}"
+
+
+class KeyNotFound(ConfigError, KeyError):
+    """There is no such section, subsection or value (7, 8, 9)."""
+
+    def __str__(self) -> str:
+        return self.reason
+
+
+class NotOfType(ConfigError, ValueError):
+    """The value is there, and is no boolean or no integer (11)."""
+
+
+class Refused(ConfigError, ValueError):
+    """A name or a value can't be written into a file (3, 4, 5, 6), or a name is not UTF-8 (101)."""
+
+
+class Locked(FileExistsError):
+    """FILE.lock is there already, so another program edits the file."""

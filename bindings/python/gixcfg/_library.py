@@ -1,0 +1,102 @@
+"""The calls of libgix_config, as include/gix_config.h has them."""
+import ctypes
+import ctypes.util
+import os
+from pathlib import Path
+
+NAME = "libgix_config.so.0"
+
+DONE, OUT_OF_MEMORY, NOT_UTF8, NOTHING_THERE = 0, 27, 101, 100
+
+
+class Handle(ctypes.Structure):
+    _fields_ = [("at", ctypes.c_void_p)]
+
+
+class Block(ctypes.Structure):
+    """Bytes that the library hands out."""
+
+    _fields_ = [("at", ctypes.c_void_p), ("len", ctypes.c_size_t), ("owner", ctypes.c_void_p)]
+
+
+class Span(ctypes.Structure):
+    """Bytes that lie in the library or in a handle."""
+
+    _fields_ = [("at", ctypes.c_void_p), ("len", ctypes.c_size_t)]
+
+
+class Text(ctypes.Structure):
+    """Bytes that are handed over."""
+
+    _fields_ = [("at", ctypes.c_char_p), ("len", ctypes.c_size_t)]
+
+
+class Key(ctypes.Structure):
+    _fields_ = [("section", Text), ("has_subsection", ctypes.c_bool), ("subsection", Text), ("name", Text)]
+
+
+class Entry(ctypes.Structure):
+    _fields_ = [
+        ("section", Span), ("has_subsection", ctypes.c_bool), ("subsection", Span), ("name", Span), ("has_value", ctypes.c_bool), ("value", Span),
+    ]
+
+
+class Place(ctypes.Structure):
+    _fields_ = [("line", ctypes.c_size_t), ("column", ctypes.c_size_t), ("offset", ctypes.c_size_t)]
+
+
+# (the calls keep the interpreter's lock, so no two of them run at once: docs/c.md says why a file and its copies want that)
+CALLS = {
+    "file_parse": [ctypes.c_char_p, ctypes.c_size_t, ctypes.c_bool, ctypes.POINTER(Handle), ctypes.POINTER(Place)],
+    "file_clone": [ctypes.POINTER(Handle), ctypes.POINTER(Handle)],
+    "file_append": [ctypes.POINTER(Handle), ctypes.POINTER(Handle)],
+    "file_text": [ctypes.POINTER(Handle), ctypes.POINTER(Block)],
+    "value": [ctypes.POINTER(Handle), ctypes.POINTER(Key), ctypes.POINTER(Block)],
+    "values": [ctypes.POINTER(Handle), ctypes.POINTER(Key), ctypes.POINTER(Handle)],
+    "list_at": [ctypes.POINTER(Handle), ctypes.c_size_t, ctypes.POINTER(Span)],
+    "entries": [ctypes.POINTER(Handle), ctypes.POINTER(Handle)],
+    "list_entry": [ctypes.POINTER(Handle), ctypes.c_size_t, ctypes.POINTER(Entry)],
+    "boolean": [ctypes.POINTER(Handle), ctypes.POINTER(Key), ctypes.POINTER(ctypes.c_bool)],
+    "integer": [ctypes.POINTER(Handle), ctypes.POINTER(Key), ctypes.POINTER(ctypes.c_int64)],
+    "set_value": [
+        ctypes.POINTER(Handle), ctypes.POINTER(Key), ctypes.c_char_p, ctypes.c_size_t, ctypes.POINTER(ctypes.c_bool), ctypes.POINTER(Block),
+    ],
+    "push_value": [ctypes.POINTER(Handle), ctypes.POINTER(Key), ctypes.c_bool, ctypes.c_char_p, ctypes.c_size_t],
+    "remove_value": [ctypes.POINTER(Handle), ctypes.POINTER(Key), ctypes.POINTER(Block)],
+}
+FREEING = {"file_close": Handle, "list_close": Handle, "bytes_free": Block}
+
+
+def opened() -> ctypes.PyDLL:
+    """The library: that which GIXCFG_LIBRARY names, else the one beside this file, else the system's."""
+    beside = Path(__file__).with_name(NAME)
+    name = os.environ.get("GIXCFG_LIBRARY") or (str(beside) if beside.exists() else ctypes.util.find_library("gix_config"))
+    if name is None:
+        raise ImportError(f"gixcfg: {NAME} is not installed")
+    library = ctypes.PyDLL(name)
+    for call, given in CALLS.items():
+        function = getattr(library, f"gix_config_{call}")
+        function.argtypes, function.restype = given, ctypes.c_uint32
+    for call, kind in FREEING.items():
+        function = getattr(library, f"gix_config_{call}")
+        function.argtypes, function.restype = [ctypes.POINTER(kind)], None
+    library.gix_config_list_len.argtypes = [ctypes.POINTER(Handle)]
+    library.gix_config_list_len.restype = ctypes.c_size_t
+    library.gix_config_refusal_text.argtypes = [ctypes.c_uint32, ctypes.POINTER(Span)]
+    library.gix_config_refusal_text.restype = None
+    return library
+
+
+LIBRARY = opened()
+
+
+def bytes_at(found: ctypes.Structure) -> bytes:
+    """A copy of the bytes of a block or a span."""
+    return ctypes.string_at(found.at, found.len) if found.len else b""
+
+
+def words_of(number: int) -> str:
+    """What the number of a refusal says."""
+    words = Span()
+    LIBRARY.gix_config_refusal_text(number, words)
+    return bytes_at(words).decode()

@@ -1,0 +1,72 @@
+"""Edits: what they change, and what stays."""
+import unittest
+from typing import List, Tuple
+
+from gixcfg import Config, Key, KeyNotFound, Refused
+
+
+class Edits(unittest.TestCase):
+    def test_set_keeps_all_else(self) -> None:
+        config = Config.parse("# mine\n[core]\n  editor = vi ; was ed\n\n[user]\n\tname = A\n")
+        self.assertEqual(config.set("core.editor", "emacs -nw"), "vi")
+        self.assertEqual(config.text, "# mine\n[core]\n  editor = emacs -nw ; was ed\n\n[user]\n\tname = A\n")
+
+    def test_set_makes_entry_and_section(self) -> None:
+        config = Config()
+        self.assertIsNone(config.set(("remote", "origin", "url"), "u"))
+        config["remote", "origin", "fetch"] = " x"
+        self.assertEqual(config["remote.origin.url"], "u")
+        self.assertEqual(config["remote.origin.fetch"], " x")
+        self.assertEqual(Config.parse(config.text)["remote.origin.fetch"], " x")
+
+    def test_values_are_read_back(self) -> None:
+        for value in ("", " a ", "a;b#c", 'quote " and \\ backslash', "tab\there", "two\nlines", "é\udcff"):
+            config = Config()
+            config["a.k"] = value
+            self.assertEqual(config["a.k"], value)
+            self.assertEqual(Config.parse(bytes(config))["a.k"], value)
+
+    def test_names_that_cannot_be_written(self) -> None:
+        refused: List[Tuple[Key, int]] = [(("a", "na_me"), 6), (("a b", "name"), 4), (("a", "b\nc", "name"), 5), (("a", "k\udcff"), 101)]
+        for key, number in refused:
+            config = Config.parse("[x]\n")
+            with self.assertRaises(Refused) as caught:
+                config.set(key, "v")
+            self.assertEqual(caught.exception.number, number)
+            self.assertEqual(config.text, "[x]\n")
+
+    def test_add(self) -> None:
+        config = Config.parse("[a]\n\tk = 1\n")
+        config.add("a.k", "2")
+        config.add("a.flag")
+        self.assertEqual(config.text, "[a]\n\tk = 1\n\tk = 2\n\tflag\n")
+        self.assertEqual(config.get_all("a.k"), ["1", "2"])
+        self.assertIs(config.get_bool("a.flag"), True)
+        self.assertRaises(KeyNotFound, config.add, "b.k", "1")
+
+    def test_remove(self) -> None:
+        config = Config.parse("[a]\n\tk = 1\n\tk = 2\n")
+        del config["a.k"]
+        self.assertEqual(config.text, "[a]\n\tk = 1\n")
+        del config["a", "k"]
+        with self.assertRaises(KeyNotFound):
+            del config["a.k"]
+        with self.assertRaises(KeyNotFound):
+            del config["b.k"]
+
+    def test_append(self) -> None:
+        config = Config.parse("[a]\n\tk = 1\n")
+        config.append(Config.parse("# more\n[a]\n\tk = 2\n"))
+        self.assertEqual(config.text, "[a]\n\tk = 1\n# more\n[a]\n\tk = 2\n")
+        config.append(config)
+        self.assertEqual(config.get_all("a.k"), ["1", "2", "1", "2"])
+
+    def test_copies_are_apart(self) -> None:
+        config = Config.parse("[a]\n\tk = 1\n")
+        other = config.copy()
+        other["a.k"] = "2"
+        self.assertEqual((config["a.k"], other["a.k"]), ("1", "2"))
+
+
+if __name__ == "__main__":
+    unittest.main()

@@ -1,0 +1,130 @@
+"""Files that are read, and what is found in them."""
+import tempfile
+import unittest
+from pathlib import Path
+
+import gixcfg
+from gixcfg import Config, KeyNotFound, NotOfType, ParseError, Refused
+
+TEXT = '''# mine
+[core]
+\teditor = vi ; was ed
+\tbare
+\tsize = 2k
+\tname = "a \\"b\\" " c
+[remote "or.igin"]
+\turl = one
+\tURL = two
+'''
+
+
+class Values(unittest.TestCase):
+    def setUp(self) -> None:
+        self.config = Config.parse(TEXT)
+
+    def test_value_without_comment_quotes_and_escapes(self) -> None:
+        self.assertEqual(self.config["core", "editor"], "vi")
+        self.assertEqual(self.config["core", "name"], 'a "b"  c')
+
+    def test_last_value_is_found(self) -> None:
+        self.assertEqual(self.config["remote", "or.igin", "url"], "two")
+
+    def test_section_and_name_have_no_case_and_subsection_has(self) -> None:
+        self.assertEqual(self.config["REMOTE", "or.igin", "Url"], "two")
+        self.assertIsNone(self.config.get(("remote", "Or.igin", "url")))
+
+    def test_key_as_text(self) -> None:
+        self.assertEqual(self.config["remote.or.igin.url"], "two")
+        self.assertEqual(self.config["core.editor"], "vi")
+        self.assertRaises(ValueError, self.config.get, "core")
+
+    def test_all_values_in_order(self) -> None:
+        self.assertEqual(self.config.get_all("remote.or.igin.url"), ["one", "two"])
+        self.assertEqual(self.config.get_all("core.bare"), [""])
+        self.assertEqual(self.config.get_all("core.none"), [])
+
+    def test_what_is_missing(self) -> None:
+        for key, number in (("none.x", 7), ("remote.x.url", 8), ("core.none", 9)):
+            with self.assertRaises(KeyNotFound) as caught:
+                self.config[key]
+            self.assertEqual(caught.exception.number, number)
+            self.assertIn(key, str(caught.exception))
+            self.assertIsInstance(caught.exception, KeyError)
+        self.assertEqual(self.config.get("core.none", "nano"), "nano")
+        self.assertNotIn("core.none", self.config)
+        self.assertIn("core.editor", self.config)
+
+    def test_booleans(self) -> None:
+        config = Config.parse("[a]\nyes = Yes\non = on\none = 1\nbare\nno = no\noff = OFF\nzero = 0\nempty =\nmaybe = maybe\n")
+        for name in ("yes", "on", "one", "bare"):
+            self.assertIs(config.get_bool(("a", name)), True, name)
+        for name in ("no", "off", "zero", "empty"):
+            self.assertIs(config.get_bool(("a", name)), False, name)
+        self.assertIs(config.get_bool("a.none"), None)
+        self.assertIs(config.get_bool("a.none", True), True)
+        with self.assertRaises(NotOfType) as caught:
+            config.get_bool("a.maybe")
+        self.assertEqual(caught.exception.number, 11)
+
+    def test_integers(self) -> None:
+        config = Config.parse("[a]\nk = 2k\nm = -3m\nbig = 9223372036854775807\nlarge = 9223372036854775808\nword = two\n")
+        self.assertEqual(config.get_int("a.k"), 2048)
+        self.assertEqual(config.get_int("a.m"), -3145728)
+        self.assertEqual(config.get_int("a.big"), 2**63 - 1)
+        self.assertEqual(config.get_int("a.none", 5), 5)
+        self.assertRaises(NotOfType, config.get_int, "a.large")
+        self.assertRaises(NotOfType, config.get_int, "a.word")
+
+    def test_entries(self) -> None:
+        self.assertEqual(
+            list(Config.parse('[A "X"]\nK = 1\nbare\n[b]\n[c]\nk =\n')),
+            [("a", "X", "k", "1"), ("a", "X", "bare", None), ("c", None, "k", "")],
+        )
+
+
+class Texts(unittest.TestCase):
+    def test_text_comes_back_byte_for_byte(self) -> None:
+        for text in (b"", b"\n", TEXT.encode(), b"[a]\r\n  k=v\r\n", b"[a]\nk = \xff\xfe # \x80\n", b"; c\n[a \"b\"]\n\tk\n"):
+            config = Config.parse(text)
+            self.assertEqual(bytes(config), text)
+            self.assertEqual(config.text.encode("utf-8", "surrogateescape"), text)
+
+    def test_missing_line_endings_are_put_in(self) -> None:
+        self.assertEqual(Config.parse("[a] k = v").text, "[a]\n k = v\n")
+        self.assertEqual(bytes(Config.parse(b"\xef\xbb\xbf[a]\n\tk\n")), b"[a]\n\tk\n")
+
+    def test_bytes_that_are_no_text_are_kept(self) -> None:
+        config = Config.parse(b"[a \"\xff\"]\nk = \xfe\n")
+        self.assertEqual(config["a", "\udcff", "k"], "\udcfe")
+        with self.assertRaises(Refused) as caught:
+            config["a\udcff", "k"]
+        self.assertEqual(caught.exception.number, 101)
+
+    def test_place_of_a_refused_text(self) -> None:
+        with self.assertRaises(ParseError) as caught:
+            Config.parse("[a]\n\tk = v\n= 1\n")
+        error = caught.exception
+        self.assertEqual((error.number, error.line, error.column, error.offset), (1, 3, 1, 11))
+        self.assertEqual(str(error), f"3:1: {error.reason}")
+        self.assertIsInstance(error, gixcfg.ConfigError)
+
+    def test_files(self) -> None:
+        with tempfile.TemporaryDirectory() as folder:
+            path = Path(folder) / "config"
+            self.assertRaises(FileNotFoundError, Config.load, path)
+            path.write_text(TEXT)
+            self.assertEqual(Config.load(path)["core.editor"], "vi")
+            path.write_text("[a\n")
+            with self.assertRaises(ParseError) as caught:
+                Config.load(path)
+            self.assertEqual(caught.exception.path, str(path))
+            self.assertTrue(str(caught.exception).startswith(f"{path}:1:"))
+
+    def test_many_files_are_freed(self) -> None:
+        for _ in range(1000):
+            config = Config.parse(TEXT)
+            self.assertEqual(config.get_all("core.editor"), ["vi"])
+
+
+if __name__ == "__main__":
+    unittest.main()

@@ -1,0 +1,97 @@
+"""Files that are saved."""
+import os
+import shutil
+import stat
+import subprocess
+import tempfile
+import unittest
+from pathlib import Path
+from unittest import mock
+
+from gixcfg import Config, Locked
+
+TEXT = "[core]\n\teditor = vi ; was ed\n"
+
+
+class Saving(unittest.TestCase):
+    def setUp(self) -> None:
+        folder = tempfile.TemporaryDirectory()
+        self.addCleanup(folder.cleanup)
+        self.folder = Path(folder.name).resolve()
+        self.path = self.folder / "config"
+        self.path.write_text(TEXT)
+
+    def names(self) -> "list[str]":
+        return sorted(os.listdir(self.folder))
+
+    def test_save_writes_what_was_loaded(self) -> None:
+        os.chmod(self.path, 0o640)
+        config = Config.load(self.path)
+        config["core.editor"] = "ed"
+        config.save()
+        self.assertEqual(self.path.read_text(), "[core]\n\teditor = ed ; was ed\n")
+        self.assertEqual(stat.S_IMODE(self.path.stat().st_mode), 0o640)
+        self.assertEqual(self.names(), ["config"])
+
+    def test_save_elsewhere(self) -> None:
+        Config.load(self.path).save(self.folder / "other")
+        self.assertEqual((self.folder / "other").read_text(), TEXT)
+        self.assertRaises(ValueError, Config.parse(TEXT).save)
+
+    def test_git_reads_it(self) -> None:
+        if shutil.which("git") is None:
+            self.skipTest("git isn't installed")
+        with Config.editing(self.path) as config:
+            config["remote", 'a "b" \\', "url"] = ' x;y "z" '
+        said = subprocess.run(["git", "config", "-f", self.path, 'remote.a "b" \\.url'], stdout=subprocess.PIPE, check=True, text=True).stdout
+        self.assertEqual(said, ' x;y "z" \n')
+
+    def test_links_stay(self) -> None:
+        link = self.folder / "link"
+        link.symlink_to("config")
+        with Config.editing(link) as config:
+            self.assertEqual(self.names(), ["config", "config.lock", "link"])
+            config["core.editor"] = "ed"
+        self.assertTrue(link.is_symlink())
+        self.assertEqual(Config.load(self.path)["core.editor"], "ed")
+
+    def test_lock_of_another_program(self) -> None:
+        lock = self.folder / "config.lock"
+        lock.write_text("theirs")
+        config = Config.load(self.path)
+        config["core.editor"] = "ed"
+        self.assertRaises(Locked, config.save)
+        with self.assertRaises(FileExistsError):
+            with Config.editing(self.path):
+                self.fail("the lock is theirs")
+        self.assertEqual((self.path.read_text(), lock.read_text()), (TEXT, "theirs"))
+
+    def test_lock_stands_while_it_is_edited(self) -> None:
+        with Config.editing(self.path) as config:
+            self.assertEqual(self.names(), ["config", "config.lock"])
+            self.assertRaises(Locked, config.save, self.path)
+        self.assertEqual((self.names(), self.path.read_text()), (["config"], TEXT))
+
+    def test_exception_saves_nothing(self) -> None:
+        with self.assertRaises(RuntimeError):
+            with Config.editing(self.path) as config:
+                config["core.editor"] = "ed"
+                raise RuntimeError
+        self.assertEqual((self.names(), self.path.read_text()), (["config"], TEXT))
+
+    def test_file_that_is_not_there_yet(self) -> None:
+        with Config.editing(self.folder / "new") as config:
+            config["a.k"] = "v"
+        self.assertEqual(Config.load(self.folder / "new")["a.k"], "v")
+
+    def test_failing_disk_leaves_the_file(self) -> None:
+        config = Config.load(self.path)
+        config["core.editor"] = "ed"
+        for call in ("fsync", "rename", "fchmod"):
+            with mock.patch(f"os.{call}", side_effect=OSError(28, "No space left on device")):
+                self.assertRaises(OSError, config.save)
+            self.assertEqual((self.names(), self.path.read_text()), (["config"], TEXT))
+
+
+if __name__ == "__main__":
+    unittest.main()

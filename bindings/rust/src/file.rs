@@ -1,0 +1,424 @@
+//! A file of configuration.
+use std::cell::UnsafeCell;
+use std::fmt;
+use std::io;
+use std::str::FromStr;
+
+use bstr::{BStr, BString, ByteSlice};
+
+use crate::key::{AsKey, KeyRef};
+use crate::refusal::{out_of_memory, words, DONE, NOTHING_THERE, OUT_OF_MEMORY};
+use crate::sys;
+use crate::{lookup, parse, value};
+
+/// Values that are set.
+pub mod set_raw_value {
+    /// Why a value isn't set: a name can't be written, or the file would be too long.
+    #[derive(Clone, Copy, Debug, PartialEq, Eq, thiserror::Error)]
+    #[error("{}", crate::refusal::words(*number))]
+    pub struct Error {
+        /// The number of the refusal in docs/refusals.md.
+        pub number: u32,
+    }
+}
+
+/// Sections that are renamed.
+pub mod rename_section {
+    /// Why a section isn't renamed: there is none, a name can't be written, or the file would be too long.
+    #[derive(Clone, Copy, Debug, PartialEq, Eq, thiserror::Error)]
+    #[error("{}", crate::refusal::words(*number))]
+    pub struct Error {
+        /// The number of the refusal in docs/refusals.md.
+        pub number: u32,
+    }
+}
+
+/// A file of configuration: a text whose values are found by their keys. An edit changes what it names, and nothing else.
+///
+/// It stays on its thread.
+pub struct File {
+    // (a call has the handle for itself, also one that only reads)
+    handle: UnsafeCell<sys::Handle>,
+}
+
+/// The names as the library takes them.
+fn names<'a>(section: &'a str, subsection: Option<&'a BStr>, name: &'a str) -> sys::Key<'a> {
+    sys::Key {
+        section: sys::Text::of(section.as_bytes()),
+        has_subsection: subsection.is_some(),
+        subsection: sys::Text::of(subsection.unwrap_or_default()),
+        name: sys::Text::of(name.as_bytes()),
+    }
+}
+
+fn section_names<'a>(name: &'a str, subsection: Option<&'a BStr>) -> sys::Section<'a> {
+    sys::Section {
+        name: sys::Text::of(name.as_bytes()),
+        has_subsection: subsection.is_some(),
+        subsection: sys::Text::of(subsection.unwrap_or_default()),
+    }
+}
+
+/// What the number of a lookup says.
+fn found(number: u32) -> Result<(), lookup::existing::Error> {
+    match number {
+        DONE => Ok(()),
+        7 => Err(lookup::existing::Error::SectionMissing),
+        8 => Err(lookup::existing::Error::SubSectionMissing),
+        9 => Err(lookup::existing::Error::KeyMissing),
+        _ => out_of_memory(),
+    }
+}
+
+impl File {
+    fn handle(&self) -> *mut sys::Handle {
+        self.handle.get()
+    }
+
+    fn parsed(text: &[u8]) -> Result<File, parse::Error> {
+        let file = File {
+            handle: UnsafeCell::new(sys::Handle::empty()),
+        };
+        let mut place = sys::Place::default();
+        // SAFETY: the text is as long as is said, and the handle is a new one.
+        match unsafe {
+            sys::gix_config_file_parse(text.as_ptr(), text.len(), false, file.handle(), &mut place)
+        } {
+            DONE => Ok(file),
+            OUT_OF_MEMORY => out_of_memory(),
+            number => Err(parse::Error {
+                line: place.line,
+                column: place.column,
+                reason: words(number),
+            }),
+        }
+    }
+
+    /// What the last value of a key means, or what is missing.
+    ///
+    /// # Errors
+    ///
+    /// There is no such section, subsection or value; or the key is none.
+    pub fn raw_value(&self, key: impl AsKey) -> Result<BString, lookup::existing::Error> {
+        let key = key
+            .try_as_key()
+            .ok_or(lookup::existing::Error::KeyMissing)?;
+        self.raw_value_by(key.section_name, key.subsection_name, key.value_name)
+    }
+
+    /// As [`File::raw_value`], by names.
+    ///
+    /// # Errors
+    ///
+    /// Those of [`File::raw_value`].
+    pub fn raw_value_by(
+        &self,
+        section_name: impl AsRef<str>,
+        subsection_name: Option<&BStr>,
+        value_name: impl AsRef<str>,
+    ) -> Result<BString, lookup::existing::Error> {
+        let mut block = sys::Block::empty();
+        let key = names(section_name.as_ref(), subsection_name, value_name.as_ref());
+        // SAFETY: the handle has a file, which no other call has now.
+        found(unsafe { sys::gix_config_value(self.handle(), &key, &mut block) })?;
+        Ok(block.bytes().into())
+    }
+
+    /// What all values of a key mean, one or more, in the file's order.
+    ///
+    /// # Errors
+    ///
+    /// Those of [`File::raw_value`].
+    pub fn raw_values(&self, key: impl AsKey) -> Result<Vec<BString>, lookup::existing::Error> {
+        let key = key
+            .try_as_key()
+            .ok_or(lookup::existing::Error::KeyMissing)?;
+        self.raw_values_by(key.section_name, key.subsection_name, key.value_name)
+    }
+
+    /// As [`File::raw_values`], by names.
+    ///
+    /// # Errors
+    ///
+    /// Those of [`File::raw_value`].
+    pub fn raw_values_by(
+        &self,
+        section_name: impl AsRef<str>,
+        subsection_name: Option<&BStr>,
+        value_name: impl AsRef<str>,
+    ) -> Result<Vec<BString>, lookup::existing::Error> {
+        let mut list = sys::List::empty();
+        let key = names(section_name.as_ref(), subsection_name, value_name.as_ref());
+        // SAFETY: the handle has a file, which no other call has now.
+        found(unsafe { sys::gix_config_values(self.handle(), &key, list.handle()) })?;
+        Ok(list.texts())
+    }
+
+    /// What the last value of a key means, if there is one.
+    #[must_use]
+    pub fn string(&self, key: impl AsKey) -> Option<BString> {
+        self.raw_value(key).ok()
+    }
+
+    /// As [`File::string`], by names.
+    #[must_use]
+    pub fn string_by(
+        &self,
+        section_name: impl AsRef<str>,
+        subsection_name: Option<&BStr>,
+        value_name: impl AsRef<str>,
+    ) -> Option<BString> {
+        self.raw_value_by(section_name, subsection_name, value_name)
+            .ok()
+    }
+
+    /// What all values of a key mean, in the file's order, if there are some.
+    #[must_use]
+    pub fn strings(&self, key: impl AsKey) -> Option<Vec<BString>> {
+        self.raw_values(key).ok()
+    }
+
+    /// As [`File::strings`], by names.
+    #[must_use]
+    pub fn strings_by(
+        &self,
+        section_name: impl AsRef<str>,
+        subsection_name: Option<&BStr>,
+        value_name: impl AsRef<str>,
+    ) -> Option<Vec<BString>> {
+        self.raw_values_by(section_name, subsection_name, value_name)
+            .ok()
+    }
+
+    /// The last value of a key in a type, by a call of the library.
+    fn typed<T: Default>(
+        &self,
+        key: KeyRef<'_>,
+        message: &'static str,
+        call: unsafe extern "C" fn(*mut sys::Handle, *const sys::Key<'_>, *mut T) -> u32,
+    ) -> Option<Result<T, value::Error>> {
+        let mut found = T::default();
+        let names = names(key.section_name, key.subsection_name, key.value_name);
+        // SAFETY: the handle has a file, which no other call has now.
+        match unsafe { call(self.handle(), &names, &mut found) } {
+            DONE => Some(Ok(found)),
+            NOTHING_THERE => None,
+            OUT_OF_MEMORY => out_of_memory(),
+            _ => {
+                let input = self.string(key).unwrap_or_default();
+                Some(Err(value::Error { message, input }))
+            }
+        }
+    }
+
+    /// The last value of a key as a boolean, if there is one: true for an entry without `=`.
+    ///
+    /// # Errors
+    ///
+    /// The value is no boolean.
+    #[must_use]
+    pub fn boolean(&self, key: impl AsKey) -> Option<Result<bool, value::Error>> {
+        self.typed(key.try_as_key()?, "not a boolean", sys::gix_config_boolean)
+    }
+
+    /// As [`File::boolean`], by names.
+    ///
+    /// # Errors
+    ///
+    /// The value is no boolean.
+    #[must_use]
+    pub fn boolean_by(
+        &self,
+        section_name: impl AsRef<str>,
+        subsection_name: Option<&BStr>,
+        value_name: impl AsRef<str>,
+    ) -> Option<Result<bool, value::Error>> {
+        let (section_name, value_name) = (section_name.as_ref(), value_name.as_ref());
+        self.boolean(KeyRef {
+            section_name,
+            subsection_name,
+            value_name,
+        })
+    }
+
+    /// The last value of a key as an integer, times its suffix, if there is one.
+    ///
+    /// # Errors
+    ///
+    /// The value is no integer of 64 bits.
+    #[must_use]
+    pub fn integer(&self, key: impl AsKey) -> Option<Result<i64, value::Error>> {
+        self.typed(key.try_as_key()?, "not an integer", sys::gix_config_integer)
+    }
+
+    /// As [`File::integer`], by names.
+    ///
+    /// # Errors
+    ///
+    /// The value is no integer of 64 bits.
+    #[must_use]
+    pub fn integer_by(
+        &self,
+        section_name: impl AsRef<str>,
+        subsection_name: Option<&BStr>,
+        value_name: impl AsRef<str>,
+    ) -> Option<Result<i64, value::Error>> {
+        let (section_name, value_name) = (section_name.as_ref(), value_name.as_ref());
+        self.integer(KeyRef {
+            section_name,
+            subsection_name,
+            value_name,
+        })
+    }
+
+    /// Gives a key a value: in the last section of its names, whose last entry of the name gets it; entry and section are made if there are
+    /// none. Returns the raw text of the value that was there, if there was an entry.
+    ///
+    /// # Errors
+    ///
+    /// A name can't be written, or the file would be too long. The file is then as it was.
+    pub fn set_raw_value_by<'b>(
+        &mut self,
+        section_name: impl AsRef<str>,
+        subsection_name: Option<&BStr>,
+        value_name: impl AsRef<str>,
+        new_value: impl Into<&'b BStr>,
+    ) -> Result<Option<BString>, set_raw_value::Error> {
+        let (mut had, mut old, new_value) = (false, sys::Block::empty(), new_value.into());
+        let key = names(section_name.as_ref(), subsection_name, value_name.as_ref());
+        // SAFETY: the handle has a file, and the value is as long as is said.
+        match unsafe {
+            sys::gix_config_set_value(
+                self.handle(),
+                &key,
+                new_value.as_ptr(),
+                new_value.len(),
+                &mut had,
+                &mut old,
+            )
+        } {
+            DONE => Ok(had.then(|| old.bytes().into())),
+            OUT_OF_MEMORY => out_of_memory(),
+            number => Err(set_raw_value::Error { number }),
+        }
+    }
+
+    /// Gives all sections that have the name and the subsection another name and subsection.
+    ///
+    /// # Errors
+    ///
+    /// There is no such section, a name can't be written, or the file would be too long. The file is then as it was.
+    pub fn rename_section<'a>(
+        &mut self,
+        name: impl AsRef<str>,
+        subsection_name: impl Into<Option<&'a BStr>>,
+        new_name: impl AsRef<str>,
+        new_subsection_name: impl Into<Option<&'a BStr>>,
+    ) -> Result<(), rename_section::Error> {
+        let section = section_names(name.as_ref(), subsection_name.into());
+        let new_section = section_names(new_name.as_ref(), new_subsection_name.into());
+        // SAFETY: the handle has a file.
+        match unsafe { sys::gix_config_section_rename(self.handle(), &section, &new_section) } {
+            DONE => Ok(()),
+            OUT_OF_MEMORY => out_of_memory(),
+            number => Err(rename_section::Error { number }),
+        }
+    }
+
+    /// Adds the sections of another file after all others.
+    ///
+    /// # Panics
+    ///
+    /// If the file would have more than 4294967295 bytes, or as many sections.
+    pub fn append(&mut self, other: File) -> &mut File {
+        // SAFETY: both handles have files, and they are two.
+        match unsafe { sys::gix_config_file_append(self.handle(), other.handle()) } {
+            DONE => self,
+            OUT_OF_MEMORY => out_of_memory(),
+            number => panic!("{}", words(number)),
+        }
+    }
+
+    /// The text as it was read, but for what was edited: without a byte order mark, and with missing line endings put in.
+    fn text(&self) -> sys::Block {
+        let mut block = sys::Block::empty();
+        // SAFETY: the handle has a file, which no other call has now.
+        match unsafe { sys::gix_config_file_text(self.handle(), &mut block) } {
+            DONE => block,
+            _ => out_of_memory(),
+        }
+    }
+
+    /// The text of the file as it was read, but for what was edited: without a byte order mark, and with missing line endings put in.
+    #[must_use]
+    pub fn to_bstring(&self) -> BString {
+        self.text().bytes().into()
+    }
+
+    /// Writes the text of the file.
+    ///
+    /// # Errors
+    ///
+    /// Those of the writer.
+    pub fn write_to(&self, mut out: impl io::Write) -> io::Result<()> {
+        out.write_all(self.text().bytes())
+    }
+}
+
+impl Drop for File {
+    fn drop(&mut self) {
+        // SAFETY: the handle is empty or has a file.
+        unsafe { sys::gix_config_file_close(self.handle()) }
+    }
+}
+
+impl Clone for File {
+    fn clone(&self) -> File {
+        let copy = File {
+            handle: UnsafeCell::new(sys::Handle::empty()),
+        };
+        // SAFETY: the handle has a file, and the other is a new one.
+        match unsafe { sys::gix_config_file_clone(self.handle(), copy.handle()) } {
+            DONE => copy,
+            _ => out_of_memory(),
+        }
+    }
+}
+
+impl fmt::Display for File {
+    fn fmt(&self, f: &mut fmt::Formatter<'_>) -> fmt::Result {
+        fmt::Display::fmt(self.text().bytes().as_bstr(), f)
+    }
+}
+
+impl fmt::Debug for File {
+    fn fmt(&self, f: &mut fmt::Formatter<'_>) -> fmt::Result {
+        f.debug_tuple("File")
+            .field(&self.text().bytes().as_bstr())
+            .finish()
+    }
+}
+
+impl FromStr for File {
+    type Err = parse::Error;
+
+    fn from_str(text: &str) -> Result<File, parse::Error> {
+        File::parsed(text.as_bytes())
+    }
+}
+
+impl TryFrom<&str> for File {
+    type Error = parse::Error;
+
+    fn try_from(text: &str) -> Result<File, parse::Error> {
+        File::parsed(text.as_bytes())
+    }
+}
+
+impl TryFrom<&BStr> for File {
+    type Error = parse::Error;
+
+    fn try_from(text: &BStr) -> Result<File, parse::Error> {
+        File::parsed(text)
+    }
+}

@@ -1,0 +1,25 @@
+//! git's configuration files: read, looked up, edited and written, by the names of the crate gix-config.
+//!
+//! The work is done by a library whose calls are proved (docs/c.md); this crate has its types. Where the library is out of memory and
+//! gix-config's signature has no such error, [`std::alloc::handle_alloc_error`] is called, as Rust's own collections do.
+//!
+//! ```
+//! use bstr::ByteSlice;
+//! let mut file = gix_config::File::try_from("[core]\n\teditor = vi ; was ed\n")?;
+//! assert_eq!(file.string("core.editor"), Some("vi".into()));
+//! file.set_raw_value_by("core", None, "editor", "emacs")?;
+//! assert_eq!(file.to_string(), "[core]\n\teditor = emacs ; was ed\n");
+//! # Ok::<(), Box<dyn std::error::Error>>(())
+//! ```
+#![warn(missing_docs)]
+
+pub mod file;
+mod key;
+pub mod lookup;
+pub mod parse;
+mod refusal;
+mod sys;
+pub mod value;
+
+pub use file::File;
+pub use key::{AsKey, KeyRef};

@@ -1,0 +1,197 @@
+//! The calls of the library, as include/gix_config.h has them.
+use std::ffi::c_void;
+use std::marker::PhantomData;
+
+use bstr::BString;
+
+/// Bytes that lie somewhere.
+#[repr(C)]
+#[derive(Clone, Copy)]
+pub(crate) struct Text<'a> {
+    at: *const u8,
+    len: usize,
+    bytes: PhantomData<&'a [u8]>,
+}
+
+impl<'a> Text<'a> {
+    pub(crate) fn of(bytes: &'a [u8]) -> Self {
+        Text {
+            at: bytes.as_ptr(),
+            len: bytes.len(),
+            bytes: PhantomData,
+        }
+    }
+
+    /// The bytes.
+    ///
+    /// # Safety
+    ///
+    /// They lie there, for as long as `'a` says.
+    pub(crate) unsafe fn bytes(&self) -> &'a [u8] {
+        if self.len == 0 {
+            return &[];
+        }
+        std::slice::from_raw_parts(self.at, self.len)
+    }
+}
+
+/// The names of a value.
+#[repr(C)]
+pub(crate) struct Key<'a> {
+    pub(crate) section: Text<'a>,
+    pub(crate) has_subsection: bool,
+    pub(crate) subsection: Text<'a>,
+    pub(crate) name: Text<'a>,
+}
+
+/// The names of a section.
+#[repr(C)]
+pub(crate) struct Section<'a> {
+    pub(crate) name: Text<'a>,
+    pub(crate) has_subsection: bool,
+    pub(crate) subsection: Text<'a>,
+}
+
+/// Where a text is refused.
+#[repr(C)]
+#[derive(Default)]
+pub(crate) struct Place {
+    pub(crate) line: usize,
+    pub(crate) column: usize,
+    pub(crate) offset: usize,
+}
+
+/// Null, or the one owner of an object.
+#[repr(C)]
+pub(crate) struct Handle(*mut c_void);
+
+impl Handle {
+    pub(crate) const fn empty() -> Self {
+        Handle(std::ptr::null_mut())
+    }
+}
+
+/// Bytes that a call hands out, which are freed with this.
+#[repr(C)]
+pub(crate) struct Block {
+    at: *const u8,
+    len: usize,
+    owner: Handle,
+}
+
+impl Block {
+    pub(crate) const fn empty() -> Self {
+        Block {
+            at: std::ptr::null(),
+            len: 0,
+            owner: Handle::empty(),
+        }
+    }
+
+    pub(crate) fn bytes(&self) -> &[u8] {
+        // SAFETY: the block owns these bytes, or has none.
+        unsafe {
+            Text {
+                at: self.at,
+                len: self.len,
+                bytes: PhantomData,
+            }
+            .bytes()
+        }
+    }
+}
+
+impl Drop for Block {
+    fn drop(&mut self) {
+        // SAFETY: the block is empty, or was filled by a call.
+        unsafe { gix_config_bytes_free(self) }
+    }
+}
+
+/// Texts that a call hands out, which are freed with this.
+pub(crate) struct List(Handle);
+
+impl List {
+    pub(crate) const fn empty() -> Self {
+        List(Handle::empty())
+    }
+
+    pub(crate) fn handle(&mut self) -> &mut Handle {
+        &mut self.0
+    }
+
+    /// Copies of the texts.
+    pub(crate) fn texts(&mut self) -> Vec<BString> {
+        // SAFETY: the handle is empty or has a list, and a text lies in it until it is closed.
+        unsafe {
+            let count = gix_config_list_len(&mut self.0);
+            let mut texts = Vec::with_capacity(count);
+            for index in 0..count {
+                let mut text = Text::of(b"");
+                gix_config_list_at(&mut self.0, index, &mut text);
+                texts.push(text.bytes().into());
+            }
+            texts
+        }
+    }
+}
+
+impl Drop for List {
+    fn drop(&mut self) {
+        // SAFETY: the handle is empty, or was filled by a call.
+        unsafe { gix_config_list_close(&mut self.0) }
+    }
+}
+
+extern "C" {
+    pub(crate) fn gix_config_refusal_text(number: u32, text: *mut Text<'static>);
+    fn gix_config_bytes_free(bytes: *mut Block);
+    fn gix_config_list_len(list: *mut Handle) -> usize;
+    fn gix_config_list_at(list: *mut Handle, index: usize, text: *mut Text<'_>) -> u32;
+    fn gix_config_list_close(list: *mut Handle);
+
+    pub(crate) fn gix_config_file_parse(
+        text: *const u8,
+        len: usize,
+        lossy: bool,
+        file: *mut Handle,
+        place: *mut Place,
+    ) -> u32;
+    pub(crate) fn gix_config_file_close(file: *mut Handle);
+    pub(crate) fn gix_config_file_clone(file: *mut Handle, other_file: *mut Handle) -> u32;
+    pub(crate) fn gix_config_file_append(file: *mut Handle, other_file: *mut Handle) -> u32;
+    pub(crate) fn gix_config_file_text(file: *mut Handle, text: *mut Block) -> u32;
+    pub(crate) fn gix_config_value(
+        file: *mut Handle,
+        key: *const Key<'_>,
+        value: *mut Block,
+    ) -> u32;
+    pub(crate) fn gix_config_values(
+        file: *mut Handle,
+        key: *const Key<'_>,
+        list: *mut Handle,
+    ) -> u32;
+    pub(crate) fn gix_config_boolean(
+        file: *mut Handle,
+        key: *const Key<'_>,
+        value: *mut bool,
+    ) -> u32;
+    pub(crate) fn gix_config_integer(
+        file: *mut Handle,
+        key: *const Key<'_>,
+        value: *mut i64,
+    ) -> u32;
+    pub(crate) fn gix_config_set_value(
+        file: *mut Handle,
+        key: *const Key<'_>,
+        value: *const u8,
+        len: usize,
+        had: *mut bool,
+        old: *mut Block,
+    ) -> u32;
+    pub(crate) fn gix_config_section_rename(
+        file: *mut Handle,
+        section: *const Section<'_>,
+        new_section: *const Section<'_>,
+    ) -> u32;
+}

@@ -1,0 +1,119 @@
+//! The calls, as they are meant to be called.
+use bstr::{BStr, BString, ByteSlice};
+use gix_config::{lookup, File, KeyRef};
+
+const TEXT: &str = "# mine\n[core]\n\teditor = vi ; was ed\n\tbare\n\tn = 2k\n[remote \"or.igin\"]\n\turl = \"a b\" c\n\turl = d\n";
+
+fn file() -> File {
+    File::try_from(TEXT).expect("a text of configuration")
+}
+
+fn texts(words: &[&str]) -> Vec<BString> {
+    words.iter().map(|it| BString::from(*it)).collect()
+}
+
+#[test]
+fn values() {
+    let file = file();
+    assert_eq!(file.raw_value("core.editor"), Ok("vi".into()));
+    assert_eq!(
+        file.string_by("REMOTE", Some("or.igin".into()), "Url"),
+        Some("d".into())
+    );
+    assert_eq!(
+        file.strings("remote.or.igin.url"),
+        Some(texts(&["a b c", "d"]))
+    );
+    assert_eq!(
+        file.raw_value("nope.x"),
+        Err(lookup::existing::Error::SectionMissing)
+    );
+    assert_eq!(
+        file.raw_value("remote.x.url"),
+        Err(lookup::existing::Error::SubSectionMissing)
+    );
+    assert_eq!(
+        file.raw_values("core.x"),
+        Err(lookup::existing::Error::KeyMissing)
+    );
+    assert_eq!(file.string("core"), None);
+}
+
+#[test]
+fn typed_values() {
+    let file = file();
+    assert_eq!(file.boolean("core.bare"), Some(Ok(true)));
+    assert_eq!(file.integer_by("core", None, "n"), Some(Ok(2048)));
+    assert_eq!(file.boolean("core.none"), None);
+    let refused = file
+        .boolean("core.editor")
+        .expect("a value")
+        .expect_err("which is no boolean");
+    assert_eq!(
+        (refused.message, refused.input),
+        ("not a boolean", "vi".into())
+    );
+    assert!(file.integer("core.editor").expect("a value").is_err());
+}
+
+#[test]
+fn keys() {
+    let key = KeyRef::parse_unvalidated("remote.or.igin.url".into());
+    let names = KeyRef {
+        section_name: "remote",
+        subsection_name: Some("or.igin".into()),
+        value_name: "url",
+    };
+    assert_eq!(key, Some(names));
+    assert_eq!(
+        KeyRef::parse_unvalidated("core.".into()).map(|it| it.subsection_name),
+        Some(None)
+    );
+    assert_eq!(KeyRef::parse_unvalidated("core".into()), None);
+    assert_eq!(file().string(names), Some("d".into()));
+}
+
+#[test]
+fn edits() {
+    let mut file = file();
+    let copy = file.clone();
+    assert_eq!(
+        file.set_raw_value_by("core", None, "editor", "emacs"),
+        Ok(Some("vi".into()))
+    );
+    assert_eq!(file.set_raw_value_by("user", None, "name", " x"), Ok(None));
+    assert_eq!(
+        file.set_raw_value_by("user", None, "na_me", "x")
+            .map_err(|it| it.number),
+        Err(6)
+    );
+    assert_eq!(
+        file.rename_section("user", None, "me", Some("a\"b".as_bytes().as_bstr())),
+        Ok(())
+    );
+    assert_eq!(
+        file.rename_section("user", None, "me", None)
+            .map_err(|it| it.number),
+        Err(7)
+    );
+    assert_eq!(
+        file.to_string(),
+        TEXT.replace("vi", "emacs") + "[me \"a\\\"b\"]\n\tname = \" x\"\n"
+    );
+    assert_eq!(copy.to_bstring(), TEXT);
+    let mut all = File::try_from("[a]\n\tk = 1\n").expect("a text");
+    all.append(File::try_from("[b]\n\tk = 2\n").expect("a text"));
+    let mut written = Vec::new();
+    all.write_to(&mut written).expect("room");
+    assert_eq!(written.as_bstr(), "[a]\n\tk = 1\n[b]\n\tk = 2\n");
+}
+
+#[test]
+fn refused_texts() {
+    let refused = "[a]\n\tk = v\n= 1\n"
+        .parse::<File>()
+        .expect_err("no text of configuration");
+    assert_eq!((refused.line_number(), refused.column()), (3, 1));
+    let bytes: &BStr = b"[a]\r\nk = \xff\r\n".as_bstr();
+    assert_eq!(File::try_from(bytes).expect("a text").to_bstring(), bytes);
+}

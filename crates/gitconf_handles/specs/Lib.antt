@@ -1,0 +1,5 @@
+pub mod Blocks
+pub mod Columns
+pub mod Entries
+pub mod Held
+pub mod Keys

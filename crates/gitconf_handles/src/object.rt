@@ -1,0 +1,17 @@
+//! What a handle can hold.
+
+use crate::entry::Entry;
+use gix_config::File;
+
+/// What a handle can hold.
+#[derive(Drop)]
+pub enum Object {
+    /// A file of configuration.
+    File(File),
+    /// Bytes that a call handed out.
+    Bytes(Vec<u8>),
+    /// Texts that a call handed out.
+    Texts(Vec<Vec<u8>>),
+    /// The entries of a file, as a call handed them out.
+    Entries(Vec<Entry>),
+}

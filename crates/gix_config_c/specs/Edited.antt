@@ -1,0 +1,27 @@
+-- What edits answer, and what they leave.
+use Rattle.std.specs.Prelude.{◌≡◌, ℕ, Bool, true, false, List, Option, Some, None, Result, Ok, Err}
+use Rattle.bstr.specs.declared.bstring.BString.{BString}
+use Rattle.bstr.specs.Owned.{bstring_bytes}
+use Rattle.gitconf_base.specs.Key.{Key}
+use Rattle.gitconf_handles.specs.Blocks.{Holds}
+use Rattle.gitconf_handles.specs.declared.block.Block.{Block}
+use Rattle.gitconf_state.specs.Edit.{with_used}
+use Rattle.gitconf_state.specs.State.{State}
+use Rattle.gitconf_store.specs.Edits.{IsSet}
+use Rattle.gitconf_store.specs.SetErrors.{set_number}
+use Rattle.gitconf_store.specs.declared.set_raw_value.Error as set_raw_value
+
+-- a refused edit leaves the file as it was, but for the bytes of its buffer
+abbrev pub IsEditedFile : (number : ℕ) → (old new : State) → Type 0
+IsEditedFile number old new = (number ≡ 0 → ⊥) → new ≡ with_used new.used old
+
+-- what is told of a value that was set: whether there was one, with its raw text; or the number of the refusal
+abbrev pub Tells : Result (Option BString) set_raw_value.Error → (number : ℕ) → (had : Bool) → Block → Type 0
+Tells (Ok None) number had block = (number ≡ 0) × (had ≡ false)
+Tells (Ok (Some was)) number had block = (number ≡ 0) × (had ≡ true) × Holds (bstring_bytes was) block
+Tells (Err refusal) number had block = number ≡ set_number refusal
+
+-- the value was set, or refused
+abbrev pub IsSetTo : Key → (value : List ℕ) → (old new : State) → (number : ℕ) → (had : Bool) → Block → Type 0
+IsSetTo key value old new number had block = (number ≡ 27 → ⊥)
+    → (r : Result (Option BString) set_raw_value.Error) × IsSet key.section key.subsection key.name (λ _. true) value r old new × Tells r number had block

@@ -1,0 +1,44 @@
+-- What edits of entries answer.
+use Rattle.std.specs.Prelude.{◌≡◌, ℕ, true, List, Option, Some, None, Result, Ok, Err}
+use Rattle.gitconf_base.specs.Key.{Key}
+use Rattle.gitconf_finding.specs.Misses.{existing_number, missing}
+use Rattle.gitconf_finding.specs.Picks.{picked}
+use Rattle.gitconf_handles.specs.Blocks.{Holds}
+use Rattle.gitconf_handles.specs.declared.block.Block.{Block}
+use Rattle.gitconf_lines.specs.declared.value.Error.{Error}
+use Rattle.gitconf_state.specs.Edits.{Push, Raw, Remove, answer, apply}
+use Rattle.gitconf_state.specs.Editors.{editor_of}
+use Rattle.gitconf_state.specs.Lookup.{listed, miss_of}
+use Rattle.gitconf_state.specs.State.{SectionState, State}
+use Rattle.gix_config.specs.Edited.{IsEdited, value_number}
+
+-- the section whose entries a key is about: the last one of its names
+abbrev pub section_of : Key → State → Option SectionState
+section_of key f = picked key.section key.subsection (λ _. true) f
+
+-- the number where there is no such section
+abbrev pub missing_number : Key → State → ℕ
+missing_number key f = existing_number (missing (miss_of key.section key.subsection (listed f)))
+
+-- the number that is answered
+abbrev pub answered : {T : Type 0} → Result T Error → ℕ
+answered (Ok _) = 0
+answered (Err refusal) = value_number refusal
+
+-- an entry was put into the section, with the blanks that the section uses, or refused
+pub record IsPushed (key : Key) (value : Option (List ℕ)) (old new : State) (number : ℕ) : Type 0 where
+  pub nowhere : section_of key old ≡ None → number ≡ missing_number key old
+  pub pushed : (s : SectionState) → section_of key old ≡ Some s → (number ≡ 27 → ⊥)
+      → (r : Result (Unit {0}) Error) × IsEdited (Push s.number (editor_of old s) key.name value None) value_number r old new × (number ≡ answered r)
+
+-- Number 0 where the last entry of the name was removed from the section of a number, and the block holds the raw text of its value; 100
+-- where there was none to remove; else memory ran out, and nothing changed.
+pub record IsEntryRemoved (section : ℕ) (name : List ℕ) (old new : State) (number : ℕ) (block : Block) : Type 0 where
+  pub done : number ≡ 0 → (new ≡ apply (Remove section name) old) × ((raw : List ℕ) × (answer (Remove section name) old ≡ Raw (Some raw)) × Holds raw block)
+  pub none : number ≡ 100 → (new ≡ apply (Remove section name) old) × (answer (Remove section name) old ≡ Raw None)
+  pub short : (number ≡ 0 → ⊥) → (number ≡ 100 → ⊥) → (number ≡ 27) × (new ≡ old)
+
+-- the same for the section of a key
+pub record IsValueRemoved (key : Key) (old new : State) (number : ℕ) (block : Block) : Type 0 where
+  pub nowhere : section_of key old ≡ None → (number ≡ missing_number key old) × (new ≡ old)
+  pub there : (s : SectionState) → section_of key old ≡ Some s → IsEntryRemoved s.number key.name old new number block

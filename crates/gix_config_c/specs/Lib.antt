@@ -1,0 +1,11 @@
+pub mod Answers
+pub mod Appended
+pub mod Edited
+pub mod Entries
+pub mod Found
+pub mod Listed
+pub mod Lists
+pub mod Messages
+pub mod Opened
+pub mod Sections
+pub mod Texts

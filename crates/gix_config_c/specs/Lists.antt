@@ -1,0 +1,22 @@
+-- What is in a list of texts.
+use Rattle.std.specs.Prelude.{◌≡◌, ℕ, List, length, slice_get, Option, Some, None}
+use Rattle.std.specs.declared.vec.Vec.{Vec}
+use Rattle.gitconf_handles.specs.Blocks.{LieAt}
+use Rattle.gitconf_handles.specs.declared.block.Span.{Span}
+use Rattle.gitconf_handles.specs.declared.object.Object.{Object}
+use Rattle.gitconf_handles.specs.declared.object.Object.TheVariants.{Entries, Texts}
+
+-- the number of texts or entries in the handle: 0 if it has no list
+abbrev pub IsLength : Option Object → (number : ℕ) → Type 0
+IsLength (Some (Texts texts)) number = number ≡ length texts.items
+IsLength (Some (Entries entries)) number = number ≡ length entries.items
+IsLength _ number = number ≡ 0
+
+-- number 0 if there is a text at the index, and it lies there; else 100
+abbrev pub IsTextAt : {Z : Type 0} → List (Vec ℕ Z) → (index number : ℕ) → Span → Type 0
+IsTextAt texts index number span = elim (slice_get texts index) [ None ↦ number ≡ 100 | Some text ↦ (number ≡ 0) × LieAt text span ]
+
+-- the same for the list that is in the handle; 102 if there is none
+abbrev pub IsAt : Option Object → (index number : ℕ) → Span → Type 0
+IsAt (Some (Texts texts)) index number span = IsTextAt texts.items index number span
+IsAt _ index number span = number ≡ 102

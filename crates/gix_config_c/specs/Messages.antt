@@ -1,0 +1,21 @@
+-- What numbers say in words.
+use Rattle.std.specs.Prelude.{ℕ, ◌==◌, if◌then◌else◌, List, [], codes}
+
+-- the words for the number of an answer; none for a number that no call answers
+abbrev pub message_of : (number : ℕ) → List ℕ
+message_of number =
+    if number == 1 then codes "the text can't be read on"
+    else if number == 2 then codes "the text is too long"
+    else if number == 3 then codes "the file would be too long"
+    else if number == 4 then codes "the name can't be a section's"
+    else if number == 5 then codes "the name can't be a subsection's"
+    else if number == 6 then codes "the name can't be a value's"
+    else if number == 7 then codes "no section has the name"
+    else if number == 8 then codes "no section of the name has the subsection"
+    else if number == 9 then codes "the section has no such value"
+    else if number == 11 then codes "the value is not of the type"
+    else if number == 27 then codes "out of memory"
+    else if number == 100 then codes "there is no such thing"
+    else if number == 101 then codes "a name is not UTF-8"
+    else if number == 102 then codes "the handle is empty or holds something else"
+    else []

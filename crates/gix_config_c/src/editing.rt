@@ -1,0 +1,129 @@
+//! Entries, put into sections and removed from them.
+ghost use Rattle.std.specs.Prelude.{◌≡◌, if◌then◌else◌, None, Some};
+ghost use Rattle.gitconf_handles.specs.Blocks.{IsKept};
+ghost use Rattle.gitconf_handles.specs.Keys.{names_of};
+ghost use Rattle.gitconf_handles.specs.declared.object.Object.TheVariants as object;
+ghost use Rattle.gitconf_state.specs.State.{State};
+ghost use Rattle.gix_config.specs.SectionEditors.{edited, lent, number_of};
+ghost use Rattle.gix_config_c.specs.Answers.{OfFile, OfKey};
+ghost use Rattle.gix_config_c.specs.Edited.{IsEditedFile};
+ghost use Rattle.gix_config_c.specs.Entries.{IsEntryRemoved, IsPushed, IsValueRemoved};
+
+use crate::{DONE, NOT_UTF8, NOTHING_THERE, OUT_OF_MEMORY, WRONG_HANDLE};
+use gitconf_handles::block::{Block, room};
+use gitconf_handles::key::{Key, names};
+use gitconf_handles::object::Object;
+use gitconf_handles::slot::Slot;
+use gix_config::File;
+use gix_config::file::SectionMut;
+use gix_config::refusals::Refusal as _;
+use std::alloc::Global;
+
+/// Adds an entry to the last section of the key's names, after all others that it has: also one of a name that is there already. Without a
+/// value it is the name alone, which is true as a boolean.
+///
+/// 7 or 8 if there is no such section, 6 for a name that can't be a value's, 3 if the file would be too long. 101 if the section's or the
+/// value's name is not UTF-8, 102 if the handle has no file, 27 when out of memory. The file is then as it was.
+#[unsafe(no_mangle)]
+pub extern "C" fn gix_config_push_value(
+    alloc: Global,
+    file: &mut Slot,
+    key: &Key<'_>,
+    has_value: bool,
+    value: &[u8],
+) -> u32
+    ensures answer { OfFile file.old.it result (λ f. (g : State) × (file.new.it ≡ Some (object.File g))
+        × IsEditedFile result f g × OfKey (names_of key.now) result (λ k. IsPushed k (if has_value then Some value.now else None) f g result)) }
+    ensures other { ((f : State) → file.old.it ≡ Some (object.File f) → ⊥) → file.new.it ≡ file.old.it }
+{
+    let Some(mut object) = file.take(alloc) else {
+        return WRONG_HANDLE;
+    };
+    let answer = match &mut *object {
+        Object::File(f) => push(f, key, has_value, value),
+        _ => WRONG_HANDLE,
+    };
+    file.put(object);
+    answer
+}
+
+/// Adds an entry to a section of a file.
+fn push(file: &mut File, key: &Key<'_>, has_value: bool, value: &[u8]) -> u32
+    ensures edited { IsEditedFile result file.old file.new }
+    ensures answer { OfKey (names_of key.now) result (λ k. IsPushed k (if has_value then Some value.now else None) file.old file.new result) }
+{
+    let Some(key) = names(key) else {
+        return NOT_UTF8;
+    };
+    let value = if has_value { Some(value) } else { None };
+    match file.section_mut(key.section_name, key.subsection_name) {
+        Ok(mut section) => match section.push(key.value_name, value) {
+            Ok(()) => DONE,
+            Err(refusal) => u32::from(refusal.number()),
+        },
+        Err(refusal) => u32::from(refusal.number()),
+    }
+}
+
+/// Removes the last entry of the key's name from the last section of the key's names, with the blanks before it and the line endings after
+/// it, and hands out the raw text of its value. What the block had is freed.
+///
+/// 7 or 8 if there is no such section, 100 if it has no such entry, so that there is none to remove. 101 if the section's or the value's
+/// name is not UTF-8, 102 if the handle has no file, 27 when out of memory; the file is then as it was. The block is so after any number
+/// but 0.
+#[unsafe(no_mangle)]
+pub extern "C" fn gix_config_remove_value(
+    alloc: Global,
+    file: &mut Slot,
+    key: &Key<'_>,
+    old: &mut Block,
+) -> u32
+    ensures answer { OfFile file.old.it result (λ f. (g : State) × (file.new.it ≡ Some (object.File g))
+        × ((result ≡ 0 → ⊥) → (result ≡ 100 → ⊥) → g ≡ f) × OfKey (names_of key.now) result (λ k. IsValueRemoved k f g result old.new)) }
+    ensures kept { (result ≡ 0 → ⊥) → IsKept old.old old.new }
+    ensures other { ((f : State) → file.old.it ≡ Some (object.File f) → ⊥) → file.new.it ≡ file.old.it }
+{
+    let Some(mut object) = file.take(alloc) else {
+        return WRONG_HANDLE;
+    };
+    let answer = match &mut *object {
+        Object::File(f) => remove(alloc, f, key, old),
+        _ => WRONG_HANDLE,
+    };
+    file.put(object);
+    answer
+}
+
+/// Removes an entry from a section of a file.
+fn remove(alloc: Global, file: &mut File, key: &Key<'_>, old: &mut Block) -> u32
+    ensures same { (result ≡ 0 → ⊥) → (result ≡ 100 → ⊥) → file.new ≡ file.old }
+    ensures kept { (result ≡ 0 → ⊥) → IsKept old.old old.new }
+    ensures answer { OfKey (names_of key.now) result (λ k. IsValueRemoved k file.old file.new result old.new) }
+{
+    let Some(key) = names(key) else {
+        return NOT_UTF8;
+    };
+    match file.section_mut(key.section_name, key.subsection_name) {
+        Ok(mut section) => remove_entry(alloc, &mut section, key.value_name, old),
+        Err(refusal) => u32::from(refusal.number()),
+    }
+}
+
+/// Removes the last entry of the name. The room for what it hands out comes first.
+fn remove_entry(alloc: Global, section: &mut SectionMut<'_>, name: &str, old: &mut Block) -> u32
+    ensures same_file { lent section.new ≡ lent section.old }
+    ensures kept { (result ≡ 0 → ⊥) → IsKept old.old old.new }
+    ensures answer { IsEntryRemoved (number_of section.old) name.now (edited section.old) (edited section.new) result old.new }
+{
+    let Some(room) = room(alloc) else {
+        return OUT_OF_MEMORY;
+    };
+    match section.remove(name) {
+        Ok(Some(was)) => {
+            old.put(room, was.into_vec());
+            DONE
+        }
+        Ok(None) => NOTHING_THERE,
+        Err(_) => OUT_OF_MEMORY,
+    }
+}

@@ -1,0 +1,88 @@
+//! The text of a file, and what is handed out.
+ghost use Rattle.std.specs.Prelude.{◌≡◌, ◌⊎◌, Some};
+ghost use Rattle.gitconf_handles.specs.Blocks.{Holds, IsFreed, IsKept};
+ghost use Rattle.gitconf_state.specs.Printing.{printed};
+ghost use Rattle.gix_config_c.specs.Answers.{OfFile};
+ghost use Rattle.gix_config_c.specs.Messages.{message_of};
+
+use crate::{DONE, OUT_OF_MEMORY, WRONG_HANDLE};
+use gitconf_handles::block::{Block, room};
+use gitconf_handles::object::Object;
+use gitconf_handles::slot::Slot;
+use gix_config::File;
+use std::alloc::Global;
+
+/// Hands out the text of a file. What the block had is freed.
+///
+/// 102 if the handle has no file, 27 when out of memory; the block is then as it was.
+#[unsafe(no_mangle)]
+pub extern "C" fn gix_config_file_text(alloc: Global, file: &mut Slot, text: &mut Block) -> u32
+    ensures answer { OfFile file.old.it result (λ f. ((result ≡ 0) ⊎ (result ≡ 27)) × (result ≡ 0 → Holds (printed f) text.new)) }
+    ensures kept { (result ≡ 0 → ⊥) → IsKept text.old text.new }
+    ensures same { file.new.it ≡ file.old.it }
+{
+    let Some(object) = file.take(alloc) else {
+        return WRONG_HANDLE;
+    };
+    let answer = match &*object {
+        Object::File(f) => put_text(alloc, f, text),
+        _ => WRONG_HANDLE,
+    };
+    file.put(object);
+    answer
+}
+
+/// Puts the text of a file into a block.
+fn put_text(alloc: Global, file: &File, text: &mut Block) -> u32
+    ensures number { (result ≡ 0) ⊎ (result ≡ 27) }
+    ensures done { result ≡ 0 → Holds (printed file.now) text.new }
+    ensures kept { (result ≡ 0 → ⊥) → IsKept text.old text.new }
+{
+    let Some(room) = room(alloc) else {
+        return OUT_OF_MEMORY;
+    };
+    let Ok(bytes) = file.to_bstring() else {
+        return OUT_OF_MEMORY;
+    };
+    text.put(room, bytes.into_vec());
+    DONE
+}
+
+/// Frees the bytes of a block, and leaves it empty; an empty one stays empty.
+#[unsafe(no_mangle)]
+pub extern "C" fn gix_config_bytes_free(alloc: Global, bytes: &mut Block)
+    ensures { IsFreed bytes.new }
+{
+    bytes.free(alloc);
+}
+
+/// Tells in words what the number of a refusal says. The text stays for good; it is empty for a number that no call answers.
+#[unsafe(no_mangle)]
+pub extern "C" fn gix_config_refusal_text(number: u32, text: &mut &'static [u8])
+    ensures { text.new.now ≡ message_of number }
+{
+    *text = message(number);
+}
+
+/// What a number says.
+fn message(number: u32) -> &'static [u8]
+    ensures { result.now ≡ message_of number }
+{
+    match number {
+        1 => b"the text can't be read on",
+        2 => b"the text is too long",
+        3 => b"the file would be too long",
+        4 => b"the name can't be a section's",
+        5 => b"the name can't be a subsection's",
+        6 => b"the name can't be a value's",
+        7 => b"no section has the name",
+        8 => b"no section of the name has the subsection",
+        9 => b"the section has no such value",
+        11 => b"the value is not of the type",
+        27 => b"out of memory",
+        100 => b"there is no such thing",
+        101 => b"a name is not UTF-8",
+        102 => b"the handle is empty or holds something else",
+        _ => b"",
+    }
+}

@@ -1,0 +1,31 @@
+//! Git's configuration files for programs in C.
+//!
+//! Each call answers a number: 0 when it is done, that of a refusal (docs/refusals.md), or one of those below. What a call does is said
+//! by its contract for every content of every handle, also an empty one or one that holds something else.
+#![tactic(auto)]
+
+mod appending;
+mod editing;
+mod entries;
+mod files;
+mod lists;
+mod look_ups;
+mod opening;
+mod sections;
+mod setting;
+mod texts;
+
+/// The call is done.
+pub const DONE: u32 = 0;
+
+/// Out of memory, as in docs/refusals.md.
+pub const OUT_OF_MEMORY: u32 = 27;
+
+/// There is no such thing.
+pub const NOTHING_THERE: u32 = 100;
+
+/// A name is not UTF-8.
+pub const NOT_UTF8: u32 = 101;
+
+/// The handle is empty, or holds something else.
+pub const WRONG_HANDLE: u32 = 102;
