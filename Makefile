@@ -1,6 +1,6 @@
 # GNU's targets over the project's own commands; `make help` lists them. dist/install.mk has install and uninstall.
 
-.PHONY: build check prove dist clean help
+.PHONY: build check prove lib dist clean help
 .DEFAULT_GOAL = all
 
 include dist/install.mk
@@ -19,17 +19,22 @@ check:
 prove:
 	./prove
 
+# (the library for C, proved as the program is: docs/c.md)
+lib:
+	tools/c_library
+
 dist: build
 	tools/dist $(DIST)
 
 # What was proved stays where the kit keeps it, so the next build takes it from there.
 clean:
-	rm -rf crates/*/out
+	rm -rf crates/*/out out
 
 help:
 	@echo 'make            proves and builds the program ($(PROGRAM))'
 	@echo 'make check      the tests of a fresh clone, some minutes: ./test'
 	@echo 'make prove      the whole gate: ./prove'
+	@echo 'make lib        the library for C, its header and its pkg-config file, in out/lib; docs/c.md'
 	@echo 'make install    the program, its manual, completions and licences, below PREFIX (/usr/local) and DESTDIR; builds first'
 	@echo 'make uninstall  removes just these'
 	@echo 'make dist       archives and Debian packages, in the folder DIST (outside the repository); docs/releases.md'

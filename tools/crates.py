@@ -14,7 +14,7 @@ TOP = os.path.dirname(os.path.dirname(os.path.realpath(__file__)))
 def lines():
     """The lines of crates.txt, by their crates."""
     with open(os.path.join(TOP, "crates.txt"), encoding="utf-8") as file:
-        return {line.partition(":")[0].strip(): line for line in file if ":" in line.partition("#")[0]}
+        return {line.partition(":")[0].split()[0]: line for line in file if ":" in line.partition("#")[0]}
 
 
 def named(line):

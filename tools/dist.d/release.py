@@ -27,11 +27,11 @@ def run(*words, **how):
 
 
 def said_version():
-    """What `gixcfg --version` prints: the one place where the version stands."""
+    """What `gixcfg --version` prints: the one place where the version stands, with the logic of the kits that prove the sources."""
     source = TOP / "crates/gixcfg_words/src/lib.rt"
-    found = re.search(r'^pub const VERSION: &str = "gixcfg ([\w.+~-]+)(?: \((.*)\))?\\n";$', source.read_text(encoding="utf-8"), re.MULTILINE)
+    found = re.search(r'^pub const VERSION: &str = "gixcfg ([\w.+~-]+) \(rattle, logic (\w+)\)\\n";$', source.read_text(encoding="utf-8"), re.MULTILINE)
     if found is None:
-        raise Lacking(f"{source} has no line `pub const VERSION: &str = \"gixcfg VERSION (KIT)\\n\";`")
+        raise Lacking(f"{source} has no line `pub const VERSION: &str = \"gixcfg VERSION (rattle, logic LOGIC)\\n\";`")
     return found.groups()
 
 
@@ -51,6 +51,11 @@ def kit_line():
     if shutil.which("rt") is None:
         raise Lacking("the kit's command rt is not on the PATH")
     return run("rt", "version").strip()
+
+
+def logic_of(kit):
+    """The logic that the line of a kit names."""
+    return kit.partition(" logic ")[2]
 
 
 def sum_of(file):

@@ -19,5 +19,6 @@ mod words;
 
 pub use words::{has_options, read};
 
-/// What `--version` prints: the name, the version, and the toolchain that the sources are proved with (`rt version`).
-pub const VERSION: &str = "gixcfg 0.1.0 (rattle-kit-13b logic dac8208d650f15bf)\n";
+/// What `--version` prints: the name, the version, and the logic of the toolchain that the sources are proved with, which `rt version`
+/// tells too.
+pub const VERSION: &str = "gixcfg 0.1.0 (rattle, logic dac8208d650f15bf)\n";
